@@ -1,0 +1,47 @@
+-- The order of heights and of reference levels, and the direction of a link.
+use Rattle.std.specs.Prelude.{◌≡◌, ℕ, ℤ, ◌<ℤ◌, ◌<◌, ◌⊎◌, Option, None, Some}
+use Rattle.std.specs.Ordering.{nat_cmp, int_cmp, ordering_then}
+use Rattle.std.specs.declared.cmp.Ordering.{Ordering}
+use Rattle.std.specs.declared.cmp.Ordering.TheVariants.{Less, Equal, Greater}
+use Rattle.tora_height.specs.declared.Level.{Level}
+use Rattle.tora_height.specs.declared.Direction.{Direction}
+use Rattle.tora_height.specs.declared.Direction.TheVariants as Link
+use Rattle.tora_height.specs.Height.{Quintuple, level_of}
+
+-- a level is lower than another: by its time, else by its originator, else by its reflection bit
+abbrev pub IsLowerLevel : Level → Level → Type 0
+IsLowerLevel a b =
+    (a.tau < b.tau)
+    ⊎ ((a.tau ≡ b.tau) × (a.oid < b.oid))
+    ⊎ ((a.tau ≡ b.tau) × (a.oid ≡ b.oid) × (a.r < b.r))
+
+-- a height is lower than another: by its level, else by its delta, else by its node
+abbrev pub IsLower : Quintuple → Quintuple → Type 0
+IsLower a b =
+    IsLowerLevel (level_of a) (level_of b)
+    ⊎ ((level_of a ≡ level_of b) × (a.delta <ℤ b.delta))
+    ⊎ ((level_of a ≡ level_of b) × (a.delta ≡ b.delta) × (a.id < b.id))
+
+-- the order of levels, computed part by part
+abbrev pub level_cmp : Level → Level → Ordering
+level_cmp a b = ordering_then (nat_cmp a.tau b.tau) (ordering_then (nat_cmp a.oid b.oid) (nat_cmp a.r b.r))
+
+-- the order of heights, computed part by part
+abbrev pub height_cmp : Quintuple → Quintuple → Ordering
+height_cmp a b =
+    ordering_then (nat_cmp a.tau b.tau)
+    (ordering_then (nat_cmp a.oid b.oid)
+    (ordering_then (nat_cmp a.r b.r)
+    (ordering_then (int_cmp a.delta b.delta) (nat_cmp a.id b.id))))
+
+-- the direction of a link to a neighbour whose height compares so to the own height
+abbrev pub direction_by : Ordering → Direction
+direction_by Less = Link.Down
+direction_by Equal = Link.Undirected
+direction_by Greater = Link.Up
+
+-- the direction of a link, from the own height and the neighbour's entry, either of which may be NULL
+abbrev pub link_status : Option Quintuple → Option Quintuple → Direction
+link_status own None = Link.Undirected
+link_status None (Some entry) = Link.Down
+link_status (Some own) (Some entry) = direction_by (height_cmp entry own)

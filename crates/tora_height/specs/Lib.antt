@@ -1,0 +1,2 @@
+pub mod Height
+pub mod HeightOrder

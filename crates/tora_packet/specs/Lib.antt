@@ -1,0 +1,3 @@
+pub mod PacketParts
+pub mod AnyPacket
+pub mod PacketGrammar

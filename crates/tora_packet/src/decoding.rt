@@ -1,0 +1,111 @@
+//! Bytes to packets.
+ghost use Rattle.std.specs.Prelude.{◌≡◌, ℕ, List, [], ◌++◌, ◌+◌, ◌≤◌, length, MatchOption, MatchBool, IfOk, IsOk, ◌||◌, ◌==◌};
+ghost use Rattle.tora_packet.specs.PacketParts.{update_of, is_bad_update};
+ghost use Rattle.tora_packet.specs.AnyPacket.{IsPacket};
+ghost use Rattle.tora_packet.specs.PacketGrammar.{SpellsPacket, u32_at, u64_at, height_at, is_reserved_zero, kind_of, packet_fault, packet_at, packet_reading};
+ghost use Rattle.tora_packet.specs.declared.Packet.{Packet as AnyPacket};
+
+use crate::{Clear, Packet, PacketError, Query, Update};
+use tora_height::Height;
+
+#[tactic(auto, unfolding(crate::specs::PacketGrammar::u32_at))]
+fn u32_at(bytes: &[u8], at: usize) -> u32
+    requires { at + 4 ≤ length bytes.now }
+    ensures { result ≡ u32_at at bytes.now }
+{
+    let four = &bytes[at..at + 4];
+    u32::from_be_bytes([four[0], four[1], four[2], four[3]])
+}
+
+#[tactic(auto, unfolding(crate::specs::PacketGrammar::u64_at))]
+fn u64_at(bytes: &[u8], at: usize) -> u64
+    requires { at + 8 ≤ length bytes.now }
+    ensures { result ≡ u64_at at bytes.now }
+{
+    let eight = &bytes[at..at + 8];
+    u64::from_be_bytes([
+        eight[0], eight[1], eight[2], eight[3], eight[4], eight[5], eight[6], eight[7],
+    ])
+}
+
+fn is_reserved_zero(bytes: &[u8]) -> bool
+    requires short { 4 ≤ length bytes.now }
+    requires update { kind_of bytes.now ≡ 2 → 32 ≤ length bytes.now }
+    ensures { result ≡ is_reserved_zero bytes.now }
+{
+    if bytes[2] != 0 || bytes[3] != 0 {
+        return false;
+    }
+    bytes[1] != 2 || (bytes[21] == 0 && bytes[22] == 0 && bytes[23] == 0)
+}
+
+#[tactic(auto, unfolding(crate::specs::PacketParts::is_bad_update))]
+fn update_at(bytes: &[u8]) -> Result<Update, PacketError>
+    requires { length bytes.now ≡ 32 }
+    ensures { MatchBool ((u32_at 4 bytes.now == 0) || is_bad_update (u32_at 4 bytes.now) (height_at bytes.now))
+        (result ≡ Err PacketError.Height) (result ≡ Ok (update_of (u32_at 4 bytes.now) (height_at bytes.now))) }
+{
+    let delta = u32_at(bytes, 24).cast_signed();
+    let (tau, oid, id) = (u64_at(bytes, 8), u32_at(bytes, 16), u32_at(bytes, 28));
+    let Ok(height) = Height::new(tau, oid, bytes[20], delta, id) else {
+        return Err(PacketError::Height);
+    };
+    Update::new(u32_at(bytes, 4), height)
+}
+
+fn packet_at(bytes: &[u8]) -> Result<Packet, PacketError>
+    ensures exact { MatchOption (packet_fault bytes.now) (result ≡ Ok (packet_at bytes.now)) (λ e. result ≡ Err e) }
+    ensures valid { IfOk result IsPacket }
+{
+    if bytes.len() < 2 {
+        return Err(PacketError::Short);
+    }
+    if bytes[0] != 1 {
+        return Err(PacketError::Version);
+    }
+    let len = match bytes[1] {
+        1 => 8,
+        2 => 32,
+        3 => 20,
+        _ => return Err(PacketError::Kind),
+    };
+    if bytes.len() < len {
+        return Err(PacketError::Short);
+    }
+    if bytes.len() > len {
+        return Err(PacketError::Long);
+    }
+    if !is_reserved_zero(bytes) {
+        return Err(PacketError::Reserved);
+    }
+    match bytes[1] {
+        1 => Ok(Packet::Qry(Query::new(u32_at(bytes, 4))?)),
+        2 => Ok(Packet::Upd(update_at(bytes)?)),
+        _ => Ok(Packet::Clr(Clear::new(u32_at(bytes, 4), u64_at(bytes, 8), u32_at(bytes, 16))?)),
+    }
+}
+
+/// The packet that the bytes spell, all of the bytes.
+///
+/// # Errors
+/// The first that stands, in this order: `Short` (under 2 bytes), `Version`, `Kind`, `Short` (fewer bytes than the kind
+/// has), `Long`, `Reserved`, `Height`.
+pub fn decode(bytes: &[u8]) -> Result<Packet, PacketError>
+    // What is read is spelled so.
+    ensures found { IfOk result (SpellsPacket bytes.now) }
+    // What is spelled so is read.
+    ensures only { (packet : AnyPacket) → SpellsPacket bytes.now packet → result ≡ Ok packet }
+    // Which fault it is.
+    ensures fault { MatchOption (packet_fault bytes.now) (IsOk result) (λ e. result ≡ Err e) }
+    // The three together, as one function.
+    ensures exact { result ≡ packet_reading bytes.now }
+{
+    packet_at(bytes)
+}
+
+/// Each packet has one spelling, and no spelling begins another.
+pub fn one_packet_spelling()
+    ensures one { (a b : List ℕ) (p : AnyPacket) → SpellsPacket a p → SpellsPacket b p → a ≡ b }
+    ensures prefix_free { (a b rest : List ℕ) (p q : AnyPacket) → SpellsPacket a p → SpellsPacket b q → a ++ rest ≡ b →
+        (rest ≡ []) × (a ≡ b) × (p ≡ q) }
+{}

@@ -1,0 +1,111 @@
+//! TORA's control packets and their bytes.
+//!
+//! A query (QRY) asks for a route, an update (UPD) tells a height, a clear (CLR) erases a reflected reference level
+//! after a partition. Numbers in bytes are in network byte order. No call of this crate takes memory.
+#![tactic(auto)]
+
+ghost use Rattle.std.specs.Prelude.{◌≡◌, ◌==◌, Ok, Err, MatchBool};
+ghost use Rattle.tora_packet.specs.AnyPacket.{IsPacket, destination_of};
+ghost use Rattle.tora_packet.specs.PacketGrammar.{packet_error_number};
+
+mod decoding;
+mod encoding;
+mod kinds;
+
+pub use decoding::{decode, one_packet_spelling};
+pub use encoding::{LONGEST_PACKET, encode};
+pub use kinds::{Clear, Query, Update};
+use thiserror::Error;
+use tora_height::Id;
+
+/// Why bytes spell no packet, or parts make none. Own profile.
+#[derive(Clone, Copy, Debug, PartialEq, Eq, Error)]
+pub enum PacketError {
+    /// The bytes end before the packet does.
+    #[error("too few bytes")]
+    Short,
+    /// There are bytes behind the packet.
+    #[error("too many bytes")]
+    Long,
+    /// The version is not 1.
+    #[error("the version is not 1")]
+    Version,
+    /// The kind is none of 1 (QRY), 2 (UPD) and 3 (CLR).
+    #[error("the kind is not 1, 2 or 3")]
+    Kind,
+    /// A byte that has to be zero is not.
+    #[error("a byte that has to be zero is not")]
+    Reserved,
+    /// The destination, the height or the level is out of range.
+    #[error("the destination, the height or the level is out of range")]
+    Height,
+}
+
+impl PacketError {
+    /// The number of the error as texts print it: 1 `Short`, 2 `Long`, 3 `Version`, 4 `Kind`, 5 `Reserved`, 6 `Height`.
+    pub fn number(self) -> u8
+        ensures { result ≡ packet_error_number self }
+    {
+        match self {
+            PacketError::Short => 1,
+            PacketError::Long => 2,
+            PacketError::Version => 3,
+            PacketError::Kind => 4,
+            PacketError::Reserved => 5,
+            PacketError::Height => 6,
+        }
+    }
+}
+
+/// A control packet (draft-ietf-manet-tora-spec-04, section 3.6; the layouts are this project's own profile).
+#[derive(Clone, Copy, Debug, PartialEq, Eq)]
+pub enum Packet {
+    /// A route request.
+    Qry(Query),
+    /// The height of the sender.
+    Upd(Update),
+    /// The erasing of a reflected level.
+    Clr(Clear),
+}
+
+impl Packet {
+    /// The query for a destination.
+    ///
+    /// # Errors
+    /// `Height` where `destination` is 0.
+    pub fn qry(destination: Id) -> Result<Packet, PacketError>
+        ensures { MatchBool (destination == 0) (result ≡ Err PacketError.Height) (result ≡ Ok (Packet.Qry destination)) }
+    {
+        match Query::new(destination) {
+            Ok(query) => Ok(Packet::Qry(query)),
+            Err(error) => Err(error),
+        }
+    }
+
+    /// The destination that the packet is about.
+    pub fn destination(&self) -> Id
+        ensures value { result ≡ destination_of self.now }
+        ensures valid { IsPacket self.now }
+    {
+        match self {
+            Packet::Qry(query) => query.destination(),
+            Packet::Upd(update) => update.destination(),
+            Packet::Clr(clear) => clear.destination(),
+        }
+    }
+}
+
+/// The query for 1.
+impl Default for Packet {
+    ghost use Rattle.tora_packet.specs.declared.Packet.TheVariants.{Qry};
+    ghost use Rattle.std.specs.Prelude.{◌≡◌};
+
+    ghost is_default = { λ p. p ≡ Qry 1 };
+
+    fn default() -> Packet {
+        Packet::Qry(Query::of(1))
+    }
+}
+
+#[cfg(test)]
+mod tests;
