@@ -1,0 +1,30 @@
+#!/usr/bin/env bash
+# Lines per second and peak memory of `tora replay`, beside an unverified baseline, in one run.
+# usage: bench/replay.sh BASE [LINES] [ROUNDS]     BASE: the folder of the baseline's sources (a Cargo crate `base`)
+set -eu
+top=$(cd "$(dirname "$0")/.." && pwd)
+base=${1:?the folder of the baseline}
+lines=${2:-1000000}
+rounds=${3:-5}
+work=$(mktemp -d)
+trap 'rm -rf "$work"' EXIT
+cp -r "$base" "$work/base"
+chmod -R u+w "$work/base"
+(cd "$work/base" && cargo build --release --offline >/dev/null 2>&1)
+bin=$work/base/target/release/base
+"$top/tora" --version >/dev/null
+"$bin" gen-mix "$lines" 1 >"$work/mix.replay"
+echo "a mixed file of $lines lines, $(stat -c %s "$work/mix.replay") bytes"
+python3 "$top/bench/measure.py" "$rounds" "$work/mix.replay" "$work/a" "$work/b" -- "$top/crates/tora/out/tora" replay -- "$bin" replay
+"$bin" gen-mix $((lines / 10)) 2 >"$work/small.replay"
+echo "memory at a tenth of the lines, which has to be the same"
+python3 "$top/bench/measure.py" 2 "$work/small.replay" "$work/a" "$work/b" -- "$top/crates/tora/out/tora" replay -- "$bin" replay
+{
+  echo 'node 3 links 2,4 dests 4'
+  echo '1 up 2'
+  echo '1 up 4'
+  echo '2 from 2 0101000000000004'
+  yes '3 from 2 0102000000000004000000000000000000000000000000000000000200000002' | head -n "$lines"
+} >"$work/one.replay"
+echo "one destination: an update that changes nothing, $lines times"
+python3 "$top/bench/measure.py" "$rounds" "$work/one.replay" "$work/a" "$work/b" -- "$top/crates/tora/out/tora" replay -- "$bin" replay

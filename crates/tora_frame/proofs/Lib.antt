@@ -1,0 +1,2 @@
+pub mod FrameFields
+pub mod FrameLaws

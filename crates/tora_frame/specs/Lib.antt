@@ -1,0 +1,2 @@
+pub mod FrameParts
+pub mod FrameGrammar

@@ -1,0 +1,216 @@
+//! Bytes to frames.
+ghost use Rattle.std.specs.Prelude.{◌≡◌, ◌≢◌, ℕ, List, [], ◌++◌, ◌+◌, ◌≤◌, ◌<◌, ◌^◌, drop, length, MatchOption, MatchBool, IfOk, OnOk, IsOk, Ok, Err};
+ghost use Rattle.tora_packet.specs.AnyPacket.{IsPacket};
+ghost use Rattle.tora_packet.specs.PacketGrammar.{u32_at, u64_at};
+ghost use Rattle.tora_frame.specs.FrameParts.{FrameParts, IsHeader, IsBody, IsFrame};
+ghost use Rattle.tora_frame.specs.FrameGrammar.{SpellsFrame, u16_at, kind_at, is_payload_length, layout_fault, header_at, header_fault, body_at, body_fault, is_bad_number, packet_inside, fault_inside, frame_at, frame_fault, frame_spelling, frame_reading};
+
+use crate::layout::{ACK, DATA, HEADER_LENGTH, HELLO, PACKET_OFFSET, VERSION};
+use crate::{Body, Frame, FrameError, GREATEST_NUMBER, Header};
+use tora_packet::Packet;
+
+#[tactic(auto, unfolding(crate::specs::FrameGrammar::u16_at))]
+fn u16_at(bytes: &[u8], at: usize) -> u16
+    requires { at + 2 ≤ length bytes.now }
+    ensures { result ≡ u16_at at bytes.now }
+{
+    let two = &bytes[at..at + 2];
+    u16::from_be_bytes([two[0], two[1]])
+}
+
+#[tactic(auto, unfolding(tora_packet::specs::PacketGrammar::u32_at))]
+fn u32_at(bytes: &[u8], at: usize) -> u32
+    requires { at + 4 ≤ length bytes.now }
+    ensures { result ≡ u32_at at bytes.now }
+{
+    let four = &bytes[at..at + 4];
+    u32::from_be_bytes([four[0], four[1], four[2], four[3]])
+}
+
+#[tactic(auto, unfolding(tora_packet::specs::PacketGrammar::u64_at))]
+fn u64_at(bytes: &[u8], at: usize) -> u64
+    requires { at + 8 ≤ length bytes.now }
+    ensures { result ≡ u64_at at bytes.now }
+{
+    let eight = &bytes[at..at + 8];
+    u64::from_be_bytes([
+        eight[0], eight[1], eight[2], eight[3], eight[4], eight[5], eight[6], eight[7],
+    ])
+}
+
+fn is_payload_length(kind: u8, len: u16) -> bool
+    ensures { result ≡ is_payload_length kind len }
+{
+    match kind {
+        HELLO => len == 0,
+        DATA => len == 24 || len == 36 || len == 48,
+        _ => len == 8,
+    }
+}
+
+/// The tests of the version, the kind and the lengths.
+#[tactic(auto, unfolding(crate::specs::FrameGrammar::layout_fault))]
+fn check_layout(bytes: &[u8]) -> Result<(), FrameError>
+    ensures exact { MatchOption (layout_fault bytes.now) (IsOk result) (λ e. result ≡ Err e) }
+    ensures header { OnOk result (28 ≤ length bytes.now) }
+    ensures count { OnOk result (kind_at bytes.now ≢ 1 → 36 ≤ length bytes.now) }
+    ensures packet { OnOk result (kind_at bytes.now ≡ 2 → 44 ≤ length bytes.now) }
+{
+    if bytes.len() < HEADER_LENGTH {
+        return Err(FrameError::Short);
+    }
+    if bytes[0] != VERSION {
+        return Err(FrameError::Version);
+    }
+    let kind = bytes[1];
+    if kind != HELLO && kind != DATA && kind != ACK {
+        return Err(FrameError::Kind);
+    }
+    let len = u16_at(bytes, 2);
+    if !is_payload_length(kind, len) {
+        return Err(FrameError::Length);
+    }
+    let len = HEADER_LENGTH + usize::from(len);
+    if bytes.len() < len {
+        return Err(FrameError::Short);
+    }
+    if bytes.len() > len {
+        return Err(FrameError::Long);
+    }
+    Ok(())
+}
+
+/// The header, and the tests of its nodes and lives.
+#[tactic(auto, unfolding(crate::specs::FrameGrammar::header_fault))]
+fn read_header(bytes: &[u8]) -> Result<Header, FrameError>
+    requires { 28 ≤ length bytes.now }
+    ensures exact { MatchOption (header_fault (kind_at bytes.now) (header_at bytes.now)) (result ≡ Ok (header_at bytes.now)) (λ e. result ≡ Err e) }
+    ensures valid { IfOk result IsHeader }
+    ensures heard { IfOk result (λ h. kind_at bytes.now ≢ 1 → 0 < h.heard) }
+{
+    let header = Header {
+        sender: u32_at(bytes, 4),
+        receiver: u32_at(bytes, 8),
+        life: u64_at(bytes, 12),
+        heard: u64_at(bytes, 20),
+    };
+    let (life, heard) = (header.life, header.heard);
+    if header.sender == 0 || header.receiver == 0 || header.sender == header.receiver {
+        return Err(FrameError::Id);
+    }
+    if life == 0 || life > GREATEST_NUMBER || heard > GREATEST_NUMBER {
+        return Err(FrameError::Life);
+    }
+    if bytes[1] != HELLO && heard == 0 {
+        return Err(FrameError::Life);
+    }
+    Ok(header)
+}
+
+/// The number and the count of a DATA frame, and the test of them.
+fn read_numbers(bytes: &[u8]) -> Result<(u64, u64), FrameError>
+    requires { 44 ≤ length bytes.now }
+    ensures exact { MatchBool (is_bad_number (u64_at 28 bytes.now) (u64_at 36 bytes.now))
+        (result ≡ Err FrameError.Number) (result ≡ Ok (u64_at 28 bytes.now, u64_at 36 bytes.now)) }
+    ensures valid { IfOk result (λ n. (0 < n.0) × (n.0 ≤ 2 ^ 62) × (n.1 ≤ 2 ^ 62)) }
+{
+    let (number, count) = (u64_at(bytes, 28), u64_at(bytes, 36));
+    if number == 0 || number > GREATEST_NUMBER || count > GREATEST_NUMBER {
+        return Err(FrameError::Number);
+    }
+    Ok((number, count))
+}
+
+/// The bytes of the packet of a DATA frame.
+fn packet_bytes(bytes: &[u8]) -> &[u8]
+    requires { 44 ≤ length bytes.now }
+    ensures { result.now ≡ drop 44 bytes.now }
+{
+    let (_, packet) = bytes.split_at(PACKET_OFFSET);
+    packet
+}
+
+/// The packet of a DATA frame, and the test of it.
+fn read_packet(bytes: &[u8]) -> Result<Packet, FrameError>
+    requires { 44 ≤ length bytes.now }
+    ensures exact { MatchOption (fault_inside bytes.now) (result ≡ Ok (packet_inside bytes.now)) (λ e. result ≡ Err e) }
+    ensures valid { IfOk result IsPacket }
+{
+    match tora_packet::decode(packet_bytes(bytes)) {
+        Ok(packet) => Ok(packet),
+        Err(error) => Err(FrameError::Packet(error)),
+    }
+}
+
+/// The body of a DATA frame, and the tests of it.
+#[tactic(auto, unfolding(crate::specs::FrameGrammar::body_fault, crate::specs::FrameGrammar::body_at))]
+fn read_data(bytes: &[u8], heard: u64) -> Result<Body, FrameError>
+    requires len { 44 ≤ length bytes.now }
+    requires kind { kind_at bytes.now ≡ 2 }
+    requires heard { 0 < heard }
+    ensures exact { MatchOption (body_fault bytes.now) (result ≡ Ok (body_at bytes.now)) (λ e. result ≡ Err e) }
+    ensures valid { IfOk result (IsBody heard) }
+{
+    let (number, count) = read_numbers(bytes)?;
+    let packet = read_packet(bytes)?;
+    Ok(Body::Data(number, count, packet))
+}
+
+/// The body of a frame whose header has no fault, and the tests of it.
+#[tactic(auto, unfolding(crate::specs::FrameGrammar::body_fault, crate::specs::FrameGrammar::body_at))]
+fn read_body(bytes: &[u8], heard: u64) -> Result<Body, FrameError>
+    requires header { 28 ≤ length bytes.now }
+    requires count { kind_at bytes.now ≢ 1 → 36 ≤ length bytes.now }
+    requires packet { kind_at bytes.now ≡ 2 → 44 ≤ length bytes.now }
+    requires heard { kind_at bytes.now ≢ 1 → 0 < heard }
+    ensures exact { MatchOption (body_fault bytes.now) (result ≡ Ok (body_at bytes.now)) (λ e. result ≡ Err e) }
+    ensures valid { IfOk result (IsBody heard) }
+{
+    match bytes[1] {
+        HELLO => Ok(Body::Hello),
+        DATA => read_data(bytes, heard),
+        _ => {
+            let count = u64_at(bytes, 28);
+            if count > GREATEST_NUMBER {
+                return Err(FrameError::Number);
+            }
+            Ok(Body::Ack(count))
+        }
+    }
+}
+
+fn read_frame(bytes: &[u8]) -> Result<Frame, FrameError>
+    ensures exact { MatchOption (frame_fault bytes.now) (result ≡ Ok (frame_at bytes.now)) (λ e. result ≡ Err e) }
+    ensures valid { IfOk result IsFrame }
+{
+    check_layout(bytes)?;
+    let header = read_header(bytes)?;
+    let body = read_body(bytes, header.heard)?;
+    Ok(Frame::of(header, body))
+}
+
+/// The frame that the bytes spell, all of the bytes. Own profile.
+///
+/// # Errors
+/// The first that stands, in this order: `Short` (under 28 bytes), `Version`, `Kind`, `Length`, `Short` (fewer bytes
+/// than the payload length says), `Long`, `Id`, `Life`, `Number`, `Packet`.
+pub fn decode(bytes: &[u8]) -> Result<Frame, FrameError>
+    // What is read is spelled so.
+    ensures found { IfOk result (SpellsFrame bytes.now) }
+    // What is spelled so is read.
+    ensures only { (frame : FrameParts) → SpellsFrame bytes.now frame → result ≡ Ok frame }
+    // Which fault it is.
+    ensures fault { MatchOption (frame_fault bytes.now) (IsOk result) (λ e. result ≡ Err e) }
+    // The three together, as one function.
+    ensures exact { result ≡ frame_reading bytes.now }
+{
+    read_frame(bytes)
+}
+
+/// Each frame has one spelling, which is read as that frame, and no spelling begins another.
+pub fn one_frame_spelling()
+    ensures one { (a b : List ℕ) (f : FrameParts) → SpellsFrame a f → SpellsFrame b f → a ≡ b }
+    ensures read { (f : FrameParts) → IsFrame f → frame_reading (frame_spelling f) ≡ Ok f }
+    ensures prefix_free { (a b rest : List ℕ) (f g : FrameParts) → SpellsFrame a f → SpellsFrame b g → a ++ rest ≡ b →
+        (rest ≡ []) × (a ≡ b) × (f ≡ g) }
+{}

@@ -1,0 +1,19 @@
+//! The layout of frames in bytes: version, kinds and lengths. Own profile.
+
+/// The version.
+pub(crate) const VERSION: u8 = 1;
+
+/// The kind of a HELLO.
+pub(crate) const HELLO: u8 = 1;
+
+/// The kind of a DATA frame.
+pub(crate) const DATA: u8 = 2;
+
+/// The kind of an ACK.
+pub(crate) const ACK: u8 = 3;
+
+/// The bytes of the header, before the payload.
+pub(crate) const HEADER_LENGTH: usize = 28;
+
+/// The bytes of a DATA frame before its packet.
+pub(crate) const PACKET_OFFSET: usize = 44;

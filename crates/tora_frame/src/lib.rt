@@ -1,0 +1,75 @@
+//! The frames of a neighbour link and their bytes.
+//!
+//! A frame carries the numbers of two lives of the link, its sender's and the one that the sender heard of its
+//! receiver. A HELLO carries no more, a DATA frame carries one numbered packet, and DATA and ACK carry a count of
+//! packets accepted. Numbers in bytes are in network byte order. No call of this crate takes memory.
+#![tactic(auto)]
+
+ghost use Rattle.std.specs.Prelude.{◌≡◌};
+ghost use Rattle.tora_frame.specs.FrameGrammar.{frame_error_number};
+
+mod decoding;
+mod encoding;
+mod layout;
+mod parts;
+
+pub use decoding::{decode, one_frame_spelling};
+pub use encoding::{LONGEST_FRAME, encode};
+pub use parts::{Body, Frame, GREATEST_NUMBER, Header};
+use thiserror::Error;
+use tora_packet::PacketError;
+
+/// Why bytes spell no frame. Own profile.
+#[derive(Clone, Copy, Debug, PartialEq, Eq, Error)]
+pub enum FrameError {
+    /// The bytes end before the frame does.
+    #[error("too few bytes")]
+    Short,
+    /// There are bytes behind the frame.
+    #[error("too many bytes")]
+    Long,
+    /// The version is not 1.
+    #[error("the version is not 1")]
+    Version,
+    /// The kind is none of 1 (HELLO), 2 (DATA) and 3 (ACK).
+    #[error("the kind is not 1, 2 or 3")]
+    Kind,
+    /// The payload length is none that the kind has.
+    #[error("the payload length is none that the kind has")]
+    Length,
+    /// The sender or the receiver is 0, or the two are equal.
+    #[error("the sender or the receiver is 0, or the two are equal")]
+    Id,
+    /// A life is out of its range.
+    #[error("a life is out of its range")]
+    Life,
+    /// The number of a packet, or a count of packets, is out of its range.
+    #[error("a number or a count is out of its range")]
+    Number,
+    /// The bytes of the packet spell none.
+    #[error("the packet is refused: {0}")]
+    Packet(#[source] PacketError),
+}
+
+impl FrameError {
+    /// The number of the error as texts print it: 1 `Short`, 2 `Long`, 3 `Version`, 4 `Kind`, 5 `Length`, 6 `Id`,
+    /// 7 `Life`, 8 `Number`, 9 `Packet`.
+    pub fn number(self) -> u8
+        ensures { result ≡ frame_error_number self }
+    {
+        match self {
+            FrameError::Short => 1,
+            FrameError::Long => 2,
+            FrameError::Version => 3,
+            FrameError::Kind => 4,
+            FrameError::Length => 5,
+            FrameError::Id => 6,
+            FrameError::Life => 7,
+            FrameError::Number => 8,
+            FrameError::Packet(_) => 9,
+        }
+    }
+}
+
+#[cfg(test)]
+mod tests;
