@@ -1,0 +1,15 @@
+pub mod Order
+pub mod Fitted
+pub mod RowLemmas
+pub mod Places
+pub mod KeptLemmas
+pub mod NumberLemmas
+pub mod OwnViews
+pub mod CoreLemmas
+pub mod SendsSteps
+pub mod ReactsWords
+pub mod ReactsOnly
+pub mod ReactsTotal
+pub mod ReactsCore
+pub mod ReactsHop
+pub mod Worked

@@ -1,0 +1,23 @@
+use Rattle.std.proofs.Common.{◌∙◌, sym, ℕ, ◌<◌}
+use Rattle.std.specs.List.{AllByRecursion}
+use Rattle.std.proofs.lemmas.List.Elements.{All-from_recursion, All-from_get_or, recursion_from_All}
+use Rattle.tora_packet.specs.PacketParts.{IsId}
+use Rattle.tora_core.specs.Numbers.{ascending}
+use Rattle.tora_core.proofs.NumberLemmas.{all-ascending}
+use Rattle.tora_core.proofs.CoreLemmas.{first_core-kept}
+use Rattle.tora_core.proofs.node.Core.new.Goals as goal
+
+pub first_views-requires-clause-destinations : goal.first_views-requires-clause-destinations
+first_views-requires-clause-destinations c =
+    let positive : ℕ → Type 0 = λ d. 0 < d in
+    rw (c.as_slice.ensures.value, c.ascending-table.ensures)
+    (All-from_recursion positive (ascending c.args.destinations.now) (all-ascending positive c.args.destinations.now (recursion_from_All positive c.args.destinations.now c.requires.destinations)))
+
+pub invariant_of-result : goal.invariant_of-result
+invariant_of-result c =
+    let ids : AllByRecursion IsId c.args.neighbours.now =
+    recursion_from_All IsId c.args.neighbours.now (All-from_get_or IsId c.args.neighbours.now 0 (λ k lt. (c.requires.neighbours k 0 lt, (c.type_inv.neighbours k).fits))) in
+    let tos : AllByRecursion IsId c.args.destinations.now =
+    recursion_from_All IsId c.args.destinations.now (All-from_get_or IsId c.args.destinations.now 0 (λ k lt. (c.requires.destinations k 0 lt, (c.type_inv.destinations k).fits))) in
+    let kept = first_core-kept c.args.me c.args.neighbours.now c.args.destinations.now (c.requires.me, c.ranges.me.fits) ids tos (sym c.core_refusal.ensures ∙ c.in_default.is) in
+    rw (c.ascending.ensures, c.new.ensures, c.in-Ok.ensures, c.as_slice.ensures.value, c.ascending-table.ensures) kept

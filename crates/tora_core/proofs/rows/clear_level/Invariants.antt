@@ -1,0 +1,7 @@
+use Rattle.std.proofs.Common.{◌≡◌, ◌++◌, map, take, drop}
+use Rattle.tora_core.specs.View.{cleared_row}
+use Rattle.tora_core.proofs.rows.clear_level.Given as goal
+
+-- the rows so far are changed, the others are not
+abbrev pub invariant-loop-row : goal.invariant-loop-row
+invariant-loop-row l = l.rows ≡ map (cleared_row l.destination l.level) (take l.row-index l.initial.rows) ++ drop l.row-index l.initial.rows

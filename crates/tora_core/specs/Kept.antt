@@ -1,0 +1,132 @@
+-- What every view and every core keeps, whatever comes in.
+use Rattle.std.specs.Prelude.{◌≡◌, ◌≢◌, ◌⊎◌, ℕ, ◌<◌, ◌≤◌, ◌^◌, true, List, [], ◌∷◌, length, map, Option, None, Some, IfSome, IsSome}
+use Rattle.std.specs.List.{AllByRecursion}
+use Rattle.tora_height.specs.Height.{IsHeightOf, destination_height}
+use Rattle.tora_packet.specs.declared.Packet.{Packet}
+use Rattle.tora_packet.specs.declared.Packet.TheVariants.{Qry, Upd, Clr}
+use Rattle.tora_packet.specs.PacketParts.{IsId, IsUpdate, IsClear, update_of, clear_of}
+use Rattle.tora_packet.specs.AnyPacket.{IsPacket}
+use Rattle.tora_core.specs.declared.Input.{Input}
+use Rattle.tora_core.specs.declared.Input.TheVariants as In
+use Rattle.tora_core.specs.declared.rows.Row.{Row}
+use Rattle.tora_core.specs.declared.destination.Broadcast.{Broadcast}
+use Rattle.tora_core.specs.declared.destination.Broadcast.TheVariants as Tell
+use Rattle.tora_core.specs.Numbers.{IsAscending}
+use Rattle.tora_core.specs.View.{View, up_neighbours, known_heights, has_downstream}
+use Rattle.tora_core.specs.Rules.{Outcome}
+use Rattle.tora_core.specs.CoreRun.{CoreView, concerns}
+
+-- ---- one view
+
+-- a row of a node's view: the entry is a height of that neighbour, and that of the destination is always its own height
+pub record IsRow (me destination : ℕ) (row : Row) : Type 0 where
+  pub other : row.neighbour ≢ me
+  pub entry : IfSome row.entry (IsHeightOf row.neighbour destination)
+  pub zero : me ≢ destination → row.neighbour ≡ destination → row.entry ≡ Some (destination_height destination)
+  pub at_destination : me ≡ destination → row.entry ≡ None
+
+-- by ascending number, each once
+abbrev pub AreAscending : List Row → Type 0
+AreAscending [] = Unit {0}
+AreAscending (row ∷ rows) = AllByRecursion (λ (other : Row). row.neighbour < other.neighbour) rows × AreAscending rows
+
+pub record IsKept (v : View) : Type 0 where
+  pub me : IsId v.me
+  pub destination : IsId v.destination
+  pub rows : AllByRecursion (IsRow v.me v.destination) v.rows
+  pub ascending : AreAscending v.rows
+  pub height : IfSome v.height (IsHeightOf v.me v.destination)
+  pub at_destination : v.me ≡ v.destination → v.height ≡ Some (destination_height v.destination)
+  pub last : v.last ≤ 2 ^ 62
+  -- the quiet flag law: a route is required only where the height and every entry are NULL
+  pub flag : v.flag ≡ true → (v.height ≡ None) × (known_heights v ≡ [])
+  -- the lower neighbour law: a node other than the destination that has a height has a lower neighbour
+  pub lower : v.me ≢ v.destination → IsSome v.height → has_downstream v ≡ true
+
+-- ---- what may come to a view, and what it broadcasts
+
+-- a packet of neighbour k for this destination
+abbrev pub IsPacketOf : ℕ → ℕ → Packet → Type 0
+IsPacketOf k destination (Qry d) = Unit {0}
+IsPacketOf k destination (Upd u) = IsHeightOf k destination u.height × (k ≢ destination)
+IsPacketOf k destination (Clr c) = IsClear c
+
+abbrev pub MayCome : View → Input → Type 0
+MayCome v (In.Need d) = Unit {0}
+MayCome v (In.LinkUp k) = IsId k × (k ≢ v.me) × AllByRecursion (λ (row : Row). row.neighbour ≢ k) v.rows
+MayCome v (In.LinkDown k) = Unit {0}
+MayCome v (In.Packet k packet) = IsPacketOf k v.destination packet
+
+-- there is room for one more neighbour
+abbrev pub HasRoom : View → Input → Type 0
+HasRoom v (In.Need d) = Unit {0}
+HasRoom v (In.LinkUp k) = IsId k × (length v.rows < 8)
+HasRoom v (In.LinkDown k) = Unit {0}
+HasRoom v (In.Packet k packet) = Unit {0}
+
+-- an update tells the view's height, and a clear erases a level that can be erased
+abbrev pub IsBroadcastOf : View → Option Broadcast → Type 0
+IsBroadcastOf v None = Unit {0}
+IsBroadcastOf v (Some Tell.Query) = Unit {0}
+IsBroadcastOf v (Some (Tell.Update height)) = (v.me ≢ v.destination) × (v.height ≡ Some height)
+IsBroadcastOf v (Some (Tell.Clear tau oid)) = IsClear (clear_of v.destination tau oid)
+
+-- an outcome whose view keeps the laws
+pub record IsKeptOutcome (o : Outcome) : Type 0 where
+  pub view : IsKept o.view
+  pub broadcast : IsBroadcastOf o.view o.broadcast
+
+-- a broadcast that makes a packet for the destination
+abbrev pub MakesPacket : ℕ → Broadcast → Type 0
+MakesPacket destination Tell.Query = IsId destination
+MakesPacket destination (Tell.Update height) = IsUpdate (update_of destination height)
+MakesPacket destination (Tell.Clear tau oid) = IsClear (clear_of destination tau oid)
+
+-- a view that keeps the laws, and an input that may come to it where it concerns it
+pub record CanTake (input : Input) (v : View) : Type 0 where
+  pub kept : IsKept v
+  pub may : concerns input v.destination ≡ true → MayCome v input × HasRoom v input
+
+-- ---- one core
+
+-- a neighbour is another node
+abbrev pub IsNeighbour : ℕ → ℕ → Type 0
+IsNeighbour me k = IsId k × (k ≢ me)
+
+-- some of the numbers, in the same order
+abbrev pub IsPart : List ℕ → List ℕ → Type 0
+IsPart [] numbers = Unit {0}
+IsPart (m ∷ part) [] = ⊥
+IsPart (m ∷ part) (n ∷ numbers) = ((m ≡ n) × IsPart part numbers) ⊎ IsPart (m ∷ part) numbers
+
+-- a view of this node over these up neighbours
+pub record IsViewOf (me : ℕ) (up : List ℕ) (v : View) : Type 0 where
+  pub owner : v.me ≡ me
+  pub neighbours : up_neighbours v ≡ up
+  pub kept : IsKept v
+
+abbrev pub destinations_of : List View → List ℕ
+destinations_of views = map (λ v. v.destination) views
+
+pub record IsCore (c : CoreView) : Type 0 where
+  pub me : IsId c.me
+  pub neighbours : AllByRecursion (IsNeighbour c.me) c.neighbours
+  pub few_neighbours : length c.neighbours ≤ 8
+  pub ascending_neighbours : IsAscending c.neighbours
+  pub up : IsPart c.up c.neighbours
+  pub views : AllByRecursion (IsViewOf c.me c.up) c.views
+  pub few_views : length c.views ≤ 16
+  pub ascending_destinations : IsAscending (destinations_of c.views)
+
+-- ---- inputs
+
+-- the parts of an input are in their ranges, as their types have it
+abbrev pub IsInput : Input → Type 0
+IsInput (In.Need d) = Unit {0}
+IsInput (In.LinkUp k) = Unit {0}
+IsInput (In.LinkDown k) = Unit {0}
+IsInput (In.Packet k packet) = IsPacket packet
+
+abbrev pub AreInputs : List (Input × ℕ) → Type 0
+AreInputs [] = Unit {0}
+AreInputs ((input, now) ∷ inputs) = IsInput input × AreInputs inputs

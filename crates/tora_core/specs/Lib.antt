@@ -1,0 +1,10 @@
+pub mod Errors
+pub mod Numbers
+pub mod View
+pub mod Heights
+pub mod Rules
+pub mod CoreRun
+pub mod Kept
+pub mod ShowText
+pub mod Reacts
+pub mod Worked

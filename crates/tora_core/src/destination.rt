@@ -1,0 +1,464 @@
+//! TORA's rules for one destination (Park and Corson 1997, section 3).
+ghost use Rattle.std.specs.Prelude.{◌≡◌, ◌<◌, length, Some, pos};
+ghost use Rattle.tora_height.specs.Height.{IsLevel, quintuple};
+ghost use Rattle.tora_packet.specs.PacketParts.{IsId};
+ghost use Rattle.tora_core.specs.View.{first_view, has_downstream, lacks_downstream, next_hop_of};
+ghost use Rattle.tora_core.specs.CoreRun.{entry_in};
+ghost use Rattle.tora_core.specs.Heights.{fitted_height, fresh_time};
+ghost use Rattle.tora_core.specs.Kept.{HasRoom, IsKept, MakesPacket, MayCome};
+ghost use Rattle.tora_core.specs.Rules.{query_broadcast, update_broadcast, joined_height, after_join, new_level, after_erase, after_link_loss, after_update_loss, propagated_level, reflected_level, link_row, on_need, on_link_up, on_link_down, on_query, on_update, on_clear, on_packet, cleared_level, outcome_at_destination, outcome_elsewhere, outcome_of, packet_of, packet_sent, view_after};
+
+use crate::Input;
+use crate::rows::{
+    Row, all_at, are_null, clear_level, entry_of, erase_all, greatest_level, has_downstream,
+    insert_row, is_entry_at, is_told, least_delta, least_height, next_hop, remove_row, set_entry,
+    tell_all, time_after_all,
+};
+use arrayvec::ArrayVec;
+use std::marker::Model;
+use tora_height::{Entry, Height, Id, Level};
+use tora_packet::{Clear, Packet, Query, Update};
+
+/// What is broadcast of a destination.
+#[derive(Clone, Copy, Debug, PartialEq, Eq)]
+pub enum Broadcast {
+    /// A route is required.
+    Query,
+    /// The own height.
+    Update(Height),
+    /// The time tag and the originator of the reflected level that is erased.
+    Clear(u64, Id),
+}
+
+/// A computed height, or NULL where a part of it is out of range.
+fn fitted(tau: u64, oid: Id, r: u8, delta: i32, id: Id) -> Entry
+    ensures { result ≡ fitted_height (quintuple tau oid r delta id) }
+{
+    Height::new(tau, oid, r, delta, id).ok()
+}
+
+/// What a node knows of one destination.
+#[derive(Drop)]
+pub struct Destination {
+    me: Id,
+    destination: Id,
+    height: Entry,
+    flag: bool,
+    rows: ArrayVec<Row, 8>,
+    last: u64,
+}
+
+impl Model for Destination {
+    ghost use Rattle.std.specs.Prelude.{◌≤◌, ◌^◌};
+    ghost use Rattle.tora_packet.specs.PacketParts.{IsId};
+    ghost use Rattle.tora_core.specs.View.{View};
+
+    ghost Value = { View };
+
+    ghost view = { λ d. record { me = d.me; destination = d.destination; height = d.height; flag = d.flag; rows = d.rows.items; last = d.last } };
+
+    ghost invariant = { λ d. IsId d.me × (d.last ≤ 2 ^ 62) };
+}
+
+impl Destination {
+    /// The first view of a destination.
+    pub fn new(me: Id, destination: Id) -> Destination
+        requires me { 0 < me }
+        requires destination { 0 < destination }
+        ensures { result ≡ first_view me destination }
+    {
+        Destination {
+            me,
+            destination,
+            height: if me == destination {
+                Some(Height::zero(destination))
+            } else {
+                None
+            },
+            flag: false,
+            rows: ArrayVec::new(),
+            last: 0,
+        }
+    }
+
+    pub fn destination(&self) -> Id
+        ensures { result ≡ self.now.destination }
+    {
+        self.destination
+    }
+
+    pub fn height(&self) -> Entry
+        ensures { result ≡ self.now.height }
+    {
+        self.height
+    }
+
+    pub fn flag(&self) -> bool
+        ensures { result ≡ self.now.flag }
+    {
+        self.flag
+    }
+
+    pub fn rows(&self) -> &[Row]
+        ensures { result.now ≡ self.now.rows }
+    {
+        self.rows.as_slice()
+    }
+
+    /// The entry of a neighbour whose link is up.
+    pub fn entry(&self, k: Id) -> Option<Entry>
+        ensures { result ≡ entry_in k self.now }
+    {
+        entry_of(k, self.rows.as_slice())
+    }
+
+    /// The downstream neighbour with the lowest entry.
+    pub fn next_hop(&self) -> Option<Id>
+        ensures { result ≡ next_hop_of self.now }
+    {
+        next_hop(self.height, self.rows.as_slice())
+    }
+
+    /// Takes an input that concerns the destination, and answers the packet to every up neighbour.
+    pub fn step(&mut self, input: &Input, now: u64) -> Option<Packet>
+        requires kept { IsKept self.old }
+        requires may { MayCome self.old input.now }
+        requires room { HasRoom self.old input.now }
+        ensures view { self.new ≡ view_after self.old input.now now }
+        ensures packet { result ≡ packet_sent self.old input.now now }
+    {
+        let destination = self.destination;
+        match self.react(input, now) {
+            None => None,
+            Some(broadcast) => Some(packet_of(destination, broadcast)),
+        }
+    }
+
+    fn react(&mut self, input: &Input, now: u64) -> Option<Broadcast>
+        requires { HasRoom self.old input.now }
+        ensures view { self.new ≡ (outcome_of self.old input.now now).view }
+        ensures broadcast { result ≡ (outcome_of self.old input.now now).broadcast }
+    {
+        if self.me == self.destination {
+            self.react_at_destination(input);
+            None
+        } else {
+            self.react_elsewhere(input, now)
+        }
+    }
+
+    /// At the destination itself only the set of neighbours changes.
+    fn react_at_destination(&mut self, input: &Input)
+        requires { HasRoom self.old input.now }
+        ensures { self.new ≡ (outcome_at_destination self.old input.now).view }
+    {
+        match input {
+            Input::Need(_) => {}
+            Input::LinkUp(k) => insert_row(&mut self.rows, link_row(*k, None)),
+            Input::LinkDown(k) => remove_row(&mut self.rows, *k),
+            Input::Packet(_, _) => {}
+        }
+    }
+
+    fn react_elsewhere(&mut self, input: &Input, now: u64) -> Option<Broadcast>
+        requires { HasRoom self.old input.now }
+        ensures view { self.new ≡ (outcome_elsewhere self.old input.now now).view }
+        ensures broadcast { result ≡ (outcome_elsewhere self.old input.now now).broadcast }
+    {
+        match input {
+            Input::Need(_) => self.on_need(),
+            Input::LinkUp(k) => self.on_link_up(*k),
+            Input::LinkDown(k) => self.on_link_down(*k, now),
+            Input::Packet(k, packet) => self.on_packet(*k, packet, now),
+        }
+    }
+
+    fn on_packet(&mut self, k: Id, packet: &Packet, now: u64) -> Option<Broadcast>
+        ensures view { self.new ≡ (on_packet self.old k packet.now now).view }
+        ensures broadcast { result ≡ (on_packet self.old k packet.now now).broadcast }
+    {
+        match packet {
+            Packet::Qry(_) => self.on_query(k),
+            Packet::Upd(update) => self.on_update(k, update.height(), now),
+            Packet::Clr(clear) => self.on_clear(cleared_level(clear), now),
+        }
+    }
+
+    fn on_need(&mut self) -> Option<Broadcast>
+        ensures view { self.new ≡ (on_need self.old).view }
+        ensures broadcast { result ≡ (on_need self.old).broadcast }
+    {
+        if are_null(self.rows.as_slice()) && !self.flag {
+            self.broadcast_query()
+        } else {
+            None
+        }
+    }
+
+    fn on_link_up(&mut self, k: Id) -> Option<Broadcast>
+        requires known { 0 < k }
+        requires room { length self.old.rows < 8 }
+        ensures view { self.new ≡ (on_link_up self.old k).view }
+        ensures broadcast { result ≡ (on_link_up self.old k).broadcast }
+    {
+        if k == self.destination {
+            insert_row(&mut self.rows, link_row(k, Some(Height::zero(k))));
+            if self.flag { self.join() } else { None }
+        } else {
+            insert_row(&mut self.rows, link_row(k, None));
+            if self.flag {
+                self.broadcast_query()
+            } else {
+                None
+            }
+        }
+    }
+
+    fn on_link_down(&mut self, k: Id, now: u64) -> Option<Broadcast>
+        ensures view { self.new ≡ (on_link_down self.old k now).view }
+        ensures broadcast { result ≡ (on_link_down self.old k now).broadcast }
+    {
+        remove_row(&mut self.rows, k);
+        if self.lacks_downstream() {
+            self.after_link_loss(now)
+        } else {
+            None
+        }
+    }
+
+    fn on_query(&mut self, k: Id) -> Option<Broadcast>
+        ensures view { self.new ≡ (on_query self.old k).view }
+        ensures broadcast { result ≡ (on_query self.old k).broadcast }
+    {
+        if !self.has_downstream() {
+            if !self.flag {
+                self.broadcast_query()
+            } else {
+                None
+            }
+        } else if self.height.is_none() {
+            self.join()
+        } else if !is_told(k, self.rows.as_slice()) {
+            self.broadcast_update()
+        } else {
+            None
+        }
+    }
+
+    fn on_update(&mut self, k: Id, height: Height, now: u64) -> Option<Broadcast>
+        ensures view { self.new ≡ (on_update self.old k height now).view }
+        ensures broadcast { result ≡ (on_update self.old k height now).broadcast }
+    {
+        set_entry(k, height, self.rows.as_mut_slice());
+        if self.flag {
+            self.join()
+        } else if self.lacks_downstream() {
+            self.after_update_loss(now)
+        } else {
+            None
+        }
+    }
+
+    fn on_clear(&mut self, level: Level, now: u64) -> Option<Broadcast>
+        ensures view { self.new ≡ (on_clear self.old level now).view }
+        ensures broadcast { result ≡ (on_clear self.old level now).broadcast }
+    {
+        if is_entry_at(level, self.height) {
+            return self.erase(level);
+        }
+        clear_level(self.destination, level, self.rows.as_mut_slice());
+        if self.lacks_downstream() {
+            self.after_link_loss(now)
+        } else {
+            None
+        }
+    }
+
+    fn has_downstream(&self) -> bool
+        ensures { result ≡ has_downstream self.now }
+    {
+        has_downstream(self.height, self.rows.as_slice())
+    }
+
+    fn lacks_downstream(&self) -> bool
+        ensures { result ≡ lacks_downstream self.now }
+    {
+        self.height.is_some() && !self.has_downstream()
+    }
+
+    /// From now on a route is required.
+    fn broadcast_query(&mut self) -> Option<Broadcast>
+        ensures view { self.new ≡ (query_broadcast self.old).view }
+        ensures broadcast { result ≡ (query_broadcast self.old).broadcast }
+    {
+        self.flag = true;
+        Some(Broadcast::Query)
+    }
+
+    /// Tells the height to every up neighbour, where there is one.
+    fn broadcast_update(&mut self) -> Option<Broadcast>
+        ensures view { self.new ≡ (update_broadcast self.old).view }
+        ensures broadcast { result ≡ (update_broadcast self.old).broadcast }
+    {
+        let height = self.height?;
+        tell_all(self.rows.as_mut_slice());
+        Some(Broadcast::Update(height))
+    }
+
+    /// Takes the height one above the least entry.
+    #[tactic(auto, unfolding(crate::specs::Rules::after_join))]
+    fn join(&mut self) -> Option<Broadcast>
+        ensures view { self.new ≡ (after_join self.old).view }
+        ensures broadcast { result ≡ (after_join self.old).broadcast }
+    {
+        self.height = self.joined_height();
+        self.flag = false;
+        self.broadcast_update()
+    }
+
+    fn joined_height(&self) -> Entry
+        ensures { result ≡ joined_height self.now }
+    {
+        match least_height(self.rows.as_slice()) {
+            None => None,
+            Some(low) => fitted(low.tau(), low.oid(), low.r(), low.delta() + 1, self.me),
+        }
+    }
+
+    /// The last downstream link was lost by a link failure or a clear.
+    #[tactic(auto, unfolding(crate::specs::Rules::after_link_loss))]
+    fn after_link_loss(&mut self, now: u64) -> Option<Broadcast>
+        ensures view { self.new ≡ (after_link_loss self.old now).view }
+        ensures broadcast { result ≡ (after_link_loss self.old now).broadcast }
+    {
+        if are_null(self.rows.as_slice()) {
+            self.height = None;
+            return None;
+        }
+        self.define_level(now)
+    }
+
+    /// The last downstream link was lost by an update.
+    #[tactic(auto, unfolding(crate::specs::Rules::after_update_loss))]
+    fn after_update_loss(&mut self, now: u64) -> Option<Broadcast>
+        ensures view { self.new ≡ (after_update_loss self.old now).view }
+        ensures broadcast { result ≡ (after_update_loss self.old now).broadcast }
+    {
+        let Some(level) = greatest_level(self.rows.as_slice()) else {
+            self.height = None;
+            return None;
+        };
+        if !all_at(level, self.rows.as_slice()) {
+            return self.propagate(level);
+        }
+        if level.r == 0 {
+            return self.reflect(level);
+        }
+        if level.oid == self.me {
+            return self.erase(level);
+        }
+        self.define_level(now)
+    }
+
+    /// A time tag after all that the node generated and knows.
+    fn fresh_time(&self, now: u64) -> u64
+        ensures { result ≡ fresh_time self.now now }
+    {
+        let own = match self.height {
+            None => 0,
+            Some(height) => height.tau() + 1,
+        };
+        let known = own.max(time_after_all(self.rows.as_slice()));
+        let later = (self.last + 1).max(known);
+        now.max(1u64.max(later))
+    }
+
+    /// Defines a new reference level.
+    #[tactic(auto, unfolding(crate::specs::Rules::new_level))]
+    fn define_level(&mut self, now: u64) -> Option<Broadcast>
+        ensures view { self.new ≡ (new_level self.old now).view }
+        ensures broadcast { result ≡ (new_level self.old now).broadcast }
+    {
+        let time = self.fresh_time(now);
+        self.height = fitted(time, self.me, 0, 0, self.me);
+        if let Some(height) = self.height {
+            self.last = height.tau();
+        }
+        self.broadcast_update()
+    }
+
+    /// Propagates the greatest level of the entries.
+    fn propagate(&mut self, level: Level) -> Option<Broadcast>
+        ensures view { self.new ≡ (propagated_level self.old level).view }
+        ensures broadcast { result ≡ (propagated_level self.old level).broadcast }
+    {
+        self.height = match least_delta(level, self.rows.as_slice()) {
+            None => None,
+            Some(delta) => fitted(level.tau, level.oid, level.r, delta - 1, self.me),
+        };
+        self.broadcast_update()
+    }
+
+    /// Reflects the level that all entries are at.
+    fn reflect(&mut self, level: Level) -> Option<Broadcast>
+        requires { IsLevel level }
+        ensures view { self.new ≡ (reflected_level self.old level).view }
+        ensures broadcast { result ≡ (reflected_level self.old level).broadcast }
+    {
+        self.height = reflected(level, self.me);
+        self.broadcast_update()
+    }
+
+    /// Gives up the height and every entry but that of the destination.
+    #[tactic(auto, unfolding(crate::specs::Rules::after_erase))]
+    fn erase(&mut self, level: Level) -> Option<Broadcast>
+        ensures view { self.new ≡ (after_erase self.old level.tau level.oid).view }
+        ensures broadcast { result ≡ (after_erase self.old level.tau level.oid).broadcast }
+    {
+        self.height = None;
+        erase_all(self.destination, self.rows.as_mut_slice());
+        Some(Broadcast::Clear(level.tau, level.oid))
+    }
+}
+
+/// The height of a node that reflects a level.
+fn reflected(level: Level, me: Id) -> Entry
+    requires level { IsLevel level }
+    requires me { 0 < me }
+    ensures { result ≡ Some (quintuple level.tau level.oid 1 (pos 0) me) }
+{
+    fitted(level.tau, level.oid, 1, 0, me)
+}
+
+/// The reflected level that a clear erases.
+fn cleared_level(clear: &Clear) -> Level
+    ensures { result ≡ cleared_level clear.now.tau clear.now.oid }
+{
+    Level {
+        tau: clear.tau(),
+        oid: clear.oid(),
+        r: 1,
+    }
+}
+
+fn link_row(k: Id, entry: Entry) -> Row
+    ensures { result ≡ link_row k entry }
+{
+    Row {
+        neighbour: k,
+        entry,
+        told: false,
+    }
+}
+
+/// The packet that a broadcast sends.
+fn packet_of(destination: Id, broadcast: Broadcast) -> Packet
+    requires { MakesPacket destination broadcast }
+    ensures { result ≡ packet_of destination broadcast }
+{
+    match broadcast {
+        Broadcast::Query => Packet::Qry(Query::of(destination)),
+        Broadcast::Update(height) => Packet::Upd(Update::of(destination, height)),
+        Broadcast::Clear(tau, oid) => Packet::Clr(Clear::of(destination, tau, oid)),
+    }
+}

@@ -1,0 +1,24 @@
+//! What TORA's rules keep.
+ghost use Rattle.std.specs.Prelude.{◌≡◌, List, None, ℕ};
+ghost use Rattle.std.specs.List.{AllByRecursion};
+ghost use Rattle.tora_packet.specs.PacketParts.{IsId};
+ghost use Rattle.tora_core.specs.declared.Input.{Input};
+ghost use Rattle.tora_core.specs.View.{View, first_view};
+ghost use Rattle.tora_core.specs.Rules.{outcome_of};
+ghost use Rattle.tora_core.specs.CoreRun.{core_after_all, core_refusal, first_core};
+ghost use Rattle.tora_core.specs.Kept.{AreInputs, IsCore, IsKept, IsKeptOutcome, MayCome};
+
+/// Whatever comes in, a view keeps its laws: a route is required only where the height and every entry are NULL, and a
+/// node other than the destination that has a height has a lower neighbour. What is broadcast is a packet for the
+/// destination.
+pub fn rules_are_kept()
+    ensures first { (me destination : ℕ) → IsId me → IsId destination → IsKept (first_view me destination) }
+    ensures next { (v : View) (input : Input) (now : ℕ) → IsKept v → MayCome v input → IsKeptOutcome (outcome_of v input now) }
+{}
+
+/// Every view of a core keeps the laws, over every run of inputs from the first core on, of any length, with any ticks,
+/// whatever is refused on the way.
+pub fn runs_are_kept()
+    ensures { (me : ℕ) (neighbours destinations : List ℕ) (inputs : List (Input × ℕ)) → IsId me → AllByRecursion IsId neighbours → AllByRecursion IsId destinations
+        → core_refusal me neighbours destinations ≡ None → AreInputs inputs → IsCore (core_after_all (first_core me neighbours destinations) inputs) }
+{}

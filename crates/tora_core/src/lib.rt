@@ -1,0 +1,47 @@
+//! TORA's rules for the destinations of one node.
+//!
+//! A core keeps a view of each destination of its table: the node's own height, whether a route is required, and the
+//! heights that its neighbours told. It takes inputs, each with the tick of 100 ms at which it came, and answers the
+//! packets that go to every neighbour whose link is up (Park and Corson 1997, section 3; where a query is answered and
+//! which entries a clear takes are this project's own profile). Only a new core and its text take memory.
+#![tactic(auto)]
+
+mod destination;
+mod errors;
+mod laws;
+mod node;
+mod numbers;
+mod relation;
+mod rows;
+mod show;
+mod table;
+
+use arrayvec::ArrayVec;
+pub use errors::{CoreError, StepError};
+pub use laws::{rules_are_kept, runs_are_kept};
+pub use node::Core;
+pub use relation::{
+    accepted_inputs_react, rules_are_the_relation, words_are_computed, worked_rows_hold,
+};
+use tora_height::Id;
+use tora_packet::Packet;
+
+/// What a core takes in.
+#[derive(Clone, Copy, Debug, PartialEq, Eq)]
+pub enum Input {
+    /// The link to a neighbour came up.
+    LinkUp(Id),
+    /// The link to a neighbour went down.
+    LinkDown(Id),
+    /// A packet of a neighbour.
+    Packet(Id, Packet),
+    /// A route to a destination is needed.
+    Need(Id),
+}
+
+/// The packets that one input broadcasts, at most one for each destination, by ascending destination. Each goes to
+/// every neighbour whose link is up after the input.
+pub type Sends = ArrayVec<Packet, 16>;
+
+#[cfg(test)]
+mod tests;

@@ -1,0 +1,291 @@
+//! The core of a node.
+ghost use Rattle.std.specs.Prelude.{◌≡◌, ◌<◌, ℕ, All, IfErr, IfNone, IfOk, MatchOption, None, OnErr, OnOk, option_copied, IsOk, string_bytes};
+ghost use Rattle.tora_core.specs.CoreRun.{core_after, core_refusal, entry_of, first_core, flag_of, height_of, hop_of, refusal_of, sends_of, view_of};
+ghost use Rattle.tora_core.specs.Numbers.{has_number};
+ghost use Rattle.tora_core.specs.Kept.{IsCore, IsInput};
+ghost use Rattle.tora_core.specs.ShowText.{show_text};
+ghost use Rattle.tora_core.specs.CoreRun.{is_from, up_after};
+ghost use Rattle.arrayvec.specs.ArrayVec.{array_vec_len};
+ghost use Rattle.tora_packet.specs.AnyPacket.{IsPacket};
+
+use crate::destination::Destination;
+use crate::errors::{CoreError, StepError};
+use crate::numbers::{ascending, has_number, has_repeat, insert_number, remove_number};
+use crate::show::text_of;
+use crate::table::{first_views, has_destination, place_of, step};
+use crate::{Input, Sends};
+use arrayvec::ArrayVec;
+use std::alloc::Global;
+use std::marker::Model;
+use tora_height::{Entry, Id};
+use tora_packet::Packet;
+
+/// The most neighbours of a node.
+const MOST_NEIGHBOURS: usize = 8;
+
+/// The most destinations of a table.
+const MOST_DESTINATIONS: usize = 16;
+
+/// The core of a node: its links, and its view of each destination of its table.
+///
+/// A core takes inputs by `step`, one after the other, each with the tick at which it came. What it keeps, whatever
+/// comes in: a route is required only where the height and every entry are NULL, and a node other than the destination
+/// that has a height has a lower neighbour.
+#[derive(Drop)]
+pub struct Core {
+    me: Id,
+    neighbours: ArrayVec<Id, 8>,
+    up: ArrayVec<Id, 8>,
+    views: Vec<Destination>,
+}
+
+impl Model for Core {
+    ghost use Rattle.tora_core.specs.CoreRun.{CoreView};
+    ghost use Rattle.tora_core.specs.Kept.{IsCore};
+
+    ghost Value = { CoreView };
+
+    ghost view = { λ c. record { me = c.me; neighbours = c.neighbours.items; up = c.up.items; views = c.views.items } };
+
+    ghost invariant = { λ c. IsCore (record { me = c.me; neighbours = c.neighbours.items; up = c.up.items; views = c.views.items }) };
+}
+
+impl Core {
+    /// The core of node `me`, with its configured neighbours and the destinations of its table: no link is up, and no
+    /// height is known but that of `me` for itself.
+    ///
+    /// There are at most 8 neighbours and 16 destinations, in any order, none of them 0; `me` may be a destination.
+    ///
+    /// # Errors
+    /// In this order: `TooMany` of either list, `Repeated` within one list, `OwnId` where `me` is among the neighbours,
+    /// `Memory`.
+    pub fn new(
+        alloc: Global,
+        me: Id,
+        neighbours: &[Id],
+        destinations: &[Id],
+    ) -> Result<Core, CoreError>
+        requires me { 0 < me }
+        requires neighbours { All (λ k. 0 < k) neighbours.now }
+        requires destinations { All (λ d. 0 < d) destinations.now }
+        ensures value { IfOk result (λ core. core ≡ first_core me neighbours.now destinations.now) }
+        ensures accepted { OnOk result (core_refusal me neighbours.now destinations.now ≡ None) }
+        ensures refused { MatchOption (core_refusal me neighbours.now destinations.now)
+            (IfErr result (λ e. e ≡ CoreError.Memory)) (λ e. result ≡ Err e) }
+        ensures memory { result ≡ Err CoreError.Memory → core_refusal me neighbours.now destinations.now ≡ None }
+    {
+        if let Some(error) = core_refusal(me, neighbours, destinations) {
+            return Err(error);
+        }
+        let table = ascending::<MOST_DESTINATIONS>(destinations);
+        let Ok(views) = first_views(alloc, me, table.as_slice()) else {
+            return Err(CoreError::Memory);
+        };
+        Ok(Core {
+            me,
+            neighbours: ascending(neighbours),
+            up: ArrayVec::new(),
+            views,
+        })
+    }
+
+    /// The node.
+    pub fn me(&self) -> Id
+        ensures value { result ≡ self.now.me }
+        ensures kept { IsCore self.now }
+    {
+        self.me
+    }
+
+    /// The configured neighbours, in ascending order.
+    pub fn neighbours(&self) -> &[Id]
+        ensures { result.now ≡ self.now.neighbours }
+    {
+        self.neighbours.as_slice()
+    }
+
+    /// Takes an input in at a tick, and answers the packets to every up neighbour.
+    ///
+    /// `now` is the tick of 100 ms at which the input came. An input that is refused changes nothing. It takes no
+    /// memory.
+    ///
+    /// # Errors
+    /// In this order: `UnknownNeighbour`, `AlreadyUp` (of `LinkUp`), `NotUp` (of `LinkDown` and `Packet`),
+    /// `WrongSender` (of an update), `UnknownDestination` (of `Need` alone; a packet for such a destination changes
+    /// nothing).
+    pub fn step(&mut self, input: Input, now: u64) -> Result<Sends, StepError>
+        ensures refused { MatchOption (refusal_of self.old input) (IsOk result) (λ e. result ≡ Err e) }
+        ensures unchanged { OnErr result (self.new ≡ self.old) }
+        ensures core { self.new ≡ core_after self.old input now }
+        ensures sends { IfOk result (λ sends. sends.items ≡ sends_of self.old input now) }
+    {
+        self.take(&input, now)
+    }
+
+    fn take(&mut self, input: &Input, now: u64) -> Result<Sends, StepError>
+        ensures refused { MatchOption (refusal_of self.old input.now) (IsOk result) (λ e. result ≡ Err e) }
+        ensures core { self.new ≡ core_after self.old input.now now }
+        ensures sends { IfOk result (λ sends. sends.items ≡ sends_of self.old input.now now) }
+    {
+        if let Some(error) = self.refusal(input) {
+            return Err(error);
+        }
+        let sends = step(&mut self.views, input, now);
+        note(input, &mut self.up);
+        Ok(sends)
+    }
+
+    /// Why an input is refused, if it is.
+    fn refusal(&self, input: &Input) -> Option<StepError>
+        ensures value { result ≡ refusal_of self.now input.now }
+        ensures valid { IfNone result (IsInput input.now) }
+    {
+        match input {
+            Input::Need(d) => {
+                if has_destination(*d, &self.views) {
+                    None
+                } else {
+                    Some(StepError::UnknownDestination)
+                }
+            }
+            Input::LinkUp(k) => {
+                if !self.has_neighbour(*k) {
+                    Some(StepError::UnknownNeighbour)
+                } else if self.is_up(*k) {
+                    Some(StepError::AlreadyUp)
+                } else {
+                    None
+                }
+            }
+            Input::LinkDown(k) => {
+                if !self.has_neighbour(*k) {
+                    Some(StepError::UnknownNeighbour)
+                } else if !self.is_up(*k) {
+                    Some(StepError::NotUp)
+                } else {
+                    None
+                }
+            }
+            Input::Packet(k, packet) => {
+                if !self.has_neighbour(*k) {
+                    Some(StepError::UnknownNeighbour)
+                } else if !self.is_up(*k) {
+                    Some(StepError::NotUp)
+                } else if !is_from(*k, packet) {
+                    Some(StepError::WrongSender)
+                } else {
+                    None
+                }
+            }
+        }
+    }
+
+    fn has_neighbour(&self, k: Id) -> bool
+        ensures { result ≡ has_number k self.now.neighbours }
+    {
+        has_number(k, self.neighbours.as_slice())
+    }
+
+    fn is_up(&self, k: Id) -> bool
+        ensures { result ≡ has_number k self.now.up }
+    {
+        has_number(k, self.up.as_slice())
+    }
+
+    /// The view of a destination.
+    fn view(&self, d: Id) -> Option<&Destination>
+        ensures { option_copied result ≡ view_of self.now d }
+    {
+        self.views.iter().find(|view| view.destination() == d)
+    }
+
+    /// The own height for a destination, `None` where the table does not have it.
+    pub fn height(&self, d: Id) -> Option<Entry>
+        ensures { result ≡ height_of self.now d }
+    {
+        self.view(d).map(|view| view.height())
+    }
+
+    /// The height that neighbour `k` told for a destination, `None` where the table does not have it or the link is not
+    /// up.
+    pub fn entry(&self, d: Id, k: Id) -> Option<Entry>
+        ensures { result ≡ entry_of self.now d k }
+    {
+        self.view(d).and_then(|view| view.entry(k))
+    }
+
+    /// Whether a route to the destination is required; not so where the table does not have it.
+    pub fn flag(&self, d: Id) -> bool
+        ensures { result ≡ flag_of self.now d }
+    {
+        self.view(d).map_or(false, |view| view.flag())
+    }
+
+    /// The next hop to a destination: the downstream neighbour with the lowest entry, `None` where no neighbour is
+    /// downstream or the table does not have the destination.
+    pub fn next_hop(&self, d: Id) -> Option<Id>
+        ensures { result ≡ hop_of self.now d }
+    {
+        self.view(d).and_then(|view| view.next_hop())
+    }
+
+    /// The core as text: for each destination in ascending order the line `to D height H flag F hop K`, and then for
+    /// each neighbour whose link is up, in ascending order, the line `via K H S`.
+    ///
+    /// A height is written `(tau,oid,r,delta,id)`, NULL and an absent next hop `-`; F is 1 where a route is required and
+    /// otherwise 0; S is `up`, `down` or `none` for the direction of the link. Each line ends with a line feed.
+    ///
+    /// # Errors
+    /// `Memory`.
+    pub fn show(&self, alloc: Global) -> Result<String, CoreError>
+        ensures text { IfOk result (λ text. string_bytes text ≡ show_text self.now) }
+        ensures memory { IfErr result (λ e. e ≡ CoreError.Memory) }
+    {
+        match text_of(alloc, &self.views) {
+            Ok(text) => Ok(text),
+            Err(_) => Err(CoreError::Memory),
+        }
+    }
+}
+
+/// Notes a link that came up or went down.
+fn note(input: &Input, up: &mut ArrayVec<Id, 8>)
+    requires { (k : ℕ) → input.now ≡ Input.LinkUp k → array_vec_len up.old < 8 }
+    ensures { up.new.items ≡ up_after up.old.items input.now }
+{
+    match input {
+        Input::LinkUp(k) => insert_number(up, *k),
+        Input::LinkDown(k) => remove_number(up, *k),
+        Input::Packet(_, _) => {}
+        Input::Need(_) => {}
+    }
+}
+
+/// Why there is no core of these, but for want of memory.
+fn core_refusal(me: Id, neighbours: &[Id], destinations: &[Id]) -> Option<CoreError>
+    ensures { result ≡ core_refusal me neighbours.now destinations.now }
+{
+    if neighbours.len() > MOST_NEIGHBOURS || destinations.len() > MOST_DESTINATIONS {
+        return Some(CoreError::TooMany);
+    }
+    if has_repeat(neighbours) || has_repeat(destinations) {
+        return Some(CoreError::Repeated);
+    }
+    if has_number(me, neighbours) {
+        return Some(CoreError::OwnId);
+    }
+    None
+}
+
+/// Whether an update is of the height of the neighbour that sent it.
+fn is_from(k: Id, packet: &Packet) -> bool
+    ensures value { result ≡ is_from k packet.now }
+    ensures valid { IsPacket packet.now }
+{
+    let _destination = packet.destination();
+    match packet {
+        Packet::Qry(_) => true,
+        Packet::Upd(update) => update.height().id() == k,
+        Packet::Clr(_) => true,
+    }
+}

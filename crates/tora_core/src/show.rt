@@ -1,0 +1,130 @@
+//! The text that shows a core.
+ghost use Rattle.std.specs.Prelude.{◌≡◌, ◌++◌, IfOk, OnOk, string_bytes};
+ghost use Rattle.std.specs.List.{flat_map};
+ghost use Rattle.tora_core.specs.ShowText.{direction_text, flag_text, to_line, via_line, view_text};
+
+use crate::destination::Destination;
+use crate::rows::Row;
+use std::alloc::{AllocError, Global};
+use std::fmt;
+use tora_height::{Direction, Entry, Height, Id, status};
+
+/// A height as `(tau,oid,r,delta,id)`, and NULL as `-`.
+#[derive(Clone, Copy)]
+struct HeightText(Entry);
+
+impl fmt::Display for HeightText {
+    ghost use Rattle.std.specs.Prelude.{Some};
+    ghost use Rattle.tora_core.specs.ShowText.{height_text};
+
+    ghost output = { λ t. Some (height_text t.0) };
+
+    fn fmt<W: fmt::Write>(&self, f: &mut fmt::Formatter<W>) -> fmt::Result {
+        match self.0 {
+            None => write!(f, "-"),
+            Some(height) => {
+                let level = LevelText(height);
+                let delta = height.delta();
+                let id = height.id();
+                write!(f, "({level},{delta},{id})")
+            }
+        }
+    }
+}
+
+/// The reference level of a height as `tau,oid,r`.
+#[derive(Clone, Copy)]
+struct LevelText(Height);
+
+impl fmt::Display for LevelText {
+    ghost use Rattle.std.specs.Prelude.{Some};
+    ghost use Rattle.tora_core.specs.ShowText.{level_text};
+
+    ghost output = { λ t. Some (level_text t.0) };
+
+    fn fmt<W: fmt::Write>(&self, f: &mut fmt::Formatter<W>) -> fmt::Result {
+        let tau = self.0.tau();
+        let oid = self.0.oid();
+        let r = self.0.r();
+        write!(f, "{tau},{oid},{r}")
+    }
+}
+
+/// A next hop by its number, and none as `-`.
+#[derive(Clone, Copy)]
+struct HopText(Option<Id>);
+
+impl fmt::Display for HopText {
+    ghost use Rattle.std.specs.Prelude.{Some};
+    ghost use Rattle.tora_core.specs.ShowText.{hop_text};
+
+    ghost output = { λ t. Some (hop_text t.0) };
+
+    fn fmt<W: fmt::Write>(&self, f: &mut fmt::Formatter<W>) -> fmt::Result {
+        match self.0 {
+            None => write!(f, "-"),
+            Some(hop) => write!(f, "{hop}"),
+        }
+    }
+}
+
+fn flag_text(flag: bool) -> &'static str
+    ensures { result.now ≡ flag_text flag }
+{
+    if flag { "1" } else { "0" }
+}
+
+fn direction_text(direction: Direction) -> &'static str
+    ensures { result.now ≡ direction_text direction }
+{
+    match direction {
+        Direction::Up => "up",
+        Direction::Down => "down",
+        Direction::Undirected => "none",
+    }
+}
+
+#[tactic(auto, unfolding(crate::specs::ShowText::to_line))]
+fn write_to_line(out: &mut String, view: &Destination) -> Result<(), AllocError>
+    ensures { OnOk result (string_bytes out.new ≡ string_bytes out.old ++ to_line view.now) }
+{
+    let destination = view.destination();
+    let height = HeightText(view.height());
+    let flag = flag_text(view.flag());
+    let hop = HopText(view.next_hop());
+    writeln!(
+        out,
+        "to {destination} height {height} flag {flag} hop {hop}"
+    )
+}
+
+#[tactic(auto, unfolding(crate::specs::ShowText::via_line))]
+fn write_via_line(out: &mut String, view: &Destination, row: &Row) -> Result<(), AllocError>
+    ensures { OnOk result (string_bytes out.new ≡ string_bytes out.old ++ via_line view.now.height row.now) }
+{
+    let neighbour = row.neighbour;
+    let entry = HeightText(row.entry);
+    let direction = direction_text(status(view.height(), row.entry));
+    writeln!(out, "via {neighbour} {entry} {direction}")
+}
+
+fn write_view(out: &mut String, view: &Destination) -> Result<(), AllocError>
+    ensures { OnOk result (string_bytes out.new ≡ string_bytes out.old ++ view_text view.now) }
+{
+    write_to_line(out, view)?;
+    for row in view.rows() {
+        write_via_line(out, view, row)?;
+    }
+    Ok(())
+}
+
+/// The lines of all views.
+pub fn text_of(alloc: Global, views: &[Destination]) -> Result<String, AllocError>
+    ensures { IfOk result (λ text. string_bytes text ≡ flat_map view_text views.now) }
+{
+    let mut text = String::new(alloc);
+    for view in views {
+        write_view(&mut text, view)?;
+    }
+    Ok(text)
+}

@@ -1,0 +1,398 @@
+//! Worked runs of the rules, and texts.
+ghost use Rattle.std.specs.Prelude.{◌<◌, All};
+
+use super::*;
+use std::alloc::Global;
+use std::process::Abort;
+use std::test::Fail;
+use tora_height::Height;
+use tora_packet::{Clear, Update};
+
+/// The height of these parts.
+fn height(rt: &impl Abort, tau: u64, oid: Id, r: u8, delta: i32, id: Id) -> Height {
+    Height::new(tau, oid, r, delta, id).expect(rt, "a height")
+}
+
+/// The query for 4.
+fn query(rt: &impl Abort) -> Packet {
+    Packet::qry(4).expect(rt, "a query")
+}
+
+/// The update for 4 of these parts.
+fn update(rt: &impl Abort, tau: u64, oid: Id, r: u8, delta: i32, id: Id) -> Packet {
+    Packet::Upd(Update::new(4, height(rt, tau, oid, r, delta, id)).expect(rt, "an update"))
+}
+
+/// The clear for 4 of this level.
+fn clear(rt: &impl Abort, tau: u64, oid: Id) -> Packet {
+    Packet::Clr(Clear::new(4, tau, oid).expect(rt, "a clear"))
+}
+
+/// Takes an input in, and sees that just this packet is broadcast, or none.
+fn sends(rt: &impl Abort, core: &mut Core, now: u64, input: Input, answer: Option<Packet>) {
+    let sent = core.step(input, now).expect(rt, "an input that is taken");
+    assert_eq!(rt; sent.as_slice().first().copied(), answer, "at {now}");
+    assert!(rt; sent.len() <= 1);
+}
+
+/// A packet that comes from a neighbour.
+fn takes(
+    rt: &impl Abort,
+    core: &mut Core,
+    now: u64,
+    from: Id,
+    packet: Packet,
+    answer: Option<Packet>,
+) {
+    sends(rt, core, now, Input::Packet(from, packet), answer);
+}
+
+fn shows(rt: &impl Abort, core: &Core, alloc: Global, text: &str) {
+    let shown = core.show(alloc).expect(rt, "memory");
+    assert_eq!(rt; shown.as_str(), text);
+}
+
+/// A core for the destination 4, with all its links up.
+fn linked(rt: &impl Abort, alloc: Global, me: Id, neighbours: &[Id]) -> Core
+    requires me { 0 < me }
+    requires neighbours { All (λ k. 0 < k) neighbours.now }
+{
+    let mut core = Core::new(alloc, me, neighbours, &[4]).expect(rt, "a core");
+    for k in neighbours {
+        sends(rt, &mut core, 1, Input::LinkUp(*k), None);
+    }
+    core
+}
+
+/// Node 3 between 2 and 4 answers a query of 2 for 4.
+fn neighbour_of_the_destination(rt: &impl Abort, alloc: Global) -> Core {
+    let mut core = linked(rt, alloc, 3, &[2, 4]);
+    let joined = update(rt, 0, 0, 0, 1, 3);
+    takes(rt, &mut core, 2, 2, query(rt), Some(joined));
+    core
+}
+
+/// Node 2 between 1 and 3 has a route by 3, and loses it to the reflected level (7,9,1), which another node defined.
+fn after_a_foreign_reflection(rt: &impl Abort, alloc: Global) -> Core {
+    let mut core = linked(rt, alloc, 2, &[1, 3]);
+    sends(rt, &mut core, 2, Input::Need(4), Some(query(rt)));
+    let joined = update(rt, 0, 0, 0, 2, 2);
+    takes(rt, &mut core, 3, 3, update(rt, 0, 0, 0, 1, 3), Some(joined));
+    takes(rt, &mut core, 4, 1, update(rt, 7, 9, 1, 0, 1), None);
+    let defined = update(rt, 8, 2, 0, 0, 2);
+    takes(
+        rt,
+        &mut core,
+        8,
+        3,
+        update(rt, 7, 9, 1, -1, 3),
+        Some(defined),
+    );
+    core
+}
+
+/// The line 1 - 2 - 3 - 4, where node 1 needs 4.
+fn join_line(rt: &impl Abort, one: &mut Core, two: &mut Core, three: &mut Core, four: &mut Core) {
+    sends(rt, one, 2, Input::Need(4), Some(query(rt)));
+    takes(rt, two, 2, 1, query(rt), Some(query(rt)));
+    takes(rt, one, 2, 2, query(rt), None);
+    takes(rt, three, 2, 2, query(rt), Some(update(rt, 0, 0, 0, 1, 3)));
+    takes(
+        rt,
+        two,
+        2,
+        3,
+        update(rt, 0, 0, 0, 1, 3),
+        Some(update(rt, 0, 0, 0, 2, 2)),
+    );
+    takes(rt, four, 2, 3, update(rt, 0, 0, 0, 1, 3), None);
+    takes(
+        rt,
+        one,
+        2,
+        2,
+        update(rt, 0, 0, 0, 2, 2),
+        Some(update(rt, 0, 0, 0, 3, 1)),
+    );
+    takes(rt, three, 2, 2, update(rt, 0, 0, 0, 2, 2), None);
+    takes(rt, two, 2, 1, update(rt, 0, 0, 0, 3, 1), None);
+}
+
+/// The joined line, where 3 and 4 lose their link: the new level of 3 is propagated, reflected, and sent back.
+fn part_line(rt: &impl Abort, one: &mut Core, two: &mut Core, three: &mut Core, four: &mut Core) {
+    sends(rt, four, 7, Input::LinkDown(3), None);
+    sends(
+        rt,
+        three,
+        7,
+        Input::LinkDown(4),
+        Some(update(rt, 7, 3, 0, 0, 3)),
+    );
+    takes(
+        rt,
+        two,
+        7,
+        3,
+        update(rt, 7, 3, 0, 0, 3),
+        Some(update(rt, 7, 3, 0, -1, 2)),
+    );
+    takes(
+        rt,
+        one,
+        7,
+        2,
+        update(rt, 7, 3, 0, -1, 2),
+        Some(update(rt, 7, 3, 1, 0, 1)),
+    );
+    takes(rt, three, 7, 2, update(rt, 7, 3, 0, -1, 2), None);
+    takes(
+        rt,
+        two,
+        7,
+        1,
+        update(rt, 7, 3, 1, 0, 1),
+        Some(update(rt, 7, 3, 1, -1, 2)),
+    );
+    takes(rt, one, 7, 2, update(rt, 7, 3, 1, -1, 2), None);
+}
+
+/// Node 3 detects the partition, and the line erases the level.
+fn erase_line(rt: &impl Abort, one: &mut Core, two: &mut Core, three: &mut Core) {
+    takes(
+        rt,
+        three,
+        7,
+        2,
+        update(rt, 7, 3, 1, -1, 2),
+        Some(clear(rt, 7, 3)),
+    );
+    takes(rt, two, 7, 3, clear(rt, 7, 3), Some(clear(rt, 7, 3)));
+    takes(rt, one, 7, 2, clear(rt, 7, 3), Some(clear(rt, 7, 3)));
+    takes(rt, three, 7, 2, clear(rt, 7, 3), None);
+    takes(rt, two, 7, 1, clear(rt, 7, 3), None);
+}
+
+#[test]
+fn line_of_four_joins(rt: HostRuntime) -> Result<(), Fail> {
+    let mut one = linked(&rt, rt.alloc(), 1, &[2]);
+    let mut two = linked(&rt, rt.alloc(), 2, &[1, 3]);
+    let mut three = linked(&rt, rt.alloc(), 3, &[2, 4]);
+    let mut four = linked(&rt, rt.alloc(), 4, &[3]);
+    join_line(&rt, &mut one, &mut two, &mut three, &mut four);
+    assert_eq!(rt; one.height(4), Some(Some(height(&rt, 0, 0, 0, 3, 1))));
+    assert_eq!(rt; two.height(4), Some(Some(height(&rt, 0, 0, 0, 2, 2))));
+    assert_eq!(rt; three.height(4), Some(Some(height(&rt, 0, 0, 0, 1, 3))));
+    assert_eq!(rt; four.height(4), Some(Some(height(&rt, 0, 0, 0, 0, 4))));
+    assert_eq!(rt; one.next_hop(4), Some(2));
+    assert_eq!(rt; two.next_hop(4), Some(3));
+    assert_eq!(rt; three.next_hop(4), Some(4));
+    assert_eq!(rt; four.next_hop(4), None);
+    Ok(())
+}
+
+#[test]
+fn line_of_four_detects_a_partition(rt: HostRuntime) -> Result<(), Fail> {
+    let mut one = linked(&rt, rt.alloc(), 1, &[2]);
+    let mut two = linked(&rt, rt.alloc(), 2, &[1, 3]);
+    let mut three = linked(&rt, rt.alloc(), 3, &[2, 4]);
+    let mut four = linked(&rt, rt.alloc(), 4, &[3]);
+    join_line(&rt, &mut one, &mut two, &mut three, &mut four);
+    part_line(&rt, &mut one, &mut two, &mut three, &mut four);
+    erase_line(&rt, &mut one, &mut two, &mut three);
+    assert_eq!(rt; one.height(4), Some(None));
+    assert_eq!(rt; two.height(4), Some(None));
+    assert_eq!(rt; three.height(4), Some(None));
+    assert_eq!(rt; four.height(4), Some(Some(height(&rt, 0, 0, 0, 0, 4))));
+    Ok(())
+}
+
+#[test]
+fn reflection_of_another_node_gives_a_new_level(rt: HostRuntime) -> Result<(), Fail> {
+    let core = after_a_foreign_reflection(&rt, rt.alloc());
+    assert_eq!(rt; core.height(4), Some(Some(height(&rt, 8, 2, 0, 0, 2))));
+    Ok(())
+}
+
+#[test]
+fn clear_of_a_foreign_level_counts_as_link_failure(rt: HostRuntime) -> Result<(), Fail> {
+    let mut core = after_a_foreign_reflection(&rt, rt.alloc());
+    takes(&rt, &mut core, 9, 1, update(&rt, 9, 1, 0, 0, 1), None);
+    let defined = update(&rt, 10, 2, 0, 0, 2);
+    takes(&rt, &mut core, 9, 3, clear(&rt, 7, 9), Some(defined));
+    let mut alone = after_a_foreign_reflection(&rt, rt.alloc());
+    takes(&rt, &mut alone, 9, 3, clear(&rt, 7, 9), None);
+    assert_eq!(rt; alone.height(4), Some(None));
+    Ok(())
+}
+
+#[test]
+fn fresh_time_passes_a_clock_that_is_behind(rt: HostRuntime) -> Result<(), Fail> {
+    let mut core = neighbour_of_the_destination(&rt, rt.alloc());
+    takes(&rt, &mut core, 3, 2, update(&rt, 7, 9, 0, 0, 2), None);
+    let defined = update(&rt, 8, 3, 0, 0, 3);
+    sends(&rt, &mut core, 3, Input::LinkDown(4), Some(defined));
+    Ok(())
+}
+
+#[test]
+fn delta_out_of_range_gives_no_height(rt: HostRuntime) -> Result<(), Fail> {
+    let mut core = linked(&rt, rt.alloc(), 2, &[3]);
+    sends(&rt, &mut core, 2, Input::Need(4), Some(query(&rt)));
+    takes(
+        &rt,
+        &mut core,
+        3,
+        3,
+        update(&rt, 0, 0, 0, 1073741824, 3),
+        None,
+    );
+    shows(
+        &rt,
+        &core,
+        rt.alloc(),
+        "to 4 height - flag 0 hop 3\nvia 3 (0,0,0,1073741824,3) down\n",
+    );
+    Ok(())
+}
+
+#[test]
+fn told_neighbour_gets_no_second_answer(rt: HostRuntime) -> Result<(), Fail> {
+    let mut core = neighbour_of_the_destination(&rt, rt.alloc());
+    takes(&rt, &mut core, 3, 2, update(&rt, 0, 0, 0, 2, 2), None);
+    takes(&rt, &mut core, 4, 2, query(&rt), None);
+    sends(&rt, &mut core, 5, Input::LinkDown(2), None);
+    sends(&rt, &mut core, 6, Input::LinkUp(2), None);
+    let answer = update(&rt, 0, 0, 0, 1, 3);
+    takes(&rt, &mut core, 6, 2, query(&rt), Some(answer));
+    Ok(())
+}
+
+#[test]
+fn refusals_change_nothing(rt: HostRuntime) -> Result<(), Fail> {
+    let mut core = Core::new(rt.alloc(), 3, &[2, 4], &[4])?;
+    sends(&rt, &mut core, 1, Input::LinkUp(2), None);
+    let by_three = update(&rt, 0, 0, 0, 1, 3);
+    for (input, number) in [
+        (Input::LinkUp(9), 1),
+        (Input::LinkUp(2), 2),
+        (Input::Packet(4, query(&rt)), 3),
+        (Input::Packet(2, by_three), 4),
+        (Input::Need(99), 5),
+    ] {
+        assert_eq!(rt;
+            core.step(input, 2).map_err(|e| e.number()).err(),
+            Some(number)
+        );
+        shows(
+            &rt,
+            &core,
+            rt.alloc(),
+            "to 4 height - flag 0 hop -\nvia 2 - none\n",
+        );
+    }
+    Ok(())
+}
+
+#[test]
+fn sends_are_listed_by_destination(rt: HostRuntime) -> Result<(), Fail> {
+    let mut core = Core::new(rt.alloc(), 3, &[2, 4], &[5, 4])?;
+    let query_for_five = Packet::qry(5)?;
+    sends(&rt, &mut core, 1, Input::LinkUp(2), None);
+    sends(&rt, &mut core, 1, Input::Need(5), Some(query_for_five));
+    sends(&rt, &mut core, 1, Input::Need(4), Some(query(&rt)));
+    let joined = update(&rt, 0, 0, 0, 1, 3);
+    let sent = core.step(Input::LinkUp(4), 2)?;
+    assert_eq!(rt; sent.len(), 2);
+    assert_eq!(rt; sent.as_slice()[0], joined);
+    assert_eq!(rt; sent.as_slice()[1], query_for_five);
+    Ok(())
+}
+
+// Two entries are at the greatest level, and the least of their deltas counts.
+#[test]
+fn propagation_takes_the_least_delta(rt: HostRuntime) -> Result<(), Fail> {
+    let mut core = linked(&rt, rt.alloc(), 2, &[1, 3, 5]);
+    sends(&rt, &mut core, 2, Input::Need(4), Some(query(&rt)));
+    let joined = update(&rt, 0, 0, 0, 2, 2);
+    takes(
+        &rt,
+        &mut core,
+        3,
+        3,
+        update(&rt, 0, 0, 0, 1, 3),
+        Some(joined),
+    );
+    takes(&rt, &mut core, 4, 1, update(&rt, 7, 9, 0, 5, 1), None);
+    takes(&rt, &mut core, 4, 5, update(&rt, 7, 9, 0, 3, 5), None);
+    let propagated = update(&rt, 7, 9, 0, 2, 2);
+    takes(
+        &rt,
+        &mut core,
+        5,
+        3,
+        update(&rt, 7, 8, 0, 0, 3),
+        Some(propagated),
+    );
+    Ok(())
+}
+
+#[test]
+fn text_of_each_direction(rt: HostRuntime) -> Result<(), Fail> {
+    let mut core = neighbour_of_the_destination(&rt, rt.alloc());
+    takes(&rt, &mut core, 3, 2, update(&rt, 0, 0, 0, 2, 2), None);
+    shows(
+        &rt,
+        &core,
+        rt.alloc(),
+        "to 4 height (0,0,0,1,3) flag 0 hop 4\nvia 2 (0,0,0,2,2) up\nvia 4 (0,0,0,0,4) down\n",
+    );
+    let mut own = linked(&rt, rt.alloc(), 4, &[3]);
+    takes(&rt, &mut own, 3, 3, update(&rt, 0, 0, 0, 1, 3), None);
+    shows(
+        &rt,
+        &own,
+        rt.alloc(),
+        "to 4 height (0,0,0,0,4) flag 0 hop -\nvia 3 - none\n",
+    );
+    Ok(())
+}
+
+// With each request for memory refused in turn: a refusal is answered by Memory, and nothing else goes wrong.
+#[test]
+fn want_of_memory_is_answered(rt: HostRuntime) -> Result<(), Fail> {
+    match Core::new(rt.alloc(), 3, &[2, 4], &[4]) {
+        Err(error) => assert_eq!(rt; error, CoreError::Memory),
+        Ok(core) => match core.show(rt.alloc()) {
+            Err(error) => assert_eq!(rt; error, CoreError::Memory),
+            Ok(text) => assert_eq!(rt; text.as_str(), "to 4 height - flag 0 hop -\n"),
+        },
+    }
+    Ok(())
+}
+
+#[test]
+fn numbers_of_the_errors(rt: HostRuntime) -> Result<(), Fail> {
+    let alloc = rt.alloc();
+    assert_eq!(rt;
+        Core::new(alloc, 1, &[2; 9], &[4]).err(),
+        Some(CoreError::TooMany)
+    );
+    assert_eq!(rt;
+        Core::new(alloc, 1, &[2], &[4; 17]).err(),
+        Some(CoreError::TooMany)
+    );
+    assert_eq!(rt;
+        Core::new(alloc, 1, &[1, 2, 2], &[4]).err(),
+        Some(CoreError::Repeated)
+    );
+    assert_eq!(rt;
+        Core::new(alloc, 1, &[2, 1], &[4, 4]).err(),
+        Some(CoreError::Repeated)
+    );
+    assert_eq!(rt;
+        Core::new(alloc, 1, &[2, 1], &[1]).err(),
+        Some(CoreError::OwnId)
+    );
+    assert!(rt; Core::new(alloc, 1, &[], &[]).is_ok());
+    Ok(())
+}

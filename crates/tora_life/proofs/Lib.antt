@@ -1,0 +1,10 @@
+pub mod Bounds
+pub mod Draws
+pub mod Images
+pub mod Moments
+pub mod Opens
+pub mod Past
+pub mod Runs
+pub mod TornBytes
+pub mod Wholes
+pub mod Writes

@@ -1,0 +1,7 @@
+-- What contracts see of an open life file.
+use Rattle.tora_life.specs.declared.numbers.Numbers.{Numbers}
+
+-- its disk, and its numbers
+pub record FileView (D : Type 0) : Type 0 where
+  pub disk : D
+  pub numbers : Numbers

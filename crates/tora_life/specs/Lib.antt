@@ -1,0 +1,12 @@
+pub mod Calls
+pub mod Disk
+pub mod DiskView
+pub mod FileView
+pub mod InMemory
+pub mod LifeFile
+pub mod LifeRun
+pub mod Numbers
+pub mod Past
+pub mod Slots
+pub mod State
+pub mod TornBytes

@@ -1,0 +1,90 @@
+-- Runs of a life file on a disk in memory: draws, failing calls of the disk, and crashes.
+use Rattle.std.specs.Prelude.{ℕ, ◌≤◌, ◌<◌, ⊤, List, [], ◌∷◌, ◌++◌, Result, Ok, Err}
+use Rattle.tora_life.specs.declared.numbers.Numbers.{Numbers}
+use Rattle.tora_life.specs.declared.numbers.LifeError.{LifeError}
+use Rattle.tora_life.specs.declared.state.State.{State}
+use Rattle.tora_life.specs.declared.state.DiskCall.{DiskCall}
+use Rattle.tora_life.specs.LifeFile.{file_value}
+use Rattle.tora_life.specs.Numbers.{numbers_after}
+use Rattle.tora_life.specs.State.{IsWhole, MayLeave, armed}
+use Rattle.tora_life.specs.InMemory.{open_answer, open_state, draw_answer, draw_state, IsKeptOn}
+
+-- an open life file with its numbers, or the disk of one that did not open
+pub data LifeDisk : Type 0 where
+  Opened : Numbers → State → LifeDisk
+  Unopened : State → LifeDisk
+
+abbrev pub state_in : LifeDisk → State
+state_in (Opened numbers s) = s
+state_in (Unopened s) = s
+
+abbrev pub opened_as : Result Numbers LifeError → State → LifeDisk
+opened_as (Ok numbers) s = Opened numbers s
+opened_as (Err _) s = Unopened s
+
+-- a disk once its life file is opened
+abbrev pub opened : State → LifeDisk
+opened s = opened_as (open_answer s) (open_state s)
+
+-- a draw; the next such call of the disk is made to fail; a crash leaves the disk so, and the file is opened again
+pub data LifeEvent : Type 0 where
+  Draw : LifeEvent
+  Arm : DiskCall → LifeEvent
+  Restart : State → LifeEvent
+
+-- the new disk leaves nothing in a crash that the old one might not have left
+pub record IsLeftBy (old new : State) : Type 0 where
+  pub whole : IsWhole new
+  pub images : (c : List ℕ) → MayLeave new c → MayLeave old c
+
+-- a crash may leave any disk that this one might have left
+abbrev pub MayHappen : LifeEvent → LifeDisk → Type 0
+MayHappen Draw disk = ⊤
+MayHappen (Arm call) disk = ⊤
+MayHappen (Restart new) disk = IsLeftBy (state_in disk) new
+
+abbrev pub after_event : LifeEvent → LifeDisk → LifeDisk
+after_event Draw (Opened numbers s) = Opened (numbers_after (draw_answer numbers s) numbers) (draw_state numbers s)
+after_event Draw (Unopened s) = Unopened s
+after_event (Arm call) (Opened numbers s) = Opened numbers (armed call s)
+after_event (Arm call) (Unopened s) = Unopened (armed call s)
+after_event (Restart new) disk = opened new
+
+abbrev pub number_in : Result ℕ LifeError → List ℕ
+number_in (Ok n) = n ∷ []
+number_in (Err _) = []
+
+-- the number that an event draws, if any
+abbrev pub drawn_by : LifeEvent → LifeDisk → List ℕ
+drawn_by Draw (Opened numbers s) = number_in (draw_answer numbers s)
+drawn_by Draw (Unopened s) = []
+drawn_by (Arm call) disk = []
+drawn_by (Restart new) disk = []
+
+abbrev pub IsRun : LifeDisk → List LifeEvent → Type 0
+IsRun disk [] = ⊤
+IsRun disk (event ∷ events) = MayHappen event disk × IsRun (after_event event disk) events
+
+-- all numbers drawn in a run, the first of them first
+abbrev pub drawn_numbers : LifeDisk → List LifeEvent → List ℕ
+drawn_numbers disk [] = []
+drawn_numbers disk (event ∷ events) = drawn_by event disk ++ drawn_numbers (after_event event disk) events
+
+-- each of these is greater than n, and than each one before it
+abbrev pub RisesAbove : ℕ → List ℕ → Type 0
+RisesAbove n [] = ⊤
+RisesAbove n (x ∷ xs) = (n < x) × RisesAbove x xs
+
+pub record IsFloorOfOpen (n : ℕ) (numbers : Numbers) (s : State) : Type 0 where
+  pub whole : IsWhole s
+  pub kept : IsKeptOn numbers s
+  pub drawn : n ≤ numbers.drawn
+
+pub record IsFloorOfDisk (n : ℕ) (s : State) : Type 0 where
+  pub whole : IsWhole s
+  pub images : (c : List ℕ) → MayLeave s c → n ≤ file_value c
+
+-- n or a lesser number is never drawn again
+abbrev pub IsFloor : ℕ → LifeDisk → Type 0
+IsFloor n (Opened numbers s) = IsFloorOfOpen n numbers s
+IsFloor n (Unopened s) = IsFloorOfDisk n s

@@ -1,0 +1,104 @@
+-- A disk in memory: what a crash may leave of it, and what its calls answer and make of it.
+use Rattle.std.specs.Prelude.{◌≡◌, ◌⊎◌, ℕ, ◌+◌, ◌-◌, ◌^◌, ◌≤◌, min, max, Bool, true, false, List, [], ◌∷◌, ◌++◌, length, take, drop, replicate, Result, Ok, Err, if◌then◌else◌, nat_lt, IsFalse, ◌||◌, Option, Some, None}
+use Rattle.tora_life.specs.TornBytes.{torn_over}
+use Rattle.tora_life.specs.declared.state.State.{State}
+use Rattle.tora_life.specs.declared.state.DiskCall.{DiskCall}
+use Rattle.tora_life.specs.declared.state.DiskCall.TheVariants.{Read, Write, Sync}
+use Rattle.tora_life.specs.declared.disk.DiskError.{DiskError}
+
+-- what a read gives
+abbrev pub seen_of : State → List ℕ
+seen_of s = take s.len s.bytes
+
+-- the file as it was at the last sync
+abbrev pub synced_of : State → List ℕ
+synced_of s = take s.synced_len s.synced
+
+-- which bytes were written since the last sync, up to where the furthest write reached
+abbrev pub marks_of : State → List Bool
+marks_of s = take s.reach s.written
+
+-- of a synced file and marks: the bytes that were not written stay, the others may be any, and the file may end anywhere from its old end
+-- to the furthest write
+abbrev pub IsImage : List ℕ → List Bool → List ℕ → Type 0
+IsImage [] marks file = length file ≤ length marks
+IsImage (s ∷ synced) marks [] = ⊥
+IsImage (s ∷ synced) [] (x ∷ file) = (x ≡ s) × IsImage synced [] file
+IsImage (s ∷ synced) (m ∷ marks) (x ∷ file) = (IsFalse m → x ≡ s) × IsImage synced marks file
+
+-- what a crash may leave: what a read gives, or the file of the last sync with what was written since torn
+abbrev pub MayLeave : State → List ℕ → Type 0
+MayLeave s file = (file ≡ seen_of s) ⊎ IsImage (synced_of s) (marks_of s) file
+
+-- what holds of each disk in memory
+pub record IsWhole (s : State) : Type 0 where
+  pub len : s.len ≤ s.reach
+  pub synced_len : s.synced_len ≤ s.reach
+  pub reach : s.reach ≤ 64
+  pub bytes : length s.bytes ≡ 64
+  pub synced : length s.synced ≡ 64
+  pub written : length s.written ≡ 64
+
+-- bytes of the file, and zeros after them
+abbrev pub filled : List ℕ → List ℕ
+filled file = file ++ replicate (64 - length file) 0
+
+-- a disk that has a file on it, nothing written since, and no call armed to fail
+abbrev pub fresh_state : List ℕ → State
+fresh_state file = record { bytes = filled file; len = length file; synced = filled file; synced_len = length file; written = replicate 64 false; reach = length file; read_fails = false; write_fails = false; sync_fails = false; failures = 0 }
+
+-- these in the place of those that stand there
+abbrev pub over : {A : Type 0} → ℕ → List A → List A → List A
+over at new old = take at old ++ new ++ drop (at + length new) old
+
+-- a failed call more; the greatest number stays
+abbrev pub failures_more : ℕ → ℕ
+failures_more failures = min (failures + 1) (2 ^ 64 - 1)
+
+-- a read of a buffer's length from a place on: how many bytes there are and fit
+abbrev pub read_answer : State → ℕ → List ℕ → Result ℕ DiskError
+read_answer s at buf = if s.read_fails then Err (record {}) else Ok (min (length buf) (length (drop at (seen_of s))))
+
+-- what it leaves in the buffer: those bytes, and behind them what was there
+abbrev pub bytes_read : State → ℕ → List ℕ → List ℕ
+bytes_read s at buf = if s.read_fails then buf else take (length buf) (drop at (seen_of s)) ++ drop (min (length buf) (length (drop at (seen_of s)))) buf
+
+-- an armed read fails and changes nothing else
+abbrev pub after_read : State → State
+after_read s = if s.read_fails then record s { read_fails = false; failures = failures_more s.failures } else s
+
+-- n bytes from a place on count as written
+abbrev pub marked : State → ℕ → ℕ → State
+marked s at n = record s { written = over at (replicate n true) s.written; reach = max s.reach (at + n) }
+
+-- a write past 64 bytes fails, and so does an armed one
+abbrev pub write_answer : State → ℕ → List ℕ → Result (Unit {0}) DiskError
+write_answer s at bytes = if nat_lt 64 (at + length bytes) || s.write_fails then Err (record {}) else Ok tt
+
+-- a write past 64 bytes marks nothing; an armed one marks its range and keeps the old bytes
+abbrev pub after_write : State → ℕ → List ℕ → State
+after_write s at bytes =
+    if nat_lt 64 (at + length bytes) then record s { write_fails = false; failures = failures_more s.failures }
+    else if s.write_fails then record (marked s at (length bytes)) { write_fails = false; failures = failures_more s.failures }
+    else record (marked s at (length bytes)) { bytes = over at bytes s.bytes; len = max s.len (at + length bytes) }
+
+-- an armed sync fails
+abbrev pub sync_answer : State → Result (Unit {0}) DiskError
+sync_answer s = if s.sync_fails then Err (record {}) else Ok tt
+
+-- a sync that succeeds puts all on the disk, and nothing counts as written any more
+abbrev pub after_sync : State → State
+after_sync s =
+    if s.sync_fails then record s { sync_fails = false; failures = failures_more s.failures }
+    else record s { synced = s.bytes; synced_len = s.len; written = replicate 64 false; reach = s.len }
+
+-- the next such call fails
+abbrev pub armed : DiskCall → State → State
+armed Read s = record s { read_fails = true }
+armed Write s = record s { write_fails = true }
+armed Sync s = record s { sync_fails = true }
+
+-- what was written since the last sync is torn, or lost; it still counts as written
+abbrev pub after_crash : Option (List ℕ) → State → State
+after_crash (Some torn) s = record s { bytes = torn_over 0 torn (marks_of s) s.synced; len = s.reach }
+after_crash None s = record s { bytes = s.synced; len = s.synced_len }

@@ -1,0 +1,37 @@
+//! Life numbers that rise across crashes.
+//!
+//! Each end of a neighbour link has a life file of its own. A life number that is drawn from it is greater than
+//! every number drawn from it before, across a crash at any moment, whatever the crash tears. The file
+//! keeps a bound, and no number above the bound is drawn before a greater bound is on the disk.
+//! Sixteen numbers are reserved at a time, so that fifteen draws of sixteen make no call of the disk.
+//!
+//! `LifeFile` is generic over `Disk`, whose clauses say what a read gives and what a crash at each moment
+//! may leave. `MemDisk` tells contracts its bytes, so over it all clauses count, and it can be torn at will.
+//! `FileDisk` is a file of the operating system. It tells contracts no bytes: that a real disk keeps what
+//! was synced is a premise of the program that runs over it, and no clause here.
+//!
+//! The rules of the life file are this project's own profile. No call takes memory.
+#![tactic(auto)]
+
+mod disk;
+mod file;
+mod file_disk;
+mod memory;
+mod numbers;
+mod record;
+mod replacing;
+mod rising;
+mod slots;
+mod state;
+mod tearing;
+
+pub use disk::{Disk, DiskError};
+pub use file::{LifeFile, OpenFault};
+pub use file_disk::FileDisk;
+pub use memory::MemDisk;
+pub use numbers::LifeError;
+pub use rising::drawn_life_numbers_rise;
+pub use state::DiskCall;
+
+#[cfg(test)]
+mod tests;

@@ -1,0 +1,94 @@
+// The numbers of an open life file.
+ghost use Rattle.std.specs.Prelude.{◌≡◌, ◌+◌, ◌^◌, ◌<◌, ◌≤◌};
+
+use crate::slots::{Slot, bound_of};
+use thiserror::Error;
+
+/// Why a life file did not open, or drew no number.
+#[derive(Clone, Copy, Debug, PartialEq, Eq, Error)]
+pub enum LifeError {
+    /// A call of the disk has failed in this call. From a draw on, the file draws no number until it is opened again.
+    #[error("the disk failed")]
+    Disk,
+    /// An earlier draw has answered `Disk`. Nothing changes.
+    #[error("an earlier draw failed: the file is to be opened again")]
+    Failed,
+    /// The numbers up to 2^62 are used up: the value plus 16 is above it. Nothing changes.
+    #[error("no number is left")]
+    Spent,
+    /// The file is longer than the 32 bytes of its two slots.
+    #[error("the file is longer than two slots")]
+    Damaged,
+}
+
+/// The greatest number that is ever drawn, 2^62.
+pub const LAST_NUMBER: u64 = 1 << 62;
+
+/// How many numbers a write reserves.
+pub const RESERVED: u64 = 16;
+
+/// The bounds that the two slots spell, the last number drawn (the file's value, where none was drawn since it
+/// was opened), and whether a draw has answered `Disk`.
+#[derive(Clone, Copy, Debug)]
+pub struct Numbers {
+    pub first: u64,
+    pub second: u64,
+    pub drawn: u64,
+    pub failed: bool,
+}
+
+impl Numbers {
+    ghost use Rattle.std.specs.Prelude.{◌≡◌, ◌+◌, ◌^◌, ◌<◌, ◌≤◌};
+    ghost use Rattle.tora_life.specs.Numbers.{value_of, lesser_slot, reserved, numbers_of};
+
+    /// Those that the bytes of a file stand for.
+    pub fn read(bytes: &[u8]) -> Numbers
+        ensures { result ≡ numbers_of bytes.now }
+    {
+        let (front, back) = bytes.split_at(bytes.len().min(16));
+        let first = bound_of(front);
+        let second = bound_of(&back[..back.len().min(16)]);
+        Numbers {
+            first,
+            second,
+            drawn: first.max(second),
+            failed: false,
+        }
+    }
+
+    /// The greater bound.
+    pub fn value(self) -> u64
+        ensures { result ≡ value_of self }
+    {
+        self.first.max(self.second)
+    }
+
+    /// The slot with the lesser bound, the first one at a tie.
+    pub fn lesser(self) -> Slot
+        ensures { result ≡ lesser_slot self }
+    {
+        if self.first <= self.second {
+            Slot::First
+        } else {
+            Slot::Second
+        }
+    }
+
+    /// With sixteen more numbers, once their bound is on the disk.
+    pub fn with_more(self) -> Numbers
+        requires { value_of self + 16 ≤ 2 ^ 62 }
+        ensures { result ≡ reserved self }
+    {
+        let bound = self.value() + RESERVED;
+        match self.lesser() {
+            Slot::First => Numbers {
+                first: bound,
+                ..self
+            },
+            Slot::Second => Numbers {
+                second: bound,
+                ..self
+            },
+        }
+    }
+}

@@ -1,0 +1,142 @@
+// The bytes of a disk in memory, and what its calls make of them.
+use crate::disk::DiskError;
+use crate::tearing::tear;
+
+/// The calls of a disk.
+#[derive(Clone, Copy, Debug, PartialEq, Eq)]
+pub enum DiskCall {
+    /// `Disk::read`.
+    Read,
+    /// `Disk::write_at`.
+    Write,
+    /// `Disk::sync`.
+    Sync,
+}
+
+/// What a disk in memory has: the file is the first `len` of `bytes`, and was the first `synced_len` of `synced` at
+/// the last sync. `written` marks the bytes that were written since, up to `reach`, where the furthest write ended.
+#[derive(Clone, Copy, Debug)]
+pub struct State {
+    pub bytes: [u8; 64],
+    pub len: usize,
+    pub synced: [u8; 64],
+    pub synced_len: usize,
+    pub written: [bool; 64],
+    pub reach: usize,
+    /// The next read fails.
+    pub read_fails: bool,
+    /// The next write fails.
+    pub write_fails: bool,
+    /// The next sync fails.
+    pub sync_fails: bool,
+    /// How many calls have failed, at most 2^64 - 1.
+    pub failures: u64,
+}
+
+impl State {
+    ghost use Rattle.std.specs.Prelude.{◌≡◌, ◌≤◌, take, length, List, ◌++◌, replicate, false};
+    ghost use Rattle.tora_life.specs.State.{IsWhole, read_answer, bytes_read, after_read, write_answer, after_write, sync_answer, after_sync, armed, after_crash};
+
+    /// All on the disk, with no call armed.
+    pub fn fresh(bytes: [u8; 64], len: usize) -> State
+        ensures { result ≡ record { bytes = bytes; len = len; synced = bytes; synced_len = len; written = replicate 64 false; reach = len; read_fails = false; write_fails = false; sync_fails = false; failures = 0 } }
+    {
+        State {
+            bytes,
+            len,
+            synced: bytes,
+            synced_len: len,
+            written: [false; 64],
+            reach: len,
+            read_fails: false,
+            write_fails: false,
+            sync_fails: false,
+            failures: 0,
+        }
+    }
+
+    pub fn read(&mut self, at: usize, buf: &mut [u8]) -> Result<usize, DiskError>
+        requires { IsWhole self.old }
+        ensures answer { result ≡ read_answer self.old at buf.old }
+        ensures bytes { buf.new ≡ bytes_read self.old at buf.old }
+        ensures after { self.new ≡ after_read self.old }
+    {
+        if self.read_fails {
+            self.read_fails = false;
+            self.failures = self.failures.saturating_add(1);
+            return Err(DiskError);
+        }
+        let seen = &self.bytes[..self.len];
+        let there = &seen[at.min(self.len)..];
+        let count = there.len().min(buf.len());
+        buf[..count].copy_from_slice(&there[..count]);
+        Ok(count)
+    }
+
+    pub fn write(&mut self, at: usize, bytes: &[u8]) -> Result<(), DiskError>
+        requires whole { IsWhole self.old }
+        requires place { at ≤ self.old.len }
+        ensures answer { result ≡ write_answer self.old at bytes.now }
+        ensures after { self.new ≡ after_write self.old at bytes.now }
+    {
+        if bytes.len() > 64 - at {
+            self.write_fails = false;
+            self.failures = self.failures.saturating_add(1);
+            return Err(DiskError);
+        }
+        let end = at + bytes.len();
+        self.written[at..end].fill(true);
+        self.reach = self.reach.max(end);
+        if self.write_fails {
+            self.write_fails = false;
+            self.failures = self.failures.saturating_add(1);
+            return Err(DiskError);
+        }
+        self.bytes[at..end].copy_from_slice(bytes);
+        self.len = self.len.max(end);
+        Ok(())
+    }
+
+    pub fn sync(&mut self) -> Result<(), DiskError>
+        ensures answer { result ≡ sync_answer self.old }
+        ensures after { self.new ≡ after_sync self.old }
+    {
+        if self.sync_fails {
+            self.sync_fails = false;
+            self.failures = self.failures.saturating_add(1);
+            return Err(DiskError);
+        }
+        self.synced = self.bytes;
+        self.synced_len = self.len;
+        self.written = [false; 64];
+        self.reach = self.len;
+        Ok(())
+    }
+
+    pub fn arm(&mut self, call: DiskCall)
+        ensures { self.new ≡ armed call self.old }
+    {
+        match call {
+            DiskCall::Read => self.read_fails = true,
+            DiskCall::Write => self.write_fails = true,
+            DiskCall::Sync => self.sync_fails = true,
+        }
+    }
+
+    pub fn crash(&mut self, torn: Option<[u8; 16]>)
+        requires { IsWhole self.old }
+        ensures { self.new ≡ after_crash torn self.old }
+    {
+        match torn {
+            None => {
+                self.bytes = self.synced;
+                self.len = self.synced_len;
+            }
+            Some(torn) => {
+                self.bytes = self.synced;
+                tear(&torn, &self.written[..self.reach], &mut self.bytes);
+                self.len = self.reach;
+            }
+        }
+    }
+}

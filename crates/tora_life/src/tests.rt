@@ -1,0 +1,200 @@
+// The worked rows of the life file, and a crash at each call of the disk.
+use crate::slots::{bound_of, slot_bytes};
+use crate::{DiskCall, LifeError, LifeFile, MemDisk};
+use std::process::Abort;
+use std::test::Fail;
+
+mod files;
+mod in_memory;
+
+const SLOT_OF_16: [u8; 16] = [
+    0, 0, 0, 0, 0, 0, 0, 0x10, 0xff, 0xff, 0xff, 0xff, 0xff, 0xff, 0xff, 0xef,
+];
+
+const SLOT_OF_32: [u8; 16] = [
+    0, 0, 0, 0, 0, 0, 0, 0x20, 0xff, 0xff, 0xff, 0xff, 0xff, 0xff, 0xff, 0xdf,
+];
+
+const SLOT_OF_900: [u8; 16] = [
+    0, 0, 0, 0, 0, 0, 0x03, 0x84, 0xff, 0xff, 0xff, 0xff, 0xff, 0xff, 0xfc, 0x7b,
+];
+
+fn disk_of(rt: &impl Abort, bytes: &[u8]) -> MemDisk {
+    match MemDisk::of(bytes) {
+        Some(disk) => disk,
+        None => panic!(rt; "more than 64 bytes"),
+    }
+}
+
+fn opened(rt: &impl Abort, disk: MemDisk) -> LifeFile<MemDisk> {
+    match LifeFile::open(disk) {
+        Ok(file) => file,
+        Err(fault) => panic!(rt; "not opened: {:?}", fault.error),
+    }
+}
+
+fn draws(rt: &impl Abort, file: &mut LifeFile<MemDisk>, from: u64, to: u64) {
+    for n in from..to {
+        assert_eq!(rt; file.draw(), Ok(n));
+    }
+}
+
+#[test]
+fn slots_spell_their_bounds(rt: HostRuntime) -> Result<(), Fail> {
+    assert_eq!(&rt; slot_bytes(16), SLOT_OF_16);
+    assert_eq!(&rt; slot_bytes(32), SLOT_OF_32);
+    assert_eq!(&rt; slot_bytes(900), SLOT_OF_900);
+    assert_eq!(&rt; bound_of(&SLOT_OF_16), 16);
+    assert_eq!(&rt; bound_of(&SLOT_OF_32), 32);
+    assert_eq!(&rt; bound_of(&SLOT_OF_900), 900);
+    Ok(())
+}
+
+// After sixteen draws the next write is torn, and the file is opened again.
+fn torn_after_sixteen(rt: &impl Abort, torn: Option<[u8; 16]>) -> LifeFile<MemDisk> {
+    let mut file = opened(rt, MemDisk::new());
+    draws(rt, &mut file, 1, 17);
+    file.arm(DiskCall::Write);
+    assert_eq!(rt; file.draw(), Err(LifeError::Disk));
+    assert_eq!(rt; file.draw(), Err(LifeError::Failed));
+    let mut disk = file.close();
+    disk.crash(torn);
+    opened(rt, disk)
+}
+
+#[test]
+fn drawn_numbers_survive_torn_slots(rt: HostRuntime) -> Result<(), Fail> {
+    let mut file = opened(&rt, MemDisk::new());
+    draws(&rt, &mut file, 1, 4);
+    let mut file = opened(&rt, file.close());
+    draws(&rt, &mut file, 17, 18);
+
+    let mut file = torn_after_sixteen(&rt, Some([7; 16]));
+    draws(&rt, &mut file, 17, 18);
+    let mut file = torn_after_sixteen(&rt, Some(SLOT_OF_900));
+    draws(&rt, &mut file, 901, 902);
+
+    let mut file = opened(&rt, MemDisk::new());
+    file.arm(DiskCall::Sync);
+    assert_eq!(&rt; file.draw(), Err(LifeError::Disk));
+    assert_eq!(&rt; file.draw(), Err(LifeError::Failed));
+    Ok(())
+}
+
+// The first number that is drawn from a file of these bytes.
+fn first_draw(rt: &impl Abort, bytes: &[u8]) -> Result<u64, LifeError> {
+    match LifeFile::open(disk_of(rt, bytes)) {
+        Ok(mut file) => file.draw(),
+        Err(fault) => Err(fault.error),
+    }
+}
+
+#[test]
+fn odd_life_files(rt: HostRuntime) -> Result<(), Fail> {
+    assert_eq!(&rt; first_draw(&rt, &[]), Ok(1));
+    assert_eq!(&rt; first_draw(&rt, &[0; 15]), Ok(1));
+    assert_eq!(&rt; first_draw(&rt, &[0xff; 15]), Ok(1));
+    assert_eq!(&rt; first_draw(&rt, &SLOT_OF_16[..15]), Ok(1));
+    let mut cut = [0xff; 31];
+    cut[..16].fill(0);
+    assert_eq!(&rt; first_draw(&rt, &cut), Ok(1));
+    assert_eq!(&rt; first_draw(&rt, &SLOT_OF_16), Ok(17));
+    assert_eq!(&rt; first_draw(&rt, &[0; 33]), Err(LifeError::Damaged));
+
+    let mut greatest = [0; 16];
+    greatest[..8].fill(0xff);
+    assert_eq!(&rt; first_draw(&rt, &greatest), Err(LifeError::Spent));
+
+    let near_the_end = [
+        0x3f, 0xff, 0xff, 0xff, 0xff, 0xff, 0xff, 0xf0, 0xc0, 0, 0, 0, 0, 0, 0, 0x0f,
+    ];
+    let mut file = opened(&rt, disk_of(&rt, &near_the_end));
+    draws(&rt, &mut file, 0x3fff_ffff_ffff_fff1, (1 << 62) + 1);
+    assert_eq!(&rt; file.draw(), Err(LifeError::Spent));
+    assert_eq!(&rt; file.draw(), Err(LifeError::Spent));
+    Ok(())
+}
+
+#[test]
+fn a_disk_holds_64_bytes(rt: HostRuntime) -> Result<(), Fail> {
+    assert!(&rt; MemDisk::of(&[1; 65]).is_none());
+    assert_eq!(&rt; disk_of(&rt, &[1; 64]).bytes(), [1; 64].as_slice());
+    assert_eq!(&rt; MemDisk::new().bytes(), [].as_slice());
+    Ok(())
+}
+
+// Opens the file of a disk and draws 40 numbers. Before the step `stop` (0 is to open, 1 to 40 are the draws) a
+// call is armed. Answers the disk and the greatest number drawn, once a step fails or all are done.
+fn run(mut disk: MemDisk, stop: u64, call: DiskCall) -> (MemDisk, u64) {
+    if stop == 0 {
+        disk.arm(call);
+    }
+    let mut file = match LifeFile::open(disk) {
+        Ok(file) => file,
+        Err(fault) => return (fault.disk, 0),
+    };
+    let mut greatest = 0;
+    for step in 1..41 {
+        if step == stop {
+            file.arm(call);
+        }
+        match file.draw() {
+            Ok(n) => greatest = n,
+            Err(_) => break,
+        }
+    }
+    (file.close(), greatest)
+}
+
+// Opens the file again and draws. A call that is still armed may fail first.
+fn next_number(rt: &impl Abort, mut disk: MemDisk) -> u64 {
+    for _ in 0..4 {
+        match LifeFile::open(disk) {
+            Ok(mut file) => match file.draw() {
+                Ok(n) => return n,
+                Err(_) => disk = file.close(),
+            },
+            Err(fault) => disk = fault.disk,
+        }
+    }
+    panic!(rt; "no number is drawn");
+}
+
+// Crashes the disk, and answers the next number drawn. With `twice` this call fails while the file is opened
+// again, and then there is another crash.
+fn next_after_crash(
+    rt: &impl Abort,
+    mut disk: MemDisk,
+    torn: Option<[u8; 16]>,
+    twice: Option<DiskCall>,
+) -> u64 {
+    disk.crash(torn);
+    if let Some(call) = twice {
+        disk.arm(call);
+        disk = match LifeFile::open(disk) {
+            Ok(file) => file.close(),
+            Err(fault) => fault.disk,
+        };
+        disk.crash(torn);
+    }
+    next_number(rt, disk)
+}
+
+#[test]
+fn each_crash(rt: HostRuntime) -> Result<(), Fail> {
+    let patterns = [None, Some([0; 16]), Some(SLOT_OF_32), Some(SLOT_OF_900)];
+    let twice = [None, Some(DiskCall::Read), Some(DiskCall::Sync)];
+    for call in [DiskCall::Read, DiskCall::Write, DiskCall::Sync] {
+        for torn in patterns {
+            for again in twice {
+                for stop in 0..42 {
+                    let (disk, greatest) = run(MemDisk::new(), stop, call);
+                    assert!(&rt; next_after_crash(&rt, disk, torn, again) > greatest);
+                    let (disk, greatest) = run(disk_of(&rt, &SLOT_OF_16), stop, call);
+                    assert!(&rt; next_after_crash(&rt, disk, torn, again) > greatest);
+                }
+            }
+        }
+    }
+    Ok(())
+}
