@@ -1,0 +1,11 @@
+pub mod Digits
+pub mod Splits
+pub mod Flow
+pub mod Steps
+pub mod Ends
+pub mod Pending
+pub mod Whole
+pub mod Grammar
+pub mod LineLaws
+pub mod HeaderLaws
+pub mod FaultLaws

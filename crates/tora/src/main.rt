@@ -1,0 +1,137 @@
+//! The program `tora`: a TORA router node on files of lines.
+//!
+//! `replay` reads the inputs of one node from a reader, and writes what the node sends.
+#![tactic(auto)]
+
+mod answer;
+mod cause;
+mod command;
+mod ended;
+mod engine;
+mod line;
+mod parse;
+mod recent;
+mod session;
+mod words;
+
+use cause::cause_of;
+use clap::error::ErrorKind;
+use command::command;
+pub use ended::{Ended, ReplayError};
+pub use engine::{fault_is_the_first, replay};
+pub use parse::{first_lines_are_read_as_written, lines_are_read_as_written};
+use recent::Recent;
+use std::alloc::Global;
+use std::io;
+use std::io::{BufWriter, Read, Write};
+use std::process::ExitCode;
+pub use words::numbers_are_read_as_printed;
+
+/// Exit statuses: 0 stands for an end without a fault.
+const INPUT: u8 = 1;
+
+const USAGE: u8 = 2;
+
+const MEMORY: u8 = 5;
+
+/// Replays, and hands on all that was written.
+fn run<R: Read, W: Write>(
+    alloc: Global,
+    reader: &mut R,
+    writer: &mut W,
+) -> Result<Ended, ReplayError> {
+    let result = replay(alloc, reader, writer);
+    match writer.flush() {
+        Ok(()) => result,
+        Err(_) if result.is_ok() => Err(ReplayError::Write),
+        Err(_) => result,
+    }
+}
+
+/// Says on standard error why the program stops.
+fn stop(rt: &impl Eprint, status: u8, cause: &str) -> ExitCode {
+    let _ = rt.eprintln(format_args!("tora: {cause}"));
+    ExitCode::from(status)
+}
+
+/// The exit status of a replay, after its line on standard error.
+fn status(rt: &impl Eprint, ended: Result<Ended, ReplayError>) -> ExitCode {
+    match ended {
+        Ok(Ended::Whole) => ExitCode::SUCCESS,
+        Ok(Ended::Fault(_)) => stop(rt, INPUT, "input"),
+        Err(ReplayError::Memory) => stop(rt, MEMORY, "memory"),
+        Err(_) => stop(rt, INPUT, "input"),
+    }
+}
+
+/// Replays standard input, and then says why a line is a fault.
+fn replay_verbosely<W: Write>(rt: &HostRuntime, writer: &mut W) -> ExitCode {
+    let alloc = rt.alloc();
+    let mut reader = Recent::new(alloc, rt.stdin());
+    let result = run(alloc, &mut reader, writer);
+    let code = status(rt, result);
+    let _ = match result {
+        Ok(Ended::Whole) => Ok(()),
+        Ok(Ended::Fault(number)) if reader.is_lossy() => {
+            rt.eprintln(format_args!("tora: line {number} was not kept"))
+        }
+        Ok(Ended::Fault(number)) => {
+            let cause = cause_of(alloc, number, reader.line(number));
+            rt.eprintln(format_args!("tora: line {number}: {cause}"))
+        }
+        Err(error) => rt.eprintln(format_args!("tora: {error}")),
+    };
+    code
+}
+
+/// Replays standard input.
+fn replay_input(rt: &HostRuntime, is_verbose: bool) -> ExitCode {
+    let alloc = rt.alloc();
+    let Ok(mut writer) = BufWriter::new(alloc, io::writer(rt)) else {
+        return stop(rt, MEMORY, "memory");
+    };
+    if is_verbose {
+        return replay_verbosely(rt, &mut writer);
+    }
+    let result = run(alloc, &mut rt.stdin(), &mut writer);
+    status(rt, result)
+}
+
+/// Prints help, a version or a fault of usage.
+fn usage(rt: &HostRuntime, error: &clap::Error) -> ExitCode {
+    if error.kind() == ErrorKind::OutOfMemory {
+        return stop(rt, MEMORY, "memory");
+    }
+    let printed = error.print(rt);
+    if error.use_stderr() {
+        ExitCode::from(USAGE)
+    } else if printed.is_err() {
+        stop(rt, INPUT, "input")
+    } else {
+        ExitCode::SUCCESS
+    }
+}
+
+fn main(rt: HostRuntime) -> ExitCode {
+    let alloc = rt.alloc();
+    let words = match std::env::args(&rt) {
+        Ok(words) => words,
+        Err(error) if error.kind() == io::ErrorKind::OutOfMemory => {
+            return stop(&rt, MEMORY, "memory");
+        }
+        Err(_) => return stop(&rt, USAGE, "a word of the command line is not UTF-8"),
+    };
+    let Ok(words) = words.collect::<Vec<String>>(alloc) else {
+        return stop(&rt, MEMORY, "memory");
+    };
+    let Ok(command) = command(alloc) else {
+        return stop(&rt, MEMORY, "memory");
+    };
+    match command.try_get_matches_from(words.as_slice()) {
+        Ok(matches) => replay_input(&rt, matches.get_flag("verbose")),
+        Err(error) => usage(&rt, &error),
+    }
+}
+
+#[cfg(test)]
+mod tests;

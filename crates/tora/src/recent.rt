@@ -1,0 +1,97 @@
+//! A reader that keeps the lines that were read last.
+ghost use Rattle.std.specs.Prelude.{◌≡◌};
+
+use std::alloc::Global;
+use std::io;
+use std::io::Read;
+
+/// The bytes of the last read, behind the front of the line that it began in.
+#[derive(Drop)]
+struct LastLines {
+    bytes: Vec<u8>,
+    /// The number of the line that the bytes begin with, from 1.
+    first: u64,
+    /// Whether memory was refused, so that bytes are missing.
+    is_lossy: bool,
+}
+
+impl LastLines {
+    /// The line of this number, without its LF, where it is here. A last piece that is empty is no line.
+    fn line(&self, number: u64) -> Option<&[u8]> {
+        if self.is_lossy || number < self.first {
+            return None;
+        }
+        let ahead = usize::try_from(number - self.first).ok()?;
+        let mut lines = self
+            .bytes
+            .as_slice()
+            .split(|byte| *byte == b'\n')
+            .skip(ahead);
+        let line = lines.next()?;
+        if line.is_empty() && lines.next().is_none() {
+            return None;
+        }
+        Some(line)
+    }
+
+    /// Forgets whole lines, and puts bytes behind what is left.
+    fn keep(&mut self, more: &[u8]) {
+        let ends = self.bytes.iter().filter(|byte| **byte == b'\n').count();
+        self.first = self.first.saturating_add(ends as u64);
+        if let Some(at) = self.bytes.iter().rposition(|byte| *byte == b'\n') {
+            let len = self.bytes.len();
+            if at < len {
+                self.bytes.as_mut_slice().copy_within(at + 1..len, 0);
+                self.bytes.truncate(len - at - 1);
+            }
+        }
+        if self.bytes.extend_from_slice(more).is_err() {
+            self.is_lossy = true;
+        }
+    }
+}
+
+/// Hands on what a reader gives, and keeps the lines that were read last.
+#[derive(Drop)]
+pub struct Recent<R> {
+    reader: R,
+    lines: LastLines,
+}
+
+impl<R: Read> Recent<R> {
+    /// Nothing was read yet.
+    pub fn new(alloc: Global, reader: R) -> Recent<R>
+        ensures { R.remaining result.reader ≡ R.remaining reader }
+    {
+        Recent {
+            reader,
+            lines: LastLines {
+                bytes: Vec::new(alloc),
+                first: 1,
+                is_lossy: false,
+            },
+        }
+    }
+
+    /// Whether bytes are missing, since memory was refused.
+    pub fn is_lossy(&self) -> bool {
+        self.lines.is_lossy
+    }
+
+    /// The line of this number, counted from 1, without its LF, where it was read last.
+    pub fn line(&self, number: u64) -> Option<&[u8]> {
+        self.lines.line(number)
+    }
+}
+
+impl<R: Read> Read for Recent<R> {
+    ghost remaining = { λ r. R.remaining r.reader };
+
+    fn read(&mut self, buf: &mut [u8]) -> io::Result<usize> {
+        let n = self.reader.read(buf)?;
+        if let Some(given) = buf.get(..n) {
+            self.lines.keep(given);
+        }
+        Ok(n)
+    }
+}

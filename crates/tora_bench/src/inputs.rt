@@ -1,0 +1,146 @@
+//! The inputs of the mixes.
+ghost use Rattle.std.specs.Prelude.{◌≤◌, ◌<◌};
+
+use std::alloc::{AllocError, Global};
+use tora_core::{Core, Input};
+use tora_height::{Height, Id};
+use tora_packet::{Clear, Packet, Update};
+
+/// The neighbours and the destinations of the mixes.
+const NEIGHBOURS: [Id; 8] = [1, 2, 3, 4, 5, 6, 7, 8];
+
+const DESTINATIONS: [Id; 16] = [5, 6, 7, 8, 9, 10, 11, 12, 13, 14, 15, 16, 17, 18, 19, 20];
+
+/// A generator of numbers: xorshift on 64 bits.
+#[derive(Drop)]
+pub struct Random {
+    state: u64,
+}
+
+impl Random {
+    pub fn new(seed: u64) -> Random {
+        Random { state: seed | 1 }
+    }
+
+    fn next(&mut self) -> u64 {
+        let mut x = self.state;
+        x ^= x.wrapping_shl(13);
+        x ^= x.wrapping_shr(7);
+        x ^= x.wrapping_shl(17);
+        self.state = x;
+        x
+    }
+
+    /// A number from 0 to `most`, at most 255.
+    fn up_to(&mut self, most: u8) -> u32
+        ensures { result ≤ most }
+    {
+        let n = u64::from(most) + 1;
+        ((self.next() >> 11) % n) as u32
+    }
+}
+
+/// A core with no link up.
+pub fn fresh_core(alloc: Global) -> Option<Core> {
+    Core::new(alloc, 100, &NEIGHBOURS, &DESTINATIONS).ok()
+}
+
+/// A core with one destination and all links up, which needs a route.
+pub fn small_core(alloc: Global) -> Option<Core> {
+    let mut core = Core::new(alloc, 100, &NEIGHBOURS, &[20]).ok()?;
+    for k in NEIGHBOURS {
+        core.step(Input::LinkUp(k), 0).ok()?;
+    }
+    core.step(Input::Need(20), 0).ok()?;
+    Some(core)
+}
+
+/// The update of a neighbour.
+fn update(k: Id, destination: Id, height: Option<Height>) -> Option<Input> {
+    Some(Input::Packet(k, Packet::Upd(Update::new(destination, height?).ok()?)))
+}
+
+/// A core with all links up, whose destinations that are no neighbours have a route by neighbour 1.
+pub fn routed_core(alloc: Global) -> Option<Core> {
+    let mut core = fresh_core(alloc)?;
+    for k in NEIGHBOURS {
+        core.step(Input::LinkUp(k), 0).ok()?;
+    }
+    for d in 9..21 {
+        core.step(Input::Need(d), 0).ok()?;
+        let input = update(1, d, Height::new(0, 0, 0, 1, 1).ok())?;
+        core.step(input, 0).ok()?;
+    }
+    Some(core)
+}
+
+/// An update that leaves the height as it is.
+pub fn quiet_update(i: u32) -> Option<Input> {
+    let k = 2 + i % 7;
+    let d = 9 + i % 12;
+    let delta = 2 + (i % 5) as i32;
+    update(k, d, Height::new(0, 0, 0, delta, k).ok())
+}
+
+/// An update of one of two neighbours that overtake each other: every second one takes the last downstream link away.
+pub fn reacting_update(i: u32) -> Option<Input> {
+    let k = 1 + i % 2;
+    let height = Height::new(1 + u64::from(i), 1 + i % 3, 0, 0, k).ok();
+    update(k, 20, height)
+}
+
+/// A packet of neighbour `k` for destination `d` at about tick `now`.
+fn mixed_packet(random: &mut Random, now: u64, k: Id, d: Id, choice: u32) -> Option<Input> {
+    let tau = now.saturating_sub(u64::from(random.up_to(11)));
+    let number = 1 + random.up_to(8);
+    let oid = if number == 9 { 100 } else { number };
+    if choice < 22 {
+        return Some(Input::Packet(k, Packet::qry(d).ok()?));
+    }
+    if choice < 30 {
+        return Some(Input::Packet(k, Packet::Clr(Clear::new(d, tau.max(1), oid).ok()?)));
+    }
+    let delta = random.up_to(8) as i32;
+    let height = if tau == 0 || random.up_to(3) == 0 {
+        Height::new(0, 0, 0, 1 + delta, k)
+    } else {
+        Height::new(tau, oid, random.up_to(1) as u8, delta - 4, k)
+    };
+    update(k, d, height.ok())
+}
+
+/// Mixed inputs: about one in twenty a link, one in twenty a need, the others packets of up neighbours.
+pub fn mixed_inputs(alloc: Global, count: u32) -> Result<Vec<(u64, Input)>, AllocError> {
+    let mut random = Random::new(88172645463325253);
+    let mut up = [true; 8];
+    let mut inputs = Vec::new(alloc);
+    for k in NEIGHBOURS {
+        inputs.push((0, Input::LinkUp(k)))?;
+    }
+    let mut now = 1u64;
+    for _ in 0..count {
+        now = now.saturating_add(u64::from(random.up_to(2)));
+        let place = random.up_to(7);
+        let (k, d) = (place + 1, 5 + random.up_to(15));
+        let choice = random.up_to(99);
+        let is_up = up[place as usize];
+        let input = if choice < 5 {
+            up[place as usize] = !is_up;
+            Some(if is_up {
+                Input::LinkDown(k)
+            } else {
+                Input::LinkUp(k)
+            })
+        } else if choice < 10 {
+            Some(Input::Need(d))
+        } else if is_up {
+            mixed_packet(&mut random, now, k, d, choice)
+        } else {
+            None
+        };
+        if let Some(input) = input {
+            inputs.push((now, input))?;
+        }
+    }
+    Ok(inputs)
+}

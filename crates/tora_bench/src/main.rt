@@ -1,0 +1,225 @@
+//! Times the calls of the lower crates, for the scripts under `bench/`. With no words it prints nothing.
+//!
+//! `tora_bench core N` times N steps of a core on four mixes of inputs, `tora_bench codec N` the packet codec and the
+//! frame codec on N values. Each line is a name, nanoseconds an operation (the best of seven runs), and a number that
+//! depends on every result.
+#![tactic(auto)]
+
+mod inputs;
+
+use inputs::{fresh_core, mixed_inputs, quiet_update, reacting_update, routed_core, small_core};
+use std::alloc::Global;
+use std::io;
+use std::time::{Duration, Instant};
+use tora_core::{Core, Input, Sends};
+use tora_frame::{Frame, Header};
+use tora_packet::{Packet, decode, encode};
+
+/// How often each mix is run; the best run counts.
+const RUNS: u32 = 7;
+
+/// The steps of one run where no number is given.
+const STEPS: u32 = 200_000;
+
+/// Adds what a result says to a running number.
+fn folded(sum: u64, value: u64) -> u64 {
+    (sum ^ value).wrapping_mul(0x100000001b3)
+}
+
+fn folded_sends(sum: u64, sends: &Sends) -> u64 {
+    let mut sum = sum;
+    for packet in sends.as_slice() {
+        let bytes = encode(packet);
+        for byte in bytes.as_slice() {
+            sum = folded(sum, u64::from(*byte));
+        }
+    }
+    sum
+}
+
+fn run_mixed(core: &mut Core, inputs: &[(u64, Input)]) -> u64 {
+    let mut sum = 0xcbf29ce484222325u64;
+    for (now, input) in inputs {
+        sum = match core.step(*input, *now) {
+            Ok(sends) => folded_sends(sum, &sends),
+            Err(error) => folded(sum, u64::from(error.number())),
+        };
+    }
+    sum
+}
+
+/// One step, and how many packets it broadcasts.
+fn sent(core: &mut Core, input: Option<Input>, now: u64) -> u64 {
+    let Some(input) = input else {
+        return 0;
+    };
+    match core.step(input, now) {
+        Ok(sends) => sends.len() as u64,
+        Err(_) => 0,
+    }
+}
+
+fn run_quiet(core: &mut Core, steps: u32) -> u64 {
+    let mut sum = 0u64;
+    for i in 0..steps {
+        sum = sum.wrapping_add(sent(core, quiet_update(i), 1));
+    }
+    sum
+}
+
+fn run_reacting(core: &mut Core, steps: u32) -> u64 {
+    let mut sum = 0u64;
+    for i in 0..steps {
+        sum = sum.wrapping_add(sent(core, reacting_update(i), 1));
+    }
+    sum
+}
+
+fn run_links(core: &mut Core, steps: u32) -> u64 {
+    let mut sum = 0u64;
+    for i in 0..steps / 2 {
+        sum = sum.wrapping_add(sent(core, Some(Input::LinkDown(8)), u64::from(i)));
+        sum = sum.wrapping_add(sent(core, Some(Input::LinkUp(8)), u64::from(i)));
+    }
+    sum
+}
+
+/// The updates among the inputs, encoded and decoded again.
+fn run_packets(inputs: &[(u64, Input)]) -> u64 {
+    let mut sum = 0u64;
+    for (_, input) in inputs {
+        if let Input::Packet(_, packet) = input {
+            let bytes = encode(packet);
+            if let Ok(again) = decode(bytes.as_slice()) {
+                sum = sum.wrapping_add(u64::from(again.destination()));
+            }
+        }
+    }
+    sum
+}
+
+/// DATA frames with the packets among the inputs, encoded and decoded again.
+fn run_frames(inputs: &[(u64, Input)]) -> u64 {
+    let header = Header {
+        sender: 1,
+        receiver: 2,
+        life: 5,
+        heard: 9,
+    };
+    let mut sum = 0u64;
+    for (_, input) in inputs {
+        if let Input::Packet(_, packet) = input {
+            let frame = Frame::data(header, 1, 0, *packet);
+            let bytes = tora_frame::encode(&frame);
+            if let Ok(again) = tora_frame::decode(bytes.as_slice()) {
+                sum = sum.wrapping_add(again.header().life);
+            }
+        }
+    }
+    sum
+}
+
+/// What is timed.
+#[derive(Clone, Copy)]
+enum Mix {
+    Mixed,
+    Quiet,
+    Reacting,
+    Links,
+    Packets,
+    Frames,
+}
+
+impl Mix {
+    fn name(self) -> &'static str {
+        match self {
+            Mix::Mixed => "core-mixed",
+            Mix::Quiet => "core-quiet",
+            Mix::Reacting => "core-reacting",
+            Mix::Links => "core-links",
+            Mix::Packets => "codec-packet",
+            Mix::Frames => "codec-frame",
+        }
+    }
+
+    /// A new core for a run, where the mix wants one.
+    fn core(self, alloc: Global) -> Option<Core> {
+        match self {
+            Mix::Mixed => fresh_core(alloc),
+            Mix::Reacting => small_core(alloc),
+            Mix::Quiet | Mix::Links | Mix::Packets | Mix::Frames => routed_core(alloc),
+        }
+    }
+
+    fn run(self, core: &mut Core, inputs: &[(u64, Input)], steps: u32) -> u64 {
+        match self {
+            Mix::Mixed => run_mixed(core, inputs),
+            Mix::Quiet => run_quiet(core, steps),
+            Mix::Reacting => run_reacting(core, steps),
+            Mix::Links => run_links(core, steps),
+            Mix::Packets => run_packets(inputs),
+            Mix::Frames => run_frames(inputs),
+        }
+    }
+
+    /// How many operations a run has.
+    fn count(self, inputs: &[(u64, Input)], steps: u32) -> u64 {
+        match self {
+            Mix::Mixed => inputs.len() as u64,
+            Mix::Quiet | Mix::Reacting | Mix::Links => u64::from(steps),
+            Mix::Packets | Mix::Frames => {
+                let packets = inputs
+                    .iter()
+                    .filter(|(_, input)| matches!(input, Input::Packet(_, _)));
+                packets.count() as u64
+            }
+        }
+    }
+}
+
+/// Times a mix, and prints its line.
+fn time(rt: &HostRuntime, mix: Mix, inputs: &[(u64, Input)], steps: u32) -> io::Result<()> {
+    let mut best: Option<Duration> = None;
+    let mut sum = 0u64;
+    for _ in 0..RUNS {
+        let Some(mut core) = mix.core(rt.alloc()) else {
+            return rt.eprintln("tora_bench: memory");
+        };
+        let start = Instant::now(rt)?;
+        sum = mix.run(&mut core, inputs, steps);
+        let passed = start.elapsed(rt)?;
+        best = Some(best.map_or(passed, |least| least.min(passed)));
+    }
+    let count = mix.count(inputs, steps).max(1);
+    let nanoseconds = best.map_or(0, |least| least.as_nanos());
+    let hundredths = nanoseconds.saturating_mul(100) / u128::from(count);
+    let (whole, part) = (hundredths / 100, hundredths % 100);
+    let name = mix.name();
+    println!(rt; "{name} {whole}.{part:02} ns/op check {sum:016x}")
+}
+
+fn main(rt: HostRuntime) -> io::Result<()> {
+    let words = std::env::args(&rt)?.collect::<Vec<String>>(rt.alloc())?;
+    let Some(word) = words.get(1) else {
+        return Ok(());
+    };
+    let steps = match words.get(2) {
+        Some(number) => number.as_str().parse::<u32>().unwrap_or(STEPS),
+        None => STEPS,
+    };
+    let inputs = mixed_inputs(rt.alloc(), steps)?;
+    let mixes = [
+        Mix::Mixed,
+        Mix::Quiet,
+        Mix::Reacting,
+        Mix::Links,
+        Mix::Packets,
+        Mix::Frames,
+    ];
+    for mix in mixes {
+        if mix.name().starts_with(word.as_str()) {
+            time(&rt, mix, inputs.as_slice(), steps)?;
+        }
+    }
+    Ok(())
+}
