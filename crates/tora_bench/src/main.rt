@@ -1,13 +1,15 @@
 //! Times the calls of the lower crates, for the scripts under `bench/`. With no words it prints nothing.
 //!
 //! `tora_bench core N` times N steps of a core on four mixes of inputs, `tora_bench codec N` the packet codec and the
-//! frame codec on N values. Each line is a name, nanoseconds an operation (the best of seven runs), and a number that
-//! depends on every result.
+//! frame codec on N values, `tora_bench link N` N packets that go from one link end to another and are acknowledged. Each
+//! line is a name, nanoseconds an operation (the best of seven runs), and a number that depends on every result.
 #![tactic(auto)]
 
 mod inputs;
+mod links;
 
 use inputs::{fresh_core, mixed_inputs, quiet_update, reacting_update, routed_core, small_core};
+use links::run_link;
 use std::alloc::Global;
 use std::io;
 use std::time::{Duration, Instant};
@@ -128,6 +130,7 @@ enum Mix {
     Links,
     Packets,
     Frames,
+    Link,
 }
 
 impl Mix {
@@ -139,6 +142,7 @@ impl Mix {
             Mix::Links => "core-links",
             Mix::Packets => "codec-packet",
             Mix::Frames => "codec-frame",
+            Mix::Link => "link-packet",
         }
     }
 
@@ -147,11 +151,11 @@ impl Mix {
         match self {
             Mix::Mixed => fresh_core(alloc),
             Mix::Reacting => small_core(alloc),
-            Mix::Quiet | Mix::Links | Mix::Packets | Mix::Frames => routed_core(alloc),
+            Mix::Quiet | Mix::Links | Mix::Packets | Mix::Frames | Mix::Link => routed_core(alloc),
         }
     }
 
-    fn run(self, core: &mut Core, inputs: &[(u64, Input)], steps: u32) -> u64 {
+    fn run(self, alloc: Global, core: &mut Core, inputs: &[(u64, Input)], steps: u32) -> u64 {
         match self {
             Mix::Mixed => run_mixed(core, inputs),
             Mix::Quiet => run_quiet(core, steps),
@@ -159,6 +163,7 @@ impl Mix {
             Mix::Links => run_links(core, steps),
             Mix::Packets => run_packets(inputs),
             Mix::Frames => run_frames(inputs),
+            Mix::Link => run_link(alloc, steps).unwrap_or(0),
         }
     }
 
@@ -166,7 +171,7 @@ impl Mix {
     fn count(self, inputs: &[(u64, Input)], steps: u32) -> u64 {
         match self {
             Mix::Mixed => inputs.len() as u64,
-            Mix::Quiet | Mix::Reacting | Mix::Links => u64::from(steps),
+            Mix::Quiet | Mix::Reacting | Mix::Links | Mix::Link => u64::from(steps),
             Mix::Packets | Mix::Frames => {
                 let packets = inputs
                     .iter()
@@ -186,7 +191,7 @@ fn time(rt: &HostRuntime, mix: Mix, inputs: &[(u64, Input)], steps: u32) -> io::
             return rt.eprintln("tora_bench: memory");
         };
         let start = Instant::now(rt)?;
-        sum = mix.run(&mut core, inputs, steps);
+        sum = mix.run(rt.alloc(), &mut core, inputs, steps);
         let passed = start.elapsed(rt)?;
         best = Some(best.map_or(passed, |least| least.min(passed)));
     }
@@ -215,6 +220,7 @@ fn main(rt: HostRuntime) -> io::Result<()> {
         Mix::Links,
         Mix::Packets,
         Mix::Frames,
+        Mix::Link,
     ];
     for mix in mixes {
         if mix.name().starts_with(word.as_str()) {

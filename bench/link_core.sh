@@ -1,0 +1,8 @@
+#!/usr/bin/env bash
+# Nanoseconds for one packet between two link ends in one thread: submitted, transmitted, delivered, acknowledged.
+# There is no baseline for it yet.
+# usage: bench/link_core.sh [PACKETS]
+set -eu
+top=$(cd "$(dirname "$0")/.." && pwd)
+(cd "$top/crates/tora_bench" && rt run >/dev/null 2>&1)
+exec "$top/crates/tora_bench/out/tora_bench" link "${1:-300000}"

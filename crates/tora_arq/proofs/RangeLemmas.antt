@@ -1,0 +1,354 @@
+-- What every call keeps of a link end.
+use Rattle.std.proofs.Common.{◌≡◌, ℕ, zero, suc, ◌+◌, ◌-◌, ◌^◌, ◌<◌, ◌≤◌, max, Bool, true, false, ◌==◌, not, nat_lt, nat_le, ◌⊎◌, inl, inr, List, [], ◌∷◌, ◌++◌, length, drop, Option, Some, None, Result, refl, sym, ap, subst, arith, length-append, length-drop}
+use Rattle.std.proofs.lemmas.Bool.{cond_both, ltb-false, leb-false, cases_order}
+use Rattle.tora_packet.specs.declared.Packet.{Packet}
+use Rattle.tora_frame.specs.declared.parts.Body.{Body}
+use Rattle.tora_frame.specs.declared.parts.Body.TheVariants.{Hello, Data, Ack}
+use Rattle.tora_frame.specs.FrameParts.{FrameParts, IsLifeNumber, IsBody, IsFrame}
+use Rattle.tora_arq.specs.declared.Life.{Life}
+use Rattle.tora_arq.specs.declared.Times.{Times}
+use Rattle.tora_arq.specs.declared.Reason.{Reason}
+use Rattle.tora_arq.specs.declared.Reason.TheVariants as Because
+use Rattle.tora_arq.specs.declared.Verdict.{Verdict}
+use Rattle.tora_arq.specs.declared.LinkEvent.{LinkEvent}
+use Rattle.tora_arq.specs.declared.LinkEvent.TheVariants.{Up, Deliver, Down}
+use Rattle.tora_arq.specs.declared.SubmitError.{SubmitError}
+use Rattle.tora_arq.specs.declared.TheConstants.{WINDOW}
+use Rattle.tora_arq.specs.declared.state.Phase.{Phase}
+use Rattle.tora_arq.specs.declared.state.Phase.TheVariants.{Closed, Unbound, Bound}
+use Rattle.tora_arq.specs.declared.queue.QueuedPacket.{QueuedPacket}
+use Rattle.tora_arq.specs.Lives.{life_of, is_same_life}
+use Rattle.tora_arq.specs.Settings.{Settings, settings_of, IsLink, IsTimes}
+use Rattle.tora_arq.specs.SendQueue.{untried, is_ready, DuePacket, due_behind, first_due}
+use Rattle.tora_arq.specs.LinkEnd.{EndState, first_end, after_open, after_end, after_bind, count_of, on_life_told, after_acknowledgement, after_delivery, on_data, on_matched, on_frame_in, is_foreign, is_busy, on_frame, is_silent, after_tick_in, after_tick, on_submit_in, on_submit, after_cut_in, after_cut, after_poll_event, is_hello_due, on_transmit_due, on_transmit_in, on_transmit}
+use Rattle.tora_arq.specs.EndRange.{AreUntried, IsOwnNumber, IsPhase, IsQueue, IsEndState}
+use Rattle.tora_arq.proofs.ReceiveLemmas.{repeated_data, early_data, next_data}
+
+-- ---- the send queue
+
+untried_none : (n : ℕ) → AreUntried (drop n [])
+untried_none zero = tt
+untried_none (suc n) = tt
+
+untried_rest : (n : ℕ) (queue : List QueuedPacket) → AreUntried queue → AreUntried (drop n queue)
+untried_rest zero queue h = h
+untried_rest (suc n) [] h = tt
+untried_rest (suc n) (q ∷ queue) h = untried_rest n queue h.1
+
+untried_further : (window : ℕ) (queue : List QueuedPacket) → AreUntried (drop window queue) → AreUntried (drop (suc window) queue)
+untried_further window [] h = tt
+untried_further zero (q ∷ queue) h = h.1
+untried_further (suc window) (q ∷ queue) h = untried_further window queue h
+
+untried_behind : (window n : ℕ) (queue : List QueuedPacket) → AreUntried (drop window queue) → AreUntried (drop window (drop n queue))
+untried_behind zero n queue h = untried_rest n queue h
+untried_behind (suc window) zero queue h = h
+untried_behind (suc window) (suc n) [] h = tt
+untried_behind (suc window) (suc n) (q ∷ queue) h = untried_further window (drop n queue) (untried_behind window n queue h)
+
+untried_pushed : (window : ℕ) (queue : List QueuedPacket) (packet : Packet) → AreUntried (drop window queue) → AreUntried (drop window (queue ++ untried packet ∷ []))
+untried_pushed zero [] packet h = (refl, tt)
+untried_pushed zero (q ∷ queue) packet h = (h.0, untried_pushed zero queue packet h.1)
+untried_pushed (suc window) [] packet h = untried_none window
+untried_pushed (suc window) (q ∷ queue) packet h = untried_pushed window queue packet h
+
+no_queue : (window : ℕ) → IsQueue window 0 []
+no_queue window = record { submitted = omega arith; untried = untried_none window }
+
+acknowledged_queue : (window acknowledged count : ℕ) (queue : List QueuedPacket) → count ≤ 2 ^ 62 → IsQueue window acknowledged queue →
+    IsQueue window (max acknowledged count) (drop (count - acknowledged) queue)
+acknowledged_queue window acknowledged count queue c h = record {
+  submitted = omega (arith, h.submitted, length-drop (count - acknowledged) queue);
+  untried = untried_behind window (count - acknowledged) queue h.untried;
+}
+
+-- what the transmission of a packet leaves of the queue
+record IsDueOf (window : ℕ) (queue : List QueuedPacket) (due : DuePacket) : Type 0 where
+  len : length due.queue ≡ length queue
+  behind : drop window due.queue ≡ drop window queue
+
+abbrev MayBeDueOf : ℕ → List QueuedPacket → Option DuePacket → Type 0
+MayBeDueOf window queue None = Unit {0}
+MayBeDueOf window queue (Some due) = IsDueOf window queue due
+
+due_queue : (times : Times) (now number window : ℕ) (queue : List QueuedPacket) → MayBeDueOf window queue (first_due times now number window queue)
+unfolding first_due
+due_queue times now number zero queue = tt
+due_queue times now number (suc window) [] = tt
+due_queue times now number (suc window) (q ∷ queue) =
+    cond_both (is_ready times now q) _ _ (MayBeDueOf (suc window) (q ∷ queue)) (λ _. record { len = refl; behind = refl })
+    (λ _. go (first_due times now (suc number) window queue) (due_queue times now (suc number) window queue))
+  where
+    go : (o : Option DuePacket) → MayBeDueOf window queue o → MayBeDueOf (suc window) (q ∷ queue) (due_behind q o)
+    go None h = tt
+    go (Some due) h = record { len = ap suc h.len; behind = h.behind }
+
+-- ---- a phase, where an event is added
+
+grown : (events : List LinkEvent) (event : LinkEvent) (n : ℕ) → length events < n → length (events ++ event ∷ []) ≤ n
+grown events event n h = omega (arith, length-append events (event ∷ []))
+
+grown_below : (events : List LinkEvent) (event : LinkEvent) (n : ℕ) → length events + 1 < n → length (events ++ event ∷ []) < n
+grown_below events event n h = omega (arith, length-append events (event ∷ []))
+
+with_room : (last heard : ℕ) (events more : List LinkEvent) (phase : Phase) → length more < 64 → IsPhase last heard events phase → IsPhase last heard more phase
+with_room last heard events more Closed r h = tt
+with_room last heard events more (Unbound own) r h = h
+with_room last heard events more (Bound life) r h = record { own = h.own; peer = h.peer; noted = h.noted; room = r }
+
+-- ---- the small changes
+
+pub first_kept : (me peer : ℕ) (times : Times) → IsLink me peer → IsTimes times → IsEndState (settings_of me peer times) first_end
+first_kept me peer times l t = record {
+  link = l;
+  times = t;
+  window = refl;
+  in_phase = tt;
+  noted = omega arith;
+  opened = omega arith;
+  waiting = no_queue WINDOW;
+  delivered = omega arith;
+  none_held = refl;
+  room = omega arith;
+}
+
+module _ (s : Settings) where
+  pub open_kept : (e : EndState) (life now : ℕ) → IsLifeNumber life → IsEndState s e → IsEndState s (after_open e life now)
+  open_kept e life now n h = record {
+    link = h.link;
+    times = h.times;
+    window = h.window;
+    in_phase = record { number = n; latest = refl };
+    noted = omega arith;
+    opened = n.1;
+    waiting = no_queue s.window;
+    delivered = omega arith;
+    none_held = refl;
+    room = h.room;
+  }
+
+  end_kept : (e : EndState) (life : Life) (reason : Reason) → length e.events < 64 → IsEndState s e → IsEndState s (after_end e life reason)
+  end_kept e life reason r h = record {
+    link = h.link;
+    times = h.times;
+    window = h.window;
+    in_phase = tt;
+    noted = h.noted;
+    opened = h.opened;
+    waiting = record { submitted = omega (arith, h.waiting.submitted); untried = untried_none s.window };
+    delivered = h.delivered;
+    none_held = refl;
+    room = grown e.events (Down life reason) 64 r;
+  }
+
+  bind_kept : (e : EndState) (life : Life) → length e.events ≤ 30 → IsOwnNumber e.last_life life.own → IsLifeNumber life.peer → IsEndState s e → IsEndState s (after_bind e life)
+  bind_kept e life r own peer h = record {
+    link = h.link;
+    times = h.times;
+    window = h.window;
+    in_phase = record { own = own; peer = peer; noted = refl; room = grown_below e.events (Up life) 64 (omega arith) };
+    noted = peer.1;
+    opened = h.opened;
+    waiting = no_queue s.window;
+    delivered = omega arith;
+    none_held = refl;
+    room = grown e.events (Up life) 64 (omega arith);
+  }
+
+  acknowledgement_kept : (e : EndState) (count now : ℕ) → count ≤ 2 ^ 62 → IsEndState s e → IsEndState s (after_acknowledgement e count now)
+  acknowledgement_kept e count now c h = record {
+    link = h.link;
+    times = h.times;
+    window = h.window;
+    in_phase = h.in_phase;
+    noted = h.noted;
+    opened = h.opened;
+    waiting = acknowledged_queue s.window e.acknowledged count e.queue c h.waiting;
+    delivered = h.delivered;
+    none_held = h.none_held;
+    room = h.room;
+  }
+
+  delivery_kept : (e : EndState) (life : Life) (packet : Packet) → length e.events ≤ 31 → suc e.accepted ≤ 2 ^ 62 → IsEndState s e → IsEndState s (after_delivery e life packet [])
+  delivery_kept e life packet r n h = record {
+    link = h.link;
+    times = h.times;
+    window = h.window;
+    in_phase = with_room e.last_life e.heard e.events (e.events ++ Deliver life packet ∷ []) e.phase (grown_below e.events (Deliver life packet) 64 (omega arith)) h.in_phase;
+    noted = h.noted;
+    opened = h.opened;
+    waiting = h.waiting;
+    delivered = n;
+    none_held = refl;
+    room = grown e.events (Deliver life packet) 64 (omega arith);
+  }
+
+  -- ---- a frame
+
+  heard_kept : (e : EndState) (own life : ℕ) → e.phase ≡ Unbound own → life ≤ 2 ^ 62 → IsEndState s e → IsEndState s (record e { heard = life; owes_hello = true })
+  heard_kept e own life j n h = record {
+    link = h.link;
+    times = h.times;
+    window = h.window;
+    in_phase = subst (λ ph. IsPhase e.last_life life e.events ph) (sym j) (subst (λ ph. IsPhase e.last_life e.heard e.events ph) j h.in_phase);
+    noted = n;
+    opened = h.opened;
+    waiting = h.waiting;
+    delivered = h.delivered;
+    none_held = h.none_held;
+    room = h.room;
+  }
+
+  life_told_kept : (e : EndState) (own life : ℕ) (body : Body) → e.phase ≡ Unbound own → life ≤ 2 ^ 62 → IsEndState s e → IsEndState s (on_life_told e life body).1
+  life_told_kept e own life Hello j n h =
+      cond_both (nat_lt life e.heard) _ _ (λ (r : Verdict × EndState). IsEndState s r.1) (λ _. h) (λ _.
+      cond_both (life == e.heard) _ _ (λ (r : Verdict × EndState). IsEndState s r.1) (λ _. h) (λ _. heard_kept e own life j n h))
+  life_told_kept e own life (Data number count packet) j n h = h
+  life_told_kept e own life (Ack count) j n h = h
+
+  data_kept : (e : EndState) (life : Life) (number : ℕ) (packet : Packet) → length e.events ≤ 31 → number ≤ 2 ^ 62 → IsEndState s e → IsEndState s (on_data WINDOW e life number packet).1
+  data_kept e life number packet r n h = go (cases_order number (suc e.accepted))
+    where
+      go : (number ≡ suc e.accepted) ⊎ ((number < suc e.accepted) ⊎ (suc e.accepted < number)) → IsEndState s (on_data WINDOW e life number packet).1
+      go (inl q) =
+          subst (λ (r : Verdict × EndState). IsEndState s r.1) (sym (next_data e life number packet h.none_held q)) (delivery_kept e life packet r (omega arith) h)
+      go (inr (inl q)) = subst (λ (r : Verdict × EndState). IsEndState s r.1) (sym (repeated_data e life number packet (omega arith))) h
+      go (inr (inr q)) = subst (λ (r : Verdict × EndState). IsEndState s r.1) (sym (early_data e life number packet (omega arith))) h
+
+  matched_kept : (e : EndState) (life : Life) (binds : Bool) (now heard : ℕ) (body : Body) → length e.events ≤ 31 → IsBody heard body → IsEndState s e →
+      IsEndState s (on_matched WINDOW e life binds now body).1
+  unfolding on_matched
+  matched_kept e life binds now heard Hello r b h = h
+  matched_kept e life binds now heard (Data number count packet) r b h =
+      data_kept (record (after_acknowledgement e count now) { owes_ack = true }) life number packet r b.number.1 (acknowledgement_kept e count now b.count h)
+  matched_kept e life binds now heard (Ack count) r b h = acknowledgement_kept e count now b.count h
+
+  phase_kept : (e : EndState) (f : FrameParts) (now : ℕ) (phase : Phase) → e.phase ≡ phase → length e.events ≤ 30 → IsFrame f → IsEndState s e →
+      IsEndState s (on_frame_in WINDOW e f now phase).1
+  unfolding on_frame_in
+  phase_kept e f now Closed j r t h = h
+  phase_kept e f now (Unbound own) j r t h =
+      let phase : IsOwnNumber e.last_life own = subst (λ ph. IsPhase e.last_life e.heard e.events ph) j h.in_phase in
+      cond_both (f.header.heard == own) _ _ (λ (r : Verdict × EndState). IsEndState s r.1)
+      (λ _. cond_both (nat_lt 0 (count_of f.body)) _ _ (λ (r : Verdict × EndState). IsEndState s r.1) (λ _. h) (λ _.
+      cond_both (nat_lt f.header.life e.heard) _ _ (λ (r : Verdict × EndState). IsEndState s r.1) (λ _. h) (λ _.
+      matched_kept (after_bind e (life_of own f.header.life)) (life_of own f.header.life) true now f.header.heard f.body
+      (grown e.events (Up (life_of own f.header.life)) 31 (omega arith)) t.body
+      (bind_kept e (life_of own f.header.life) r phase t.header.life h))))
+      (λ _. life_told_kept e own f.header.life f.body j t.header.life.1 h)
+  phase_kept e f now (Bound life) j r t h =
+      cond_both (nat_lt life.peer f.header.life) _ _ (λ (r : Verdict × EndState). IsEndState s r.1)
+      (λ _. end_kept e life Because.NewPeer (omega arith) h) (λ _.
+      cond_both (nat_lt f.header.life life.peer) _ _ (λ (r : Verdict × EndState). IsEndState s r.1) (λ _. h) (λ _.
+      cond_both (f.header.heard == life.own) _ _ (λ (r : Verdict × EndState). IsEndState s r.1)
+      (λ _. cond_both (nat_lt e.transmitted (count_of f.body)) _ _ (λ (r : Verdict × EndState). IsEndState s r.1) (λ _. h)
+      (λ _. matched_kept e life false now f.header.heard f.body (omega arith) t.body h))
+      (λ _. h)))
+
+  pub frame_kept : (e : EndState) (f : FrameParts) (now : ℕ) → IsFrame f → IsEndState s e → IsEndState s (on_frame s e f now).1
+  unfolding on_frame
+  frame_kept e f now t h =
+      cond_both (is_foreign s f) _ _ (λ (r : Verdict × EndState). IsEndState s r.1) (λ _. h) (λ _.
+      cond_both (is_busy e) _ _ (λ (r : Verdict × EndState). IsEndState s r.1) (λ _. h) (λ free.
+      let room : length e.events ≤ 30 = omega (arith, ltb-false (64 - length e.events) 34 free, h.room) in
+      subst (λ window. IsEndState s (on_frame_in window e f now e.phase).1) (sym h.window) (phase_kept e f now e.phase refl room t h)))
+
+  -- ---- time, packets and events
+
+  pub tick_kept : (e : EndState) (now : ℕ) → IsEndState s e → IsEndState s (after_tick s e now)
+  unfolding after_tick
+  tick_kept e now h = go e.phase h.in_phase
+    where
+      go : (phase : Phase) → IsPhase e.last_life e.heard e.events phase → IsEndState s (after_tick_in s e now phase)
+      go Closed p = h
+      go (Unbound own) p = h
+      go (Bound life) p = cond_both (is_silent s e now) _ _ (IsEndState s) (λ _. end_kept e life Because.Silent p.room h) (λ _. h)
+
+  pub submit_kept : (e : EndState) (life : Life) (packet : Packet) → IsEndState s e → IsEndState s (on_submit e life packet).1
+  unfolding on_submit
+  submit_kept e life packet h = go e.phase h.in_phase
+    where
+      pushed : e.acknowledged + length e.queue < 2 ^ 62 → IsEndState s (record e { queue = e.queue ++ untried packet ∷ [] })
+      pushed below = record {
+        link = h.link;
+        times = h.times;
+        window = h.window;
+        in_phase = h.in_phase;
+        noted = h.noted;
+        opened = h.opened;
+        waiting = record {
+          submitted = omega (arith, below, length-append e.queue (untried packet ∷ []));
+          untried = untried_pushed s.window e.queue packet h.waiting.untried;
+        };
+        delivered = h.delivered;
+        none_held = h.none_held;
+        room = h.room;
+      }
+
+      go : (phase : Phase) → IsPhase e.last_life e.heard e.events phase → IsEndState s (on_submit_in e life packet phase).1
+      go Closed p = h
+      go (Unbound own) p = h
+      go (Bound current) p =
+          cond_both (not (is_same_life life current)) _ _ (λ (r : Result (Unit {0}) SubmitError × EndState). IsEndState s r.1) (λ _. h) (λ _.
+          cond_both (nat_le (2 ^ 62) (e.acknowledged + length e.queue)) _ _ (λ (r : Result (Unit {0}) SubmitError × EndState). IsEndState s r.1)
+          (λ _. end_kept e current Because.Spent p.room h) (λ below.
+          cond_both (nat_le 256 (length e.queue)) _ _ (λ (r : Result (Unit {0}) SubmitError × EndState). IsEndState s r.1)
+          (λ _. end_kept e current Because.Full p.room h)
+          (λ _. pushed (leb-false (2 ^ 62) (e.acknowledged + length e.queue) below))))
+
+  pub cut_kept : (e : EndState) (life : Life) → IsEndState s e → IsEndState s (after_cut e life)
+  unfolding after_cut
+  cut_kept e life h = go e.phase h.in_phase
+    where
+      go : (phase : Phase) → IsPhase e.last_life e.heard e.events phase → IsEndState s (after_cut_in e life phase)
+      go Closed p = h
+      go (Unbound own) p = h
+      go (Bound current) p = cond_both (is_same_life life current) _ _ (IsEndState s) (λ _. end_kept e current Because.Cut p.room h) (λ _. h)
+
+  pub poll_kept : (e : EndState) → IsEndState s e → IsEndState s (after_poll_event e)
+  poll_kept e h = record {
+    link = h.link;
+    times = h.times;
+    window = h.window;
+    in_phase = shorter e.phase h.in_phase;
+    noted = h.noted;
+    opened = h.opened;
+    waiting = h.waiting;
+    delivered = h.delivered;
+    none_held = h.none_held;
+    room = omega (arith, h.room, length-drop 1 e.events);
+  }
+    where
+      shorter : (phase : Phase) → IsPhase e.last_life e.heard e.events phase → IsPhase e.last_life e.heard (drop 1 e.events) phase
+      shorter Closed p = tt
+      shorter (Unbound own) p = p
+      shorter (Bound life) p = record { own = p.own; peer = p.peer; noted = p.noted; room = omega (arith, p.room, length-drop 1 e.events) }
+
+  due_kept : (e : EndState) (life : Life) (o : Option DuePacket) → MayBeDueOf s.window e.queue o → IsEndState s e → IsEndState s (on_transmit_due s e life o).1
+  due_kept e life None d h = cond_both e.owes_ack _ _ (λ (r : Option FrameParts × EndState). IsEndState s r.1) (λ _. h) (λ _. h)
+  due_kept e life (Some due) d h = record {
+    link = h.link;
+    times = h.times;
+    window = h.window;
+    in_phase = h.in_phase;
+    noted = h.noted;
+    opened = h.opened;
+    waiting = record {
+      submitted = omega (arith, h.waiting.submitted, d.len);
+      untried = subst AreUntried (sym d.behind) h.waiting.untried;
+    };
+    delivered = h.delivered;
+    none_held = h.none_held;
+    room = h.room;
+  }
+
+  pub transmit_kept : (e : EndState) (now : ℕ) → IsEndState s e → IsEndState s (on_transmit s e now).1
+  unfolding on_transmit on_transmit_in
+  transmit_kept e now h = go e.phase
+    where
+      go : (phase : Phase) → IsEndState s (on_transmit_in s e now phase).1
+      go Closed = h
+      go (Unbound own) = cond_both (is_hello_due s e now) _ _ (λ (r : Option FrameParts × EndState). IsEndState s r.1) (λ _. h) (λ _. h)
+      go (Bound life) =
+          cond_both (is_hello_due s e now) _ _ (λ (r : Option FrameParts × EndState). IsEndState s r.1) (λ _. h)
+          (λ _. due_kept e life (first_due s.times now (suc e.acknowledged) s.window e.queue) (due_queue s.times now (suc e.acknowledged) s.window e.queue) h)

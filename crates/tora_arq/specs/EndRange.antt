@@ -1,0 +1,62 @@
+-- What every link end keeps, whatever comes in.
+use Rattle.std.specs.Prelude.{◌≡◌, ℕ, ◌+◌, ◌^◌, ◌<◌, ◌≤◌, List, [], ◌∷◌, length, drop, Option}
+use Rattle.tora_packet.specs.declared.Packet.{Packet}
+use Rattle.tora_frame.specs.FrameParts.{IsLifeNumber}
+use Rattle.tora_arq.specs.declared.TheConstants.{WINDOW}
+use Rattle.tora_arq.specs.declared.Life.{Life}
+use Rattle.tora_arq.specs.declared.LinkEvent.{LinkEvent}
+use Rattle.tora_arq.specs.declared.state.Phase.{Phase}
+use Rattle.tora_arq.specs.declared.state.Phase.TheVariants.{Closed, Unbound, Bound}
+use Rattle.tora_arq.specs.declared.queue.QueuedPacket.{QueuedPacket}
+use Rattle.tora_arq.specs.Settings.{Settings, IsLink, IsTimes}
+use Rattle.tora_arq.specs.LinkEnd.{EndState}
+
+-- a link end: what it is made with, and its state
+pub record LinkEndView : Type 0 where
+  pub settings : Settings
+  pub state : EndState
+
+abbrev pub link_end_of : Settings → EndState → LinkEndView
+link_end_of settings state = record { settings = settings; state = state }
+
+-- packets that were never transmitted
+abbrev pub AreUntried : List QueuedPacket → Type 0
+AreUntried [] = Unit {0}
+AreUntried (q ∷ queue) = (q.tries ≡ 0) × AreUntried queue
+
+-- an own number, which is that of the last life
+pub record IsOwnNumber (last own : ℕ) : Type 0 where
+  pub number : IsLifeNumber own
+  pub latest : own ≡ last
+
+-- a life that is bound: its peer's number is the one heard, and there is a place for the event that it ended
+pub record IsBoundLife (last heard : ℕ) (events : List LinkEvent) (life : Life) : Type 0 where
+  pub own : IsOwnNumber last life.own
+  pub peer : IsLifeNumber life.peer
+  pub noted : heard ≡ life.peer
+  pub room : length events < 64
+
+abbrev pub IsPhase : ℕ → ℕ → List LinkEvent → Phase → Type 0
+IsPhase last heard events Closed = Unit {0}
+IsPhase last heard events (Unbound own) = IsOwnNumber last own
+IsPhase last heard events (Bound life) = IsBoundLife last heard events life
+
+-- no more than 2^62 packets in a life; those behind the window were never transmitted
+pub record IsQueue (window acknowledged : ℕ) (queue : List QueuedPacket) : Type 0 where
+  pub submitted : acknowledged + length queue ≤ 2 ^ 62
+  pub untried : AreUntried (drop window queue)
+
+pub record IsRange (s : Settings) (phase : Phase) (heard last acknowledged accepted : ℕ) (queue : List QueuedPacket) (held : List (Option Packet)) (events : List LinkEvent) : Type 0 where
+  pub link : IsLink s.me s.peer
+  pub times : IsTimes s.times
+  pub window : s.window ≡ WINDOW
+  pub in_phase : IsPhase last heard events phase
+  pub noted : heard ≤ 2 ^ 62
+  pub opened : last ≤ 2 ^ 62
+  pub waiting : IsQueue s.window acknowledged queue
+  pub delivered : accepted ≤ 2 ^ 62
+  pub none_held : held ≡ []
+  pub room : length events ≤ 64
+
+abbrev pub IsEndState : Settings → EndState → Type 0
+IsEndState s e = IsRange s e.phase e.heard e.last_life e.acknowledged e.accepted e.queue e.held e.events

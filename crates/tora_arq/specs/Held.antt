@@ -1,0 +1,11 @@
+-- Packets that came before the next one, by place: the first place is that of the next packet.
+use Rattle.std.specs.Prelude.{ℕ, zero, suc, List, [], ◌∷◌, Option, Some, None}
+use Rattle.tora_packet.specs.declared.Packet.{Packet}
+
+-- a packet is put at a place; one that is held there stays
+abbrev pub hold_at : ℕ → Packet → List (Option Packet) → List (Option Packet)
+hold_at zero packet [] = Some packet ∷ []
+hold_at zero packet (None ∷ held) = Some packet ∷ held
+hold_at zero packet (Some first ∷ held) = Some first ∷ held
+hold_at (suc place) packet [] = None ∷ hold_at place packet []
+hold_at (suc place) packet (slot ∷ held) = slot ∷ hold_at place packet held

@@ -1,0 +1,9 @@
+pub mod Lives
+pub mod Settings
+pub mod Held
+pub mod SendQueue
+pub mod LinkEnd
+pub mod EndRange
+pub mod StateView
+pub mod LinkFacts
+pub mod LinkRuns

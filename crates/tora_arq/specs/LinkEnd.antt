@@ -1,0 +1,318 @@
+-- The end of a neighbour link: what each call makes of it.
+use Rattle.std.specs.Prelude.{ℕ, suc, ◌+◌, ◌-◌, ◌^◌, max, Bool, true, false, not, nat_lt, nat_le, ◌==◌, ◌||◌, if◌then◌else◌, List, [], ◌∷◌, ◌++◌, length, drop, slice_get, Option, Some, None, Result, Ok, Err}
+use Rattle.tora_packet.specs.declared.Packet.{Packet}
+use Rattle.tora_packet.specs.declared.Packet.TheVariants.{Qry, Upd, Clr}
+use Rattle.tora_frame.specs.declared.parts.Body.{Body}
+use Rattle.tora_frame.specs.declared.parts.Body.TheVariants.{Hello, Data, Ack}
+use Rattle.tora_frame.specs.FrameParts.{FrameParts, frame_of}
+use Rattle.tora_arq.specs.declared.Life.{Life}
+use Rattle.tora_arq.specs.declared.Verdict.{Verdict}
+use Rattle.tora_arq.specs.declared.Verdict.TheVariants.{Accepted, Repeated, Ahead, Stale, Foreign, Busy}
+use Rattle.tora_arq.specs.declared.Reason.{Reason}
+use Rattle.tora_arq.specs.declared.Reason.TheVariants as Because
+use Rattle.tora_arq.specs.declared.LinkEvent.{LinkEvent}
+use Rattle.tora_arq.specs.declared.LinkEvent.TheVariants.{Up, Deliver, Down}
+use Rattle.tora_arq.specs.declared.SubmitError.{SubmitError}
+use Rattle.tora_arq.specs.declared.SubmitError.TheVariants as Refusal
+use Rattle.tora_arq.specs.declared.state.Phase.{Phase}
+use Rattle.tora_arq.specs.declared.state.Phase.TheVariants.{Closed, Unbound, Bound}
+use Rattle.tora_arq.specs.declared.queue.QueuedPacket.{QueuedPacket}
+use Rattle.tora_arq.specs.Lives.{life_of, is_same_life}
+use Rattle.tora_arq.specs.Settings.{Settings, ticks_passed}
+use Rattle.tora_arq.specs.Held.{hold_at}
+use Rattle.tora_arq.specs.SendQueue.{untried, has_given_up, DuePacket, first_due}
+
+pub record EndState : Type 0 where
+  pub phase : Phase  -- closed, or open with an own number: unbound, or bound to a life
+  pub heard : ℕ  -- the greatest life of the peer that was noted in this life, 0 for none
+  pub last_life : ℕ  -- the own number of the last life, 0 before the first
+  pub queue : List QueuedPacket  -- the packets submitted and not acknowledged
+  pub acknowledged : ℕ  -- how many packets of this life the peer has accepted, as far as it told
+  pub transmitted : ℕ  -- the greatest number of a packet that was transmitted in this life
+  pub accepted : ℕ  -- how many packets of the peer were delivered in this life
+  pub held : List (Option Packet)  -- the packets that came early, by place: the first place is that of the next number
+  pub events : List LinkEvent  -- the events that were not polled, of all lives
+  pub owes_hello : Bool
+  pub owes_ack : Bool
+  pub last_hello : Option ℕ  -- the tick of the last HELLO in this life
+  pub last_hearing : ℕ  -- the tick at which the peer was last heard in this life
+
+abbrev pub first_end : EndState
+first_end = record {
+  phase = Closed;
+  heard = 0;
+  last_life = 0;
+  queue = [];
+  acknowledged = 0;
+  transmitted = 0;
+  accepted = 0;
+  held = [];
+  events = [];
+  owes_hello = false;
+  owes_ack = false;
+  last_hello = None;
+  last_hearing = 0;
+}
+
+-- ---- what is asked of an end
+
+abbrev pub is_closed_in : Phase → Bool
+is_closed_in Closed = true
+is_closed_in (Unbound own) = false
+is_closed_in (Bound life) = false
+
+abbrev pub is_closed : EndState → Bool
+is_closed e = is_closed_in e.phase
+
+abbrev pub life_in : Phase → Option Life
+life_in Closed = None
+life_in (Unbound own) = None
+life_in (Bound life) = Some life
+
+-- the life that is bound
+abbrev pub bound_life : EndState → Option Life
+bound_life e = life_in e.phase
+
+-- ---- a life begins and ends
+
+-- a new life with an own number; the events that were not polled stay
+abbrev pub after_open : EndState → ℕ → ℕ → EndState
+after_open e life now = record {
+  phase = Unbound life;
+  heard = 0;
+  last_life = life;
+  queue = [];
+  acknowledged = 0;
+  transmitted = 0;
+  accepted = 0;
+  held = [];
+  events = e.events;
+  owes_hello = true;
+  owes_ack = false;
+  last_hello = None;
+  last_hearing = now;
+}
+
+abbrev pub with_event : EndState → LinkEvent → EndState
+with_event e event = record e { events = e.events ++ event ∷ [] }
+
+-- the bound life ends, and the end closes
+abbrev pub after_end : EndState → Life → Reason → EndState
+after_end e life reason = record (with_event e (Down life reason)) {
+  phase = Closed;
+  queue = [];
+  held = [];
+  owes_hello = false;
+  owes_ack = false;
+}
+
+-- a life is bound, in which nothing was transmitted or accepted yet
+abbrev pub after_bind : EndState → Life → EndState
+after_bind e life = record (with_event e (Up life)) {
+  phase = Bound life;
+  heard = life.peer;
+  queue = [];
+  acknowledged = 0;
+  transmitted = 0;
+  accepted = 0;
+  held = [];
+  owes_hello = e.owes_hello || not (e.heard == life.peer);
+}
+
+-- ---- a frame comes: the first of seven cases that applies
+
+-- the count that a frame acknowledges
+abbrev pub count_of : Body → ℕ
+count_of Hello = 0
+count_of (Data number count packet) = count
+count_of (Ack count) = count
+
+-- an update that tells the height of another node than the sender
+abbrev pub is_update_of_another : ℕ → Packet → Bool
+is_update_of_another sender (Qry q) = false
+is_update_of_another sender (Upd u) = not (u.height.id == sender)
+is_update_of_another sender (Clr c) = false
+
+abbrev pub has_update_of_another : ℕ → Body → Bool
+has_update_of_another sender Hello = false
+has_update_of_another sender (Data number count packet) = is_update_of_another sender packet
+has_update_of_another sender (Ack count) = false
+
+-- case 1: not from the peer, not for this node, or an update of another node
+abbrev pub is_foreign : Settings → FrameParts → Bool
+is_foreign s f = not (f.header.sender == s.peer) || not (f.header.receiver == s.me) || has_update_of_another f.header.sender f.body
+
+-- case 2: fewer than 34 of the 64 places for events are free
+abbrev pub is_busy : EndState → Bool
+is_busy e = nat_lt (64 - length e.events) 34
+
+-- case 5, at an end that is not bound: only a HELLO counts, and only a greater life changes anything
+abbrev pub on_life_told : EndState → ℕ → Body → Verdict × EndState
+on_life_told e life Hello =
+    if nat_lt life e.heard then (Stale, e)
+    else if life == e.heard then (Accepted, e)
+    else (Accepted, record e { heard = life; owes_hello = true })
+on_life_told e life (Data number count packet) = (Stale, e)
+on_life_told e life (Ack count) = (Stale, e)
+
+-- case 7: packets up to the acknowledged count leave the queue
+abbrev pub after_acknowledgement : EndState → ℕ → ℕ → EndState
+after_acknowledgement e count now = record e {
+  queue = drop (count - e.acknowledged) e.queue;
+  acknowledged = max e.acknowledged count;
+  last_hearing = now;
+}
+
+-- the next packet is delivered; `held` is what is held behind it
+abbrev pub after_delivery : EndState → Life → Packet → List (Option Packet) → EndState
+after_delivery e life packet held = record (with_event e (Deliver life packet)) { accepted = suc e.accepted; held = held }
+
+-- what is held is delivered up to the first gap
+unfoldable pub after_release : Life → EndState → List (Option Packet) → EndState
+after_release life e [] = e
+after_release life e (None ∷ held) = e
+after_release life e (Some packet ∷ held) = after_release life (after_delivery e life packet held) held
+
+abbrev pub after_hold : EndState → ℕ → Packet → EndState
+after_hold e number packet = record e { held = hold_at (number - suc e.accepted) packet e.held }
+
+-- case 7, a DATA frame: a number that was accepted, the next one, one to hold, or one too far ahead
+unfoldable pub on_data : ℕ → EndState → Life → ℕ → Packet → Verdict × EndState
+on_data window e life number packet =
+    if nat_le number e.accepted then (Repeated, e)
+    else if nat_le number (e.accepted + window) then (
+      (if number == suc e.accepted then Accepted else Ahead),
+      after_release life (after_hold e number packet) (after_hold e number packet).held,
+    )
+    else (Ahead, e)
+
+-- case 7: both numbers match; `binds` says that this frame bound the life
+unfoldable pub on_matched : ℕ → EndState → Life → Bool → ℕ → Body → Verdict × EndState
+on_matched window e life binds now Hello = (Accepted, record e { last_hearing = now })
+on_matched window e life binds now (Data number count packet) =
+    on_data window (record (after_acknowledgement e count now) { owes_ack = true }) life number packet
+on_matched window e life binds now (Ack count) =
+    ((if binds || nat_lt e.acknowledged count then Accepted else Repeated), after_acknowledgement e count now)
+
+-- cases 3 to 7
+unfoldable pub on_frame_in : ℕ → EndState → FrameParts → ℕ → Phase → Verdict × EndState
+on_frame_in window e f now Closed = (Stale, e)
+on_frame_in window e f now (Unbound own) =
+    if f.header.heard == own then
+    if nat_lt 0 (count_of f.body) then (Foreign, e)
+    else if nat_lt f.header.life e.heard then (Stale, e)
+    else on_matched window (after_bind e (life_of own f.header.life)) (life_of own f.header.life) true now f.body
+    else on_life_told e f.header.life f.body
+on_frame_in window e f now (Bound life) =
+    if nat_lt life.peer f.header.life then (Accepted, after_end e life Because.NewPeer)
+    else if nat_lt f.header.life life.peer then (Stale, e)
+    else if f.header.heard == life.own then
+    if nat_lt e.transmitted (count_of f.body) then (Foreign, e)
+    else on_matched window e life false now f.body
+    else (Stale, e)
+
+unfoldable pub on_frame : Settings → EndState → FrameParts → ℕ → Verdict × EndState
+on_frame s e f now =
+    if is_foreign s f then (Foreign, e)
+    else if is_busy e then (Busy, e)
+    else on_frame_in s.window e f now e.phase
+
+abbrev pub verdict_of : Settings → EndState → FrameParts → ℕ → Verdict
+verdict_of s e f now = (on_frame s e f now).0
+
+abbrev pub after_frame : Settings → EndState → FrameParts → ℕ → EndState
+after_frame s e f now = (on_frame s e f now).1
+
+-- ---- time passes
+
+abbrev pub is_silent : Settings → EndState → ℕ → Bool
+is_silent s e now = nat_le s.times.silent (ticks_passed e.last_hearing now) || has_given_up s.times now e.queue
+
+abbrev pub after_tick_in : Settings → EndState → ℕ → Phase → EndState
+after_tick_in s e now Closed = e
+after_tick_in s e now (Unbound own) = e
+after_tick_in s e now (Bound life) = if is_silent s e now then after_end e life Because.Silent else e
+
+unfoldable pub after_tick : Settings → EndState → ℕ → EndState
+after_tick s e now = after_tick_in s e now e.phase
+
+-- ---- a packet is submitted, a life is cut
+
+-- another life than the bound one, 2^62 packets submitted in this life, 256 that are not acknowledged, or room for it
+abbrev pub on_submit_in : EndState → Life → Packet → Phase → Result (Unit {0}) SubmitError × EndState
+on_submit_in e life packet Closed = (Err (Refusal.WrongLife packet), e)
+on_submit_in e life packet (Unbound own) = (Err (Refusal.WrongLife packet), e)
+on_submit_in e life packet (Bound current) =
+    if not (is_same_life life current) then (Err (Refusal.WrongLife packet), e)
+    else if nat_le (2 ^ 62) (e.acknowledged + length e.queue) then (Err Refusal.Spent, after_end e current Because.Spent)
+    else if nat_le 256 (length e.queue) then (Err Refusal.Full, after_end e current Because.Full)
+    else (Ok tt, record e { queue = e.queue ++ untried packet ∷ [] })
+
+unfoldable pub on_submit : EndState → Life → Packet → Result (Unit {0}) SubmitError × EndState
+on_submit e life packet = on_submit_in e life packet e.phase
+
+abbrev pub submit_answer : EndState → Life → Packet → Result (Unit {0}) SubmitError
+submit_answer e life packet = (on_submit e life packet).0
+
+abbrev pub after_submit : EndState → Life → Packet → EndState
+after_submit e life packet = (on_submit e life packet).1
+
+abbrev pub after_cut_in : EndState → Life → Phase → EndState
+after_cut_in e life Closed = e
+after_cut_in e life (Unbound own) = e
+after_cut_in e life (Bound current) = if is_same_life life current then after_end e current Because.Cut else e
+
+unfoldable pub after_cut : EndState → Life → EndState
+after_cut e life = after_cut_in e life e.phase
+
+-- ---- what is to be done outside
+
+abbrev pub first_event : EndState → Option LinkEvent
+first_event e = slice_get e.events 0
+
+abbrev pub after_poll_event : EndState → EndState
+after_poll_event e = record e { events = drop 1 e.events }
+
+abbrev pub has_hello_passed : Settings → Option ℕ → ℕ → Bool
+has_hello_passed s None now = false
+has_hello_passed s (Some last) now = nat_le s.times.hello (ticks_passed last now)
+
+-- a HELLO is owed, or it is long enough since the last one
+abbrev pub is_hello_due : Settings → EndState → ℕ → Bool
+is_hello_due s e now = e.owes_hello || has_hello_passed s e.last_hello now
+
+-- a frame of this end
+abbrev pub frame_sent : Settings → ℕ → ℕ → Body → FrameParts
+frame_sent s life heard body = frame_of (record { sender = s.me; receiver = s.peer; life = life; heard = heard }) body
+
+abbrev pub after_hello : EndState → ℕ → EndState
+after_hello e now = record e { owes_hello = false; last_hello = Some now }
+
+-- no HELLO is due: the first packet due, or an ACK where one is owed
+abbrev pub on_transmit_due : Settings → EndState → Life → Option DuePacket → Option FrameParts × EndState
+on_transmit_due s e life (Some due) = (
+  Some (frame_sent s life.own life.peer (Data due.number e.accepted due.packet)),
+  record e { queue = due.queue; transmitted = max e.transmitted due.number; owes_ack = false },
+)
+on_transmit_due s e life None =
+    if e.owes_ack
+    then (Some (frame_sent s life.own life.peer (Ack e.accepted)), record e { owes_ack = false })
+    else (None, e)
+
+unfoldable pub on_transmit_in : Settings → EndState → ℕ → Phase → Option FrameParts × EndState
+on_transmit_in s e now Closed = (None, e)
+on_transmit_in s e now (Unbound own) =
+    if is_hello_due s e now then (Some (frame_sent s own e.heard Hello), after_hello e now) else (None, e)
+on_transmit_in s e now (Bound life) =
+    if is_hello_due s e now then (Some (frame_sent s life.own life.peer Hello), after_hello e now)
+    else on_transmit_due s e life (first_due s.times now (suc e.acknowledged) s.window e.queue)
+
+unfoldable pub on_transmit : Settings → EndState → ℕ → Option FrameParts × EndState
+on_transmit s e now = on_transmit_in s e now e.phase
+
+-- the first frame due
+abbrev pub frame_due : Settings → EndState → ℕ → Option FrameParts
+frame_due s e now = (on_transmit s e now).0
+
+abbrev pub after_transmit : Settings → EndState → ℕ → EndState
+after_transmit s e now = (on_transmit s e now).1

@@ -1,0 +1,275 @@
+-- What holds of every call of a link end.
+use Rattle.std.specs.Prelude.{◌≡◌, ◌≢◌, ℕ, suc, ◌+◌, ◌<◌, ◌≤◌, ◌⊎◌, if◌then◌else◌, List, [], ◌∷◌, ◌++◌, map, length, drop, slice_get, Option, Some, None, Result, Ok, Err}
+use Rattle.tora_packet.specs.declared.Packet.{Packet}
+use Rattle.tora_frame.specs.declared.parts.Body.{Body}
+use Rattle.tora_frame.specs.declared.parts.Body.TheVariants.{Hello, Data, Ack}
+use Rattle.tora_frame.specs.FrameParts.{FrameParts}
+use Rattle.tora_arq.specs.declared.Life.{Life}
+use Rattle.tora_arq.specs.declared.Reason.{Reason}
+use Rattle.tora_arq.specs.declared.LinkEvent.{LinkEvent}
+use Rattle.tora_arq.specs.declared.LinkEvent.TheVariants.{Up, Deliver, Down}
+use Rattle.tora_arq.specs.declared.SubmitError.{SubmitError}
+use Rattle.tora_arq.specs.declared.state.Phase.{Phase}
+use Rattle.tora_arq.specs.declared.state.Phase.TheVariants.{Closed, Unbound, Bound}
+use Rattle.tora_arq.specs.Lives.{is_same_life}
+use Rattle.tora_arq.specs.Settings.{Settings}
+use Rattle.tora_arq.specs.SendQueue.{packets_in}
+use Rattle.tora_arq.specs.LinkEnd.{EndState, count_of, after_open, after_frame, after_tick, submit_answer, after_submit, after_cut, first_event, after_poll_event, frame_sent, frame_due, after_transmit}
+
+-- ---- calls
+
+pub data LinkCall : Type 0 where
+  Open : (life now : ℕ) → LinkCall
+  Frame : (frame : FrameParts) (now : ℕ) → LinkCall
+  Tick : (now : ℕ) → LinkCall
+  Submit : (life : Life) (packet : Packet) → LinkCall
+  PollEvent : LinkCall
+  Transmit : (now : ℕ) → LinkCall
+  Cut : (life : Life) → LinkCall
+
+abbrev pub after_call : Settings → EndState → LinkCall → EndState
+after_call s e (Open life now) = after_open e life now
+after_call s e (Frame frame now) = after_frame s e frame now
+after_call s e (Tick now) = after_tick s e now
+after_call s e (Submit life packet) = after_submit e life packet
+after_call s e PollEvent = after_poll_event e
+after_call s e (Transmit now) = after_transmit s e now
+after_call s e (Cut life) = after_cut e life
+
+-- a call that may be made: only a closed end is opened, with a number above its last one
+abbrev pub IsPossible : EndState → LinkCall → Type 0
+IsPossible e (Open life now) = (e.phase ≡ Closed) × (e.last_life < life)
+IsPossible e call = Unit {0}
+
+-- this holds of every call that may be made, at any state: of the settings, the state before it, the call, and the state after it
+abbrev pub EveryCall : (Settings → EndState → LinkCall → EndState → Type 0) → Type 0
+EveryCall Holds = (s : Settings) (e : EndState) (call : LinkCall) → IsPossible e call → Holds s e call (after_call s e call)
+
+-- the frame that a call gives
+abbrev pub frame_sent_by : Settings → EndState → LinkCall → Option FrameParts
+frame_sent_by s e (Transmit now) = frame_due s e now
+frame_sent_by s e call = None
+
+-- the event that a call gives
+abbrev pub event_given_by : EndState → LinkCall → Option LinkEvent
+event_given_by e PollEvent = first_event e
+event_given_by e call = None
+
+-- the events that are left once a call has given its event
+abbrev pub events_left : EndState → LinkCall → List LinkEvent
+events_left e PollEvent = drop 1 e.events
+events_left e call = e.events
+
+-- the events that a call queues behind those
+abbrev pub events_queued : Settings → EndState → LinkCall → List LinkEvent
+events_queued s e call = drop (length (events_left e call)) (after_call s e call).events
+
+-- the packet, where it is taken
+abbrev pub packet_where_ok : Packet → Result (Unit {0}) SubmitError → List Packet
+packet_where_ok packet (Ok done) = packet ∷ []
+packet_where_ok packet (Err error) = []
+
+-- the packet that a call submits
+abbrev pub packet_submitted : EndState → LinkCall → List Packet
+packet_submitted e (Submit life packet) = packet_where_ok packet (submit_answer e life packet)
+packet_submitted e call = []
+
+-- ---- what every call keeps of an end
+
+-- an end with an own number that no frame of the peer has told back yet: nothing was transmitted or accepted
+pub record IsUnboundEnd (e : EndState) (own : ℕ) : Type 0 where
+  pub number : own ≡ e.last_life
+  pub queue : e.queue ≡ []
+  pub acknowledged : e.acknowledged ≡ 0
+  pub transmitted : e.transmitted ≡ 0
+  pub accepted : e.accepted ≡ 0
+  pub held : e.held ≡ []
+
+-- a bound end: what was transmitted was submitted, and no more is held than the window
+pub record IsBoundEnd (s : Settings) (e : EndState) (life : Life) : Type 0 where
+  pub number : life.own ≡ e.last_life
+  pub heard : e.heard ≡ life.peer
+  pub acknowledged : e.acknowledged ≤ e.transmitted
+  pub transmitted : e.transmitted ≤ e.acknowledged + length e.queue
+  pub held : length e.held ≤ s.window
+
+abbrev pub IsEndIn : Settings → EndState → Phase → Type 0
+IsEndIn s e Closed = (e.queue ≡ []) × (e.held ≡ [])
+IsEndIn s e (Unbound own) = IsUnboundEnd e own
+IsEndIn s e (Bound life) = IsBoundEnd s e life
+
+abbrev pub IsEnd : Settings → EndState → Type 0
+IsEnd s e = IsEndIn s e e.phase
+
+-- ---- lives
+
+-- a frame of a life: from the peer to this end, with both numbers of the life
+pub record IsFrameOf (s : Settings) (life : Life) (f : FrameParts) : Type 0 where
+  pub sender : f.header.sender ≡ s.peer
+  pub receiver : f.header.receiver ≡ s.me
+  pub peer : f.header.life ≡ life.peer
+  pub own : f.header.heard ≡ life.own
+
+-- the call hands in a frame of this life
+abbrev pub HandsInFrameOf : Settings → Life → LinkCall → Type 0
+HandsInFrameOf s life (Frame frame now) = IsFrameOf s life frame
+HandsInFrameOf s life call = ⊥
+
+-- the call opens an end with this number
+abbrev pub OpensWith : ℕ → LinkCall → Type 0
+OpensWith own (Open life now) = own ≡ life
+OpensWith own call = ⊥
+
+-- a bound end stays bound to that life, or closes
+abbrev pub StaysOrCloses : Life → Phase → Type 0
+StaysOrCloses life after = (after ≡ Bound life) ⊎ (after ≡ Closed)
+
+-- an end that is bound was bound before, or had the own number of the life, which a frame of the peer now told back
+abbrev pub WasBoundOrBinds : Settings → Life → LinkCall → Phase → Type 0
+WasBoundOrBinds s life call before = (before ≡ Bound life) ⊎ ((before ≡ Unbound life.own) × HandsInFrameOf s life call)
+
+-- an end with an own number that is not bound had it before, or was closed and is opened with it
+abbrev pub WasUnboundOrOpens : ℕ → LinkCall → Phase → Type 0
+WasUnboundOrOpens own call before = (before ≡ Unbound own) ⊎ ((before ≡ Closed) × OpensWith own call)
+
+-- ---- frames sent, and packets submitted
+
+-- a DATA frame carries a packet of the queue within the window, its number, and the count of packets accepted
+pub record IsDataSent (s : Settings) (e : EndState) (number count : ℕ) (packet : Packet) : Type 0 where
+  pub place : ℕ
+  pub within : place < s.window
+  pub number_is : number ≡ suc (e.acknowledged + place)
+  pub packet_is : slice_get (packets_in e.queue) place ≡ Some packet
+  pub count_is : count ≡ e.accepted
+
+abbrev pub IsBodySent : Settings → EndState → Body → Type 0
+IsBodySent s e Hello = Unit {0}
+IsBodySent s e (Data number count packet) = IsDataSent s e number count packet
+IsBodySent s e (Ack count) = count ≡ e.accepted
+
+-- a frame of an end: none of a closed one, a HELLO with the own number and the life heard, or one with both numbers
+abbrev pub IsFrameSentIn : Settings → EndState → FrameParts → Phase → Type 0
+IsFrameSentIn s e f Closed = ⊥
+IsFrameSentIn s e f (Unbound own) = f ≡ frame_sent s own e.heard Hello
+IsFrameSentIn s e f (Bound life) = (f ≡ frame_sent s life.own life.peer f.body) × IsBodySent s e f.body
+
+abbrev pub IsFrameSent : Settings → EndState → FrameParts → Type 0
+IsFrameSent s e f = IsFrameSentIn s e f e.phase
+
+-- of the packets submitted in a life, those that are not acknowledged wait in the queue
+pub record IsQueueOf (submitted : List Packet) (e : EndState) : Type 0 where
+  pub acknowledged : e.acknowledged ≤ length submitted
+  pub transmitted : e.transmitted ≤ length submitted
+  pub waiting : packets_in e.queue ≡ drop e.acknowledged submitted
+
+-- the packet of a number of a life, where the first of the list has the number 1
+abbrev pub IsPacketAt : List Packet → ℕ → Packet → Type 0
+IsPacketAt packets place packet = slice_get packets place ≡ Some packet
+
+-- a DATA frame carries the packet of its number, and this count
+pub record IsDataOf (packets : List Packet) (accepted number count : ℕ) (packet : Packet) : Type 0 where
+  pub place : ℕ
+  pub number_is : number ≡ suc place
+  pub packet_is : IsPacketAt packets place packet
+  pub count_is : count ≡ accepted
+
+-- the same for any frame
+abbrev pub IsBodyOf : List Packet → ℕ → Body → Type 0
+IsBodyOf packets accepted Hello = Unit {0}
+IsBodyOf packets accepted (Data number count packet) = IsDataOf packets accepted number count packet
+IsBodyOf packets accepted (Ack count) = count ≡ accepted
+
+-- ---- packets delivered
+
+-- each packet that is held is that of its place; the first place is that of the next packet
+abbrev pub AreHeld : (ℕ → Packet → Type 0) → ℕ → List (Option Packet) → Type 0
+AreHeld Is place [] = Unit {0}
+AreHeld Is place (None ∷ held) = AreHeld Is (suc place) held
+AreHeld Is place (Some packet ∷ held) = Is place packet × AreHeld Is (suc place) held
+
+-- these packets are those from a place on, in order and without a gap
+abbrev pub AreFrom : (ℕ → Packet → Type 0) → ℕ → List Packet → Type 0
+AreFrom Is place [] = Unit {0}
+AreFrom Is place (packet ∷ packets) = Is place packet × AreFrom Is (suc place) packets
+
+-- the packet of a DATA frame is that of its number
+abbrev pub BodyTells : (ℕ → Packet → Type 0) → Body → Type 0
+BodyTells Is Hello = Unit {0}
+BodyTells Is (Data number count packet) = (place : ℕ) → number ≡ suc place → Is place packet
+BodyTells Is (Ack count) = Unit {0}
+
+-- where the call hands in a DATA frame of this life, its packet is that of its number
+abbrev pub CallTells : (ℕ → Packet → Type 0) → Settings → Life → LinkCall → Type 0
+CallTells Is s life (Frame frame now) = IsFrameOf s life frame → BodyTells Is frame.body
+CallTells Is s life call = Unit {0}
+
+-- the packets of one life among events
+abbrev pub packets_delivered : Life → List LinkEvent → List Packet
+packets_delivered life [] = []
+packets_delivered life (Up other ∷ events) = packets_delivered life events
+packets_delivered life (Deliver other packet ∷ events) = (if is_same_life life other then packet ∷ [] else []) ++ packets_delivered life events
+packets_delivered life (Down other reason ∷ events) = packets_delivered life events
+
+-- the next packets are delivered, each once; those that are held are still those of their places
+pub record DeliversNext (Is : ℕ → Packet → Type 0) (before after : EndState) (packets : List Packet) : Type 0 where
+  pub accepted : after.accepted ≡ before.accepted + length packets
+  pub next : AreFrom Is before.accepted packets
+  pub held : AreHeld Is after.accepted after.held
+
+-- ---- events
+
+-- the list of what there is
+abbrev pub list_of : {A : Type 0} → Option A → List A
+list_of None = []
+list_of (Some x) = x ∷ []
+
+-- the events between a bound life and the next: Up where a life is bound, then its packets, and Down where it ends
+abbrev pub AreEventsBetween : Option Life → Option Life → List LinkEvent → Type 0
+AreEventsBetween None None events = events ≡ []
+AreEventsBetween None (Some life) events = (packets : List Packet) × (events ≡ Up life ∷ map (Deliver life) packets)
+AreEventsBetween (Some life) None events = (reason : Reason) × (events ≡ Down life reason ∷ [])
+AreEventsBetween (Some life) (Some next) events = (life ≡ next) × (packets : List Packet) × (events ≡ map (Deliver life) packets)
+
+-- the events lead from one bound life to another: Up comes first, then only packets of that life, and Down last
+abbrev pub Leads : Option Life → List LinkEvent → Option Life → Type 0
+Leads now [] after = now ≡ after
+Leads None (Up life ∷ events) after = Leads (Some life) events after
+Leads None (Deliver life packet ∷ events) after = ⊥
+Leads None (Down life reason ∷ events) after = ⊥
+Leads (Some now) (Up life ∷ events) after = ⊥
+Leads (Some now) (Deliver life packet ∷ events) after = (life ≡ now) × Leads (Some now) events after
+Leads (Some now) (Down life reason ∷ events) after = (life ≡ now) × Leads None events after
+
+-- none of these events is of this life
+abbrev pub AreOfOthers : Life → List LinkEvent → Type 0
+AreOfOthers life [] = Unit {0}
+AreOfOthers life (Up other ∷ events) = (life ≢ other) × AreOfOthers life events
+AreOfOthers life (Deliver other packet ∷ events) = (life ≢ other) × AreOfOthers life events
+AreOfOthers life (Down other reason ∷ events) = (life ≢ other) × AreOfOthers life events
+
+-- no event of a life comes behind its Down
+abbrev pub AreOverByDown : List LinkEvent → Type 0
+AreOverByDown [] = Unit {0}
+AreOverByDown (Up life ∷ events) = AreOverByDown events
+AreOverByDown (Deliver life packet ∷ events) = AreOverByDown events
+AreOverByDown (Down life reason ∷ events) = AreOfOthers life events × AreOverByDown events
+
+-- each life that is bound has an own number above that of the one before
+abbrev pub AreRising : ℕ → List LinkEvent → Type 0
+AreRising number [] = Unit {0}
+AreRising number (Up life ∷ events) = (number < life.own) × AreRising life.own events
+AreRising number (Deliver life packet ∷ events) = AreRising number events
+AreRising number (Down life reason ∷ events) = AreRising number events
+
+-- ---- counts
+
+-- the call hands in a frame of this life with this count
+abbrev pub IsCountOfCall : Settings → Life → ℕ → LinkCall → Type 0
+IsCountOfCall s life count (Frame frame now) = IsFrameOf s life frame × (count_of frame.body ≡ count)
+IsCountOfCall s life count call = ⊥
+
+-- the count of packets acknowledged stays, or becomes that of a frame of the life; it is at most that of those transmitted
+pub record Acknowledges (s : Settings) (life : Life) (call : LinkCall) (before after : EndState) : Type 0 where
+  pub stays : before.acknowledged ≤ after.acknowledged
+  pub transmitted : after.acknowledged ≤ after.transmitted
+  pub told : (after.acknowledged ≡ before.acknowledged) ⊎ IsCountOfCall s life after.acknowledged call

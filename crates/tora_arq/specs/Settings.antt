@@ -1,0 +1,32 @@
+-- What a link end is made with.
+use Rattle.std.specs.Prelude.{◌≢◌, ℕ, ◌-◌, ◌<◌}
+use Rattle.tora_packet.specs.PacketParts.{IsId}
+use Rattle.tora_arq.specs.declared.Times.{Times}
+use Rattle.tora_arq.specs.declared.TheConstants.{WINDOW}
+
+-- its node, the node at the other end, its times, and how many packets may be under way
+pub record Settings : Type 0 where
+  pub me : ℕ
+  pub peer : ℕ
+  pub times : Times
+  pub window : ℕ
+
+abbrev pub settings_of : ℕ → ℕ → Times → Settings
+settings_of me peer times = record { me = me; peer = peer; times = times; window = WINDOW }
+
+-- every time is at least 1
+pub record IsTimes (t : Times) : Type 0 where
+  pub hello : 0 < t.hello
+  pub silent : 0 < t.silent
+  pub retry : 0 < t.retry
+  pub tries : 0 < t.tries
+
+-- two different nodes
+pub record IsLink (node neighbour : ℕ) : Type 0 where
+  pub me : IsId node
+  pub peer : IsId neighbour
+  pub other : node ≢ neighbour
+
+-- how many ticks have passed since an earlier tick, and 0 where the clock went back
+abbrev pub ticks_passed : ℕ → ℕ → ℕ
+ticks_passed earlier now = now - earlier

@@ -1,0 +1,113 @@
+//! What holds of every link end, whatever is handed in: the facts that the layer above rests on.
+//!
+//! Each is said of one call, at any state, and of whole runs of calls from a new end on. They hold for a window of any
+//! size.
+ghost use Rattle.std.specs.Prelude.{◌≡◌, ◌≢◌, ℕ, ◌<◌, ◌≤◌, ◌⊎◌, List, [], ◌∷◌, ◌++◌, map, length};
+ghost use Rattle.std.specs.List.{AllByRecursion};
+ghost use Rattle.tora_packet.specs.declared.Packet.{Packet};
+ghost use Rattle.tora_frame.specs.FrameParts.{FrameParts};
+ghost use Rattle.tora_arq.specs.declared.Life.{Life};
+ghost use Rattle.tora_arq.specs.declared.Reason.TheVariants as Because;
+ghost use Rattle.tora_arq.specs.declared.LinkEvent.TheVariants.{Deliver};
+ghost use Rattle.tora_arq.specs.declared.SubmitError.TheVariants as Refusal;
+ghost use Rattle.tora_arq.specs.declared.state.Phase.TheVariants.{Unbound, Bound};
+ghost use Rattle.tora_arq.specs.Settings.{Settings, IsTimes};
+ghost use Rattle.tora_arq.specs.SendQueue.{untried};
+ghost use Rattle.tora_arq.specs.LinkEnd.{EndState, first_end, bound_life, after_end, after_tick, submit_answer, after_submit, after_cut, frame_due, after_transmit};
+ghost use Rattle.tora_arq.specs.LinkFacts.{LinkCall, EveryCall, frame_sent_by, event_given_by, events_left, events_queued, packet_submitted, IsEnd, OpensWith, StaysOrCloses, WasBoundOrBinds, WasUnboundOrOpens, IsFrameSent, IsQueueOf, IsBodyOf, IsPacketAt, AreHeld, CallTells, packets_delivered, DeliversNext, list_of, AreEventsBetween, Leads, AreOverByDown, AreRising, Acknowledges};
+ghost use Rattle.tora_arq.specs.LinkRuns.{EveryRun, EveryBoundRun, CameAt, CountCame, AreAllTold, times_bound, AreFromFirst, IsFrameOfRun, IsSameAtEachTry};
+
+/// Every call keeps of an end that what was transmitted was submitted, that no more is held than the window, and that
+/// nothing is left of a life that is over. Own profile.
+pub fn calls_keep_an_end()
+    ensures first { (s : Settings) → IsEnd s first_end }
+    ensures next { EveryCall (λ s e call after. IsEnd s e → IsEnd s after) }
+    ensures run { EveryRun (λ s run. IsEnd s run.state) }
+    // A tick of 0 ends nothing.
+    ensures tick_zero { (s : Settings) (e : EndState) → IsTimes s.times → after_tick s e 0 ≡ e }
+    // Where no frame is due nothing changes.
+    ensures none_due { (s : Settings) (e : EndState) (now : ℕ) → frame_due s e now ≡ None → after_transmit s e now ≡ e }
+{}
+
+/// A pair of life numbers is fixed once it is bound, until the life ends. An end binds at most once an `open`, and only
+/// on a frame of the peer that tells its own number back. Own profile.
+pub fn lives_are_bound_once()
+    ensures fixed { EveryCall (λ s e call after. (life : Life) → e.phase ≡ Bound life → StaysOrCloses life after.phase) }
+    ensures binds { EveryCall (λ s e call after. (life : Life) → after.phase ≡ Bound life → WasBoundOrBinds s life call e.phase) }
+    ensures opens { EveryCall (λ s e call after. (own : ℕ) → after.phase ≡ Unbound own → WasUnboundOrOpens own call e.phase) }
+    // The own number rises where the end is opened, and stays with every other call.
+    ensures number { EveryCall (λ s e call after.
+        (after.last_life ≡ e.last_life) ⊎ (OpensWith after.last_life call × (e.last_life < after.last_life))) }
+    ensures rising { EveryRun (λ s run. AreRising 0 run.events) }
+    ensures once { EveryRun (λ s run. (own : ℕ) → times_bound own run.events ≤ 1) }
+    // Each life that was bound was told by a frame with both its numbers, which came while the end had its own number.
+    ensures told { EveryRun (λ s run. AreAllTold s run.frames run.events) }
+{}
+
+/// DATA frames come only from a bound end, with both numbers of the life, and carry the packet of their number of those
+/// submitted in it, the same at each try. The count that a frame carries is that of the packets accepted. Own profile.
+pub fn data_frames_are_what_was_submitted()
+    ensures frame { (s : Settings) (e : EndState) (call : LinkCall) (f : FrameParts)
+        → frame_sent_by s e call ≡ Some f → IsFrameSent s e f }
+    ensures content { (s : Settings) (e : EndState) (f : FrameParts) (life : Life) (submitted : List Packet)
+        → e.phase ≡ Bound life → IsFrameSent s e f → IsQueueOf submitted e → IsBodyOf submitted e.accepted f.body }
+    // Nothing is submitted yet where a life is bound.
+    ensures first { EveryCall (λ s e call after. (own : ℕ) (life : Life) → e.phase ≡ Unbound own → after.phase ≡ Bound life
+        → IsQueueOf [] after × (packet_submitted e call ≡ [])) }
+    ensures queue { EveryCall (λ s e call after. (life : Life) (submitted : List Packet) → IsEnd s e
+        → e.phase ≡ Bound life → after.phase ≡ Bound life
+        → IsQueueOf submitted e → IsQueueOf (submitted ++ packet_submitted e call) after) }
+    ensures run { EveryRun (λ s run. AllByRecursion (IsFrameOfRun run) run.sent) }
+    ensures tries { EveryRun (λ s run. IsSameAtEachTry run.sent) }
+{}
+
+/// A packet is submitted for the bound life alone, and a call for another life changes nothing. Own profile.
+pub fn packets_are_submitted_in_the_bound_life()
+    ensures appends { (e : EndState) (life : Life) (packet : Packet) → submit_answer e life packet ≡ Ok tt
+        → (e.phase ≡ Bound life) × (after_submit e life packet ≡ record e { queue = e.queue ++ untried packet ∷ [] }) }
+    // An end that is still bound to the life took the packet.
+    ensures own { (e : EndState) (life : Life) (packet : Packet)
+        → (after_submit e life packet).phase ≡ Bound life → submit_answer e life packet ≡ Ok tt }
+    ensures other { (e : EndState) (life : Life) (packet : Packet) → e.phase ≢ Bound life
+        → (submit_answer e life packet ≡ Err (Refusal.WrongLife packet)) × (after_submit e life packet ≡ e) }
+    ensures cut_own { (e : EndState) (life : Life) → e.phase ≡ Bound life → after_cut e life ≡ after_end e life Because.Cut }
+    ensures cut_other { (e : EndState) (life : Life) → e.phase ≢ Bound life → after_cut e life ≡ e }
+{}
+
+/// The packets delivered in a life are those of DATA frames of the life with the numbers 1, 2, .. in order, each once,
+/// and a packet that is held is that of its number. Own profile.
+pub fn deliveries_are_in_order()
+    // Whatever packets the peer has numbered, where those held are of them, and that of a frame of the life, then so
+    // are those delivered next, and those held then.
+    ensures next { EveryCall (λ s e call after. (life : Life) (packets : List Packet) → IsEnd s e → after.phase ≡ Bound life
+        → (e.phase ≡ Bound life → AreHeld (IsPacketAt packets) e.accepted e.held)
+        → CallTells (IsPacketAt packets) s life call
+        → DeliversNext (IsPacketAt packets) e after (packets_delivered life (events_queued s e call))) }
+    ensures came { EveryRun (λ s run. (life : Life) → AreFromFirst (CameAt s run.frames life) (packets_delivered life run.events)) }
+    ensures accepted { EveryBoundRun (λ s run life. length (packets_delivered life run.events) ≡ run.state.accepted) }
+    ensures held { EveryBoundRun (λ s run life. AreHeld (CameAt s run.frames life) run.state.accepted run.state.held) }
+    // The packets of a life among events that deliver packets of it.
+    ensures packets { (life : Life) (packets : List Packet) → packets_delivered life (map (Deliver life) packets) ≡ packets }
+{}
+
+/// The events of a life are `Up`, its packets, and `Down` last, after which the end is closed and no event of the life
+/// comes. Events leave in the order in which they were queued. Own profile.
+pub fn events_of_a_life_are_in_order()
+    ensures behind { EveryCall (λ s e call after. after.events ≡ events_left e call ++ events_queued s e call) }
+    ensures given { (e : EndState) (call : LinkCall) → list_of (event_given_by e call) ++ events_left e call ≡ e.events }
+    ensures between { EveryCall (λ s e call after. AreEventsBetween (bound_life e) (bound_life after) (events_queued s e call)) }
+    ensures polled { EveryRun (λ s run. run.given ++ run.state.events ≡ run.events) }
+    ensures leads { EveryRun (λ s run. Leads None run.events (bound_life run.state)) }
+    ensures over { EveryRun (λ s run. AreOverByDown run.events) }
+{}
+
+/// The count of packets acknowledged begins with 0, and changes only to the count of a frame with both numbers of the
+/// life. It is never above the packets transmitted. Own profile.
+pub fn acknowledged_counts_come_from_the_peer()
+    ensures first { EveryCall (λ s e call after. (own : ℕ) (life : Life) → e.phase ≡ Unbound own → after.phase ≡ Bound life
+        → after.acknowledged ≡ 0) }
+    ensures next { EveryCall (λ s e call after. (life : Life) → IsEnd s e → e.phase ≡ Bound life → after.phase ≡ Bound life
+        → Acknowledges s life call e after) }
+    ensures came { EveryBoundRun (λ s run life.
+        (run.state.acknowledged ≡ 0) ⊎ CountCame s run.frames life run.state.acknowledged) }
+{}

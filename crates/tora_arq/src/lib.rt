@@ -1,0 +1,157 @@
+//! The end of a neighbour link: lives, retransmission and link sensing.
+//!
+//! TORA presupposes links whose status is sensed and over which control packets come once and in order
+//! (draft-ietf-manet-tora-spec-04). This crate gives such links over datagrams that may be lost, repeated or reordered.
+//! Own profile.
+#![tactic(auto)]
+
+ghost use Rattle.std.specs.Prelude.{◌≡◌};
+ghost use Rattle.tora_arq.specs.Lives.{is_same_life, reason_number};
+
+mod events;
+mod facts;
+mod link_end;
+mod queue;
+mod receive;
+mod rings;
+mod settings;
+mod state;
+mod transmit;
+
+pub use facts::{
+    acknowledged_counts_come_from_the_peer, calls_keep_an_end, data_frames_are_what_was_submitted,
+    deliveries_are_in_order, events_of_a_life_are_in_order, lives_are_bound_once,
+    packets_are_submitted_in_the_bound_life,
+};
+pub use link_end::LinkEnd;
+use thiserror::Error;
+use tora_packet::Packet;
+
+/// How many packets of a life may be under way, transmitted and not acknowledged. Own profile.
+pub const WINDOW: u64 = 1;
+
+/// A life of a link: the numbers that its two ends drew for it, each 1 to 2^62. Own profile.
+///
+/// The other end writes the same life with the two numbers exchanged.
+#[derive(Clone, Copy, Debug, PartialEq, Eq)]
+pub struct Life {
+    /// The number of this end.
+    pub own: u64,
+    /// The number of the other end.
+    pub peer: u64,
+}
+
+impl Life {
+    /// Whether both numbers are equal.
+    fn is_same(self, other: Life) -> bool
+        ensures { result ≡ is_same_life other self }
+    {
+        self.own == other.own && self.peer == other.peer
+    }
+}
+
+/// The times of a link end, each at least 1. Own profile.
+#[derive(Clone, Copy, Debug, PartialEq, Eq)]
+pub struct Times {
+    /// How many ticks of 100 ms after a HELLO the next one is due.
+    pub hello: u64,
+    /// After how many ticks of 100 ms without hearing the peer a life ends.
+    pub silent: u64,
+    /// How many ticks of 100 ms after its last try a packet is due again, or is given up.
+    pub retry: u64,
+    /// How many times a packet is transmitted before it is given up.
+    pub tries: u64,
+}
+
+impl Times {
+    /// The times that the program uses: 1 s between HELLOs, 5 s of silence, 0.5 s between tries, 8 tries.
+    pub const STANDARD: Times = Times {
+        hello: 10,
+        silent: 50,
+        retry: 5,
+        tries: 8,
+    };
+}
+
+/// What a link end makes of a frame. Own profile.
+#[derive(Clone, Copy, Debug, PartialEq, Eq)]
+pub enum Verdict {
+    /// The frame told something new, or was a HELLO of the life.
+    Accepted,
+    /// The frame told nothing new: a packet that was accepted before, or a count that did not grow.
+    Repeated,
+    /// A packet that came before one with a lesser number.
+    Ahead,
+    /// A frame of another life, or one that came to a closed end.
+    Stale,
+    /// A frame that no peer sends to this end.
+    Foreign,
+    /// The frame was not looked at, since too many events wait.
+    Busy,
+}
+
+/// Why a life ended. Own profile.
+#[derive(Clone, Copy, Debug, PartialEq, Eq)]
+pub enum Reason {
+    /// The peer was not heard, or did not acknowledge a packet.
+    Silent,
+    /// The peer began a newer life.
+    NewPeer,
+    /// The send queue was full.
+    Full,
+    /// The node cut the life.
+    Cut,
+    /// The numbers of packets were used up.
+    Spent,
+}
+
+impl Reason {
+    /// The number of the reason as texts print it: 1 `Silent`, 2 `NewPeer`, 3 `Full`, 4 `Cut`, 5 `Spent`.
+    pub fn number(self) -> u8
+        ensures { result ≡ reason_number self }
+    {
+        match self {
+            Reason::Silent => 1,
+            Reason::NewPeer => 2,
+            Reason::Full => 3,
+            Reason::Cut => 4,
+            Reason::Spent => 5,
+        }
+    }
+}
+
+/// What a link end tells its node. Own profile.
+#[derive(Clone, Copy, Debug, PartialEq, Eq)]
+pub enum LinkEvent {
+    /// A life was bound: the link is up.
+    Up(Life),
+    /// The next packet of the peer in a life.
+    Deliver(Life, Packet),
+    /// A life ended: the link is down.
+    Down(Life, Reason),
+}
+
+/// Why a packet is not submitted. Own profile.
+#[derive(Clone, Copy, Debug, PartialEq, Eq, Error)]
+pub enum SubmitError {
+    /// The life is not the bound one. The packet is handed back.
+    #[error("the life is not the bound one")]
+    WrongLife(Packet),
+    /// The send queue is full: the life ended.
+    #[error("the send queue is full")]
+    Full,
+    /// The numbers of packets are used up: the life ended.
+    #[error("the numbers of packets are used up")]
+    Spent,
+}
+
+/// Why a link end is not made. Own profile.
+#[derive(Clone, Copy, Debug, PartialEq, Eq, Error)]
+pub enum ArqError {
+    /// There is no memory for its rings.
+    #[error("out of memory")]
+    Memory,
+}
+
+#[cfg(test)]
+mod tests;

@@ -1,0 +1,191 @@
+//! A link end, as its node sees it.
+ghost use Rattle.std.specs.Prelude.{◌≡◌, ◌≢◌, ◌<◌, ◌≤◌, ◌^◌, IfOk, IsTrue, OnSome, length};
+ghost use Rattle.tora_arq.specs.Settings.{IsTimes, settings_of};
+ghost use Rattle.tora_arq.specs.LinkEnd.{first_end, is_closed, bound_life, after_open, verdict_of, after_frame, after_tick, submit_answer, after_submit, after_cut, first_event, after_poll_event, frame_due, after_transmit};
+ghost use Rattle.tora_arq.specs.EndRange.{IsEndState, link_end_of};
+
+use crate::settings::Settings;
+use crate::state::{Phase, State};
+use crate::{ArqError, Life, LinkEvent, SubmitError, Times, Verdict};
+use std::alloc::Global;
+use std::marker::Model;
+use tora_frame::Frame;
+use tora_height::Id;
+use tora_packet::Packet;
+
+/// The end of a link to one neighbour. Own profile.
+///
+/// It is closed at first. A caller draws a number that it never drew before and opens the end with it; by HELLOs the
+/// two ends then bind a life, in which each sends packets that the other delivers once and in order. A life that ends
+/// closes the end, and the caller opens it with the next number.
+///
+/// In each turn a caller with the tick `now` does this, in this order:
+/// 1. where `is_closed`, `open` with a new number;
+/// 2. `on_tick`;
+/// 3. `submit` the packets to be sent, or `cut` a life;
+/// 4. `poll_transmit` until it gives `None`, and send each frame;
+/// 5. `on_frame` with a frame that came;
+/// 6. `poll_event` until it gives `None`.
+///
+/// Any other order is safe. Ticks are of 100 ms, and a tick that goes back counts as no time passed. Only `new` takes
+/// memory. A bound end always has a place for the event that its life ended.
+#[derive(Drop)]
+pub struct LinkEnd {
+    settings: Settings,
+    state: State,
+}
+
+impl Model for LinkEnd {
+    ghost use Rattle.tora_arq.specs.EndRange.{LinkEndView, IsEndState, link_end_of};
+    ghost use Rattle.tora_arq.specs.StateView.{settings_in, state_in};
+
+    ghost Value = { LinkEndView };
+
+    ghost view = { λ e. link_end_of (settings_in e.settings) (state_in e.state) };
+
+    ghost invariant = { λ e. IsEndState (settings_in e.settings) (state_in e.state) };
+}
+
+impl LinkEnd {
+    /// A closed end of the link between node `me` and its neighbour `peer`, two different nodes.
+    ///
+    /// Every time of `times` is at least 1. It makes room for 256 packets that wait for their acknowledgement and for
+    /// 64 events.
+    ///
+    /// # Errors
+    /// `Memory`.
+    pub fn new(alloc: Global, me: Id, peer: Id, times: Times) -> Result<LinkEnd, ArqError>
+        requires me { 0 < me }
+        requires peer { 0 < peer }
+        requires other { me ≢ peer }
+        requires times { IsTimes times }
+        ensures { IfOk result (λ end. end ≡ link_end_of (settings_of me peer times) first_end) }
+    {
+        let Ok(state) = State::new(alloc) else {
+            return Err(ArqError::Memory);
+        };
+        let settings = Settings { me, peer, times };
+        Ok(LinkEnd { settings, state })
+    }
+
+    /// Whether the end has to be opened.
+    pub fn is_closed(&self) -> bool
+        ensures { result ≡ is_closed self.now.state }
+    {
+        match self.state.phase {
+            Phase::Closed => true,
+            Phase::Unbound(_) => false,
+            Phase::Bound(_) => false,
+        }
+    }
+
+    /// The node at the other end.
+    pub fn peer(&self) -> Id
+        ensures peer { result ≡ self.now.settings.peer }
+        ensures kept { IsEndState self.now.settings self.now.state }
+    {
+        self.settings.peer
+    }
+
+    /// The own number of the last life, 1 to 2^62, and 0 before the first.
+    pub fn last_life(&self) -> u64
+        ensures last { result ≡ self.now.state.last_life }
+        ensures within { result ≤ 2 ^ 62 }
+    {
+        self.state.last_life
+    }
+
+    /// The bound life.
+    pub fn life(&self) -> Option<Life>
+        ensures life { result ≡ bound_life self.now.state }
+        // The event that it ended has a place.
+        ensures room { OnSome result (length self.now.state.events < 64) }
+    {
+        match self.state.phase {
+            Phase::Closed => None,
+            Phase::Unbound(_) => None,
+            Phase::Bound(life) => Some(life),
+        }
+    }
+
+    /// Opens a closed end with a number that is above all earlier ones, at most 2^62.
+    pub fn open(&mut self, life: u64, now: u64)
+        requires closed { IsTrue (is_closed self.old.state) }
+        requires above { self.old.state.last_life < life }
+        requires within { life ≤ 2 ^ 62 }
+        ensures { self.new ≡ record self.old { state = after_open self.old.state life now } }
+    {
+        self.state.open(life, now);
+    }
+
+    /// Takes a frame that came in at the tick `now`. The first of these that applies decides:
+    /// 1. It is not from the peer or not for this node, or it has an update of another node than the peer: `Foreign`.
+    /// 2. Fewer than 34 of the 64 places for events are free: `Busy`.
+    /// 3. The end is closed: `Stale`.
+    /// 4. At a bound end, a life of the sender above the bound one ends the bound life (`NewPeer`): `Accepted`. One below
+    ///    it: `Stale`.
+    /// 5. The life that the sender heard is not the own number. A HELLO at an unbound end: `Stale` where its life is below
+    ///    the one noted, otherwise it is noted, and a HELLO is owed where it is a greater one: `Accepted`. Any other:
+    ///    `Stale`.
+    /// 6. The count is above the packets transmitted in this life: `Foreign`. At an unbound end, a life below the one noted:
+    ///    `Stale`. Otherwise an unbound end binds the life (`Up`), and a HELLO is owed where the life was not noted before.
+    /// 7. The peer is heard, and packets up to the count leave the queue. HELLO: `Accepted`. ACK: `Accepted` where the
+    ///    count grew or the frame bound the life, otherwise `Repeated`. DATA, for which an ACK is owed: the next packet is
+    ///    `Accepted` (`Deliver`), one with a lesser number `Repeated`, one with a greater number `Ahead`.
+    ///
+    /// `Foreign`, `Busy` and `Stale` change nothing.
+    pub fn on_frame(&mut self, frame: &Frame, now: u64) -> Verdict
+        ensures verdict { result ≡ verdict_of self.old.settings self.old.state frame.now now }
+        ensures state { self.new ≡ record self.old { state = after_frame self.old.settings self.old.state frame.now now } }
+    {
+        self.state.on_frame(&self.settings, frame, now)
+    }
+
+    /// Ends the bound life (`Silent`) where the peer was not heard for `silent` ticks, or did not acknowledge a packet
+    /// `retry` ticks after the last of its `tries` tries.
+    pub fn on_tick(&mut self, now: u64)
+        ensures { self.new ≡ record self.old { state = after_tick self.old.settings self.old.state now } }
+    {
+        self.state.on_tick(&self.settings, now);
+    }
+
+    /// Takes a packet to be sent in a life.
+    ///
+    /// # Errors
+    /// In this order: `WrongLife` where the life is not the bound one, which changes nothing and hands the packet back;
+    /// `Spent` where 2^62 packets were submitted in this life, which ends it; `Full` where 256 packets wait for their
+    /// acknowledgement, which ends it.
+    pub fn submit(&mut self, life: Life, packet: Packet) -> Result<(), SubmitError>
+        ensures answer { result ≡ submit_answer self.old.state life packet }
+        ensures state { self.new ≡ record self.old { state = after_submit self.old.state life packet } }
+    {
+        self.state.submit(life, packet)
+    }
+
+    /// Takes the next event, if one waits.
+    pub fn poll_event(&mut self) -> Option<LinkEvent>
+        ensures event { result ≡ first_event self.old.state }
+        ensures state { self.new ≡ record self.old { state = after_poll_event self.old.state } }
+    {
+        self.state.events.pop()
+    }
+
+    /// Takes the first frame due, which counts as sent; `None` only where none is due.
+    ///
+    /// In this order: a HELLO, where one is owed or `hello` ticks have passed since the last one; a DATA frame with the
+    /// first packet within the window that was never transmitted, or was `retry` ticks ago and fewer than `tries`
+    /// times; an ACK, where one is owed. A DATA frame settles an owed ACK.
+    pub fn poll_transmit(&mut self, now: u64) -> Option<Frame>
+        ensures frame { result ≡ frame_due self.old.settings self.old.state now }
+        ensures state { self.new ≡ record self.old { state = after_transmit self.old.settings self.old.state now } }
+    {
+        self.state.poll_transmit(&self.settings, now)
+    }
+
+    /// Ends a life where it is the bound one, and otherwise changes nothing.
+    pub fn cut(&mut self, life: Life)
+        ensures { self.new ≡ record self.old { state = after_cut self.old.state life } }
+    {
+        self.state.cut(life);
+    }
+}

@@ -1,0 +1,158 @@
+//! The send queue of a link end.
+ghost use Rattle.std.specs.Prelude.{◌≡◌, ◌<◌, ◌+◌, ◌^◌, ℕ, [], ◌∷◌, ◌++◌, length, drop, slice_get, IfOk, IfNone, OnSome, IsTrue, option_map};
+ghost use Rattle.tora_arq.specs.Settings.{ticks_passed};
+ghost use Rattle.tora_arq.specs.SendQueue.{untried, retried, is_retry_time, is_ready, is_given_up, has_given_up, first_due, DuePacket, due_packet};
+ghost use Rattle.tora_arq.specs.EndRange.{AreUntried};
+
+use crate::rings::{push, replace_front};
+use crate::settings::ticks_passed;
+use crate::{Times, WINDOW};
+use circular_buffer::HeapCircularBuffer;
+use std::alloc::{AllocError, Global};
+use std::marker::Model;
+use tora_packet::Packet;
+
+/// How many packets of a life may wait for their acknowledgement.
+pub const QUEUE_PLACES: usize = 256;
+
+/// A packet that was submitted and is not acknowledged.
+#[derive(Clone, Copy, Debug, PartialEq, Eq)]
+pub struct QueuedPacket {
+    pub packet: Packet,
+    /// How many times it was transmitted.
+    pub tries: u64,
+    /// The tick at which it was transmitted last.
+    pub last_try: u64,
+}
+
+impl QueuedPacket {
+    /// A packet that was never transmitted.
+    fn untried(packet: Packet) -> QueuedPacket
+        ensures { result ≡ untried packet }
+    {
+        QueuedPacket {
+            packet,
+            tries: 0,
+            last_try: 0,
+        }
+    }
+
+    /// The packet once it is transmitted again.
+    fn retried(self, now: u64) -> QueuedPacket
+        requires { self.tries + 1 < 2 ^ 64 }
+        ensures { result ≡ retried self now }
+    {
+        QueuedPacket {
+            packet: self.packet,
+            tries: self.tries + 1,
+            last_try: now,
+        }
+    }
+
+    fn is_retry_time(&self, times: &Times, now: u64) -> bool
+        ensures { result ≡ is_retry_time times.now now self.now }
+    {
+        ticks_passed(self.last_try, now) >= times.retry
+    }
+
+    /// Whether the packet is due.
+    fn is_ready(&self, times: &Times, now: u64) -> bool
+        ensures ready { result ≡ is_ready times.now now self.now }
+        ensures room { IsTrue result → self.now.tries + 1 < 2 ^ 64 }
+    {
+        self.tries == 0 || (self.tries < times.tries && self.is_retry_time(times, now))
+    }
+
+    fn is_given_up(&self, times: &Times, now: u64) -> bool
+        ensures { result ≡ is_given_up times.now now self.now }
+    {
+        self.tries >= times.tries && self.is_retry_time(times, now)
+    }
+}
+
+/// The packets that were submitted and are not acknowledged, in order, 256 at most.
+#[derive(Drop)]
+pub struct SendQueue {
+    ring: HeapCircularBuffer<QueuedPacket>,
+}
+
+impl Model for SendQueue {
+    ghost use Rattle.std.specs.Prelude.{◌≡◌, List};
+    ghost use Rattle.tora_arq.specs.declared.queue.QueuedPacket.{QueuedPacket};
+
+    ghost Value = { List QueuedPacket };
+
+    ghost view = { λ q. q.ring.items };
+
+    ghost invariant = { λ q. q.ring.capacity ≡ 256 };
+}
+
+impl SendQueue {
+    /// An empty queue, with room for all its packets.
+    pub fn new(alloc: Global) -> Result<SendQueue, AllocError>
+        ensures { IfOk result (λ q. q ≡ []) }
+    {
+        let ring = HeapCircularBuffer::with_capacity(alloc, QUEUE_PLACES)?;
+        Ok(SendQueue { ring })
+    }
+
+    pub fn len(&self) -> usize
+        ensures len { result ≡ length self.now }
+        ensures within { result < 2 ^ 63 }
+    {
+        self.ring.len()
+    }
+
+    /// Appends a packet that was never transmitted.
+    pub fn push(&mut self, packet: Packet)
+        requires { length self.old < 256 }
+        ensures { self.new ≡ self.old ++ untried packet ∷ [] }
+    {
+        push(&mut self.ring, QueuedPacket::untried(packet));
+    }
+
+    /// Removes the first packets, as many as there are.
+    pub fn remove_first(&mut self, count: u64)
+        ensures { self.new ≡ drop count self.old }
+    {
+        let len = self.ring.len();
+        let count = usize::try_from(count).unwrap_or(len);
+        self.ring.truncate_front(len.saturating_sub(count));
+    }
+
+    pub fn clear(&mut self)
+        ensures { self.new ≡ [] }
+    {
+        self.ring.clear();
+    }
+
+    /// Whether a packet was transmitted as often as it may be, and long enough ago.
+    ///
+    /// Packets behind the window were never transmitted, so it looks at no more than the window.
+    #[tactic(auto, using(crate::proofs::QueueLemmas::given_up_first))]
+    pub fn has_given_up(&self, times: &Times, now: u64) -> bool
+        requires tries { 0 < times.now.tries }
+        requires untried { AreUntried (drop WINDOW self.now) }
+        ensures { result ≡ has_given_up times.now now self.now }
+    {
+        match self.ring.front() {
+            Some(first) => first.is_given_up(times, now),
+            None => false,
+        }
+    }
+
+    /// The first packet due within the window, which counts as transmitted now.
+    #[tactic(auto, using(crate::proofs::QueueLemmas::due_first, crate::proofs::QueueLemmas::none_due_first, crate::proofs::QueueLemmas::none_due_empty))]
+    pub fn take_due(&mut self, times: &Times, now: u64) -> Option<Packet>
+        ensures due { (number : ℕ) → first_due times.now now number WINDOW self.old ≡ option_map (due_packet number self.new) result }
+        ensures none { IfNone result (self.new ≡ self.old) }
+        ensures some { OnSome result (0 < length self.old) }
+    {
+        let first = *self.ring.front()?;
+        if !first.is_ready(times, now) {
+            return None;
+        }
+        replace_front(&mut self.ring, first.retried(now));
+        Some(first.packet)
+    }
+}

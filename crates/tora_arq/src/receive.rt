@@ -1,0 +1,159 @@
+//! What a link end makes of a frame.
+ghost use Rattle.std.specs.Prelude.{◌≡◌, ◌<◌, ◌≤◌, ◌+◌, ◌^◌, length};
+ghost use Rattle.tora_frame.specs.FrameParts.{IsFrame};
+ghost use Rattle.tora_arq.specs.LinkEnd.{count_of, on_life_told, on_data, on_matched, on_frame_in, on_frame};
+ghost use Rattle.tora_arq.specs.StateView.{settings_in, state_in};
+
+use crate::settings::Settings;
+use crate::state::{Phase, State};
+use crate::{Life, Reason, Verdict, WINDOW};
+use tora_frame::{Body, Frame};
+use tora_packet::Packet;
+
+/// The count that a frame acknowledges.
+fn count_of(body: &Body) -> u64
+    ensures { result ≡ count_of body.now }
+{
+    match body {
+        Body::Hello => 0,
+        Body::Data(_, count, _) => *count,
+        Body::Ack(count) => *count,
+    }
+}
+
+impl State {
+    /// A frame that does not tell the own number, at an end that is not bound.
+    fn on_life_told(&mut self, life: u64, body: &Body) -> Verdict
+        ensures verdict { result ≡ (on_life_told (state_in self.old) life body.now).0 }
+        ensures state { state_in self.new ≡ (on_life_told (state_in self.old) life body.now).1 }
+    {
+        match body {
+            Body::Hello => {
+                if life < self.heard {
+                    return Verdict::Stale;
+                }
+                if life != self.heard {
+                    self.heard = life;
+                    self.owes_hello = true;
+                }
+                Verdict::Accepted
+            }
+            Body::Data(_, _, _) => Verdict::Stale,
+            Body::Ack(_) => Verdict::Stale,
+        }
+    }
+
+    /// A packet of the bound life.
+    #[tactic(auto, using(crate::proofs::ReceiveLemmas::repeated_data, crate::proofs::ReceiveLemmas::next_data, crate::proofs::ReceiveLemmas::early_data))]
+    fn on_data(&mut self, life: Life, number: u64, packet: Packet) -> Verdict
+        requires room { length self.old.events < 64 }
+        requires accepted { self.old.accepted ≤ 2 ^ 62 }
+        ensures verdict { result ≡ (on_data WINDOW (state_in self.old) life number packet).0 }
+        ensures state { state_in self.new ≡ (on_data WINDOW (state_in self.old) life number packet).1 }
+    {
+        if number <= self.accepted {
+            return Verdict::Repeated;
+        }
+        if number > self.accepted + 1 {
+            return Verdict::Ahead;
+        }
+        self.deliver(life, packet);
+        Verdict::Accepted
+    }
+
+    /// A frame of the bound life; `binds` says that it bound it.
+    #[tactic(auto, unfolding(crate::specs::LinkEnd::on_matched))]
+    fn on_matched(&mut self, life: Life, binds: bool, now: u64, body: &Body) -> Verdict
+        requires room { length self.old.events < 64 }
+        requires accepted { self.old.accepted ≤ 2 ^ 62 }
+        ensures verdict { result ≡ (on_matched WINDOW (state_in self.old) life binds now body.now).0 }
+        ensures state { state_in self.new ≡ (on_matched WINDOW (state_in self.old) life binds now body.now).1 }
+    {
+        match body {
+            Body::Hello => {
+                self.last_hearing = now;
+                Verdict::Accepted
+            }
+            Body::Data(number, count, packet) => {
+                self.acknowledge(*count, now);
+                self.owes_ack = true;
+                self.on_data(life, *number, *packet)
+            }
+            Body::Ack(count) => {
+                let is_news = binds || self.acknowledged < *count;
+                self.acknowledge(*count, now);
+                if is_news {
+                    Verdict::Accepted
+                } else {
+                    Verdict::Repeated
+                }
+            }
+        }
+    }
+
+    #[tactic(auto, unfolding(crate::specs::LinkEnd::on_frame_in))]
+    fn on_unbound_frame(&mut self, own: u64, frame: &Frame, now: u64) -> Verdict
+        requires room { length self.old.events ≤ 30 }
+        ensures verdict { result ≡ (on_frame_in WINDOW (state_in self.old) frame.now now (Phase.Unbound own)).0 }
+        ensures state { state_in self.new ≡ (on_frame_in WINDOW (state_in self.old) frame.now now (Phase.Unbound own)).1 }
+    {
+        let (header, body) = (frame.header(), frame.body());
+        if header.heard != own {
+            return self.on_life_told(header.life, body);
+        }
+        if count_of(body) > 0 {
+            return Verdict::Foreign;
+        }
+        if header.life < self.heard {
+            return Verdict::Stale;
+        }
+        let life = Life {
+            own,
+            peer: header.life,
+        };
+        self.bind(life);
+        self.on_matched(life, true, now, body)
+    }
+
+    #[tactic(auto, unfolding(crate::specs::LinkEnd::on_frame_in))]
+    fn on_bound_frame(&mut self, life: Life, frame: &Frame, now: u64) -> Verdict
+        requires room { length self.old.events ≤ 30 }
+        requires accepted { self.old.accepted ≤ 2 ^ 62 }
+        ensures verdict { result ≡ (on_frame_in WINDOW (state_in self.old) frame.now now (Phase.Bound life)).0 }
+        ensures state { state_in self.new ≡ (on_frame_in WINDOW (state_in self.old) frame.now now (Phase.Bound life)).1 }
+    {
+        let (header, body) = (frame.header(), frame.body());
+        if header.life > life.peer {
+            self.end(life, Reason::NewPeer);
+            return Verdict::Accepted;
+        }
+        if header.life < life.peer || header.heard != life.own {
+            return Verdict::Stale;
+        }
+        if count_of(body) > self.transmitted {
+            return Verdict::Foreign;
+        }
+        self.on_matched(life, false, now, body)
+    }
+
+    /// A frame that came.
+    #[tactic(auto, unfolding(crate::specs::LinkEnd::on_frame, crate::specs::LinkEnd::on_frame_in))]
+    pub fn on_frame(&mut self, settings: &Settings, frame: &Frame, now: u64) -> Verdict
+        requires accepted { self.old.accepted ≤ 2 ^ 62 }
+        ensures verdict { result ≡ (on_frame (settings_in settings.now) (state_in self.old) frame.now now).0 }
+        ensures state { state_in self.new ≡ (on_frame (settings_in settings.now) (state_in self.old) frame.now now).1 }
+        ensures valid { IsFrame frame.now }
+    {
+        if settings.is_foreign(frame) {
+            return Verdict::Foreign;
+        }
+        if self.events.is_busy() {
+            return Verdict::Busy;
+        }
+        match self.phase {
+            Phase::Closed => Verdict::Stale,
+            Phase::Unbound(own) => self.on_unbound_frame(own, frame, now),
+            Phase::Bound(life) => self.on_bound_frame(life, frame, now),
+        }
+    }
+}

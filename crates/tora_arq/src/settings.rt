@@ -1,0 +1,60 @@
+//! What a link end is made with, and its clock.
+ghost use Rattle.std.specs.Prelude.{◌≡◌};
+ghost use Rattle.tora_frame.specs.FrameParts.{IsFrame};
+ghost use Rattle.tora_arq.specs.Settings.{ticks_passed};
+ghost use Rattle.tora_arq.specs.LinkEnd.{is_foreign, is_update_of_another, has_update_of_another};
+ghost use Rattle.tora_arq.specs.StateView.{settings_in};
+
+use crate::Times;
+use tora_frame::{Body, Frame};
+use tora_height::Id;
+use tora_packet::Packet;
+
+/// The node of a link end, the node at the other end, and its times.
+#[derive(Clone, Copy, Debug, PartialEq, Eq)]
+pub struct Settings {
+    pub me: Id,
+    pub peer: Id,
+    pub times: Times,
+}
+
+/// How many ticks have passed since an earlier tick, and 0 where the clock went back.
+pub fn ticks_passed(earlier: u64, now: u64) -> u64
+    ensures { result ≡ ticks_passed earlier now }
+{
+    now.saturating_sub(earlier)
+}
+
+/// Whether the packet tells the height of another node than the sender.
+fn is_update_of_another(sender: Id, packet: &Packet) -> bool
+    ensures { result ≡ is_update_of_another sender packet.now }
+{
+    match packet {
+        Packet::Qry(_) => false,
+        Packet::Upd(update) => update.height().id() != sender,
+        Packet::Clr(_) => false,
+    }
+}
+
+fn has_update_of_another(sender: Id, body: &Body) -> bool
+    ensures { result ≡ has_update_of_another sender body.now }
+{
+    match body {
+        Body::Hello => false,
+        Body::Data(_, _, packet) => is_update_of_another(sender, packet),
+        Body::Ack(_) => false,
+    }
+}
+
+impl Settings {
+    /// Whether the frame is not one that the peer sends to this node.
+    pub fn is_foreign(&self, frame: &Frame) -> bool
+        ensures value { result ≡ is_foreign (settings_in self.now) frame.now }
+        ensures valid { IsFrame frame.now }
+    {
+        let header = frame.header();
+        header.sender != self.peer
+            || header.receiver != self.me
+            || has_update_of_another(header.sender, frame.body())
+    }
+}

@@ -1,0 +1,201 @@
+//! The state of a link end, and what each call makes of it.
+ghost use Rattle.std.specs.Prelude.{◌≡◌, ◌<◌, ◌≤◌, ◌+◌, ◌^◌, [], length, IfOk, IsOk, MatchOption};
+ghost use Rattle.tora_arq.specs.LinkEnd.{after_open, after_end, after_bind, after_acknowledgement, after_delivery, first_end, is_silent, after_tick, on_submit, after_cut};
+ghost use Rattle.tora_arq.specs.EndRange.{IsEndState, IsPhase};
+ghost use Rattle.tora_arq.specs.StateView.{settings_in, state_in};
+
+use crate::events::EventQueue;
+use crate::queue::{QUEUE_PLACES, SendQueue};
+use crate::settings::{Settings, ticks_passed};
+use crate::{Life, LinkEvent, Reason, SubmitError};
+use std::alloc::{AllocError, Global};
+use tora_frame::GREATEST_NUMBER;
+use tora_packet::Packet;
+
+/// Whether a link end is open, and in which life. Own profile.
+#[derive(Clone, Copy, Debug, PartialEq, Eq)]
+pub enum Phase {
+    /// Closed.
+    Closed,
+    /// Open with an own number, 1 to 2^62, and not bound.
+    Unbound(u64),
+    /// Open and bound.
+    Bound(Life),
+}
+
+/// The state of a link end.
+#[derive(Drop)]
+pub struct State {
+    pub phase: Phase,
+    /// The greatest life of the peer that was noted, 0 for none.
+    pub heard: u64,
+    /// The number of the last life, 0 before the first.
+    pub last_life: u64,
+    /// The packets submitted and not acknowledged.
+    pub queue: SendQueue,
+    /// How many packets the peer has accepted, as far as it told.
+    pub acknowledged: u64,
+    /// The greatest number of a packet that was transmitted.
+    pub transmitted: u64,
+    /// How many packets of the peer were delivered.
+    pub accepted: u64,
+    /// The events that were not polled.
+    pub events: EventQueue,
+    pub owes_hello: bool,
+    pub owes_ack: bool,
+    /// The tick of the last HELLO of this life.
+    pub last_hello: Option<u64>,
+    /// The tick at which the peer was last heard.
+    pub last_hearing: u64,
+}
+
+impl State {
+    /// A closed end that had no life.
+    pub fn new(alloc: Global) -> Result<State, AllocError>
+        ensures { IfOk result (λ s. state_in s ≡ first_end) }
+    {
+        let queue = SendQueue::new(alloc)?;
+        let events = EventQueue::new(alloc)?;
+        Ok(State {
+            phase: Phase::Closed,
+            heard: 0,
+            last_life: 0,
+            queue,
+            acknowledged: 0,
+            transmitted: 0,
+            accepted: 0,
+            events,
+            owes_hello: false,
+            owes_ack: false,
+            last_hello: None,
+            last_hearing: 0,
+        })
+    }
+
+    /// Ends the bound life.
+    pub fn end(&mut self, life: Life, reason: Reason)
+        requires { length self.old.events < 64 }
+        ensures { state_in self.new ≡ after_end (state_in self.old) life reason }
+    {
+        self.phase = Phase::Closed;
+        self.queue.clear();
+        self.events.push(LinkEvent::Down(life, reason));
+        self.owes_hello = false;
+        self.owes_ack = false;
+    }
+
+    /// Binds a life.
+    pub fn bind(&mut self, life: Life)
+        requires { length self.old.events < 64 }
+        ensures { state_in self.new ≡ after_bind (state_in self.old) life }
+    {
+        let is_changed = self.heard != life.peer;
+        self.phase = Phase::Bound(life);
+        self.heard = life.peer;
+        self.queue.clear();
+        self.acknowledged = 0;
+        self.transmitted = 0;
+        self.accepted = 0;
+        self.events.push(LinkEvent::Up(life));
+        self.owes_hello = self.owes_hello || is_changed;
+    }
+
+    /// The peer has accepted this many packets.
+    pub fn acknowledge(&mut self, count: u64, now: u64)
+        ensures { state_in self.new ≡ after_acknowledgement (state_in self.old) count now }
+    {
+        self.queue
+            .remove_first(count.saturating_sub(self.acknowledged));
+        self.acknowledged = self.acknowledged.max(count);
+        self.last_hearing = now;
+    }
+
+    /// Delivers the next packet.
+    pub fn deliver(&mut self, life: Life, packet: Packet)
+        requires room { length self.old.events < 64 }
+        requires number { self.old.accepted + 1 < 2 ^ 64 }
+        ensures { state_in self.new ≡ after_delivery (state_in self.old) life packet [] }
+    {
+        self.accepted += 1;
+        self.events.push(LinkEvent::Deliver(life, packet));
+    }
+
+    /// Begins a life with an own number.
+    pub fn open(&mut self, life: u64, now: u64)
+        ensures { state_in self.new ≡ after_open (state_in self.old) life now }
+    {
+        self.phase = Phase::Unbound(life);
+        self.heard = 0;
+        self.last_life = life;
+        self.queue.clear();
+        self.acknowledged = 0;
+        self.transmitted = 0;
+        self.accepted = 0;
+        self.owes_hello = true;
+        self.owes_ack = false;
+        self.last_hello = None;
+        self.last_hearing = now;
+    }
+
+    /// Whether the peer was not heard for long enough, or did not acknowledge a packet.
+    fn is_silent(&self, settings: &Settings, now: u64) -> bool
+        requires { IsEndState (settings_in settings.now) (state_in self.now) }
+        ensures { result ≡ is_silent (settings_in settings.now) (state_in self.now) now }
+    {
+        let times = &settings.times;
+        ticks_passed(self.last_hearing, now) >= times.silent || self.queue.has_given_up(times, now)
+    }
+
+    /// Time has passed.
+    #[tactic(auto, unfolding(crate::specs::LinkEnd::after_tick))]
+    pub fn on_tick(&mut self, settings: &Settings, now: u64)
+        requires { IsEndState (settings_in settings.now) (state_in self.old) }
+        ensures { state_in self.new ≡ after_tick (settings_in settings.now) (state_in self.old) now }
+    {
+        if let Phase::Bound(life) = self.phase {
+            if self.is_silent(settings, now) {
+                self.end(life, Reason::Silent);
+            }
+        }
+    }
+
+    /// Takes a packet to the peer.
+    #[tactic(auto, unfolding(crate::specs::LinkEnd::on_submit))]
+    pub fn submit(&mut self, life: Life, packet: Packet) -> Result<(), SubmitError>
+        requires phase { IsPhase self.old.last_life self.old.heard self.old.events self.old.phase }
+        requires submitted { self.old.acknowledged ≤ 2 ^ 62 }
+        ensures answer { result ≡ (on_submit (state_in self.old) life packet).0 }
+        ensures state { state_in self.new ≡ (on_submit (state_in self.old) life packet).1 }
+    {
+        let Phase::Bound(current) = self.phase else {
+            return Err(SubmitError::WrongLife(packet));
+        };
+        if !current.is_same(life) {
+            return Err(SubmitError::WrongLife(packet));
+        }
+        let waiting = self.queue.len();
+        if self.acknowledged + waiting as u64 >= GREATEST_NUMBER {
+            self.end(current, Reason::Spent);
+            return Err(SubmitError::Spent);
+        }
+        if waiting >= QUEUE_PLACES {
+            self.end(current, Reason::Full);
+            return Err(SubmitError::Full);
+        }
+        self.queue.push(packet);
+        Ok(())
+    }
+
+    /// Ends a life, where it is the bound one.
+    #[tactic(auto, unfolding(crate::specs::LinkEnd::after_cut))]
+    pub fn cut(&mut self, life: Life)
+        requires { IsPhase self.old.last_life self.old.heard self.old.events self.old.phase }
+        ensures { state_in self.new ≡ after_cut (state_in self.old) life }
+    {
+        if let Phase::Bound(current) = self.phase {
+            if current.is_same(life) {
+                self.end(current, Reason::Cut);
+            }
+        }
+    }
+}

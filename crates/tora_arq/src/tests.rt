@@ -1,0 +1,312 @@
+//! Worked exchanges of frames, and frames that no honest peer sends.
+ghost use Rattle.std.specs.Prelude.{◌≢◌, ◌<◌, ◌≤◌, ◌^◌};
+
+use super::*;
+use std::alloc::Global;
+use std::process::Abort;
+use std::test::Fail;
+use tora_frame::{Body, Frame, GREATEST_NUMBER, Header};
+use tora_height::{Height, Id};
+use tora_packet::Update;
+
+const LIFE: Life = Life { own: 5, peer: 9 };
+
+/// What a frame from 2 to 1 carries. Packet number n is the query for n.
+#[derive(Clone, Copy)]
+enum Sent {
+    Hello,
+    Data(u64),
+    Ack(u64),
+}
+
+fn query(rt: &impl Abort, number: u64) -> Packet {
+    let destination = Id::try_from(number).unwrap_or(Id::MAX);
+    Packet::qry(destination).expect(rt, "a query")
+}
+
+/// A frame from 2 to 1 in a life, which heard a life.
+fn frame(rt: &impl Abort, life: u64, heard: u64, sent: Sent) -> Frame {
+    assert!(rt; life > 0 && life <= GREATEST_NUMBER && heard <= GREATEST_NUMBER);
+    let header = Header {
+        sender: 2,
+        receiver: 1,
+        life,
+        heard,
+    };
+    let (number, count) = match sent {
+        Sent::Hello => return Frame::hello(header),
+        Sent::Data(number) => (number, 0),
+        Sent::Ack(count) => (0, count),
+    };
+    assert!(rt; heard > 0 && number <= GREATEST_NUMBER && count <= GREATEST_NUMBER);
+    if number == 0 {
+        return Frame::ack(header, count);
+    }
+    Frame::data(header, number, count, query(rt, number))
+}
+
+/// Hands frames in at tick 0, each with its life, the life heard and the verdict that it gets.
+fn takes(rt: &impl Abort, end: &mut LinkEnd, rows: &[(u64, u64, Sent, Verdict)]) {
+    for (life, heard, sent, verdict) in rows {
+        let frame = frame(rt, *life, *heard, *sent);
+        assert_eq!(rt; end.on_frame(&frame, 0), *verdict, "{frame:?}");
+    }
+}
+
+/// Polls the events, and sees that they are just these.
+fn tells(rt: &impl Abort, end: &mut LinkEnd, events: &[LinkEvent]) {
+    for event in events {
+        assert_eq!(rt; end.poll_event(), Some(*event));
+    }
+    assert_eq!(rt; end.poll_event(), None);
+}
+
+/// Polls the frames due at a tick, and sees that they carry just this, in the life {5, 9}.
+fn sends(rt: &impl Abort, end: &mut LinkEnd, now: u64, bodies: &[Body]) {
+    for body in bodies {
+        let frame = end.poll_transmit(now).expect(rt, "a frame");
+        assert_eq!(rt; *frame.body(), *body, "at {now}");
+        assert_eq!(rt; frame.header().heard, 9);
+    }
+    assert_eq!(rt; end.poll_transmit(now), None, "at {now}");
+}
+
+fn opened(rt: &impl Abort, end: &mut LinkEnd, life: u64)
+    requires { life ≤ 2 ^ 62 }
+{
+    assert!(rt; end.is_closed());
+    assert!(rt; end.last_life() < life);
+    end.open(life, 0);
+    assert_eq!(rt; end.last_life(), life);
+}
+
+fn end_of(rt: &impl Abort, alloc: Global, me: Id, peer: Id, life: u64) -> LinkEnd
+    requires me { 0 < me }
+    requires peer { 0 < peer }
+    requires other { me ≢ peer }
+    requires life { life ≤ 2 ^ 62 }
+{
+    let mut end = LinkEnd::new(alloc, me, peer, Times::STANDARD).expect(rt, "memory");
+    assert_eq!(rt; end.peer(), peer);
+    opened(rt, &mut end, life);
+    end
+}
+
+/// Node 1's end of the link to 2, bound to the life {5, 9} at tick 0; its HELLO is sent and its event is polled.
+fn bound_end(rt: &impl Abort, alloc: Global) -> LinkEnd {
+    let mut end = end_of(rt, alloc, 1, 2, 5);
+    takes(rt, &mut end, &[(9, 5, Sent::Hello, Verdict::Accepted)]);
+    tells(rt, &mut end, &[LinkEvent::Up(LIFE)]);
+    sends(rt, &mut end, 0, &[Body::Hello]);
+    end
+}
+
+/// Sends the HELLO that is due at tick 0 from one end to the other.
+fn greets(rt: &impl Abort, from: &mut LinkEnd, to: &mut LinkEnd, life: u64, heard: u64) {
+    let hello = from.poll_transmit(0).expect(rt, "a HELLO");
+    assert_eq!(rt; *hello.body(), Body::Hello);
+    assert_eq!(rt; (hello.header().life, hello.header().heard), (life, heard));
+    assert_eq!(rt; to.on_frame(&hello, 0), Verdict::Accepted);
+}
+
+#[test]
+fn three_hellos_bind_both_ends(rt: HostRuntime) -> Result<(), Fail> {
+    let mut one = end_of(&rt, rt.alloc(), 1, 2, 5);
+    let mut two = end_of(&rt, rt.alloc(), 2, 1, 9);
+    greets(&rt, &mut one, &mut two, 5, 0);
+    assert_eq!(&rt; one.life(), None);
+    greets(&rt, &mut two, &mut one, 9, 5);
+    tells(&rt, &mut one, &[LinkEvent::Up(LIFE)]);
+    tells(&rt, &mut two, &[]);
+    greets(&rt, &mut one, &mut two, 5, 9);
+    tells(&rt, &mut two, &[LinkEvent::Up(Life { own: 9, peer: 5 })]);
+    assert_eq!(&rt; one.life(), Some(LIFE));
+    Ok(())
+}
+
+#[test]
+fn data_is_delivered_once_in_order(rt: HostRuntime) -> Result<(), Fail> {
+    let mut end = bound_end(&rt, rt.alloc());
+    let rows = [
+        (9, 5, Sent::Data(1), Verdict::Accepted),
+        (9, 5, Sent::Data(3), Verdict::Ahead),
+        (9, 5, Sent::Data(2), Verdict::Accepted),
+        (9, 5, Sent::Data(2), Verdict::Repeated),
+    ];
+    takes(&rt, &mut end, &rows);
+    let first = LinkEvent::Deliver(LIFE, query(&rt, 1));
+    let second = LinkEvent::Deliver(LIFE, query(&rt, 2));
+    tells(&rt, &mut end, &[first, second]);
+    sends(&rt, &mut end, 0, &[Body::Ack(2)]);
+    Ok(())
+}
+
+#[test]
+fn newer_life_of_the_peer_ends_the_bound_one(rt: HostRuntime) -> Result<(), Fail> {
+    let mut end = bound_end(&rt, rt.alloc());
+    takes(&rt, &mut end, &[(17, 0, Sent::Hello, Verdict::Accepted)]);
+    tells(&rt, &mut end, &[LinkEvent::Down(LIFE, Reason::NewPeer)]);
+    opened(&rt, &mut end, 6);
+    takes(&rt, &mut end, &[(9, 5, Sent::Data(1), Verdict::Stale)]);
+    tells(&rt, &mut end, &[]);
+    Ok(())
+}
+
+/// A DATA frame every 5 ticks, and before it a HELLO every 10 ticks but the first.
+fn due_at<'a>(now: u64, both: &'a [Body], data: &'a [Body]) -> &'a [Body] {
+    if now > 0 && now % 10 == 0 {
+        return both;
+    }
+    if now % 5 == 0 { data } else { &[] }
+}
+
+#[test]
+fn unanswered_packet_is_retried_then_silent(rt: HostRuntime) -> Result<(), Fail> {
+    let mut end = bound_end(&rt, rt.alloc());
+    assert_eq!(&rt; end.submit(LIFE, query(&rt, 4)), Ok(()));
+    let data = [Body::Data(1, 0, query(&rt, 4))];
+    let both = [Body::Hello, Body::Data(1, 0, query(&rt, 4))];
+    for now in 0..40 {
+        end.on_tick(now);
+        sends(&rt, &mut end, now, due_at(now, &both, &data));
+    }
+    tells(&rt, &mut end, &[]);
+    end.on_tick(40);
+    tells(&rt, &mut end, &[LinkEvent::Down(LIFE, Reason::Silent)]);
+    Ok(())
+}
+
+#[test]
+fn unheard_peer_ends_the_life(rt: HostRuntime) -> Result<(), Fail> {
+    let mut end = bound_end(&rt, rt.alloc());
+    end.on_tick(49);
+    tells(&rt, &mut end, &[]);
+    end.on_tick(50);
+    tells(&rt, &mut end, &[LinkEvent::Down(LIFE, Reason::Silent)]);
+    Ok(())
+}
+
+#[test]
+fn acknowledged_packets_leave_the_queue(rt: HostRuntime) -> Result<(), Fail> {
+    let mut end = bound_end(&rt, rt.alloc());
+    for number in [1, 2] {
+        assert_eq!(&rt; end.submit(LIFE, query(&rt, number)), Ok(()));
+    }
+    takes(&rt, &mut end, &[(9, 5, Sent::Ack(1), Verdict::Foreign)]);
+    sends(&rt, &mut end, 0, &[Body::Data(1, 0, query(&rt, 1))]);
+    let rows = [
+        (9, 5, Sent::Ack(0), Verdict::Repeated),
+        (9, 5, Sent::Ack(2), Verdict::Foreign),
+        (9, 5, Sent::Ack(1), Verdict::Accepted),
+        (9, 5, Sent::Ack(1), Verdict::Repeated),
+    ];
+    takes(&rt, &mut end, &rows);
+    sends(&rt, &mut end, 0, &[Body::Data(2, 0, query(&rt, 2))]);
+    Ok(())
+}
+
+#[test]
+fn frames_that_no_peer_sends(rt: HostRuntime) -> Result<(), Fail> {
+    let mut end = bound_end(&rt, rt.alloc());
+    let bound = [
+        (9, 5, Sent::Ack(1), Verdict::Foreign),
+        (8, 5, Sent::Hello, Verdict::Stale),
+        (9, 4, Sent::Hello, Verdict::Stale),
+        (9, 4, Sent::Data(1), Verdict::Stale),
+        (9, 5, Sent::Data(1 << 62), Verdict::Ahead),
+        (1 << 62, 0, Sent::Hello, Verdict::Accepted),
+        (9, 5, Sent::Hello, Verdict::Stale),
+    ];
+    takes(&rt, &mut end, &bound);
+    tells(&rt, &mut end, &[LinkEvent::Down(LIFE, Reason::NewPeer)]);
+    opened(&rt, &mut end, 6);
+    let unbound = [
+        (9, 5, Sent::Hello, Verdict::Accepted),
+        (9, 5, Sent::Hello, Verdict::Accepted),
+        (8, 5, Sent::Hello, Verdict::Stale),
+        (8, 6, Sent::Hello, Verdict::Stale),
+        (10, 5, Sent::Ack(0), Verdict::Stale),
+        (10, 6, Sent::Ack(1), Verdict::Foreign),
+        (10, 6, Sent::Ack(0), Verdict::Accepted),
+    ];
+    takes(&rt, &mut end, &unbound);
+    tells(&rt, &mut end, &[LinkEvent::Up(Life { own: 6, peer: 10 })]);
+    Ok(())
+}
+
+#[test]
+fn frames_of_other_nodes(rt: HostRuntime) -> Result<(), Fail> {
+    let mut end = bound_end(&rt, rt.alloc());
+    for (sender, receiver) in [(3, 1), (2, 3), (1, 2)] {
+        let header = Header {
+            sender,
+            receiver,
+            ..*frame(&rt, 9, 5, Sent::Hello).header()
+        };
+        assert!(&rt; sender > 0 && receiver > 0 && sender != receiver);
+        assert_eq!(&rt; end.on_frame(&Frame::hello(header), 0), Verdict::Foreign);
+    }
+    let update = Update::new(4, Height::new(0, 0, 0, 1, 3)?)?;
+    let header = *frame(&rt, 9, 5, Sent::Hello).header();
+    assert!(&rt; header.heard > 0);
+    let data = Frame::data(header, 1, 0, Packet::Upd(update));
+    assert_eq!(&rt; end.on_frame(&data, 0), Verdict::Foreign);
+    tells(&rt, &mut end, &[]);
+    Ok(())
+}
+
+#[test]
+fn busy_end_has_a_place_for_its_down(rt: HostRuntime) -> Result<(), Fail> {
+    let mut end = bound_end(&rt, rt.alloc());
+    for number in 1..32 {
+        takes(
+            &rt,
+            &mut end,
+            &[(9, 5, Sent::Data(number), Verdict::Accepted)],
+        );
+    }
+    takes(&rt, &mut end, &[(9, 5, Sent::Data(32), Verdict::Busy)]);
+    let first = LinkEvent::Deliver(LIFE, query(&rt, 1));
+    assert_eq!(&rt; end.poll_event(), Some(first));
+    takes(&rt, &mut end, &[(9, 5, Sent::Data(32), Verdict::Accepted)]);
+    end.cut(Life { own: 4, peer: 9 });
+    assert_eq!(&rt; end.life(), Some(LIFE));
+    end.cut(LIFE);
+    for number in 2..33 {
+        let next = LinkEvent::Deliver(LIFE, query(&rt, number));
+        assert_eq!(&rt; end.poll_event(), Some(next));
+    }
+    tells(&rt, &mut end, &[LinkEvent::Down(LIFE, Reason::Cut)]);
+    Ok(())
+}
+
+/// Sees that a packet of this life is handed back.
+fn hands_back(rt: &impl Abort, end: &mut LinkEnd, life: Life) {
+    let answer = end.submit(life, query(rt, 4));
+    assert_eq!(rt; answer, Err(SubmitError::WrongLife(query(rt, 4))));
+}
+
+#[test]
+fn full_send_queue_ends_the_life(rt: HostRuntime) -> Result<(), Fail> {
+    let mut end = bound_end(&rt, rt.alloc());
+    hands_back(&rt, &mut end, Life { own: 5, peer: 8 });
+    for _ in 0..256 {
+        assert_eq!(&rt; end.submit(LIFE, query(&rt, 4)), Ok(()));
+    }
+    assert_eq!(&rt; end.submit(LIFE, query(&rt, 4)), Err(SubmitError::Full));
+    tells(&rt, &mut end, &[LinkEvent::Down(LIFE, Reason::Full)]);
+    hands_back(&rt, &mut end, LIFE);
+    Ok(())
+}
+
+#[test]
+fn clock_that_goes_back_counts_as_no_time(rt: HostRuntime) -> Result<(), Fail> {
+    let mut end = bound_end(&rt, rt.alloc());
+    let hello = frame(&rt, 9, 5, Sent::Hello);
+    assert_eq!(&rt; end.on_frame(&hello, u64::MAX), Verdict::Accepted);
+    end.on_tick(0);
+    sends(&rt, &mut end, 0, &[]);
+    end.on_tick(u64::MAX);
+    assert_eq!(&rt; end.life(), Some(LIFE));
+    Ok(())
+}
