@@ -2,7 +2,8 @@
 """Runs two commands on one input in turn, and prints time, memory and their ratio.
 
 measure.py ROUNDS INPUT OUT_A OUT_B -- COMMAND_A .. -- COMMAND_B ..
-The best of ROUNDS runs of each counts, since the machine is shared; memory is the greatest resident size.
+The best of ROUNDS runs of each counts, since the machine is shared. Memory is the greatest resident size that the system
+tells, which is never below that of this script itself: the last line says how much that is.
 """
 import os
 import subprocess
@@ -25,6 +26,7 @@ def main():
     rest = words[5:]
     at = rest.index("--")
     commands = [(rest[:at], out_a), (rest[at + 1 :], out_b)]
+    floor = run(["true"], given, out_a)[2]
     best = [None, None]
     for _ in range(rounds):
         for i, (command, taken) in enumerate(commands):
@@ -34,6 +36,7 @@ def main():
     for name, seen in zip(("tora", "baseline"), best):
         print(f"{name:9} {seen[0]:8.3f} s  processor {seen[1]:8.3f} s  memory {seen[2] / 1024:8.1f} MB  status {seen[3]}")
     print(f"ratio     {best[0][0] / best[1][0]:8.2f}    processor {best[0][1] / best[1][1]:8.2f}")
+    print(f"floor     memory {floor / 1024:8.1f} MB")
     with open(out_a, "rb") as a, open(out_b, "rb") as b:
         print("output    " + ("identical" if a.read() == b.read() else "DIFFERENT"))
 
