@@ -1,14 +1,31 @@
 #!/usr/bin/env bash
-# Runs the tests of each crate that takes memory once for each allocation that they make, with that allocation refused.
-# A run may end by a failed test or by the stated answer; it may not fault, hang or end with another output.
-# usage: bench/refused-memory.sh [CRATE ..]
+# Runs the tests of a crate again and again, each time with its Nth allocation refused, N from 1 until a run meets none.
+# In every run the tests named `want_of_memory..` must pass, and no test may fault, hang or end with two different outputs;
+# another test may fail only by saying that memory was refused.
+# usage: bench/refused-memory.sh CRATE [FIRST] [LAST]     for example: bench/refused-memory.sh tora_core
 set -u
 top=$(cd "$(dirname "$0")/.." && pwd)
-status=0
-for crate in "${@:-tora_core tora}"; do
-  for name in $crate; do
-    echo "== $name"
-    (cd "$top/crates/$name" && rt try --test --fail-alloc 1..) | tail -n 3 || status=1
-  done
+crate=${1:?a crate, as tora_core}
+first=${2:-1}
+last=${3:-200}
+log=$(mktemp)
+trap 'rm -f "$log"' EXIT
+for n in $(seq "$first" "$last"); do
+  (cd "$top/crates/$crate" && rt try --test --fail-alloc "$n") >"$log" 2>&1
+  status=$?
+  case $status in
+    0) echo "allocation $n: all tests passed" ;;
+    101)
+      if grep -E 'want_of_memory.*FAILED' "$log"; then
+        echo "allocation $n: wrong answer"
+        exit 1
+      fi
+      echo "allocation $n: refused; $(grep -c 'FAILED$' "$log") tests met it"
+      ;;
+    *)
+      tail -n 5 "$log"
+      echo "allocation $n: status $status"
+      exit 1
+      ;;
+  esac
 done
-exit $status
