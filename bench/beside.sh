@@ -1,5 +1,5 @@
 #!/usr/bin/env bash
-# Runs `tora_bench WHAT` and the baseline's `bench` in turn, and prints the best of each.
+# Times WHAT (core or codec) and the baseline's `bench` in turn, and prints the best of each.
 # usage: bench/beside.sh WHAT BASE [STEPS] [ROUNDS]
 set -eu
 top=$(cd "$(dirname "$0")/.." && pwd)
@@ -12,9 +12,13 @@ trap 'rm -rf "$work"' EXIT
 cp -r "$base" "$work/base"
 chmod -R u+w "$work/base"
 (cd "$work/base" && cargo build --release --offline >/dev/null 2>&1)
-(cd "$top/crates/tora_bench" && rt run >/dev/null 2>&1)
+case $what in
+  codec) ours=(tora_bench_codec "$steps") ;;
+  *) ours=(tora_bench "$what" "$steps") ;;
+esac
+(cd "$top/crates/${ours[0]}" && rt run >/dev/null 2>&1)
 for _ in $(seq "$rounds"); do
-  "$top/crates/tora_bench/out/tora_bench" "$what" "$steps" >>"$work/ours"
+  "$top/crates/${ours[0]}/out/${ours[0]}" "${ours[@]:1}" >>"$work/ours"
   "$work/base/target/release/base" bench "$steps" >>"$work/theirs"
 done
 python3 - "$work/ours" "$work/theirs" "$what" <<'P'

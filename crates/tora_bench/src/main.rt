@@ -1,8 +1,8 @@
 //! Times the calls of the lower crates, for the scripts under `bench/`. With no words it prints nothing.
 //!
-//! `tora_bench core N` times N steps of a core on four mixes of inputs, `tora_bench codec N` the packet codec and the
-//! frame codec on N values, `tora_bench link N` N packets that go from one link end to another and are acknowledged. Each
-//! line is a name, nanoseconds an operation (the best of seven runs), and a number that depends on every result.
+//! `tora_bench core N` times N steps of a core on four mixes of inputs, `tora_bench link N` N packets that go from one link
+//! end to another and are acknowledged. Each line is a name, nanoseconds an operation (the best of seven runs), and a
+//! number that depends on every result.
 #![tactic(auto)]
 
 mod inputs;
@@ -14,8 +14,7 @@ use std::alloc::Global;
 use std::io;
 use std::time::{Duration, Instant};
 use tora_core::{Core, Input, Sends};
-use tora_frame::{Frame, Header};
-use tora_packet::{Packet, decode, encode};
+use tora_packet::Packet;
 
 /// How often each mix is run; the best run counts.
 const RUNS: u32 = 7;
@@ -28,15 +27,20 @@ fn folded(sum: u64, value: u64) -> u64 {
     (sum ^ value).wrapping_mul(0x100000001b3)
 }
 
+/// A number that depends on what a packet says.
+fn told(packet: &Packet) -> u64 {
+    let parts = match packet {
+        Packet::Qry(_) => 1,
+        Packet::Upd(update) => update.height().tau() ^ u64::from(update.height().id()),
+        Packet::Clr(clear) => clear.tau() ^ u64::from(clear.oid()),
+    };
+    folded(parts, u64::from(packet.destination()))
+}
+
 fn folded_sends(sum: u64, sends: &Sends) -> u64 {
-    let mut sum = sum;
-    for packet in sends.as_slice() {
-        let bytes = encode(packet);
-        for byte in bytes.as_slice() {
-            sum = folded(sum, u64::from(*byte));
-        }
-    }
-    sum
+    sends
+        .iter()
+        .fold(sum, |sum, packet| folded(sum, told(packet)))
 }
 
 fn run_mixed(core: &mut Core, inputs: &[(u64, Input)]) -> u64 {
@@ -86,41 +90,6 @@ fn run_links(core: &mut Core, steps: u32) -> u64 {
     sum
 }
 
-/// The updates among the inputs, encoded and decoded again.
-fn run_packets(inputs: &[(u64, Input)]) -> u64 {
-    let mut sum = 0u64;
-    for (_, input) in inputs {
-        if let Input::Packet(_, packet) = input {
-            let bytes = encode(packet);
-            if let Ok(again) = decode(bytes.as_slice()) {
-                sum = sum.wrapping_add(u64::from(again.destination()));
-            }
-        }
-    }
-    sum
-}
-
-/// DATA frames with the packets among the inputs, encoded and decoded again.
-fn run_frames(inputs: &[(u64, Input)]) -> u64 {
-    let header = Header {
-        sender: 1,
-        receiver: 2,
-        life: 5,
-        heard: 9,
-    };
-    let mut sum = 0u64;
-    for (_, input) in inputs {
-        if let Input::Packet(_, packet) = input {
-            let frame = Frame::data(header, 1, 0, *packet);
-            let bytes = tora_frame::encode(&frame);
-            if let Ok(again) = tora_frame::decode(bytes.as_slice()) {
-                sum = sum.wrapping_add(again.header().life);
-            }
-        }
-    }
-    sum
-}
-
 /// What is timed.
 #[derive(Clone, Copy)]
 enum Mix {
@@ -128,8 +97,6 @@ enum Mix {
     Quiet,
     Reacting,
     Links,
-    Packets,
-    Frames,
     Link,
 }
 
@@ -140,8 +107,6 @@ impl Mix {
             Mix::Quiet => "core-quiet",
             Mix::Reacting => "core-reacting",
             Mix::Links => "core-links",
-            Mix::Packets => "codec-packet",
-            Mix::Frames => "codec-frame",
             Mix::Link => "link-packet",
         }
     }
@@ -151,7 +116,7 @@ impl Mix {
         match self {
             Mix::Mixed => fresh_core(alloc),
             Mix::Reacting => small_core(alloc),
-            Mix::Quiet | Mix::Links | Mix::Packets | Mix::Frames | Mix::Link => routed_core(alloc),
+            Mix::Quiet | Mix::Links | Mix::Link => routed_core(alloc),
         }
     }
 
@@ -161,8 +126,6 @@ impl Mix {
             Mix::Quiet => run_quiet(core, steps),
             Mix::Reacting => run_reacting(core, steps),
             Mix::Links => run_links(core, steps),
-            Mix::Packets => run_packets(inputs),
-            Mix::Frames => run_frames(inputs),
             Mix::Link => run_link(alloc, steps).unwrap_or(0),
         }
     }
@@ -172,12 +135,6 @@ impl Mix {
         match self {
             Mix::Mixed => inputs.len() as u64,
             Mix::Quiet | Mix::Reacting | Mix::Links | Mix::Link => u64::from(steps),
-            Mix::Packets | Mix::Frames => {
-                let packets = inputs
-                    .iter()
-                    .filter(|(_, input)| matches!(input, Input::Packet(_, _)));
-                packets.count() as u64
-            }
         }
     }
 }
@@ -213,15 +170,7 @@ fn main(rt: HostRuntime) -> io::Result<()> {
         None => STEPS,
     };
     let inputs = mixed_inputs(rt.alloc(), steps)?;
-    let mixes = [
-        Mix::Mixed,
-        Mix::Quiet,
-        Mix::Reacting,
-        Mix::Links,
-        Mix::Packets,
-        Mix::Frames,
-        Mix::Link,
-    ];
+    let mixes = [Mix::Mixed, Mix::Quiet, Mix::Reacting, Mix::Links, Mix::Link];
     for mix in mixes {
         if mix.name().starts_with(word.as_str()) {
             time(&rt, mix, inputs.as_slice(), steps)?;

@@ -2,7 +2,9 @@ pub mod Order
 pub mod Fitted
 pub mod RowLemmas
 pub mod Places
+pub mod KeptFront
 pub mod KeptLemmas
+pub mod Broadcasts
 pub mod NumberLemmas
 pub mod OwnViews
 pub mod CoreLemmas

@@ -1,12 +1,12 @@
 //! TORA's rules for one destination (Park and Corson 1997, section 3).
-ghost use Rattle.std.specs.Prelude.{◌≡◌, ◌<◌, length, Some, pos};
-ghost use Rattle.tora_height.specs.Height.{IsLevel, quintuple};
+ghost use Rattle.std.specs.Prelude.{◌≡◌, ◌==◌, ◌<◌, None, Some, IsSome, IfSome, MatchBool, option_map, pos};
+ghost use Rattle.tora_height.specs.Height.{IsLevel, quintuple, destination_height};
 ghost use Rattle.tora_packet.specs.PacketParts.{IsId};
 ghost use Rattle.tora_core.specs.View.{first_view, has_downstream, lacks_downstream, next_hop_of};
-ghost use Rattle.tora_core.specs.CoreRun.{entry_in};
+ghost use Rattle.tora_core.specs.CoreRun.{entry_in, own_destination};
 ghost use Rattle.tora_core.specs.Heights.{fitted_height, fresh_time};
 ghost use Rattle.tora_core.specs.Kept.{HasRoom, IsKept, MakesPacket, MayCome};
-ghost use Rattle.tora_core.specs.Rules.{query_broadcast, update_broadcast, joined_height, after_join, new_level, after_erase, after_link_loss, after_update_loss, propagated_level, reflected_level, link_row, on_need, on_link_up, on_link_down, on_query, on_update, on_clear, on_packet, cleared_level, outcome_at_destination, outcome_elsewhere, outcome_of, packet_of, packet_sent, view_after};
+ghost use Rattle.tora_core.specs.Rules.{query_broadcast, update_broadcast, joined_height, after_join, new_level, after_erase, after_link_loss, after_update_loss, propagated_level, reflected_level, link_row, on_need, on_query, on_update, on_clear, on_packet, cleared_level, outcome_of, packet_of, packet_sent, view_after};
 
 use crate::Input;
 use crate::rows::{
@@ -119,57 +119,90 @@ impl Destination {
         next_hop(self.height, self.rows.as_slice())
     }
 
-    /// Takes an input that concerns the destination, and answers the packet to every up neighbour.
+    /// Takes a need of the destination or a packet for it, and answers the packet to every up neighbour.
     pub fn step(&mut self, input: &Input, now: u64) -> Option<Packet>
         requires kept { IsKept self.old }
         requires may { MayCome self.old input.now }
-        requires room { HasRoom self.old input.now }
+        requires own { IsSome (own_destination input.now) }
         ensures view { self.new ≡ view_after self.old input.now now }
         ensures packet { result ≡ packet_sent self.old input.now now }
     {
         let destination = self.destination;
-        match self.react(input, now) {
-            None => None,
-            Some(broadcast) => Some(packet_of(destination, broadcast)),
-        }
+        let broadcast = self.react(input, now);
+        packet_to_send(destination, broadcast)
+    }
+
+    /// As `step`, for the link to a neighbour that came up.
+    pub fn link_up(&mut self, k: Id) -> Option<Packet>
+        requires kept { IsKept self.old }
+        requires may { MayCome self.old (Input.LinkUp k) }
+        requires room { HasRoom self.old (Input.LinkUp k) }
+        ensures view { self.new ≡ view_after self.old (Input.LinkUp k) 0 }
+        ensures packet { result ≡ packet_sent self.old (Input.LinkUp k) 0 }
+    {
+        let destination = self.destination;
+        let broadcast = self.react_to_link_up(k);
+        packet_to_send(destination, broadcast)
+    }
+
+    /// As `step`, for the link to a neighbour that went down.
+    pub fn link_down(&mut self, k: Id, now: u64) -> Option<Packet>
+        requires kept { IsKept self.old }
+        ensures view { self.new ≡ view_after self.old (Input.LinkDown k) now }
+        ensures packet { result ≡ packet_sent self.old (Input.LinkDown k) now }
+    {
+        let destination = self.destination;
+        let broadcast = self.react_to_link_down(k, now);
+        packet_to_send(destination, broadcast)
     }
 
     fn react(&mut self, input: &Input, now: u64) -> Option<Broadcast>
-        requires { HasRoom self.old input.now }
+        requires { IsSome (own_destination input.now) }
         ensures view { self.new ≡ (outcome_of self.old input.now now).view }
         ensures broadcast { result ≡ (outcome_of self.old input.now now).broadcast }
     {
-        if self.me == self.destination {
-            self.react_at_destination(input);
-            None
-        } else {
-            self.react_elsewhere(input, now)
+        if self.is_own() {
+            return None;
         }
-    }
-
-    /// At the destination itself only the set of neighbours changes.
-    fn react_at_destination(&mut self, input: &Input)
-        requires { HasRoom self.old input.now }
-        ensures { self.new ≡ (outcome_at_destination self.old input.now).view }
-    {
-        match input {
-            Input::Need(_) => {}
-            Input::LinkUp(k) => insert_row(&mut self.rows, link_row(*k, None)),
-            Input::LinkDown(k) => remove_row(&mut self.rows, *k),
-            Input::Packet(_, _) => {}
-        }
-    }
-
-    fn react_elsewhere(&mut self, input: &Input, now: u64) -> Option<Broadcast>
-        requires { HasRoom self.old input.now }
-        ensures view { self.new ≡ (outcome_elsewhere self.old input.now now).view }
-        ensures broadcast { result ≡ (outcome_elsewhere self.old input.now now).broadcast }
-    {
         match input {
             Input::Need(_) => self.on_need(),
-            Input::LinkUp(k) => self.on_link_up(*k),
-            Input::LinkDown(k) => self.on_link_down(*k, now),
             Input::Packet(k, packet) => self.on_packet(*k, packet, now),
+            Input::LinkUp(_) => unreachable!(),
+            Input::LinkDown(_) => unreachable!(),
+        }
+    }
+
+    /// Whether the node is the destination itself, where only the set of neighbours changes.
+    fn is_own(&self) -> bool
+        ensures { result ≡ (self.now.me == self.now.destination) }
+    {
+        self.me == self.destination
+    }
+
+    fn react_to_link_up(&mut self, k: Id) -> Option<Broadcast>
+        requires { HasRoom self.old (Input.LinkUp k) }
+        ensures view { self.new ≡ (outcome_of self.old (Input.LinkUp k) 0).view }
+        ensures broadcast { result ≡ (outcome_of self.old (Input.LinkUp k) 0).broadcast }
+    {
+        insert_row(&mut self.rows, first_row(self.me, self.destination, k));
+        if self.is_own() || !self.flag {
+            None
+        } else if k == self.destination {
+            self.join()
+        } else {
+            self.broadcast_query()
+        }
+    }
+
+    fn react_to_link_down(&mut self, k: Id, now: u64) -> Option<Broadcast>
+        ensures view { self.new ≡ (outcome_of self.old (Input.LinkDown k) now).view }
+        ensures broadcast { result ≡ (outcome_of self.old (Input.LinkDown k) now).broadcast }
+    {
+        remove_row(&mut self.rows, k);
+        if self.is_own() || !self.lacks_downstream() {
+            None
+        } else {
+            self.after_link_loss(now)
         }
     }
 
@@ -190,37 +223,6 @@ impl Destination {
     {
         if are_null(self.rows.as_slice()) && !self.flag {
             self.broadcast_query()
-        } else {
-            None
-        }
-    }
-
-    fn on_link_up(&mut self, k: Id) -> Option<Broadcast>
-        requires known { 0 < k }
-        requires room { length self.old.rows < 8 }
-        ensures view { self.new ≡ (on_link_up self.old k).view }
-        ensures broadcast { result ≡ (on_link_up self.old k).broadcast }
-    {
-        if k == self.destination {
-            insert_row(&mut self.rows, link_row(k, Some(Height::zero(k))));
-            if self.flag { self.join() } else { None }
-        } else {
-            insert_row(&mut self.rows, link_row(k, None));
-            if self.flag {
-                self.broadcast_query()
-            } else {
-                None
-            }
-        }
-    }
-
-    fn on_link_down(&mut self, k: Id, now: u64) -> Option<Broadcast>
-        ensures view { self.new ≡ (on_link_down self.old k now).view }
-        ensures broadcast { result ≡ (on_link_down self.old k now).broadcast }
-    {
-        remove_row(&mut self.rows, k);
-        if self.lacks_downstream() {
-            self.after_link_loss(now)
         } else {
             None
         }
@@ -441,13 +443,34 @@ fn cleared_level(clear: &Clear) -> Level
     }
 }
 
-fn link_row(k: Id, entry: Entry) -> Row
-    ensures { result ≡ link_row k entry }
+/// The row of a neighbour whose link came up: the entry of the destination is its own height, any other is NULL.
+fn first_row(me: Id, destination: Id, k: Id) -> Row
+    requires { 0 < k }
+    ensures { MatchBool (me == destination) (result ≡ link_row k None)
+        (MatchBool (k == destination) (result ≡ link_row k (Some (destination_height k))) (result ≡ link_row k None)) }
 {
+    let entry = if me == destination {
+        None
+    } else if k == destination {
+        Some(Height::zero(k))
+    } else {
+        None
+    };
     Row {
         neighbour: k,
         entry,
         told: false,
+    }
+}
+
+/// The packet of what is broadcast, where there is something.
+fn packet_to_send(destination: Id, broadcast: Option<Broadcast>) -> Option<Packet>
+    requires { IfSome broadcast (MakesPacket destination) }
+    ensures { result ≡ option_map (packet_of destination) broadcast }
+{
+    match broadcast {
+        None => None,
+        Some(broadcast) => Some(packet_of(destination, broadcast)),
     }
 }
 

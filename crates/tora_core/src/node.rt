@@ -1,5 +1,5 @@
 //! The core of a node.
-ghost use Rattle.std.specs.Prelude.{◌≡◌, ◌<◌, ℕ, All, IfErr, IfNone, IfOk, MatchOption, None, OnErr, OnOk, option_copied, IsOk, string_bytes};
+ghost use Rattle.std.specs.Prelude.{◌≡◌, ◌<◌, ℕ, All, IfErr, IfNone, IfOk, MatchOption, None, OnErr, [], OnOk, option_copied, IsOk, string_bytes};
 ghost use Rattle.tora_core.specs.CoreRun.{core_after, core_refusal, entry_of, first_core, flag_of, height_of, hop_of, refusal_of, sends_of, view_of};
 ghost use Rattle.tora_core.specs.Numbers.{has_number};
 ghost use Rattle.tora_core.specs.Kept.{IsCore, IsInput};
@@ -119,20 +119,24 @@ impl Core {
         ensures core { self.new ≡ core_after self.old input now }
         ensures sends { IfOk result (λ sends. sends.items ≡ sends_of self.old input now) }
     {
-        self.take(&input, now)
+        let mut sends = ArrayVec::new();
+        self.take(&input, now, &mut sends)?;
+        Ok(sends)
     }
 
-    fn take(&mut self, input: &Input, now: u64) -> Result<Sends, StepError>
+    /// Takes an input in at a tick, and lists the packets to every up neighbour.
+    fn take(&mut self, input: &Input, now: u64, sends: &mut Sends) -> Result<(), StepError>
+        requires { sends.old.items ≡ [] }
         ensures refused { MatchOption (refusal_of self.old input.now) (IsOk result) (λ e. result ≡ Err e) }
         ensures core { self.new ≡ core_after self.old input.now now }
-        ensures sends { IfOk result (λ sends. sends.items ≡ sends_of self.old input.now now) }
+        ensures sends { sends.new.items ≡ sends_of self.old input.now now }
     {
         if let Some(error) = self.refusal(input) {
             return Err(error);
         }
-        let sends = step(&mut self.views, input, now);
+        step(&mut self.views, input, now, sends);
         note(input, &mut self.up);
-        Ok(sends)
+        Ok(())
     }
 
     /// Why an input is refused, if it is.

@@ -1,5 +1,5 @@
 //! The rows of a view, read and changed.
-ghost use Rattle.std.specs.Prelude.{◌≡◌, ◌<◌, ◌≤◌, ◌+◌, ◌^◌, ◌≤ℤ◌, pos, neg_ℤ, IfSome, fold, filter, nat_lt, position, option_map, option_copied, find, ◌==◌, None};
+ghost use Rattle.std.specs.Prelude.{◌≡◌, ◌<◌, ◌≤◌, ◌+◌, ◌^◌, ◌≤ℤ◌, pos, neg_ℤ, IfSome, fold, filter, nat_lt, position, option_map, option_copied, find, ◌==◌, None, take};
 ghost use Rattle.std.specs.List.{list_any, list_all};
 ghost use Rattle.arrayvec.specs.ArrayVec.{array_vec_len};
 ghost use Rattle.tora_height.specs.Height.{IsLevel};
@@ -159,10 +159,10 @@ pub fn is_told(k: Id, rows: &[Row]) -> bool
     rows.iter().any(|row| row.neighbour == k && row.told)
 }
 
-fn told_row(row: Row) -> Row
-    ensures { result ≡ told_row row }
+fn tell_row(row: &mut Row)
+    ensures { row.new ≡ told_row row.old }
 {
-    Row { told: true, ..row }
+    row.told = true;
 }
 
 /// Notes that an update goes to every up neighbour.
@@ -170,20 +170,15 @@ pub fn tell_all(rows: &mut [Row])
     ensures { rows.new ≡ all_told rows.old }
 {
     for row in rows.iter_mut() {
-        *row = told_row(*row);
+        tell_row(row);
     }
 }
 
-fn row_with_entry(k: Id, height: Height, row: Row) -> Row
-    ensures { result ≡ row_with_entry k height row }
+fn set_row_entry(k: Id, height: Height, row: &mut Row)
+    ensures { row.new ≡ row_with_entry k height row.old }
 {
     if row.neighbour == k {
-        Row {
-            entry: Some(height),
-            ..row
-        }
-    } else {
-        row
+        row.entry = Some(height);
     }
 }
 
@@ -191,17 +186,15 @@ pub fn set_entry(k: Id, height: Height, rows: &mut [Row])
     ensures { rows.new ≡ with_entry k height rows.old }
 {
     for row in rows.iter_mut() {
-        *row = row_with_entry(k, height, *row);
+        set_row_entry(k, height, row);
     }
 }
 
-fn erased_row(destination: Id, row: Row) -> Row
-    ensures { result ≡ erased_row destination row }
+fn erase_row(destination: Id, row: &mut Row)
+    ensures { row.new ≡ erased_row destination row.old }
 {
-    if row.neighbour == destination {
-        row
-    } else {
-        Row { entry: None, ..row }
+    if row.neighbour != destination {
+        row.entry = None;
     }
 }
 
@@ -210,7 +203,7 @@ pub fn erase_all(destination: Id, rows: &mut [Row])
     ensures { rows.new ≡ all_erased destination rows.old }
 {
     for row in rows.iter_mut() {
-        *row = erased_row(destination, *row);
+        erase_row(destination, row);
     }
 }
 
@@ -223,15 +216,13 @@ pub fn is_entry_at(level: Level, entry: Entry) -> bool
     }
 }
 
-fn cleared_row(destination: Id, level: Level, row: Row) -> Row
-    ensures { result ≡ cleared_row destination level row }
+fn clear_row(destination: Id, level: Level, row: &mut Row)
+    ensures { row.new ≡ cleared_row destination level row.old }
 {
     let other = row.neighbour != destination;
     let at = is_entry_at(level, row.entry);
     if other && at {
-        Row { entry: None, ..row }
-    } else {
-        row
+        row.entry = None;
     }
 }
 
@@ -240,7 +231,7 @@ pub fn clear_level(destination: Id, level: Level, rows: &mut [Row])
     ensures { rows.new ≡ all_cleared destination level rows.old }
 {
     for row in rows.iter_mut() {
-        *row = cleared_row(destination, level, *row);
+        clear_row(destination, level, row);
     }
 }
 
@@ -262,7 +253,24 @@ pub fn insert_row(rows: &mut ArrayVec<Row, 8>, row: Row)
 pub fn remove_row(rows: &mut ArrayVec<Row, 8>, k: Id)
     ensures { rows.new.items ≡ without_row k rows.old.items }
 {
-    rows.retain(|row| row.neighbour != k);
+    let kept = keep_others(rows.as_mut_slice(), k);
+    rows.truncate(kept);
+}
+
+/// Moves the rows of the other neighbours to the front, in their order, and counts them.
+fn keep_others(rows: &mut [Row], k: Id) -> usize
+    ensures { take result rows.new ≡ without_row k rows.old }
+{
+    let mut kept = 0;
+    for i in 0..rows.len() {
+        if rows[i].neighbour != k {
+            if kept < i {
+                rows[kept] = rows[i];
+            }
+            kept += 1;
+        }
+    }
+    kept
 }
 
 fn lower_row_of(best: Option<Row>, row: Row) -> Option<Row>

@@ -1,5 +1,7 @@
 //! The views of a node's destinations, by ascending destination.
-ghost use Rattle.std.specs.Prelude.{◌≡◌, ◌≤◌, ◌<◌, length, map, filter_map, position, All, true, Some, None, IfOk};
+ghost use Rattle.std.specs.Prelude.{◌≡◌, ◌≤◌, ◌<◌, length, map, filter_map, position, All, true, Some, None, IsSome, IfOk, [], ◌++◌};
+ghost use Rattle.std.specs.List.{cons_option};
+ghost use Rattle.arrayvec.specs.ArrayVec.{array_vec_len};
 ghost use Rattle.tora_core.specs.Numbers.{IsAscending};
 ghost use Rattle.tora_core.specs.View.{first_view};
 ghost use Rattle.tora_core.specs.CoreRun.{concerns, has_destination, is_of, next_packet, next_view, own_destination};
@@ -8,7 +10,6 @@ ghost use Rattle.tora_packet.specs.PacketParts.{IsId};
 
 use crate::destination::Destination;
 use crate::{Input, Sends};
-use arrayvec::ArrayVec;
 use std::alloc::{AllocError, Global};
 use tora_height::Id;
 use tora_packet::Packet;
@@ -43,73 +44,81 @@ pub fn place_of(d: Id, views: &[Destination]) -> Option<usize>
     views.iter().position(|view| view.destination() == d)
 }
 
-/// Takes an input in, and answers the packets to every up neighbour. It takes no memory.
-pub fn step(views: &mut [Destination], input: &Input, now: u64) -> Sends
+/// Takes an input in, and lists the packets to every up neighbour. It takes no memory.
+pub fn step(views: &mut [Destination], input: &Input, now: u64, sends: &mut Sends)
     requires may { All (CanTake input.now) views.old }
     requires few { length views.old ≤ 16 }
     requires ascending { IsAscending (destinations_of views.old) }
+    requires empty { sends.old.items ≡ [] }
     ensures views { views.new ≡ map (next_view input.now now) views.old }
-    ensures sends { result.items ≡ filter_map (next_packet input.now now) views.old }
-{
-    match own_destination(input) {
-        None => step_all(views, input, now),
-        Some(d) => step_own(d, views, input, now),
-    }
-}
-
-/// The one destination that a need or a packet is about.
-fn own_destination(input: &Input) -> Option<Id>
-    ensures { result ≡ own_destination input.now }
+    ensures sends { sends.new.items ≡ filter_map (next_packet input.now now) views.old }
 {
     match input {
-        Input::Need(d) => Some(*d),
-        Input::LinkUp(_) => None,
-        Input::LinkDown(_) => None,
-        Input::Packet(_, packet) => Some(packet.destination()),
+        Input::LinkUp(k) => link_up(views, *k, sends),
+        Input::LinkDown(k) => link_down(views, *k, now, sends),
+        Input::Need(d) => step_own(*d, views, input, now, sends),
+        Input::Packet(_, packet) => step_own(packet.destination(), views, input, now, sends),
     }
 }
 
-/// A link input goes to every view.
-fn step_all(views: &mut [Destination], input: &Input, now: u64) -> Sends
-    requires may { All (CanTake input.now) views.old }
+/// A link that came up goes to every view.
+fn link_up(views: &mut [Destination], k: Id, sends: &mut Sends)
+    requires may { All (CanTake (Input.LinkUp k)) views.old }
     requires few { length views.old ≤ 16 }
-    requires all { own_destination input.now ≡ None }
-    ensures views { views.new ≡ map (next_view input.now now) views.old }
-    ensures sends { result.items ≡ filter_map (next_packet input.now now) views.old }
+    requires empty { sends.old.items ≡ [] }
+    ensures views { views.new ≡ map (next_view (Input.LinkUp k) 0) views.old }
+    ensures sends { sends.new.items ≡ filter_map (next_packet (Input.LinkUp k) 0) views.old }
 {
-    let mut sends = ArrayVec::new();
     for view in views.iter_mut() {
-        if let Some(packet) = step_one(view, input, now) {
-            sends.push(packet);
-        }
+        list(view.link_up(k), sends);
     }
-    sends
+}
+
+/// A link that went down goes to every view.
+fn link_down(views: &mut [Destination], k: Id, now: u64, sends: &mut Sends)
+    requires may { All (CanTake (Input.LinkDown k)) views.old }
+    requires few { length views.old ≤ 16 }
+    requires empty { sends.old.items ≡ [] }
+    ensures views { views.new ≡ map (next_view (Input.LinkDown k) now) views.old }
+    ensures sends { sends.new.items ≡ filter_map (next_packet (Input.LinkDown k) now) views.old }
+{
+    for view in views.iter_mut() {
+        list(view.link_down(k, now), sends);
+    }
 }
 
 /// A need or a packet goes to the view of its destination alone.
-fn step_own(d: Id, views: &mut [Destination], input: &Input, now: u64) -> Sends
+fn step_own(d: Id, views: &mut [Destination], input: &Input, now: u64, sends: &mut Sends)
     requires may { All (CanTake input.now) views.old }
     requires own { own_destination input.now ≡ Some d }
     requires ascending { IsAscending (destinations_of views.old) }
+    requires empty { sends.old.items ≡ [] }
     ensures views { views.new ≡ map (next_view input.now now) views.old }
-    ensures sends { result.items ≡ filter_map (next_packet input.now now) views.old }
+    ensures sends { sends.new.items ≡ filter_map (next_packet input.now now) views.old }
 {
-    let mut sends = ArrayVec::new();
     let Some(place) = place_of(d, views) else {
-        return sends;
+        return;
     };
-    if let Some(packet) = step_one(&mut views[place], input, now) {
-        sends.push(packet);
-    }
-    sends
+    list(step_one(&mut views[place], input, now), sends);
 }
 
 /// Takes an input in that concerns the view.
 fn step_one(view: &mut Destination, input: &Input, now: u64) -> Option<Packet>
     requires may { CanTake input.now view.old }
     requires concerned { concerns input.now view.old.destination ≡ true }
+    requires own { IsSome (own_destination input.now) }
     ensures view { view.new ≡ next_view input.now now view.old }
     ensures packet { result ≡ next_packet input.now now view.old }
 {
     view.step(input, now)
+}
+
+/// Lists a packet, where there is one.
+fn list(packet: Option<Packet>, sends: &mut Sends)
+    requires { array_vec_len sends.old < 16 }
+    ensures { sends.new.items ≡ sends.old.items ++ cons_option packet [] }
+{
+    if let Some(packet) = packet {
+        sends.push(packet);
+    }
 }

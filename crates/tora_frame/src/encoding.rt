@@ -1,12 +1,13 @@
 //! Frames to bytes.
 ghost use Rattle.std.specs.Prelude.{◌≡◌, ◌+◌, ◌≤◌, ◌++◌, length};
 ghost use Rattle.arrayvec.specs.ArrayVec.{array_vec_len};
-ghost use Rattle.tora_frame.specs.FrameGrammar.{SpellsFrame, frame_spelling, header_spelling, payload_length, payload_spelling, packet_length, body_kind};
+ghost use Rattle.tora_frame.specs.FrameGrammar.{SpellsFrame, frame_spelling, header_spelling, packet_length};
+ghost use Rattle.tora_frame.specs.FrameParts.{frame_of};
 
 use crate::layout::{ACK, DATA, HELLO, VERSION};
 use crate::{Body, Frame, Header};
 use arrayvec::ArrayVec;
-use tora_packet::Packet;
+use tora_packet::{Packet, append};
 
 /// The most bytes that a frame has: those of a DATA frame with an update.
 pub const LONGEST_FRAME: usize = 76;
@@ -30,28 +31,10 @@ fn packet_length(packet: &Packet) -> u16
     }
 }
 
-fn kind(body: &Body) -> u8
-    ensures { result ≡ body_kind body.now }
-{
-    match body {
-        Body::Hello => HELLO,
-        Body::Data(_, _, _) => DATA,
-        Body::Ack(_) => ACK,
-    }
-}
-
-fn payload_length(body: &Body) -> u16
-    ensures { result ≡ payload_length body.now }
-{
-    match body {
-        Body::Hello => 0,
-        Body::Data(_, _, packet) => 16 + packet_length(packet),
-        Body::Ack(_) => 8,
-    }
-}
-
+/// The header of a frame of a kind whose payload has this many bytes.
 fn header_bytes(kind: u8, len: u16, header: &Header) -> ArrayVec<u8, LONGEST_FRAME>
-    ensures { result.items ≡ header_spelling kind len header.now }
+    ensures items { result.items ≡ header_spelling kind len header.now }
+    ensures len { array_vec_len result ≡ 28 }
 {
     let mut out = ArrayVec::new();
     put(&mut out, &[VERSION, kind]);
@@ -63,19 +46,29 @@ fn header_bytes(kind: u8, len: u16, header: &Header) -> ArrayVec<u8, LONGEST_FRA
     out
 }
 
-fn put_payload(out: &mut ArrayVec<u8, LONGEST_FRAME>, body: &Body)
-    requires { array_vec_len out.old ≡ 28 }
-    ensures { out.new.items ≡ out.old.items ++ payload_spelling body.now }
+/// The bytes of a DATA frame.
+fn data_bytes(
+    header: &Header,
+    number: u64,
+    count: u64,
+    packet: &Packet,
+) -> ArrayVec<u8, LONGEST_FRAME>
+    ensures { result.items ≡ frame_spelling (frame_of header.now (Body.Data number count packet.now)) }
 {
-    match body {
-        Body::Hello => {}
-        Body::Data(number, count, packet) => {
-            put(out, &number.to_be_bytes());
-            put(out, &count.to_be_bytes());
-            put(out, &tora_packet::encode(packet));
-        }
-        Body::Ack(count) => put(out, &count.to_be_bytes()),
-    }
+    let mut out = header_bytes(DATA, 16 + packet_length(packet), header);
+    put(&mut out, &number.to_be_bytes());
+    put(&mut out, &count.to_be_bytes());
+    append(packet, &mut out);
+    out
+}
+
+/// The bytes of an ACK.
+fn ack_bytes(header: &Header, count: u64) -> ArrayVec<u8, LONGEST_FRAME>
+    ensures { result.items ≡ frame_spelling (frame_of header.now (Body.Ack count)) }
+{
+    let mut out = header_bytes(ACK, 8, header);
+    put(&mut out, &count.to_be_bytes());
+    out
 }
 
 /// The bytes of a frame: 28 for a HELLO, 36 for an ACK, 44 and those of the packet for a DATA frame. Own profile.
@@ -83,8 +76,10 @@ pub fn encode(frame: &Frame) -> ArrayVec<u8, LONGEST_FRAME>
     ensures spells { SpellsFrame result.items frame.now }
     ensures exact { result.items ≡ frame_spelling frame.now }
 {
-    let body = frame.body();
-    let mut out = header_bytes(kind(body), payload_length(body), frame.header());
-    put_payload(&mut out, body);
-    out
+    let header = frame.header();
+    match frame.body() {
+        Body::Hello => header_bytes(HELLO, 0, header),
+        Body::Data(number, count, packet) => data_bytes(header, *number, *count, packet),
+        Body::Ack(count) => ack_bytes(header, *count),
+    }
 }

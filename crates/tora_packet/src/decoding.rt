@@ -4,6 +4,7 @@ ghost use Rattle.tora_packet.specs.PacketParts.{update_of, is_bad_update};
 ghost use Rattle.tora_packet.specs.AnyPacket.{IsPacket};
 ghost use Rattle.tora_packet.specs.PacketGrammar.{SpellsPacket, u32_at, u64_at, height_at, is_reserved_zero, kind_of, packet_fault, packet_at, packet_reading};
 ghost use Rattle.tora_packet.specs.declared.Packet.{Packet as AnyPacket};
+ghost use Rattle.tora_packet.specs.declared.Packet.TheVariants.{Upd};
 
 use crate::{Clear, Packet, PacketError, Query, Update};
 use tora_height::Height;
@@ -40,17 +41,21 @@ fn is_reserved_zero(bytes: &[u8]) -> bool
 }
 
 #[tactic(auto, unfolding(crate::specs::PacketParts::is_bad_update))]
-fn update_at(bytes: &[u8]) -> Result<Update, PacketError>
+fn update_at(bytes: &[u8]) -> Result<Packet, PacketError>
     requires { length bytes.now ≡ 32 }
-    ensures { MatchBool ((u32_at 4 bytes.now == 0) || is_bad_update (u32_at 4 bytes.now) (height_at bytes.now))
-        (result ≡ Err PacketError.Height) (result ≡ Ok (update_of (u32_at 4 bytes.now) (height_at bytes.now))) }
+    ensures exact { MatchBool ((u32_at 4 bytes.now == 0) || is_bad_update (u32_at 4 bytes.now) (height_at bytes.now))
+        (result ≡ Err PacketError.Height) (result ≡ Ok (Upd (update_of (u32_at 4 bytes.now) (height_at bytes.now)))) }
+    ensures valid { IfOk result IsPacket }
 {
     let delta = u32_at(bytes, 24).cast_signed();
     let (tau, oid, id) = (u64_at(bytes, 8), u32_at(bytes, 16), u32_at(bytes, 28));
     let Ok(height) = Height::new(tau, oid, bytes[20], delta, id) else {
         return Err(PacketError::Height);
     };
-    Update::new(u32_at(bytes, 4), height)
+    match Update::new(u32_at(bytes, 4), height) {
+        Ok(update) => Ok(Packet::Upd(update)),
+        Err(error) => Err(error),
+    }
 }
 
 fn packet_at(bytes: &[u8]) -> Result<Packet, PacketError>
@@ -80,7 +85,7 @@ fn packet_at(bytes: &[u8]) -> Result<Packet, PacketError>
     }
     match bytes[1] {
         1 => Ok(Packet::Qry(Query::new(u32_at(bytes, 4))?)),
-        2 => Ok(Packet::Upd(update_at(bytes)?)),
+        2 => update_at(bytes),
         _ => Ok(Packet::Clr(Clear::new(u32_at(bytes, 4), u64_at(bytes, 8), u32_at(bytes, 16))?)),
     }
 }

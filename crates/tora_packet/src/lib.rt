@@ -13,7 +13,7 @@ mod encoding;
 mod kinds;
 
 pub use decoding::{decode, one_packet_spelling};
-pub use encoding::{LONGEST_PACKET, encode};
+pub use encoding::{LONGEST_PACKET, append, encode};
 pub use kinds::{Clear, Query, Update};
 use thiserror::Error;
 use tora_height::Id;

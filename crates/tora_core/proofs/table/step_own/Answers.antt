@@ -1,4 +1,4 @@
-use Rattle.std.proofs.Common.{◌≡◌, ◌∙◌, sym, ap, subst, ℕ, true, List, [], ◌∷◌, ◌++◌, Option}
+use Rattle.std.proofs.Common.{◌≡◌, ◌∙◌, sym, ap, subst, ℕ, true, List, [], ◌++◌, Option}
 use Rattle.tora_packet.specs.declared.Packet.{Packet}
 use Rattle.std.specs.Prelude.{slice_index_or}
 use Rattle.std.specs.List.{cons_option}
@@ -30,8 +30,8 @@ step_one-requires-clause-concerned c =
     let Q : View → Type 0 = λ v. concerns c.args.input.now v.destination ≡ true in
     subst Q c.index-views-place.is own
 
-pub returns-in-Some-step_one-clause-views : goal.returns-in-Some-step_one-clause-views
-returns-in-Some-step_one-clause-views c =
+pub returns-clause-views : goal.returns-clause-views
+returns-clause-views c =
     let views = c.args.views.now in
     let x = c.index-views-place.result in
     let place = place-Some (is_of c.args.d) views c.in-Some.place (sym c.place_of.ensures ∙ c.in-Some.is) in
@@ -40,34 +40,14 @@ returns-in-Some-step_one-clause-views c =
     let at = views-at c.args.input.now c.args.now c.args.d c.requires.own views x c.requires.ascending place.0 read in
     rw (place.1, c.step_one.ensures.view, ← c.index-views-place.is) (sym at)
 
-pub returns-in_default-step_one-clause-views : goal.returns-in_default-step_one-clause-views
-returns-in_default-step_one-clause-views c =
-    let views = c.args.views.now in
-    let x = c.index-views-place.result in
-    let place = place-Some (is_of c.args.d) views c.in-Some.place (sym c.place_of.ensures ∙ c.in-Some.is) in
-    let P : ℕ → Type 0 = λ i. x ≡ slice_index_or views i x in
-    let read = subst P place.1 c.index-views-place.is in
-    let at = views-at c.args.input.now c.args.now c.args.d c.requires.own views x c.requires.ascending place.0 read in
-    rw (place.1, c.step_one.ensures.view, ← c.index-views-place.is) (sym at)
-
-pub returns-in-Some-step_one-clause-sends : goal.returns-in-Some-step_one-clause-sends
-returns-in-Some-step_one-clause-sends c =
+pub returns-clause-sends : goal.returns-clause-sends
+returns-clause-sends c =
     let views = c.args.views.now in
     let x = c.index-views-place.result in
     let place = place-Some (is_of c.args.d) views c.in-Some.place (sym c.place_of.ensures ∙ c.in-Some.is) in
     let P : ℕ → Type 0 = λ i. x ≡ slice_index_or views i x in
     let read = subst P place.1 c.index-views-place.is in
     let at = sends-at c.args.input.now c.args.now c.args.d c.requires.own views x c.requires.ascending place.0 read in
-    let sent = ap (next_packet c.args.input.now c.args.now) c.index-views-place.is ∙ sym c.step_one.ensures.packet ∙ c.in-Some-step_one.is in
-    c.push.ensures.items ∙ ap (λ (xs : List Packet). xs ++ c.in-Some-step_one.packet ∷ []) c.new-sends.ensures ∙ sym (at ∙ ap (λ (o : Option Packet). cons_option o []) sent)
-
-pub returns-in_default-step_one-clause-sends : goal.returns-in_default-step_one-clause-sends
-returns-in_default-step_one-clause-sends c =
-    let views = c.args.views.now in
-    let x = c.index-views-place.result in
-    let place = place-Some (is_of c.args.d) views c.in-Some.place (sym c.place_of.ensures ∙ c.in-Some.is) in
-    let P : ℕ → Type 0 = λ i. x ≡ slice_index_or views i x in
-    let read = subst P place.1 c.index-views-place.is in
-    let at = sends-at c.args.input.now c.args.now c.args.d c.requires.own views x c.requires.ascending place.0 read in
-    let sent = ap (next_packet c.args.input.now c.args.now) c.index-views-place.is ∙ sym c.step_one.ensures.packet ∙ c.in_default-step_one.is in
-    c.new-sends.ensures ∙ sym (at ∙ ap (λ (o : Option Packet). cons_option o []) sent)
+    let from : c.args.sends.now.items ≡ [] = c.requires.empty in
+    let sent : c.step_one.result ≡ next_packet c.args.input.now c.args.now x = c.step_one.ensures.packet ∙ ap (next_packet c.args.input.now c.args.now) (sym c.index-views-place.is) in
+    c.list.ensures ∙ ap (λ (xs : List Packet). xs ++ cons_option c.step_one.result []) from ∙ ap (λ (o : Option Packet). cons_option o []) sent ∙ sym at

@@ -9,8 +9,8 @@ use Rattle.tora_core.specs.Kept.{IsCore, CanTake}
 use Rattle.tora_core.proofs.CoreLemmas.{all-can_take, core-kept, room-up}
 use Rattle.tora_core.proofs.node.Core.take.Goals as goal
 
-pub step-sends-requires-clause-may : goal.step-sends-requires-clause-may
-step-sends-requires-clause-may c =
+pub step-requires-clause-may : goal.step-requires-clause-may
+step-requires-clause-may c =
     let core : CoreView = record { me = c.self.inside.me; neighbours = c.self.inside.neighbours.items; up = c.self.inside.up.items; views = c.self.inside.views.items } in
     let free : refusal_of core c.args.input.now ≡ None = ap (λ (x : CoreView). refusal_of x c.args.input.now) c.self.view_is ∙ sym c.refusal.ensures.value ∙ c.in_default.is in
     rw c.deref_mut.ensures.value (All-from_recursion (CanTake c.args.input.now) c.self.inside.views.items (all-can_take core c.args.input.now c.self.invariant c.in_default.ensures.valid free))
@@ -30,5 +30,5 @@ invariant_of-self c =
     let core : CoreView = record { me = c.self.inside.me; neighbours = c.self.inside.neighbours.items; up = c.self.inside.up.items; views = c.self.inside.views.items } in
     let free : refusal_of core c.args.input.now ≡ None = ap (λ (x : CoreView). refusal_of x c.args.input.now) c.self.view_is ∙ sym c.refusal.ensures.value ∙ c.in_default.is in
     let kept : IsCore (core_taking core c.args.input.now c.args.now) = core-kept core c.args.input.now c.args.now c.self.invariant c.in_default.ensures.valid free in
-    let same = refill-same c.self.inside.views.len c.self.inside.views.items c.step-sends.new.views (omega (arith, c.step-sends.auto.views, c.deref_mut.ensures.len)) in
-    rw (same, c.note.ensures, c.step-sends.ensures.views, c.deref_mut.ensures.value) kept
+    let same = refill-same c.self.inside.views.len c.self.inside.views.items c.step.new.views (omega (arith, c.step.auto.views, c.deref_mut.ensures.len)) in
+    rw (same, c.note.ensures, c.step.ensures.views, c.deref_mut.ensures.value) kept

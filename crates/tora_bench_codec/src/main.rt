@@ -1,0 +1,141 @@
+//! Times the codecs of packets and frames, for `bench/codec.sh`. With no words it prints nothing.
+//!
+//! `tora_bench_codec N` encodes and decodes N updates, and then N DATA frames with updates. Each line is a name,
+//! nanoseconds an operation (the best of seven runs), and a number that depends on every result. It is a program of its
+//! own so that the compiler sees the codecs as the baseline's does, with one place that calls them.
+#![tactic(auto)]
+
+use std::alloc::Global;
+use std::io;
+use std::time::{Duration, Instant};
+use tora_frame::{Frame, Header};
+use tora_height::Height;
+use tora_packet::{Packet, Update};
+
+/// How often each codec is run; the best run counts.
+const RUNS: u32 = 7;
+
+/// The operations of one run where no number is given.
+const STEPS: u32 = 1_000_000;
+
+/// How many values are encoded before they are decoded, so that no value can be passed on in a register.
+const BATCH: u32 = 256;
+
+/// The `i`th update.
+fn update(i: u32) -> Option<Update> {
+    let k = 1 + i % 8;
+    let tau = u64::from(i % 3);
+    let oid = if tau == 0 { 0 } else { 1 + i % 7 };
+    let delta = 2 + (i % 5) as i32;
+    let height = Height::new(tau, oid, 0, delta, k).ok()?;
+    Update::new(9 + i % 12, height).ok()
+}
+
+/// The `i`th DATA frame.
+fn data_frame(i: u32, packet: Packet) -> Frame {
+    let header = Header {
+        sender: 1 + (i & 3),
+        receiver: 9 + (i & 7),
+        life: 5 + u64::from(i),
+        heard: 9 + u64::from(i),
+    };
+    Frame::data(header, 1 + u64::from(i), u64::from(i), packet)
+}
+
+/// Updates of many heights.
+fn updates(alloc: Global) -> Option<Vec<Packet>> {
+    let mut packets = Vec::new(alloc);
+    for i in 0..BATCH {
+        packets.push(Packet::Upd(update(i)?)).ok()?;
+    }
+    Some(packets)
+}
+
+/// A number that depends on the destination and the height of an update.
+fn told(packet: &Packet) -> u64 {
+    match packet {
+        Packet::Qry(_) => 0,
+        Packet::Upd(update) => update.height().tau() ^ u64::from(update.destination()),
+        Packet::Clr(_) => 1,
+    }
+}
+
+/// The updates encoded and then decoded again, until `steps` are done.
+fn run_packets(alloc: Global, steps: u32) -> Option<u64> {
+    let packets = updates(alloc)?;
+    let mut wires = Vec::new(alloc);
+    for packet in packets.as_slice() {
+        wires.push(tora_packet::encode(packet)).ok()?;
+    }
+    let mut sum = 0u64;
+    for _ in 0..steps / BATCH {
+        for (packet, wire) in packets.iter().zip(wires.iter_mut()) {
+            *wire = tora_packet::encode(packet);
+        }
+        for wire in wires.iter() {
+            if let Ok(packet) = tora_packet::decode(wire.as_slice()) {
+                sum = sum.wrapping_add(told(&packet));
+            }
+        }
+    }
+    Some(sum)
+}
+
+/// DATA frames with the updates, encoded and then decoded again, until `steps` are done.
+fn run_frames(alloc: Global, steps: u32) -> Option<u64> {
+    let mut frames = Vec::new(alloc);
+    let mut wires = Vec::new(alloc);
+    for i in 0..BATCH {
+        let frame = data_frame(i, Packet::Upd(update(i)?));
+        wires.push(tora_frame::encode(&frame)).ok()?;
+        frames.push(frame).ok()?;
+    }
+    let mut sum = 0u64;
+    for _ in 0..steps / BATCH {
+        for (frame, wire) in frames.iter().zip(wires.iter_mut()) {
+            *wire = tora_frame::encode(frame);
+        }
+        for wire in wires.iter() {
+            if let Ok(frame) = tora_frame::decode(wire.as_slice()) {
+                sum = sum.wrapping_add(frame.header().life);
+            }
+        }
+    }
+    Some(sum)
+}
+
+/// Times one of the two, and prints its line.
+fn time(rt: &HostRuntime, frames: bool, steps: u32) -> io::Result<()> {
+    let mut best: Option<Duration> = None;
+    let mut sum = 0u64;
+    for _ in 0..RUNS {
+        let start = Instant::now(rt)?;
+        let told = if frames {
+            run_frames(rt.alloc(), steps)
+        } else {
+            run_packets(rt.alloc(), steps)
+        };
+        let passed = start.elapsed(rt)?;
+        best = Some(best.map_or(passed, |least| least.min(passed)));
+        sum = told.unwrap_or(0);
+    }
+    let name = if frames {
+        "codec-frame"
+    } else {
+        "codec-packet"
+    };
+    let nanoseconds = best.map_or(0, |least| least.as_nanos());
+    let hundredths = nanoseconds.saturating_mul(100) / u128::from(steps.max(1));
+    let (whole, part) = (hundredths / 100, hundredths % 100);
+    println!(rt; "{name} {whole}.{part:02} ns/op check {sum:016x}")
+}
+
+fn main(rt: HostRuntime) -> io::Result<()> {
+    let words = std::env::args(&rt)?.collect::<Vec<String>>(rt.alloc())?;
+    let Some(word) = words.get(1) else {
+        return Ok(());
+    };
+    let steps = word.as_str().parse::<u32>().unwrap_or(STEPS);
+    time(&rt, false, steps)?;
+    time(&rt, true, steps)
+}
