@@ -7,11 +7,7 @@ what=$1
 base=${2:?the folder of the baseline}
 steps=${3:-300000}
 rounds=${4:-5}
-work=$(mktemp -d)
-trap 'rm -rf "$work"' EXIT
-cp -r "$base" "$work/base"
-chmod -R u+w "$work/base"
-(cd "$work/base" && cargo build --release --offline >/dev/null 2>&1)
+. "$top/bench/baseline.sh" "$base"
 case $what in
   codec) ours=(tora_bench_codec "$steps") ;;
   *) ours=(tora_bench "$what" "$steps") ;;
@@ -19,7 +15,7 @@ esac
 (cd "$top/crates/${ours[0]}" && rt run >/dev/null 2>&1)
 for _ in $(seq "$rounds"); do
   "$top/crates/${ours[0]}/out/${ours[0]}" "${ours[@]:1}" >>"$work/ours"
-  "$work/base/target/release/base" bench "$steps" >>"$work/theirs"
+  "$bin" bench "$steps" >>"$work/theirs"
 done
 python3 - "$work/ours" "$work/theirs" "$what" <<'P'
 import re

@@ -6,12 +6,7 @@ top=$(cd "$(dirname "$0")/.." && pwd)
 base=${1:?the folder of the baseline}
 lines=${2:-1000000}
 rounds=${3:-5}
-work=$(mktemp -d)
-trap 'rm -rf "$work"' EXIT
-cp -r "$base" "$work/base"
-chmod -R u+w "$work/base"
-(cd "$work/base" && cargo build --release --offline >/dev/null 2>&1)
-bin=$work/base/target/release/base
+. "$top/bench/baseline.sh" "$base"
 "$top/tora" --version >/dev/null
 "$bin" gen-mix "$lines" 1 >"$work/mix.replay"
 echo "a mixed file of $lines lines, $(stat -c %s "$work/mix.replay") bytes"

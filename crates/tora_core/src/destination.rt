@@ -132,7 +132,7 @@ impl Destination {
         packet_to_send(destination, broadcast)
     }
 
-    /// As `step`, for the link to a neighbour that came up.
+    /// As `step`, for the link to a neighbour that came up. The rules for it read no clock.
     pub fn link_up(&mut self, k: Id) -> Option<Packet>
         requires kept { IsKept self.old }
         requires may { MayCome self.old (Input.LinkUp k) }

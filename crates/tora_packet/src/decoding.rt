@@ -40,6 +40,7 @@ fn is_reserved_zero(bytes: &[u8]) -> bool
     bytes[1] != 2 || (bytes[21] == 0 && bytes[22] == 0 && bytes[23] == 0)
 }
 
+#[inline(always)]
 #[tactic(auto, unfolding(crate::specs::PacketParts::is_bad_update))]
 fn update_at(bytes: &[u8]) -> Result<Packet, PacketError>
     requires { length bytes.now ≡ 32 }
