@@ -1,7 +1,7 @@
 #!/usr/bin/env bash
-# Runs the tests of a crate again and again, each time with its Nth allocation refused, N from 1 until a run meets none.
-# In every run the tests named `want_of_memory..` must pass, and no test may fault, hang or end with two different outputs;
-# another test may fail only by saying that memory was refused.
+# Runs the tests of a crate again and again, each time with the Nth allocation of each test refused, N from FIRST to LAST.
+# In every run the tests named `want_of_memory..` must pass, and no test may fault, hang or end with two different outputs.
+# Another test may fail, since it wants memory; the script doesn't look into why.
 # usage: bench/refused-memory.sh CRATE [FIRST] [LAST]     for example: bench/refused-memory.sh tora_core
 set -u
 top=$(cd "$(dirname "$0")/.." && pwd)

@@ -54,13 +54,14 @@ fn run_mixed(core: &mut Core, inputs: &[(u64, Input)]) -> u64 {
     sum
 }
 
-/// One step, and how many packets it broadcasts.
+/// One step, and one more than the packets that it broadcasts, or 0 where it is refused: a run in which steps are refused
+/// shows it in its number.
 fn sent(core: &mut Core, input: Option<Input>, now: u64) -> u64 {
     let Some(input) = input else {
         return 0;
     };
     match core.step(input, now) {
-        Ok(sends) => sends.len() as u64,
+        Ok(sends) => (sends.len() as u64).wrapping_add(1),
         Err(_) => 0,
     }
 }

@@ -125,7 +125,7 @@ fn time(rt: &HostRuntime, frames: bool, steps: u32) -> io::Result<()> {
         "codec-packet"
     };
     let nanoseconds = best.map_or(0, |least| least.as_nanos());
-    let hundredths = nanoseconds.saturating_mul(100) / u128::from(steps.max(1));
+    let hundredths = nanoseconds.saturating_mul(100) / u128::from((steps / BATCH * BATCH).max(1));
     let (whole, part) = (hundredths / 100, hundredths % 100);
     println!(rt; "{name} {whole}.{part:02} ns/op check {sum:016x}")
 }
