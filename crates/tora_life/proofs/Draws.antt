@@ -41,6 +41,10 @@ new_value Second bound numbers = omega arith
 abbrev pub Goes : Numbers → Result ℕ LifeError → State → Type 0
 Goes numbers answer after = IsWhole after × IsKeptOn (numbers_after answer numbers) after
 
+bound_reach : (slot : Slot) (numbers : Numbers) → value_of numbers + 16 ≤ 2 ^ 62 → value_of (with_bound slot (value_of numbers + 16) numbers) ≤ 2 ^ 62
+bound_reach First numbers left = omega arith
+bound_reach Second numbers left = omega arith
+
 module _ (numbers : Numbers) (s : State) (whole : IsWhole s) (kept : IsKeptOn numbers s) (sound : IsFalse numbers.failed) (used : numbers.drawn ≡ value_of numbers) (left : value_of numbers + 16 ≤ 2 ^ 62) where
   abbrev slot : Slot
   slot = lesser_slot numbers
@@ -71,6 +75,7 @@ module _ (numbers : Numbers) (s : State) (whole : IsWhole s) (kept : IsKeptOn nu
   has_failed : (new : State) → ((c : List ℕ) → MayLeave new c → MayLeave after c) → IsKeptOn (record numbers { failed = true }) new
   has_failed new back = record {
     room = kept.room;
+    reach = kept.reach;
     images = λ told c may. covers c (back c may);
     only = λ told no. absurd (cc);
     first = λ told no. absurd (cc);
@@ -85,6 +90,7 @@ module _ (numbers : Numbers) (s : State) (whole : IsWhole s) (kept : IsKeptOn nu
       let more : numbers.drawn + 1 ≤ value_of (with_bound slot bound numbers) = omega (arith, new_value slot bound numbers, used) in
       record {
         room = more;
+        reach = λ less. bound_reach slot numbers left;
         images = λ told c may.
             subst (λ (l : List ℕ). Covers (numbers.drawn + 1) l) (sym (one c may)) (record { value = omega (arith, more, first, second); short = (images (seen_of after) (inl refl)).short });
         only = λ told no c may. one c may ∙ sym same;
@@ -117,7 +123,7 @@ module _ (numbers : Numbers) (s : State) (whole : IsWhole s) (kept : IsKeptOn nu
       let at : numbers.drawn + 1 ≤ file_value (seen_of s) = omega (arith, less, kept.first refl sound, kept.second refl sound) in
       record { value = subst (λ (l : List ℕ). numbers.drawn + 1 ≤ file_value l) (sym is) at; short = (kept.images refl c may).short }
       in
-      record { room = less; images = λ told. all; only = kept.only; first = kept.first; second = kept.second }
+      record { room = less; reach = λ more. kept.reach (omega arith); images = λ told. all; only = kept.only; first = kept.first; second = kept.second }
 
   goes : (failed used none : Bool) → failed ≡ numbers.failed → used ≡ (numbers.drawn == value_of numbers) → none ≡ nat_lt (2 ^ 62) (value_of numbers + 16)
       → Goes numbers (if failed then Err Failed

@@ -1,5 +1,5 @@
 -- What a read answers of a life file.
-use Rattle.std.proofs.Common.{◌≡◌, ◌≤◌, ◌<◌, ℕ, Bool, List, take, drop, length, min, max, sym, subst, ◌∙◌, ap, arith, Ok, Err, false, IsTrue}
+use Rattle.std.proofs.Common.{◌≡◌, ◌≤◌, ◌<◌, ◌^◌, ℕ, Bool, List, take, drop, length, min, max, sym, subst, ◌∙◌, ap, arith, Ok, Err, false, IsTrue}
 use Rattle.std.proofs.lemmas.Bool.Decides.{nat_tests}
 use Rattle.tora_life.specs.declared.numbers.Numbers.{Numbers}
 use Rattle.tora_life.specs.declared.numbers.LifeError.TheVariants.{Damaged}
@@ -28,6 +28,7 @@ pub opened_kept : {D : Type 0} (tells : D → Bool) (seen : D → List ℕ) (may
     → IsKept tells seen may_leave numbers disk
 opened_kept tells seen may_leave numbers disk bytes is whole only short = record {
   room = subst (λ (n : Numbers). n.drawn ≤ value_of n) (sym is) (omega arith);
+  reach = subst (λ (n : Numbers). n.drawn < value_of n → value_of n ≤ 2 ^ 62) (sym is) (λ less. absurd (omega arith));
   images = λ told c left. subst (λ (n : Numbers). Covers n.drawn c) (sym is) (subst (λ (l : List ℕ). Covers (file_value bytes) l) (whole told ∙ sym (only told c left)) (record { value = omega arith; short = short }));
   only = λ told sound. only told;
   first = λ told sound. ap (λ (n : Numbers). n.first) is ∙ ap (λ (l : List ℕ). slot_value l 0) (whole told);

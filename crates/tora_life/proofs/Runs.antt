@@ -80,6 +80,7 @@ armed_kept call numbers s kept =
     let seen : seen_of (armed call s) ≡ seen_of s = armed_seen call s in
     record {
       room = kept.room;
+      reach = kept.reach;
       images = λ told c may. kept.images refl c (armed_images call s c may);
       only = λ told sound c may. kept.only refl sound c (armed_images call s c may) ∙ sym seen;
       first = λ told sound. kept.first refl sound ∙ ap (λ (l : List ℕ). slot_value l 0) (sym seen);

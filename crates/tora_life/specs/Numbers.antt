@@ -51,6 +51,8 @@ numbers_after (Err Damaged) numbers = numbers
 -- what an open life file keeps of its numbers and its disk
 pub record IsKept {D : Type 0} (tells : D → Bool) (seen : D → List ℕ) (may_leave : D → List ℕ → Type 0) (numbers : Numbers) (disk : D) : Type 0 where
   pub room : numbers.drawn ≤ value_of numbers
+  -- a number that is left to draw is at most 2^62
+  pub reach : numbers.drawn < value_of numbers → value_of numbers ≤ 2 ^ 62
   -- whatever a crash leaves opens, and covers each number that was drawn
   pub images : IsTrue (tells disk) → (c : List ℕ) → may_leave disk c → Covers numbers.drawn c
   -- unless a call has failed, the bounds are those of the file, and all of it is on the disk

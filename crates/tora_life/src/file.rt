@@ -1,5 +1,5 @@
 // A life file: numbers that rise across crashes.
-ghost use Rattle.std.specs.Prelude.{◌≡◌, ◌⊎◌, ◌↔◌, ◌+◌, ◌<◌, ◌≤◌, ℕ, List, length, Ok, Err, is_ok, IfOk, IfErr, OnOk, IsErrOf, IsTrue, IsFalse};
+ghost use Rattle.std.specs.Prelude.{◌≡◌, ◌⊎◌, ◌↔◌, ◌+◌, ◌^◌, ◌<◌, ◌≤◌, ℕ, List, length, Ok, Err, is_ok, IfOk, IfErr, OnOk, IsErrOf, IsTrue, IsFalse};
 ghost use Rattle.tora_life.specs.Disk.{HasCause, IsOnlyImage, LeavesOnly};
 ghost use Rattle.tora_life.specs.LifeFile.{Covers};
 ghost use Rattle.tora_life.specs.Numbers.{value_of, lesser_slot, Reserves, IsSpent, IsKept, numbers_after, numbers_of};
@@ -123,6 +123,8 @@ impl<D: Disk> LifeFile<D> {
     pub fn draw(&mut self) -> Result<u64, LifeError>
         ensures drawn { IfOk result (λ n. n ≡ self.old.numbers.drawn + 1) }
         ensures numbers { self.new.numbers ≡ numbers_after result self.old.numbers }
+        ensures failures { OnOk result (D.failures self.new.disk ≡ D.failures self.old.disk) }
+        ensures within { IfOk result (λ n. n ≤ 2 ^ 62) }
 
         // After `Ok(n)` each image covers n. At each moment until then each one covers what was drawn before.
         ensures after { IsTrue (D.tells self.old.disk) → IfOk result (λ n. (c : List ℕ) → D.may_leave self.new.disk c → Covers n c) }

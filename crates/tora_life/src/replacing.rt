@@ -18,6 +18,7 @@ pub fn replace_slot<D: Disk>(disk: &mut D, slot: Slot, bound: u64) -> Result<(),
     ensures any_moment { IsTrue (D.tells disk.old) → LeavesOnly D.moment D.left_since disk.old disk.new (Covers (kept_bound slot (D.seen disk.old))) }
     ensures tells { D.tells disk.new ≡ D.tells disk.old }
     ensures calls { WritesAndSyncs D.writes D.syncs slot bound disk.old (is_ok result) disk.new }
+    ensures counted { OnOk result (D.failures disk.new ≡ D.failures disk.old) }
     ensures failures { IsErr result → HasCause (D.failures disk.old) (D.failures disk.new) }
 {
     match disk.write_at(slot.place(), &slot_bytes(bound)) {

@@ -13,6 +13,7 @@ invariant_of-self c =
     let image = λ (f : List ℕ) (left : MayLeave c.arm.new.self.state f). armed_images c.args.call s f (subst (λ (s : State). MayLeave s f) c.arm.ensures left) in
     record {
       room = was.room;
+      reach = was.reach;
       images = λ told f left. was.images told f (image f left);
       only = λ told sound f left. was.only told sound f (image f left) ∙ sym seen;
       first = λ told sound. was.first told sound ∙ ap (λ (l : List ℕ). slot_value l 0) (sym seen);

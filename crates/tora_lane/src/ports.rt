@@ -1,0 +1,202 @@
+//! The lane into the core: an in port for each seat, and the core's port.
+ghost use Rattle.std.specs.Prelude.{◌≡◌, ◌+◌, ◌^◌, ◌<◌, ◌≤◌, ◌++◌, ◌∷◌, [], true, false, List, length, IsErr, OnOk, OnErr, IfOk};
+ghost use Rattle.crossbeam_channel.specs.Ends.{sends_on};
+ghost use Rattle.tora_lane.specs.LaneRule.{items_of};
+ghost use Rattle.tora_lane.specs.Ports.{IsPortOf, IsChannelOf, new_item, new_port, new_core};
+ghost use Rattle.tora_seat.specs.declared.Item.{Item};
+
+use tora_seat::{Item, What};
+use crate::out::MOST;
+use crate::rule::{LaneRule, LaneView, NewSeat, Puts, Settles, Takes};
+use crossbeam_channel::{Pass, RuledReceiver, RuledSender, bounded_with};
+use std::alloc::{AllocError, Global};
+use std::marker::Model;
+use std::sync::Wait;
+
+/// The other side of the lane has ended, or the seat was used up.
+#[derive(Clone, Copy, PartialEq, Debug)]
+pub struct Gone;
+
+pub(crate) type Sender = RuledSender<Item, LaneView, LaneRule>;
+
+type Receiver = RuledReceiver<Item, LaneView, LaneRule>;
+
+type LanePass = Pass<Item, LaneView>;
+
+/// The port of one seat.
+#[derive(Drop)]
+pub struct InPort {
+    sender: Sender,
+    pass: LanePass,
+    seat: usize,
+    count: u64,
+    gone: bool,
+}
+
+impl Model for InPort {
+    ghost use Rattle.std.specs.Prelude.{◌≡◌, ◌^◌, ◌≤◌, length};
+    ghost use Rattle.crossbeam_channel.specs.Claims.{IsSeatAt};
+    ghost use Rattle.crossbeam_channel.specs.Ends.{sends_on};
+    ghost use Rattle.tora_lane.specs.declared.rule.LaneView.TheVariants.{Seat};
+    ghost use Rattle.tora_lane.specs.Ports.{InEnd, lane_of, lane_view, own_of};
+
+    ghost Value = { InEnd };
+
+    ghost view = { λ p. record { lane = lane_of p.pass; seat = p.seat; put = own_of (lane_view p.pass); gone = p.gone } };
+
+    ghost invariant = { λ p. IsSeatAt (sends_on p.sender) p.pass × (lane_view p.pass ≡ Seat p.seat (own_of (lane_view p.pass))) × (p.count ≡ length (own_of (lane_view p.pass))) × (p.count ≤ 2 ^ 61) };
+}
+
+/// The core's port.
+#[derive(Drop)]
+pub struct CorePort {
+    receiver: Receiver,
+    pass: LanePass,
+    counts: Vec<u64>,
+    gone: bool,
+}
+
+impl Model for CorePort {
+    ghost use Rattle.std.specs.Prelude.{◌≡◌, ◌<◌, ℕ, length, slice_index};
+    ghost use Rattle.crossbeam_channel.specs.Claims.{IsSeatAt};
+    ghost use Rattle.crossbeam_channel.specs.Ends.{receives_on};
+    ghost use Rattle.tora_lane.specs.declared.rule.LaneView.TheVariants.{Core};
+    ghost use Rattle.tora_lane.specs.LaneRule.{items_of};
+    ghost use Rattle.tora_lane.specs.Ports.{CoreEnd, lane_of, lane_view, took_of, known_of};
+
+    ghost Value = { CoreEnd };
+
+    ghost view = { λ p. record { lane = lane_of p.pass; seats = length p.counts.items; taken = took_of (lane_view p.pass); gone = p.gone } };
+
+    ghost invariant = { λ p. IsSeatAt (receives_on p.receiver) p.pass × (lane_view p.pass ≡ Core (length p.counts.items) (took_of (lane_view p.pass)) (known_of (lane_view p.pass))) × ((s : ℕ) → s < length p.counts.items → slice_index p.counts.items s ≡ length (items_of s (took_of (lane_view p.pass)))) };
+}
+
+/// What a seat has put, and what became of it.
+#[derive(Clone, Copy, PartialEq, Debug)]
+pub struct Settled {
+    pub seat: usize,
+    pub put: u64,
+    pub taken: u64,
+    pub left: u64,
+}
+
+impl InPort {
+    /// Adds an item at the back of the lane, with the next number of the seat. It may wait.
+    pub fn put<R: Wait>(&mut self, rt: &R, now: u64, what: What) -> Result<(), Gone>
+        ensures lane { (self.new.lane ≡ self.old.lane) × (self.new.seat ≡ self.old.seat) }
+        ensures put { OnOk result (self.new.put ≡ self.old.put ++ new_item self.old.seat (length self.old.put + 1) now what ∷ []) }
+        ensures open { OnOk result (self.new.gone ≡ false) }
+        ensures gone { OnErr result ((self.new.put ≡ self.old.put) × (self.new.gone ≡ true)) }
+        ensures stays { self.old.gone ≡ true → IsErr result }
+        ensures most { 2 ^ 61 ≤ length self.old.put → IsErr result }
+    {
+        if self.gone || self.count >= MOST {
+            self.gone = true;
+            return Err(Gone);
+        }
+        let item = Item {
+            seat: self.seat,
+            number: self.count + 1,
+            now,
+            what,
+        };
+        match self.sender.send_as::<Puts, R>(rt, &mut self.pass, item) {
+            Ok(()) => {
+                self.count += 1;
+                Ok(())
+            }
+            Err(_) => {
+                self.gone = true;
+                Err(Gone)
+            }
+        }
+    }
+}
+
+/// Items that the lane into the core can hold.
+pub const CORE_ROOM: usize = 1024;
+
+// A lane with no seat, and its sender.
+pub(crate) fn core_lane(alloc: Global) -> Result<(CorePort, Sender), AllocError>
+    ensures { IfOk result (λ r. (r.0 ≡ new_core r.0.lane 0) × IsChannelOf r.0.lane (sends_on r.1)) }
+{
+    let (sender, receiver, pass) = bounded_with::<Item, LaneView, LaneRule, Global>(
+        alloc, CORE_ROOM,
+    )?;
+    let core = CorePort {
+        receiver,
+        pass,
+        counts: Vec::new(alloc),
+        gone: false,
+    };
+    Ok((core, sender))
+}
+
+impl CorePort {
+    // Makes the port of the next seat. It is called before anything is taken.
+    pub(crate) fn new_seat(&mut self, sender: &Sender) -> Result<InPort, AllocError>
+        requires channel { IsChannelOf self.old.lane (sends_on sender.now) }
+        requires empty { self.old.taken ≡ [] }
+        ensures { IfOk result (λ p. (self.new ≡ record self.old { seats = self.old.seats + 1 }) × (p ≡ new_port self.old.lane self.old.seats)) }
+    {
+        self.counts.reserve(1)?;
+        let theirs = sender.try_clone()?;
+        let seat = self.counts.len();
+        let pass = sender.another::<NewSeat>(&mut self.pass);
+        self.counts.push_reserved(0);
+        Ok(InPort {
+            sender: theirs,
+            pass,
+            seat,
+            count: 0,
+            gone: false,
+        })
+    }
+
+    /// Takes the front of the lane. It may wait.
+    pub fn take<R: Wait>(&mut self, rt: &R) -> Result<Item, Gone>
+        ensures lane { (self.new.lane ≡ self.old.lane) × (self.new.seats ≡ self.old.seats) }
+        ensures taken { IfOk result (λ x. (self.new.taken ≡ self.old.taken ++ x ∷ []) × (x.seat < self.old.seats) × (x.number ≡ length (items_of x.seat self.old.taken) + 1)) }
+        ensures open { OnOk result (self.new.gone ≡ false) }
+        ensures gone { OnErr result ((self.new.taken ≡ self.old.taken) × (self.new.gone ≡ true)) }
+        ensures stays { self.old.gone ≡ true → IsErr result }
+    {
+        if self.gone {
+            return Err(Gone);
+        }
+        match self.receiver.recv_as::<Takes, R>(rt, &mut self.pass) {
+            Ok(item) => {
+                self.counts[item.seat] = item.number;
+                Ok(item)
+            }
+            Err(_) => {
+                self.gone = true;
+                Err(Gone)
+            }
+        }
+    }
+
+    /// Takes in the port of a seat whose thread has ended. What was taken of the seat, followed by what is left in the lane, is what it has put.
+    pub fn settle<R: Wait>(&mut self, _rt: &R, port: InPort) -> Settled
+        requires { IsPortOf self.old port }
+        ensures same { self.new ≡ self.old }
+        ensures settled { (left : List Item) × (items_of port.seat self.old.taken ++ left ≡ port.put) × (result.seat ≡ port.seat) × (result.put ≡ length port.put) × (result.taken ≡ length (items_of port.seat self.old.taken)) × (result.left ≡ length left) }
+    {
+        let InPort {
+            sender,
+            pass,
+            seat,
+            count,
+            gone: _,
+        } = port;
+        sender.absorb::<Settles>(&mut self.pass, pass);
+        sender.learn_as::<Settles>(&mut self.pass);
+        let taken = self.counts[seat];
+        Settled {
+            seat,
+            put: count,
+            taken,
+            left: count - taken,
+        }
+    }
+}

@@ -1,0 +1,79 @@
+//! The rule of the lane into the core. The types here are for the proofs alone.
+use tora_seat::Item;
+use crossbeam_channel::protocol::{Join, Lesson, Outcome, Protocol, Split};
+use std::collections::LinkedList;
+
+/// What the holder of a pass knows. No value of it is made.
+pub enum LaneView {
+    /// A seat, and what it has put.
+    Seat(usize, LinkedList<Item>),
+    /// The core: how many seats there are, what it has taken, and what each settled seat has put.
+    Core(usize, LinkedList<Item>, LinkedList<(usize, LinkedList<Item>)>),
+    /// A pass that was taken in.
+    Spent,
+}
+
+pub struct LaneRule;
+
+impl Protocol<Item, LaneView> for LaneRule {
+    ghost use Rattle.std.specs.Prelude.{[]};
+    ghost use Rattle.tora_lane.specs.declared.rule.LaneView.TheVariants.{Core};
+    ghost use Rattle.tora_lane.specs.LaneRule.{KeepsLanes};
+
+    ghost holds = { KeepsLanes };
+
+    ghost first = { Core 0 [] [] };
+}
+
+pub struct Puts;
+
+impl Outcome<Item, LaneView> for Puts {
+    ghost use Rattle.std.specs.Prelude.{◌≡◌};
+    ghost use Rattle.tora_lane.specs.LaneRule.{after_put};
+
+    ghost then = { λ v x w. w ≡ after_put v x };
+}
+
+impl Lesson<Item, LaneView> for Puts {
+    ghost fact = { λ v items. Unit {0} };
+}
+
+pub struct Takes;
+
+impl Outcome<Item, LaneView> for Takes {
+    ghost use Rattle.std.specs.Prelude.{◌≡◌};
+    ghost use Rattle.tora_lane.specs.LaneRule.{after_take, IsNext};
+
+    ghost then = { λ v x w. (w ≡ after_take v x) × IsNext v x };
+}
+
+impl Lesson<Item, LaneView> for Takes {
+    ghost fact = { λ v items. Unit {0} };
+}
+
+pub struct NewSeat;
+
+impl Split<LaneView> for NewSeat {
+    ghost use Rattle.tora_lane.specs.LaneRule.{with_new_seat, new_seat};
+
+    ghost left = { with_new_seat };
+
+    ghost right = { new_seat };
+}
+
+pub struct Settles;
+
+impl Join<LaneView> for Settles {
+    ghost use Rattle.tora_lane.specs.declared.rule.LaneView.TheVariants.{Spent};
+    ghost use Rattle.tora_lane.specs.LaneRule.{with_settled};
+
+    ghost both = { with_settled };
+
+    ghost spent = { Spent };
+}
+
+impl Lesson<Item, LaneView> for Settles {
+    ghost use Rattle.tora_lane.specs.LaneRule.{LastSettled};
+
+    ghost fact = { LastSettled };
+}

@@ -1,0 +1,53 @@
+-- The calls of its hub and its wire that a neighbour's thread makes in whole turns, in their order.
+use Rattle.std.specs.Prelude.{◌≡◌, ◌⊎◌, ℕ, Bool, MatchBool, List, [], ◌∷◌, length, Option, Some, None, Result, Ok, Err}
+use Rattle.tora_frame.specs.FrameParts.{FrameParts}
+use Rattle.tora_frame.specs.FrameGrammar.{frame_spelling}
+use Rattle.tora_arq.specs.declared.LinkEvent.{LinkEvent}
+use Rattle.tora_seat.specs.declared.Cargo.{Cargo}
+use Rattle.tora_seat.specs.declared.What.{What}
+use Rattle.tora_seat.specs.declared.What.TheVariants as Says
+use Rattle.tora_lane.specs.declared.ports.Gone.{Gone}
+use Rattle.tora_neighbour.specs.declared.wire.WireError.{WireError}
+use Rattle.tora_neighbour.specs.Turns.{Turn}
+use Rattle.tora_neighbour.specs.Traffic.{what_of}
+
+-- these cargoes are taken, one after another
+abbrev pub TakesSome : {H : Type 0} → (H → Option Cargo → H → Type 0) → H → List Cargo → H → Type 0
+TakesSome take h [] after = after ≡ h
+TakesSome {H = H} take h (cargo ∷ cargoes) after = (between : H) × take h (Some cargo) between × TakesSome take between cargoes after
+
+-- until none is there, or 256 were taken
+abbrev pub TakesAll : {H : Type 0} → (H → Option Cargo → H → Type 0) → H → List Cargo → H → Type 0
+TakesAll {H = H} take h cargoes after = (between : H) × TakesSome take h cargoes between × (take between None after ⊎ ((length cargoes ≡ 256) × (after ≡ between)))
+
+-- these frames are sent, one after another
+abbrev pub SendsSome : {W : Type 0} → (W → List ℕ → Result (Unit {0}) WireError → W → Type 0) → W → List FrameParts → W → Type 0
+SendsSome send w [] after = after ≡ w
+SendsSome {W = W} send w (frame ∷ frames) after = (answer : Result (Unit {0}) WireError) × (between : W) × send w (frame_spelling frame) answer between × SendsSome send between frames after
+
+abbrev pub ReceivesOnce : {W : Type 0} → (W → Result (Option ℕ) WireError → List ℕ → W → Type 0) → W → W → Type 0
+ReceivesOnce receive w after = (answer : Result (Option ℕ) WireError) × (buffer : List ℕ) × receive w answer buffer after
+
+-- these events are put, one after another
+abbrev pub PutsSome : {H : Type 0} → (H → ℕ → What → Result (Unit {0}) Gone → H → Type 0) → ℕ → H → List LinkEvent → H → Type 0
+PutsSome put now h [] after = after ≡ h
+PutsSome {H = H} put now h (event ∷ events) after = (between : H) × put h now (what_of event) (Ok tt) between × PutsSome put now between events after
+
+abbrev pub PutsBeat : {H : Type 0} → (H → ℕ → What → Result (Unit {0}) Gone → H → Type 0) → ℕ → Bool → H → H → Type 0
+PutsBeat put now beat h after = MatchBool beat (put h now Says.Beat (Ok tt) after) (after ≡ h)
+
+-- the calls of a whole turn
+pub record TurnCalls {H W : Type 0} (take : H → Option Cargo → H → Type 0) (put : H → ℕ → What → Result (Unit {0}) Gone → H → Type 0) (send : W → List ℕ → Result (Unit {0}) WireError → W → Type 0) (receive : W → Result (Option ℕ) WireError → List ℕ → W → Type 0) (h : H) (w : W) (t : Turn) (h_after : H) (w_after : W) : Type 0 where
+  pub taken : H
+  pub sent : W
+  pub told : H
+  pub takes : TakesAll take h t.cargoes taken
+  pub sends : SendsSome send w t.sent sent
+  pub receives : ReceivesOnce receive sent w_after
+  pub puts : PutsSome put t.now taken t.told told
+  pub beat : PutsBeat put t.now t.beat told h_after
+
+abbrev pub AreCalls : {H W : Type 0} → (H → Option Cargo → H → Type 0) → (H → ℕ → What → Result (Unit {0}) Gone → H → Type 0) → (W → List ℕ → Result (Unit {0}) WireError → W → Type 0) → (W → Result (Option ℕ) WireError → List ℕ → W → Type 0) → H → W → List Turn → H → W → Type 0
+AreCalls take put send receive h w [] h_after w_after = (h_after ≡ h) × (w_after ≡ w)
+AreCalls {H = H} {W = W} take put send receive h w (t ∷ turns) h_after w_after =
+    (h_between : H) × (w_between : W) × TurnCalls take put send receive h w t h_between w_between × AreCalls take put send receive h_between w_between turns h_after w_after

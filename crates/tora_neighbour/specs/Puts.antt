@@ -1,0 +1,12 @@
+-- What a neighbour's thread puts.
+use Rattle.std.specs.Prelude.{ℕ}
+use Rattle.tora_seat.specs.declared.What.{What}
+use Rattle.tora_seat.specs.declared.Item.{Item}
+use Rattle.tora_neighbour.specs.declared.hub.Put.{Put}
+
+abbrev pub put_of : ℕ → What → Put
+put_of now what = record { now = now; what = what }
+
+-- what an item says that was put
+abbrev pub put_in : Item → Put
+put_in x = put_of x.now x.what

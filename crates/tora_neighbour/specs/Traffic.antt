@@ -1,0 +1,96 @@
+-- What goes between a neighbour's thread and its file, its hub and its wire in the turns of a run.
+use Rattle.std.specs.Prelude.{◌≡◌, ℕ, suc, Bool, List, [], ◌∷◌, ◌++◌, map, take, Option, Some, None, Result, Ok, Err, IsTrue, if◌then◌else◌}
+use Rattle.std.specs.List.{flat_map}
+use Rattle.tora_frame.specs.declared.FrameError.{FrameError}
+use Rattle.tora_frame.specs.FrameParts.{FrameParts}
+use Rattle.tora_frame.specs.FrameGrammar.{frame_spelling, frame_reading}
+use Rattle.tora_arq.specs.declared.LinkEvent.{LinkEvent}
+use Rattle.tora_arq.specs.declared.LinkEvent.TheVariants.{Up, Deliver, Down}
+use Rattle.tora_arq.specs.LinkFacts.{list_of}
+use Rattle.tora_seat.specs.declared.Cargo.{Cargo}
+use Rattle.tora_seat.specs.declared.What.{What}
+use Rattle.tora_seat.specs.declared.What.TheVariants as Put
+use Rattle.tora_neighbour.specs.declared.hub.Put.{Put as Entry}
+use Rattle.tora_neighbour.specs.declared.link.Link.{Link}
+use Rattle.tora_neighbour.specs.Puts.{put_of}
+use Rattle.tora_neighbour.specs.Turns.{Turn}
+
+-- what the file, the hub and the wire tell of themselves
+pub record Outside : Type 0 where
+  pub drawn : ℕ  -- the last number drawn
+  pub puts : List Entry
+  pub takes : List Cargo
+  pub tells : Bool  -- whether the wire tells
+  pub coming : List (List ℕ)
+  pub tries : List (List ℕ)
+
+abbrev pub outside : {D W H : Type 0} → (H → List Entry) → (H → List Cargo) → (W → Bool) → (W → List (List ℕ)) → (W → List (List ℕ)) → Link D W → H → Outside
+outside puts takes tells coming tries link hub =
+    record { drawn = link.file.numbers.drawn; puts = puts hub; takes = takes hub; tells = tells link.wire; coming = coming link.wire; tries = tries link.wire }
+
+-- an event, as it is put
+abbrev pub what_of : LinkEvent → What
+what_of (Up life) = Put.Up life
+what_of (Deliver life packet) = Put.Packet life packet
+what_of (Down life reason) = Put.Down life reason
+
+abbrev pub entry_of : ℕ → LinkEvent → Entry
+entry_of now event = put_of now (what_of event)
+
+abbrev pub beat_of : Bool → ℕ → List Entry
+beat_of beat now = if beat then put_of now Put.Beat ∷ [] else []
+
+-- ---- all turns together
+
+-- the numbers that the end was opened with
+abbrev pub numbers_opened : List Turn → List ℕ
+numbers_opened turns = flat_map (λ t. list_of t.opened) turns
+
+-- what was put in a turn: its events, and its beat behind them
+abbrev pub entries_of : Turn → List Entry
+entries_of t = map (entry_of t.now) t.told ++ beat_of t.beat t.now
+
+abbrev pub entries_put : List Turn → List Entry
+entries_put turns = flat_map entries_of turns
+
+abbrev pub cargoes_taken : List Turn → List Cargo
+cargoes_taken turns = flat_map (λ t. t.cargoes) turns
+
+abbrev pub frames_sent : List Turn → List FrameParts
+frames_sent turns = flat_map (λ t. t.sent) turns
+
+abbrev pub frames_come : List Turn → List FrameParts
+frames_come turns = flat_map (λ t. list_of t.came) turns
+
+-- ---- what they have to do with what is told
+
+-- each of these numbers is the next one after the last drawn
+abbrev pub AreDrawn : ℕ → List ℕ → ℕ → Type 0
+AreDrawn drawn [] after = after ≡ drawn
+AreDrawn drawn (n ∷ numbers) after = (n ≡ suc drawn) × AreDrawn n numbers after
+
+-- the frame, where there is one
+abbrev pub frame_in : Result FrameParts FrameError → Option FrameParts
+frame_in (Ok frame) = Some frame
+frame_in (Err error) = None
+
+-- the frame that a datagram spells, cut to a buffer of this size
+abbrev pub frame_spelt : ℕ → List ℕ → Option FrameParts
+frame_spelt size datagram = frame_in (frame_reading (take size datagram))
+
+abbrev pub frames_spelt : ℕ → List (List ℕ) → List FrameParts
+frames_spelt size datagrams = flat_map (λ datagram. list_of (frame_spelt size datagram)) datagrams
+
+-- the frames that came are those that the datagrams given spell
+pub record Came (size : ℕ) (coming : List (List ℕ)) (frames : List FrameParts) (rest : List (List ℕ)) : Type 0 where
+  pub given : List (List ℕ)
+  pub coming_is : coming ≡ given ++ rest
+  pub frames_are : frames ≡ frames_spelt size given
+
+pub record Traffic (size : ℕ) (old : Outside) (turns : List Turn) (new : Outside) : Type 0 where
+  pub drawn : AreDrawn old.drawn (numbers_opened turns) new.drawn
+  pub puts : new.puts ≡ old.puts ++ entries_put turns
+  pub takes : new.takes ≡ old.takes ++ cargoes_taken turns
+  pub tells : IsTrue new.tells → IsTrue old.tells
+  pub tries : IsTrue new.tells → new.tries ≡ old.tries ++ map frame_spelling (frames_sent turns)
+  pub came : IsTrue new.tells → Came size old.coming (frames_come turns) new.coming

@@ -1,0 +1,174 @@
+-- What a neighbour's thread does with its link end, turn after turn.
+use Rattle.std.specs.Prelude.{◌≡◌, ℕ, ◌<◌, ◌≤◌, Bool, true, false, nat_le, if◌then◌else◌, List, [], ◌∷◌, ◌++◌, length, Option, Some, None, IsTrue, IsFalse}
+use Rattle.tora_frame.specs.FrameParts.{FrameParts}
+use Rattle.tora_arq.specs.declared.LinkEvent.{LinkEvent}
+use Rattle.tora_arq.specs.Settings.{Settings, ticks_passed}
+use Rattle.tora_arq.specs.LinkEnd.{EndState, is_closed, bound_life, after_open, after_frame, after_tick, after_submit, after_cut, frame_due, after_transmit}
+use Rattle.tora_arq.specs.LinkFacts.{list_of}
+use Rattle.tora_arq.specs.declared.Life.{Life}
+use Rattle.tora_neighbour.specs.declared.ending.Ending.{Ending}
+use Rattle.tora_neighbour.specs.declared.ending.Ending.TheVariants.{NoNumber, Broken, Refused}
+use Rattle.tora_neighbour.specs.declared.ending.BrokenAt.TheVariants.{Send, Receive}
+use Rattle.tora_seat.specs.declared.Cargo.{Cargo}
+use Rattle.tora_seat.specs.declared.Cargo.TheVariants.{Packet, Cut}
+
+-- A turn, which has one tick: what came to the link end in it, and what the end gave.
+pub record Turn : Type 0 where
+  pub now : ℕ
+  pub opened : Option ℕ  -- the life number that was drawn for a closed end
+  pub cargoes : List Cargo  -- what was taken for the link
+  pub sent : List FrameParts  -- the frames that the end gave to be sent
+  pub came : Option FrameParts  -- the frame that came
+  pub told : List LinkEvent  -- the events that the end gave and that were put
+  pub refused : Option LinkEvent  -- the event that the end gave and that was not put
+  pub beat : Bool  -- whether a beat was put
+
+-- ---- what each part of a turn makes of the end
+
+abbrev pub after_opening : EndState → Option ℕ → ℕ → EndState
+after_opening e None now = e
+after_opening e (Some life) now = after_open e life now
+
+-- a packet is submitted in its life, and a life is cut
+abbrev pub after_cargo : EndState → Cargo → EndState
+after_cargo e (Packet life packet) = after_submit e life packet
+after_cargo e (Cut life) = after_cut e life
+
+abbrev pub after_cargoes : EndState → List Cargo → EndState
+after_cargoes e [] = e
+after_cargoes e (cargo ∷ cargoes) = after_cargoes (after_cargo e cargo) cargoes
+
+-- so many frames are polled
+abbrev pub after_frames : Settings → EndState → ℕ → List FrameParts → EndState
+after_frames s e now [] = e
+after_frames s e now (frame ∷ frames) = after_frames s (after_transmit s e now) now frames
+
+abbrev pub after_came : Settings → EndState → ℕ → Option FrameParts → EndState
+after_came s e now None = e
+after_came s e now (Some frame) = after_frame s e frame now
+
+abbrev pub after_cut_of_bound : EndState → Option Life → EndState
+after_cut_of_bound e None = e
+after_cut_of_bound e (Some life) = after_cut e life
+
+-- the end once a closed one is opened, and the tick is handed to it
+abbrev pub when_ticked : Settings → EndState → Turn → EndState
+when_ticked s e t = after_tick s (after_opening e t.opened t.now) t.now
+
+-- once the cargoes were taken
+abbrev pub when_served : Settings → EndState → Turn → EndState
+when_served s e t = after_cargoes (when_ticked s e t) t.cargoes
+
+-- once the frames were sent
+abbrev pub when_sent : Settings → EndState → Turn → EndState
+when_sent s e t = after_frames s (when_served s e t) t.now t.sent
+
+-- once a poll has told that no frame is due
+abbrev pub when_none_due : Settings → EndState → Turn → EndState
+when_none_due s e t = after_transmit s (when_sent s e t) t.now
+
+-- once a frame came, if one did
+abbrev pub when_heard : Settings → EndState → Turn → EndState
+when_heard s e t = after_came s (when_none_due s e t) t.now t.came
+
+-- ---- what has to hold
+
+-- a number is drawn exactly where the end is closed, and it is above the last one
+abbrev pub IsOpening : EndState → Option ℕ → Type 0
+IsOpening e None = IsFalse (is_closed e)
+IsOpening e (Some life) = IsTrue (is_closed e) × (e.last_life < life)
+
+-- each of these frames is the first one due when it is polled
+abbrev pub AreDue : Settings → EndState → ℕ → List FrameParts → Type 0
+AreDue s e now [] = Unit {0}
+AreDue s e now (frame ∷ frames) = (frame_due s e now ≡ Some frame) × AreDue s (after_transmit s e now) now frames
+
+-- up to the last cargo and the last frame that the turn came to
+pub record Begins (s : Settings) (e : EndState) (t : Turn) : Type 0 where
+  pub opening : IsOpening e t.opened
+  pub most : length t.cargoes ≤ 256
+  pub due : AreDue s (when_served s e t) t.now t.sent
+
+-- the events that wait are told one after another, all of them or up to one that is refused
+pub record Tells (e : EndState) (told : List LinkEvent) (refused : Option LinkEvent) (after : EndState) : Type 0 where
+  pub left : List LinkEvent
+  pub events : e.events ≡ (told ++ list_of refused) ++ left
+  pub all : refused ≡ None → left ≡ []
+  pub after_is : after ≡ record e { events = left }
+
+-- a whole turn: cargoes, then frames until none is due, then one receive, then all events
+pub record IsTurn (s : Settings) (e : EndState) (t : Turn) (after : EndState) : Type 0 where
+  pub begins : Begins s e t
+  pub none_due : frame_due s (when_sent s e t) t.now ≡ None
+  pub tells : Tells (when_heard s e t) t.told t.refused after
+  pub accepted : t.refused ≡ None
+
+-- ---- beats
+
+-- no beat was put yet, or ten ticks have passed since the last one
+abbrev pub is_beat_due : Option ℕ → ℕ → Bool
+is_beat_due None now = true
+is_beat_due (Some last) now = nat_le 10 (ticks_passed last now)
+
+abbrev pub beat_after : Option ℕ → Turn → Option ℕ
+beat_after last t = if t.beat then Some t.now else last
+
+-- a beat is put in each turn in which it is due
+abbrev pub AreBeats : Option ℕ → List Turn → Option ℕ → Type 0
+AreBeats last [] after = after ≡ last
+AreBeats last (t ∷ turns) after = (t.beat ≡ is_beat_due last t.now) × AreBeats (beat_after last t) turns after
+
+-- ---- how the last turn ends
+
+-- nothing came to the end, and it gave nothing
+abbrev pub idle_turn : ℕ → Turn
+idle_turn now = record { now = now; opened = None; cargoes = []; sent = []; came = None; told = []; refused = None; beat = false }
+
+-- no number: nothing else is done
+pub record EndsWithNoNumber (e : EndState) (t : Turn) (after : EndState) : Type 0 where
+  pub closed : IsTrue (is_closed e)
+  pub nothing : t ≡ idle_turn t.now
+  pub after_is : after ≡ e
+
+-- the wire is broken: the bound life is cut, and the events that are left are told
+pub record EndsBroken (e : EndState) (t : Turn) (after : EndState) : Type 0 where
+  pub nothing_came : t.came ≡ None
+  pub tells : Tells (after_cut_of_bound e (bound_life e)) t.told t.refused after
+  pub no_beat : IsFalse t.beat
+
+pub record EndsBrokenAtReceive (s : Settings) (e : EndState) (t : Turn) (after : EndState) : Type 0 where
+  pub begins : Begins s e t
+  pub none_due : frame_due s (when_sent s e t) t.now ≡ None
+  pub broken : EndsBroken (when_none_due s e t) t after
+
+pub record EndsBrokenAtSend (s : Settings) (e : EndState) (t : Turn) (after : EndState) : Type 0 where
+  pub begins : Begins s e t
+  pub broken : EndsBroken (when_sent s e t) t after
+
+-- an event is refused, or the beat behind all events
+pub record EndsRefused (s : Settings) (e : EndState) (t : Turn) (after : EndState) : Type 0 where
+  pub begins : Begins s e t
+  pub none_due : frame_due s (when_sent s e t) t.now ≡ None
+  pub tells : Tells (when_heard s e t) t.told t.refused after
+  pub no_beat : IsFalse t.beat
+
+abbrev pub IsLastTurn : Settings → EndState → Turn → Ending → EndState → Type 0
+IsLastTurn s e t (NoNumber error) after = EndsWithNoNumber e t after
+IsLastTurn s e t (Broken Send) after = EndsBrokenAtSend s e t after
+IsLastTurn s e t (Broken Receive) after = EndsBrokenAtReceive s e t after
+IsLastTurn s e t Refused after = EndsRefused s e t after
+
+-- ---- runs
+
+-- whole turns, one after another
+abbrev pub AreTurns : Settings → EndState → List Turn → EndState → Type 0
+AreTurns s e [] after = after ≡ e
+AreTurns s e (t ∷ turns) after = (between : EndState) × IsTurn s e t between × AreTurns s between turns after
+
+-- whole turns, and then the last one, which may end early
+pub record IsTurnRun (s : Settings) (e : EndState) (turns : List Turn) (last : Turn) (ending : Ending) (after : EndState) : Type 0 where
+  pub before : EndState
+  pub turns_are : AreTurns s e turns before
+  pub last_beat : Option ℕ
+  pub beats_are : AreBeats None turns last_beat
+  pub last_is : IsLastTurn s before last ending after

@@ -1,0 +1,36 @@
+//! The hub of a neighbour's thread over its lanes.
+use crate::hub::Hub;
+use std::sync::Wait;
+use tora_lane::{Cargo, Gone, InPort, OutTake, What};
+
+/// The port of a link's seat, and the lane of its cargoes.
+#[derive(Drop)]
+pub struct LaneHub {
+    /// The port.
+    pub port: InPort,
+    /// The lane.
+    pub outs: OutTake,
+}
+
+impl Hub for LaneHub {
+    ghost use Rattle.std.specs.Prelude.{map};
+    ghost use Rattle.tora_neighbour.specs.Puts.{put_in};
+
+    ghost puts = { λ h. map put_in h.port.put };
+
+    ghost takes = { λ h. h.outs.received };
+
+    ghost gone = { λ h. h.port.gone };
+
+    ghost did_put = { λ h now what answer after. Unit {0} };
+
+    ghost did_take = { λ h answer after. Unit {0} };
+
+    fn put<R: Wait>(&mut self, rt: &R, now: u64, what: What) -> Result<(), Gone> {
+        self.port.put(rt, now, what)
+    }
+
+    fn take<R: Wait>(&mut self, _rt: &R) -> Option<Cargo> {
+        self.outs.take()
+    }
+}

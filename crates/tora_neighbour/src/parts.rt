@@ -1,0 +1,234 @@
+//! The parts of a turn.
+ghost use Rattle.std.specs.Prelude.{◌≡◌, [], ◌∷◌, ◌++◌, ◌+◌, ℕ, ◌≤◌, ◌<◌, List, Option, Result, Some, None, length, map, true, false, IsTrue, IfErr, OnOk, OnErr};
+ghost use Rattle.tora_frame.specs.FrameParts.{FrameParts};
+ghost use Rattle.tora_frame.specs.FrameGrammar.{frame_spelling, frame_reading};
+ghost use Rattle.tora_arq.specs.declared.LinkEvent.{LinkEvent};
+ghost use Rattle.tora_arq.specs.LinkEnd.{is_closed, bound_life, frame_due, after_transmit};
+ghost use Rattle.tora_arq.specs.LinkFacts.{list_of};
+ghost use Rattle.tora_seat.specs.declared.Cargo.{Cargo};
+ghost use Rattle.tora_neighbour.specs.Datagrams.{RoseBy};
+ghost use Rattle.tora_neighbour.specs.Turns.{after_opening, after_cargo, after_cargoes, after_frames, after_came, after_cut_of_bound, IsOpening, AreDue, Tells};
+ghost use Rattle.tora_neighbour.specs.Traffic.{AreDrawn, Came, entry_of, what_of, frame_in};
+ghost use Rattle.tora_neighbour.specs.declared.wire.WireError.{WireError};
+ghost use Rattle.tora_neighbour.specs.Calls.{TakesAll, SendsSome, ReceivesOnce, PutsSome};
+ghost use Rattle.tora_neighbour.specs.Causes.{IsReady, IsLifeCause};
+
+use crate::hub::Hub;
+use crate::wire::Wire;
+use std::sync::Wait;
+use tora_arq::{LinkEnd, LinkEvent};
+use tora_frame::{decode, encode};
+use tora_lane::{Cargo, Gone, What};
+use tora_life::{Disk, LifeError, LifeFile};
+
+/// The most cargoes that a turn takes.
+pub const MOST_CARGOES: usize = 256;
+
+/// The bytes of a datagram that are received.
+pub const BUFFER: usize = 2048;
+
+/// How many calls of a wire in a row may fail, less one.
+pub const MOST_FAILURES: u64 = 100;
+
+/// The hundredth call of the wire in a row has failed.
+#[derive(Clone, Copy, Debug, PartialEq, Eq)]
+pub struct Broken;
+
+/// Opens a closed end with the next number of its file.
+pub fn open_closed<D: Disk>(
+    end: &mut LinkEnd,
+    file: &mut LifeFile<D>,
+    now: u64,
+) -> Result<(), LifeError>
+    requires { IsReady end.old.state file.old.numbers }
+    ensures settings { end.new.settings ≡ end.old.settings }
+    ensures ready { OnOk result (IsReady end.new.state file.new.numbers) }
+    ensures opened { OnOk result ((opened : Option ℕ) × IsOpening end.old.state opened × (end.new.state ≡ after_opening end.old.state opened now) × AreDrawn file.old.numbers.drawn (list_of opened) file.new.numbers.drawn) }
+    ensures failed { OnOk result (file.new.numbers.failed ≡ file.old.numbers.failed) }
+    ensures disk { OnOk result (D.failures file.new.disk ≡ D.failures file.old.disk) }
+    ensures closed { OnErr result (IsTrue (is_closed end.old.state)) }
+    ensures same { OnErr result (end.new ≡ end.old) }
+    ensures none { OnErr result (file.new.numbers.drawn ≡ file.old.numbers.drawn) }
+    ensures cause { IfErr result (λ error. IsLifeCause error file.old.numbers file.new.numbers (D.failures file.old.disk) (D.failures file.new.disk)) }
+{
+    if !end.is_closed() {
+        return Ok(());
+    }
+    match file.draw() {
+        Ok(number) => {
+            end.open(number, now);
+            Ok(())
+        }
+        Err(error) => Err(error),
+    }
+}
+
+/// Submits a packet, or cuts a life.
+pub fn hand_in(end: &mut LinkEnd, cargo: Cargo)
+    ensures { end.new ≡ record end.old { state = after_cargo end.old.state cargo } }
+{
+    match cargo {
+        Cargo::Packet(life, packet) => {
+            let _ = end.submit(life, packet);
+        }
+        Cargo::Cut(life) => end.cut(life),
+    }
+}
+
+/// Takes the cargoes that wait, at most 256.
+pub fn take_cargoes<R: Wait, H: Hub>(rt: &R, end: &mut LinkEnd, hub: &mut H)
+    ensures taken { (cargoes : List Cargo) × (length cargoes ≤ 256) × (end.new ≡ record end.old { state = after_cargoes end.old.state cargoes }) × (H.takes hub.new ≡ H.takes hub.old ++ cargoes) × TakesAll H.did_take hub.old cargoes hub.new }
+    ensures puts { H.puts hub.new ≡ H.puts hub.old }
+    ensures gone { H.gone hub.new ≡ H.gone hub.old }
+{
+    for count in 0..MOST_CARGOES {
+        match hub.take(rt) {
+            None => break,
+            Some(cargo) => hand_in(end, cargo),
+        }
+    }
+}
+
+/// What an event is put as.
+pub fn what_of(event: LinkEvent) -> What
+    ensures { result ≡ what_of event }
+{
+    match event {
+        LinkEvent::Up(life) => What::Up(life),
+        LinkEvent::Deliver(life, packet) => What::Packet(life, packet),
+        LinkEvent::Down(life, reason) => What::Down(life, reason),
+    }
+}
+
+/// Puts the events of the end, until one is refused.
+pub fn put_events<R: Wait, H: Hub>(
+    rt: &R,
+    end: &mut LinkEnd,
+    hub: &mut H,
+    now: u64,
+) -> Result<(), Gone>
+    ensures settings { end.new.settings ≡ end.old.settings }
+    ensures takes { H.takes hub.new ≡ H.takes hub.old }
+    ensures all { OnOk result ((told : List LinkEvent) × Tells end.old.state told None end.new.state × (H.puts hub.new ≡ H.puts hub.old ++ map (entry_of now) told) × PutsSome H.did_put now hub.old told hub.new) }
+    ensures some { OnErr result ((told : List LinkEvent) × (event : LinkEvent) × Tells end.old.state told (Some event) end.new.state × (H.puts hub.new ≡ H.puts hub.old ++ map (entry_of now) told)) }
+    ensures gone { OnErr result (H.gone hub.new ≡ true) }
+{
+    while let Some(event) = end.poll_event() {
+        hub.put(rt, now, what_of(event))?;
+    }
+    Ok(())
+}
+
+/// Cuts the bound life, if there is one.
+pub fn cut_bound(end: &mut LinkEnd)
+    ensures { end.new ≡ record end.old { state = after_cut_of_bound end.old.state (bound_life end.old.state) } }
+{
+    if let Some(life) = end.life() {
+        end.cut(life);
+    }
+}
+
+/// Counts one more failure in a row.
+pub fn count_failure(row: &mut u64) -> Result<(), Broken>
+    requires { row.old < 100 }
+    ensures ok { OnOk result (row.new < 100) }
+    ensures err { OnErr result (row.new ≡ 100) }
+    ensures more { row.new ≡ row.old + 1 }
+{
+    *row += 1;
+    if *row == MOST_FAILURES {
+        return Err(Broken);
+    }
+    Ok(())
+}
+
+/// Sends a datagram, and counts where it fails.
+pub fn try_send<W: Wire>(wire: &mut W, row: &mut u64, bytes: &[u8]) -> Result<(), Broken>
+    requires { row.old < 100 }
+    ensures call { (answer : Result (Unit {0}) WireError) × W.did_send wire.old bytes.now answer wire.new }
+    ensures tells { IsTrue (W.tells wire.new) → IsTrue (W.tells wire.old) }
+    ensures tried { IsTrue (W.tells wire.new) → W.tries wire.new ≡ W.tries wire.old ++ bytes.now ∷ [] }
+    ensures coming { IsTrue (W.tells wire.new) → W.coming wire.new ≡ W.coming wire.old }
+    ensures row { OnOk result (row.new < 100) }
+    ensures broken { OnErr result (row.new ≡ 100) }
+    ensures failures { (base : ℕ) → RoseBy row.old base (W.failures wire.old) → RoseBy row.new base (W.failures wire.new) }
+{
+    match wire.send(bytes) {
+        Ok(()) => {
+            *row = 0;
+            Ok(())
+        }
+        Err(_) => count_failure(row),
+    }
+}
+
+/// Sends each frame that is due.
+pub fn send_frames<R: Wait, W: Wire>(
+    rt: &R,
+    end: &mut LinkEnd,
+    wire: &mut W,
+    row: &mut u64,
+    now: u64,
+) -> Result<(), Broken>
+    requires { row.old < 100 }
+    ensures tells { IsTrue (W.tells wire.new) → IsTrue (W.tells wire.old) }
+    ensures coming { IsTrue (W.tells wire.new) → W.coming wire.new ≡ W.coming wire.old }
+    ensures row { OnOk result (row.new < 100) }
+    ensures broken { OnErr result (row.new ≡ 100) }
+    ensures failures { (base : ℕ) → RoseBy row.old base (W.failures wire.old) → RoseBy row.new base (W.failures wire.new) }
+    ensures all { OnOk result ((frames : List FrameParts) × AreDue end.old.settings end.old.state now frames × (frame_due end.old.settings (after_frames end.old.settings end.old.state now frames) now ≡ None) × (end.new ≡ record end.old { state = after_transmit end.old.settings (after_frames end.old.settings end.old.state now frames) now }) × (IsTrue (W.tells wire.new) → W.tries wire.new ≡ W.tries wire.old ++ map frame_spelling frames) × SendsSome W.did_send wire.old frames wire.new) }
+    ensures some { OnErr result ((frames : List FrameParts) × AreDue end.old.settings end.old.state now frames × (end.new ≡ record end.old { state = after_frames end.old.settings end.old.state now frames }) × (IsTrue (W.tells wire.new) → W.tries wire.new ≡ W.tries wire.old ++ map frame_spelling frames)) }
+{
+    for _ in rt.forever() {
+        match end.poll_transmit(now) {
+            None => return Ok(()),
+            Some(frame) => try_send(wire, row, encode(&frame).as_slice())?,
+        }
+    }
+    unreachable!()
+}
+
+/// Hands a datagram to the end, and counts it where it spells no frame.
+pub fn hear(end: &mut LinkEnd, datagram: &[u8], bad: &mut u64, now: u64)
+    ensures { end.new ≡ record end.old { state = after_came end.old.settings end.old.state now (frame_in (frame_reading datagram.now)) } }
+{
+    match decode(datagram) {
+        Ok(frame) => {
+            end.on_frame(&frame, now);
+        }
+        Err(_) => *bad = bad.saturating_add(1),
+    }
+}
+
+/// Receives once.
+pub fn receive<W: Wire>(
+    end: &mut LinkEnd,
+    wire: &mut W,
+    row: &mut u64,
+    bad: &mut u64,
+    now: u64,
+) -> Result<(), Broken>
+    requires { row.old < 100 }
+    ensures tells { IsTrue (W.tells wire.new) → IsTrue (W.tells wire.old) }
+    ensures tries { IsTrue (W.tells wire.new) → W.tries wire.new ≡ W.tries wire.old }
+    ensures row { OnOk result (row.new < 100) }
+    ensures broken { OnErr result (row.new ≡ 100) }
+    ensures failures { (base : ℕ) → RoseBy row.old base (W.failures wire.old) → RoseBy row.new base (W.failures wire.new) }
+    ensures asked { ReceivesOnce W.did_receive wire.old wire.new }
+    ensures came { OnOk result ((came : Option FrameParts) × (end.new ≡ record end.old { state = after_came end.old.settings end.old.state now came }) × (IsTrue (W.tells wire.new) → Came 2048 (W.coming wire.old) (list_of came) (W.coming wire.new))) }
+    ensures none { OnErr result ((end.new ≡ end.old) × (IsTrue (W.tells wire.new) → W.coming wire.new ≡ W.coming wire.old)) }
+{
+    let mut buffer = [0; BUFFER];
+    match wire.receive(&mut buffer) {
+        Ok(Some(count)) => {
+            *row = 0;
+            hear(end, &buffer[..count], bad, now);
+            Ok(())
+        }
+        Ok(None) => {
+            *row = 0;
+            Ok(())
+        }
+        Err(_) => count_failure(row),
+    }
+}

@@ -1,0 +1,66 @@
+//! One turn of a neighbour's thread.
+ghost use Rattle.std.specs.Prelude.{◌≡◌, [], ◌∷◌, ℕ, ◌<◌, IfErr, OnOk, OnErr};
+ghost use Rattle.tora_neighbour.specs.Datagrams.{RoseBy};
+ghost use Rattle.tora_neighbour.specs.Turns.{Turn, IsTurn, IsLastTurn, is_beat_due, beat_after};
+ghost use Rattle.tora_neighbour.specs.Traffic.{Traffic, outside};
+ghost use Rattle.tora_neighbour.specs.Calls.{TurnCalls};
+ghost use Rattle.tora_neighbour.specs.Causes.{IsReady, IsCause};
+
+use crate::ending::Ending;
+use crate::hub::Hub;
+use crate::link::Link;
+use crate::stages::{begin, exchange, give_up, tell};
+use crate::wire::Wire;
+use std::sync::Wait;
+use tora_life::Disk;
+
+/// What a thread counts over its turns.
+#[derive(Clone, Copy, Debug, PartialEq, Eq)]
+pub struct Course {
+    /// How many calls of the wire have failed in a row.
+    pub row: u64,
+    /// The tick of the last beat.
+    pub last_beat: Option<u64>,
+    /// How many datagrams spelt no frame.
+    pub bad: u64,
+}
+
+/// One turn, with one tick.
+pub fn turn<R: Wait, D: Disk, W: Wire, H: Hub>(
+    rt: &R,
+    now: u64,
+    link: &mut Link<D, W>,
+    hub: &mut H,
+    course: &mut Course,
+) -> Result<(), Ending>
+    requires ready { IsReady link.old.end.state link.old.file.numbers }
+    requires row { course.old.row < 100 }
+    ensures settings { link.new.end.settings ≡ link.old.end.settings }
+    ensures ready { OnOk result (IsReady link.new.end.state link.new.file.numbers) }
+    ensures row { OnOk result (course.new.row < 100) }
+    ensures failures { (base : ℕ) → RoseBy course.old.row base (W.failures link.old.wire) → RoseBy course.new.row base (W.failures link.new.wire) }
+    ensures failed { OnOk result (link.new.file.numbers.failed ≡ link.old.file.numbers.failed) }
+    ensures disk { OnOk result (D.failures link.new.file.disk ≡ D.failures link.old.file.disk) }
+    ensures turn { OnOk result ((t : Turn) × IsTurn link.old.end.settings link.old.end.state t link.new.end.state × (t.beat ≡ is_beat_due course.old.last_beat t.now) × (course.new.last_beat ≡ beat_after course.old.last_beat t) × Traffic 2048 (outside H.puts H.takes W.tells W.coming W.tries link.old hub.old) (t ∷ []) (outside H.puts H.takes W.tells W.coming W.tries link.new hub.new) × TurnCalls H.did_take H.did_put W.did_send W.did_receive hub.old link.old.wire t hub.new link.new.wire) }
+    ensures last { IfErr result (λ ending. (t : Turn) × IsLastTurn link.old.end.settings link.old.end.state t ending link.new.end.state × Traffic 2048 (outside H.puts H.takes W.tells W.coming W.tries link.old hub.old) (t ∷ []) (outside H.puts H.takes W.tells W.coming W.tries link.new hub.new)) }
+    ensures cause { IfErr result (λ ending. IsCause ending link.old.file.numbers link.new.file.numbers (D.failures link.old.file.disk) (D.failures link.new.file.disk) course.new.row (H.gone hub.new)) }
+{
+    if let Err(error) = begin(rt, &mut link.end, &mut link.file, hub, now) {
+        return Err(Ending::NoNumber(error));
+    }
+    if let Err(at) = exchange(
+        rt,
+        &mut link.end,
+        &mut link.wire,
+        &mut course.row,
+        &mut course.bad,
+        now,
+    ) {
+        give_up(rt, &mut link.end, hub, now);
+        return Err(Ending::Broken(at));
+    }
+    if let Err(_) = tell(rt, &mut link.end, hub, &mut course.last_beat, now) {
+        return Err(Ending::Refused);
+    }
+    Ok(())
+}

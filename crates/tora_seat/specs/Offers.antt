@@ -1,0 +1,20 @@
+-- Cargoes that are offered to the lanes of a node, one after another.
+use Rattle.std.specs.Prelude.{◌≡◌, ℕ, suc, ◌==◌, Bool, if◌then◌else◌, List, [], ◌∷◌, ◌++◌}
+use Rattle.tora_seat.specs.declared.Cargo.{Cargo}
+use Rattle.tora_seat.specs.Serving.{Offer, Answers}
+
+-- the place of a number in a list, or the length of the list where it is not there
+abbrev pub place_of : ℕ → List ℕ → ℕ
+place_of k [] = 0
+place_of k (j ∷ js) = if j == k then 0 else suc (place_of k js)
+
+-- each of these offers was made of the lane at the place of its neighbour, and answered so, from the lanes given to the lanes after it
+abbrev pub AreOffered : {O : Type 0} → (O → ℕ → Cargo → Bool → O → Type 0) → List ℕ → O → List Offer → O → Type 0
+AreOffered did_offer neighbours outs [] after = after ≡ outs
+AreOffered {O = O} did_offer neighbours outs (o ∷ offers) after =
+    (between : O) × did_offer outs (place_of o.to neighbours) o.cargo o.put between × AreOffered did_offer neighbours between offers after
+
+-- these offers, behind those before them, were answered so
+abbrev pub Follows : Answers → List Offer → List Offer → Type 0
+Follows answers before [] = Unit {0}
+Follows answers before (o ∷ offers) = (answers before o.to ≡ o.put) × Follows answers (before ++ o ∷ []) offers

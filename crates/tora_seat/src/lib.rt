@@ -1,0 +1,68 @@
+//! What goes between the neighbour links of a node and its core.
+//!
+//! A link gives its core items: a life that came up, its packets, and that it went down. The core gives a link cargoes:
+//! packets of the current life, and that a life is cut. Own profile.
+#![tactic(auto)]
+
+mod lanes;
+
+pub use lanes::OutLanes;
+use tora_arq::{Life, Reason};
+use tora_core::StepError;
+use tora_height::Id;
+use tora_packet::Packet;
+
+/// What an item tells the core.
+#[derive(Clone, Copy, Debug, PartialEq, Eq)]
+pub enum What {
+    /// A life of the link was bound.
+    Up(Life),
+    /// A packet of the neighbour in a life.
+    Packet(Life, Packet),
+    /// A life of the link ended.
+    Down(Life, Reason),
+    /// The link's thread is alive.
+    Beat,
+    /// A route to a destination is needed.
+    Need(Id),
+    /// The core is to be shown.
+    Show,
+    /// The core is to end.
+    Quit,
+}
+
+/// An item for the core.
+#[derive(Clone, Copy, Debug, PartialEq, Eq)]
+pub struct Item {
+    /// The seat that it is of: that of a link, which has the place of its neighbour among the neighbours in ascending
+    /// order, or behind those the seat of the commands.
+    pub seat: usize,
+    /// Its number among the items of its seat, from 1 on.
+    pub number: u64,
+    /// The tick of 100 ms at which it was put.
+    pub now: u64,
+    /// What it tells.
+    pub what: What,
+}
+
+/// What the core gives a link.
+#[derive(Clone, Copy, Debug, PartialEq, Eq)]
+pub enum Cargo {
+    /// A packet for the neighbour in a life.
+    Packet(Life, Packet),
+    /// A life is cut.
+    Cut(Life),
+}
+
+/// What serving an item answers.
+#[derive(Clone, Copy, Debug, PartialEq, Eq)]
+pub enum Answer {
+    /// Nothing is to be said.
+    Nothing,
+    /// The core refused an input.
+    Refused(StepError),
+    /// The core is to be shown.
+    Show,
+    /// The core is to end.
+    Quit,
+}

@@ -1,0 +1,339 @@
+-- What serving an item keeps.
+use Rattle.std.proofs.Common.{◌≡◌, ◌≢◌, ℕ, zero, suc, Bool, true, false, true≢false, ◌&&◌, ◌⊎◌, inl, inr, List, [], ◌∷◌, ◌++◌, length, map, Option, Some, None, nat_eq, if◌then◌else◌, refl, sym, ap, ap₂, ◌∙◌, subst, append_assoc, append-nil, eqb-true, eq-eqb, ne_eqb}
+use Rattle.std.proofs.lemmas.Bool.{cond_both, cases_Bool, eqb-false}
+use Rattle.std.specs.Prelude.{slice_get}
+use Rattle.tora_packet.specs.declared.Packet.{Packet}
+use Rattle.tora_arq.specs.declared.Life.{Life}
+use Rattle.tora_arq.specs.Lives.{is_same_life as same}
+use Rattle.tora_core.specs.declared.Input.{Input}
+use Rattle.tora_core.specs.declared.Input.TheVariants as In
+use Rattle.tora_core.specs.declared.errors.StepError.{StepError}
+use Rattle.tora_core.specs.CoreRun.{refusal_of, sends_of}
+use Rattle.tora_seat.specs.declared.What.{What}
+use Rattle.tora_seat.specs.declared.What.TheVariants as Tells
+use Rattle.tora_seat.specs.declared.Answer.TheVariants as Says
+use Rattle.tora_seat.specs.declared.Item.{Item}
+use Rattle.tora_seat.specs.declared.Cargo.{Cargo}
+use Rattle.tora_seat.specs.declared.Cargo.TheVariants as Gives
+use Rattle.tora_seat.specs.Serving.{SeatState, Offer, Parcel, Step, Serving, Answers, put_one, offered, with_current, with_pending, after_cut_tried, after_cuts_tried, after_sent, after_broadcast, after_broadcasts, accepting, after_answer, after_step, first_cut, after_settling, after_input, is_current, after_down, after_old_down, after_up, after_packet, after_link_item, after_other_item, after_item_of, begin_serving, serving_of, put_to, stepped_from}
+use Rattle.tora_world.specs.Lists.{parcels_in, parcel_of}
+use Rattle.tora_world.specs.LinkMachine.{machine_after as state}
+use Rattle.tora_world.specs.World.{World, Choice, settings, neighbours, after_serving, after_turn}
+use Rattle.tora_world.proofs.Basics.{at_pair, same_true, same_refl}
+use Rattle.tora_world.proofs.Views.{Sign, View, sign_of, Good, Seen, from}
+use Rattle.tora_world.proofs.Views.Sign.{Come, Give, Rest}
+use Rattle.tora_world.proofs.Moves.{passes, skips, ups, cuts}
+use Rattle.tora_world.proofs.Goods.{Changes, idle, looks, good_takes, good_puts}
+use Rattle.tora_world.proofs.Looks.{sign_in, signs_in, signs_of, view_of, look, parcels-append}
+use Rattle.tora_world.proofs.Events.{turned, put_one_at, put_one_off}
+
+-- ---- lists that grow
+
+abbrev pub cargo_where : ℕ → Offer → List Cargo
+cargo_where k o = if nat_eq o.to k && o.put then o.cargo ∷ [] else []
+
+pub put-push : (k : ℕ) (offers : List Offer) (o : Offer) → put_to k (offers ++ o ∷ []) ≡ put_to k offers ++ cargo_where k o
+put-push k [] o = append-nil (cargo_where k o)
+put-push k (x ∷ offers) o = ap (λ ys. cargo_where k x ++ ys) (put-push k offers o) ∙ sym (append_assoc (cargo_where k x) (put_to k offers) (cargo_where k o))
+
+abbrev step_where : ℕ → Step → List Parcel
+step_where k s = if nat_eq s.from k then s.parcel ∷ [] else []
+
+stepped-push : (k : ℕ) (steps : List Step) (s : Step) → stepped_from k (steps ++ s ∷ []) ≡ stepped_from k steps ++ step_where k s
+stepped-push k [] s = append-nil (step_where k s)
+stepped-push k (x ∷ steps) s = ap (λ ys. step_where k x ++ ys) (stepped-push k steps s) ∙ sym (append_assoc (step_where k x) (stepped_from k steps) (step_where k s))
+
+-- the packets in a lane once a cargo was offered
+pub offer_parcels : (k : ℕ) (cs : List Cargo) (offers : List Offer) (o : Offer) → parcels_in (cs ++ put_to k (offers ++ o ∷ [])) ≡ parcels_in (cs ++ put_to k offers) ++ parcels_in (cargo_where k o)
+offer_parcels k cs offers o =
+    ap (λ ys. parcels_in (cs ++ ys)) (put-push k offers o) ∙ ap parcels_in (sym (append_assoc cs (put_to k offers) (cargo_where k o)))
+    ∙ parcels-append (cs ++ put_to k offers) (cargo_where k o)
+
+-- a cargo that is no packet for this neighbour, or was handed back
+pub nothing_more : (k : ℕ) (cs : List Cargo) (offers : List Offer) (o : Offer) → parcels_in (cargo_where k o) ≡ [] → parcels_in (cs ++ put_to k (offers ++ o ∷ [])) ≡ parcels_in (cs ++ put_to k offers)
+nothing_more k cs offers o e = offer_parcels k cs offers o ∙ ap (λ ys. parcels_in (cs ++ put_to k offers) ++ ys) e ∙ append-nil (parcels_in (cs ++ put_to k offers))
+
+pub no_cut : (k : ℕ) (to : ℕ) (life : Life) (put : Bool) → parcels_in (cargo_where k (record { to = to; cargo = Gives.Cut life; put = put })) ≡ []
+no_cut k to life put = go (nat_eq to k && put)
+  where
+    go : (b : Bool) → parcels_in (if b then Gives.Cut life ∷ [] else []) ≡ []
+    go true = refl
+    go false = refl
+
+pub no_back : (k : ℕ) (to : ℕ) (cargo : Cargo) → parcels_in (cargo_where k (record { to = to; cargo = cargo; put = false })) ≡ []
+no_back k to cargo = go (nat_eq to k)
+  where
+    go : (b : Bool) → parcels_in (if b && false then cargo ∷ [] else []) ≡ []
+    go true = refl
+    go false = refl
+
+module _ (w : World) (seen : Seen) (n : ℕ) where
+  abbrev ks : List ℕ
+  ks = neighbours w n
+
+  -- the world while an item is served
+  abbrev pub Served : List Item → Serving → Type 0
+  Served lane v = Good (look (after_serving w n lane v)) w.datagrams seen
+
+  abbrev pub seen_at : ℕ → Serving → List Sign → View
+  seen_at k v signs = view_of (settings w n k) (w.ends n k) (w.files n k) (v.seat.current k) signs (w.cargoes n k ++ put_to k v.offers) (w.put n k ++ put_to k v.offers) (w.steps n k ++ stepped_from k v.steps)
+
+  abbrev split : Bool → List Item → Serving → ℕ → ℕ → View
+  split t lane v a b = view_of (settings w a b) (w.ends a b) (w.files a b) ((if t then v.seat else w.seats a).current b) (signs_of (neighbours w a) b (if t then lane else w.items a))
+      ((if t then (λ k. w.cargoes n k ++ put_to k v.offers) else w.cargoes a) b) ((if t then (λ k. w.put n k ++ put_to k v.offers) else w.put a) b) ((if t then (λ k. w.steps n k ++ stepped_from k v.steps) else w.steps a) b)
+
+  look_at : (lane : List Item) (v : Serving) (k : ℕ) → look (after_serving w n lane v) n k ≡ seen_at k v (signs_of ks k lane)
+  look_at lane v k = ap (λ t. split t lane v n k) (eq-eqb n n refl)
+
+  look_off : (lane : List Item) (v : Serving) (a b : ℕ) → nat_eq a n ≡ false → look (after_serving w n lane v) a b ≡ look w a b
+  look_off lane v a b e = ap (λ t. split t lane v a b) e
+
+  serve_changed : (lane lane' : List Item) (v v' : Serving) (k : ℕ) (u : View) → ((b : ℕ) → nat_eq b k ≡ false → seen_at b v' (signs_of ks b lane') ≡ seen_at b v (signs_of ks b lane)) →
+      seen_at k v' (signs_of ks k lane') ≡ u → Changes (look (after_serving w n lane v)) (look (after_serving w n lane' v')) n k (seen_at k v (signs_of ks k lane)) u
+  serve_changed lane lane' v v' k u off q = record {
+    was = look_at lane v k;
+    here = look_at lane' v' k ∙ q;
+    there = λ a b o. there a b o (cases_Bool (nat_eq a n));
+  }
+    where
+      there : (a b : ℕ) → at_pair n k a b ≡ false → (nat_eq a n ≡ true) ⊎ (nat_eq a n ≡ false) → look (after_serving w n lane' v') a b ≡ look (after_serving w n lane v) a b
+      there a b o (inl e) =
+          let o' : nat_eq b k ≡ false = subst (λ t. (t && nat_eq b k) ≡ false) e o in
+          subst (λ x. look (after_serving w n lane' v') x b ≡ look (after_serving w n lane v) x b) (sym (eqb-true a n e))
+          (look_at lane' v' b ∙ off b o' ∙ sym (look_at lane v b))
+      there a b o (inr e) = look_off lane' v' a b e ∙ sym (look_off lane v a b e)
+
+  -- the law sees the same
+  served_same : (lane lane' : List Item) (v v' : Serving) → ((b : ℕ) → seen_at b v' (signs_of ks b lane') ≡ seen_at b v (signs_of ks b lane)) → Served lane v → Served lane' v'
+  served_same lane lane' v v' e g = looks (look (after_serving w n lane v)) (look (after_serving w n lane' v')) w.datagrams seen (λ a b. there a b (cases_Bool (nat_eq a n))) g
+    where
+      there : (a b : ℕ) → (nat_eq a n ≡ true) ⊎ (nat_eq a n ≡ false) → look (after_serving w n lane' v') a b ≡ look (after_serving w n lane v) a b
+      there a b (inl t) =
+          subst (λ x. look (after_serving w n lane' v') x b ≡ look (after_serving w n lane v) x b) (sym (eqb-true a n t))
+          (look_at lane' v' b ∙ e b ∙ sym (look_at lane v b))
+      there a b (inr t) = look_off lane' v' a b t ∙ sym (look_off lane v a b t)
+
+  -- a cargo without a packet, or one that is handed back
+  offer_nothing : (lane : List Item) (v : Serving) (k : ℕ) (cargo : Cargo) (put : Bool) → ((b : ℕ) → parcels_in (cargo_where b (record { to = k; cargo = cargo; put = put })) ≡ []) → Served lane v → Served lane (offered v k cargo put)
+  offer_nothing lane v k cargo put e g =
+      served_same lane lane v (offered v k cargo put)
+      (λ b. ap₂ (λ xs ys. record (seen_at b v (signs_of ks b lane)) { out = xs; sent = ys })
+      (nothing_more b (w.cargoes n b) v.offers (record { to = k; cargo = cargo; put = put }) (e b)) (nothing_more b (w.put n b) v.offers (record { to = k; cargo = cargo; put = put }) (e b))) g
+
+  -- a packet of the current life is put
+  offer_packet : (lane : List Item) (v : Serving) (k : ℕ) (life : Life) (packet : Packet) → v.seat.current k ≡ Some life → Served lane v → Served lane (offered v k (Gives.Packet life packet) true)
+  offer_packet lane v k life packet on g =
+      let x : Parcel = parcel_of life packet in
+      let o : Offer = record { to = k; cargo = Gives.Packet life packet; put = true } in
+      let u : View = seen_at k v (signs_of ks k lane) in
+      good_puts (look (after_serving w n lane v)) (look (after_serving w n lane (offered v k (Gives.Packet life packet) true))) w.datagrams seen n k u x on
+      (serve_changed lane lane v (offered v k (Gives.Packet life packet) true) k (record u { sent = u.sent ++ x ∷ []; out = u.out ++ x ∷ [] })
+      (λ b e. ap₂ (λ xs ys. record (seen_at b v (signs_of ks b lane)) { out = xs; sent = ys }) (nothing_more b (w.cargoes n b) v.offers o (none b e)) (nothing_more b (w.put n b) v.offers o (none b e)))
+      (ap₂ (λ xs ys. record u { sent = ys; out = xs }) (more (w.cargoes n k)) (more (w.put n k)))) g
+    where
+      none : (b : ℕ) → nat_eq b k ≡ false → parcels_in (cargo_where b (record { to = k; cargo = Gives.Packet life packet; put = true })) ≡ []
+      none b e = ap (λ (t : Bool). parcels_in (if t && true then Gives.Packet life packet ∷ [] else [])) (turned b k e)
+
+      more : (cs : List Cargo) → parcels_in (cs ++ put_to k (v.offers ++ record { to = k; cargo = Gives.Packet life packet; put = true } ∷ [])) ≡ parcels_in (cs ++ put_to k v.offers) ++ parcel_of life packet ∷ []
+      more cs = offer_parcels k cs v.offers (record { to = k; cargo = Gives.Packet life packet; put = true })
+          ∙ ap (λ (t : Bool). parcels_in (cs ++ put_to k v.offers) ++ parcels_in (if t && true then Gives.Packet life packet ∷ [] else [])) (eq-eqb k k refl)
+
+  -- a life is no longer the current one
+  current_cut : (lane : List Item) (v : Serving) (k : ℕ) → Served lane v → Served lane (with_current v k None)
+  current_cut lane v k g =
+      let u : View = seen_at k v (signs_of ks k lane) in
+      idle (look (after_serving w n lane v)) (look (after_serving w n lane (with_current v k None))) w.datagrams seen n k u (record u { current = None })
+      (serve_changed lane lane v (with_current v k None) k (record u { current = None })
+      (λ b e. ap (λ x. record (seen_at b v (signs_of ks b lane)) { current = x }) (put_one_off v.seat.current k None b e))
+      (ap (λ x. record u { current = x }) (put_one_at v.seat.current k None))) g
+      (λ h. cuts u (state g.steps n k) (state g.steps k n).sent (from seen n k) h)
+
+  pending_quiet : (lane : List Item) (v : Serving) (k : ℕ) (life : Option Life) → Served lane v → Served lane (with_pending v k life)
+  pending_quiet lane v k life g = served_same lane lane v (with_pending v k life) (λ b. refl) g
+
+  module _ (answers : Answers) (lane : List Item) where
+    cut_tried_keeps : (v : Serving) (k : ℕ) (o : Option Life) → Served lane v → Served lane (after_cut_tried answers v k o)
+    cut_tried_keeps v k None g = g
+    cut_tried_keeps v k (Some life) g =
+        cond_both (answers v.offers k) _ _ (Served lane)
+        (λ _. pending_quiet lane (offered v k (Gives.Cut life) true) k None (offer_nothing lane v k (Gives.Cut life) true (λ b. no_cut b k life true) g))
+        (λ _. offer_nothing lane v k (Gives.Cut life) false (λ b. no_cut b k life false) g)
+
+    pub cuts_tried_keep : (js : List ℕ) (v : Serving) → Served lane v → Served lane (after_cuts_tried answers js v)
+    unfolding after_cuts_tried
+    cuts_tried_keep [] v g = g
+    cuts_tried_keep (k ∷ js) v g = cuts_tried_keep js (after_cut_tried answers v k (v.seat.pending k)) (cut_tried_keeps v k (v.seat.pending k) g)
+
+    sent_keeps : (packet : Packet) (v : Serving) (k : ℕ) (o : Option Life) → v.seat.current k ≡ o → Served lane v → Served lane (after_sent answers packet v k o)
+    sent_keeps packet v k None e g = g
+    sent_keeps packet v k (Some life) e g =
+        cond_both (answers v.offers k) _ _ (Served lane)
+        (λ _. offer_packet lane v k life packet e g)
+        (λ _. pending_quiet lane (with_current (offered v k (Gives.Packet life packet) false) k None) k (Some life)
+        (current_cut lane (offered v k (Gives.Packet life packet) false) k (offer_nothing lane v k (Gives.Packet life packet) false (λ b. no_back b k (Gives.Packet life packet)) g)))
+
+    broadcast_keeps : (packet : Packet) (js : List ℕ) (v : Serving) → Served lane v → Served lane (after_broadcast answers packet js v)
+    unfolding after_broadcast
+    broadcast_keeps packet [] v g = g
+    broadcast_keeps packet (k ∷ js) v g = broadcast_keeps packet js (after_sent answers packet v k (v.seat.current k)) (sent_keeps packet v k (v.seat.current k) refl g)
+
+    broadcasts_keep : (js : List ℕ) (packets : List Packet) (v : Serving) → Served lane v → Served lane (after_broadcasts answers js packets v)
+    unfolding after_broadcasts
+    broadcasts_keep js [] v g = g
+    broadcasts_keep js (packet ∷ packets) v g = broadcasts_keep js packets (after_broadcast answers packet js v) (broadcast_keeps packet js v g)
+
+    step_keeps : (js : List ℕ) (input : Input) (now : ℕ) (v : Serving) → Served lane v → Served lane (after_step answers js input now v)
+    unfolding after_step
+    step_keeps js input now v g = go (refusal_of v.seat.core input)
+      where
+        go : (o : Option StepError) → Served lane (after_answer answers js input now v o)
+        go None = broadcasts_keep js (sends_of v.seat.core input now) (accepting v input now) (served_same lane lane v (accepting v input now) (λ b. refl) g)
+        go (Some error) = g
+
+    settling_keeps : (most : ℕ) (js : List ℕ) (now : ℕ) (v : Serving) → Served lane v → Served lane (after_settling most answers js now v)
+    unfolding after_settling
+    settling_keeps zero js now v g = g
+    settling_keeps (suc most) js now v g = go (first_cut v.seat js) (λ k. settling_keeps most js now (after_step answers js (In.LinkDown k) now v) (step_keeps js (In.LinkDown k) now v g))
+      where
+        go : (o : Option ℕ) → ((k : ℕ) → Served lane (after_settling most answers js now (after_step answers js (In.LinkDown k) now v))) →
+            Served lane (elim o [ None ↦ v | Some k ↦ after_settling most answers js now (after_step answers js (In.LinkDown k) now v) ])
+        go None f = g
+        go (Some k) f = f k
+
+    pub input_keeps : (js : List ℕ) (input : Input) (now : ℕ) (v : Serving) → Served lane v → Served lane (after_input answers js input now v)
+    unfolding after_input
+    input_keeps js input now v g = settling_keeps (length js) js now (after_step answers js input now v) (step_keeps js input now v g)
+
+    pub down_keeps : (js : List ℕ) (k now : ℕ) (v : Serving) → Served lane v → Served lane (after_down answers js k now v)
+    down_keeps js k now v g = input_keeps js (In.LinkDown k) now (with_current v k None) (current_cut lane v k g)
+
+    pub old_down_keeps : (js : List ℕ) (k now : ℕ) (v : Serving) (o : Option Life) → Served lane v → Served lane (after_old_down answers js k now v o)
+    old_down_keeps js k now v None g = g
+    old_down_keeps js k now v (Some life) g = down_keeps js k now v g
+
+  is_current_true : (l : Life) (o : Option Life) → is_current l o ≡ true → o ≡ Some l
+  is_current_true l None e = absurd (true≢false (sym e))
+  is_current_true l (Some j) e = ap Some (sym (same_true l j e))
+
+  is_current_false : (l : Life) (o : Option Life) → is_current l o ≡ false → o ≢ Some l
+  is_current_false l o e q = true≢false (sym (subst (λ x. is_current l x ≡ true) (sym q) (same_refl l)) ∙ e)
+
+  -- an item of the link to k, at the front of the lane
+  module _ (lane lane' : List Item) (k : ℕ) (what : What) (front : (b : ℕ) → signs_of ks b lane ≡ signs_in b (Some k) what ++ signs_of ks b lane') where
+    front_here : signs_of ks k lane ≡ sign_in what ∷ signs_of ks k lane'
+    front_here = front k ∙ ap (λ (t : Bool). (if t then sign_in what ∷ [] else []) ++ signs_of ks k lane') (eq-eqb k k refl)
+
+    front_off : (b : ℕ) → nat_eq b k ≡ false → signs_of ks b lane' ≡ signs_of ks b lane
+    front_off b e = sym (front b ∙ ap (λ (t : Bool). (if t then sign_in what ∷ [] else []) ++ signs_of ks b lane') (turned b k e))
+
+    abbrev rest_of : List Sign
+    rest_of = signs_of ks k lane' ++ map sign_of (w.ends n k).events
+
+    coming_here : (v : Serving) (x : Sign) → sign_in what ≡ x → (seen_at k v (signs_of ks k lane)).coming ≡ x ∷ rest_of
+    coming_here v x e = ap (λ s. s ++ map sign_of (w.ends n k).events) (front_here ∙ ap (λ y. y ∷ signs_of ks k lane') e)
+
+    off_same : (v : Serving) (b : ℕ) → nat_eq b k ≡ false → seen_at b v (signs_of ks b lane') ≡ seen_at b v (signs_of ks b lane)
+    off_same v b e = ap (λ s. seen_at b v s) (front_off b e)
+
+    pub pass_keeps : (v : Serving) → sign_in what ≡ Rest → Served lane v → Served lane' v
+    pass_keeps v e g =
+        let u : View = seen_at k v (signs_of ks k lane) in
+        idle (look (after_serving w n lane v)) (look (after_serving w n lane' v)) w.datagrams seen n k u (record u { coming = rest_of })
+        (serve_changed lane lane' v v k (record u { coming = rest_of }) (off_same v) refl) g
+        (λ h. passes u (state g.steps n k) (state g.steps k n).sent (from seen n k) rest_of (coming_here v Rest e) h)
+
+    pub skip_keeps : (v : Serving) (l : Life) (p : Packet) → sign_in what ≡ Give l p → v.seat.current k ≢ Some l → Served lane v → Served lane' v
+    skip_keeps v l p e o g =
+        let u : View = seen_at k v (signs_of ks k lane) in
+        idle (look (after_serving w n lane v)) (look (after_serving w n lane' v)) w.datagrams seen n k u (record u { coming = rest_of })
+        (serve_changed lane lane' v v k (record u { coming = rest_of }) (off_same v) refl) g
+        (λ h. skips u (state g.steps n k) (state g.steps k n).sent (from seen n k) l p rest_of (coming_here v (Give l p) e) o h)
+
+    pub up_keeps : (v : Serving) (l : Life) → sign_in what ≡ Come l → Served lane v → Served lane' (with_current v k (Some l))
+    up_keeps v l e g =
+        let u : View = seen_at k v (signs_of ks k lane) in
+        idle (look (after_serving w n lane v)) (look (after_serving w n lane' (with_current v k (Some l)))) w.datagrams seen n k u (record u { coming = rest_of; current = Some l })
+        (serve_changed lane lane' v (with_current v k (Some l)) k (record u { coming = rest_of; current = Some l })
+        (λ b o. ap (λ x. record (seen_at b v (signs_of ks b lane')) { current = x }) (put_one_off v.seat.current k (Some l) b o) ∙ off_same v b o)
+        (ap (λ x. record u { coming = rest_of; current = x }) (put_one_at v.seat.current k (Some l)))) g
+        (λ h. ups u (state g.steps n k) (state g.steps k n).sent (from seen n k) l rest_of (coming_here v (Come l) e) h)
+
+    pub take_keeps : (v : Serving) (l : Life) (p : Packet) → sign_in what ≡ Give l p → v.seat.current k ≡ Some l → Served lane v → Served lane' (record v { steps = v.steps ++ record { from = k; parcel = parcel_of l p } ∷ [] })
+    take_keeps v l p e on g =
+        let u : View = seen_at k v (signs_of ks k lane) in
+        let s : Step = record { from = k; parcel = parcel_of l p } in
+        let v' : Serving = record v { steps = v.steps ++ s ∷ [] } in
+        good_takes (look (after_serving w n lane v)) (look (after_serving w n lane' v')) w.datagrams seen n k u l p rest_of (coming_here v (Give l p) e) on
+        (serve_changed lane lane' v v' k (record u { coming = rest_of; taken = u.taken ++ parcel_of l p ∷ [] })
+        (λ b o. ap (λ t. record (seen_at b v (signs_of ks b lane')) { taken = t }) (taken_off v s b o) ∙ off_same v b o)
+        (ap (λ t. record u { coming = rest_of; taken = t }) (taken_on v s))) g
+      where
+        taken_off : (v : Serving) (s : Step) (b : ℕ) → nat_eq b k ≡ false → w.steps n b ++ stepped_from b (v.steps ++ record { from = k; parcel = parcel_of l p } ∷ []) ≡ w.steps n b ++ stepped_from b v.steps
+        taken_off v s b o =
+            ap (λ ys. w.steps n b ++ ys) (stepped-push b v.steps (record { from = k; parcel = parcel_of l p })
+            ∙ ap (λ (t : Bool). stepped_from b v.steps ++ (if t then parcel_of l p ∷ [] else [])) (turned b k o) ∙ append-nil (stepped_from b v.steps))
+
+        taken_on : (v : Serving) (s : Step) → w.steps n k ++ stepped_from k (v.steps ++ record { from = k; parcel = parcel_of l p } ∷ []) ≡ (w.steps n k ++ stepped_from k v.steps) ++ parcel_of l p ∷ []
+        taken_on v s =
+            ap (λ ys. w.steps n k ++ ys) (stepped-push k v.steps (record { from = k; parcel = parcel_of l p }) ∙ ap (λ (t : Bool). stepped_from k v.steps ++ (if t then parcel_of l p ∷ [] else [])) (eq-eqb k k refl))
+            ∙ sym (append_assoc (w.steps n k) (stepped_from k v.steps) (parcel_of l p ∷ []))
+
+  link_item_keeps : (answers : Answers) (lane lane' : List Item) (k now : ℕ) (what : What) → ((b : ℕ) → signs_of ks b lane ≡ signs_in b (Some k) what ++ signs_of ks b lane') →
+      (v : Serving) → Served lane v → Served lane' (after_link_item answers ks k now what v)
+  unfolding after_link_item
+  link_item_keeps answers lane lane' k now (Tells.Up l) front v g =
+      let v' : Serving = after_old_down answers ks k now v (v.seat.current k) in
+      input_keeps answers lane' ks (In.LinkUp k) now (with_current v' k (Some l)) (up_keeps lane lane' k (Tells.Up l) front v' l refl (old_down_keeps answers lane ks k now v (v.seat.current k) g))
+  link_item_keeps answers lane lane' k now (Tells.Packet l p) front v g =
+      cond_both (is_current l (v.seat.current k)) _ _ (Served lane')
+      (λ t. input_keeps answers lane' ks (In.Packet k p) now (record v { steps = v.steps ++ record { from = k; parcel = parcel_of l p } ∷ [] })
+      (take_keeps lane lane' k (Tells.Packet l p) front v l p refl (is_current_true l (v.seat.current k) t) g))
+      (λ t. skip_keeps lane lane' k (Tells.Packet l p) front v l p refl (is_current_false l (v.seat.current k) t) g)
+  link_item_keeps answers lane lane' k now (Tells.Down l r) front v g =
+      let g' : Served lane' v = pass_keeps lane lane' k (Tells.Down l r) front v refl g in
+      cond_both (is_current l (v.seat.current k)) _ _ (Served lane')
+      (λ _. down_keeps answers lane' ks k now v g')
+      (λ _. cond_both (is_current l (v.seat.pending k)) _ _ (Served lane') (λ _. pending_quiet lane' v k None g') (λ _. g'))
+  link_item_keeps answers lane lane' k now (Tells.Need m) front v g = input_keeps answers lane' ks (In.Need m) now v (pass_keeps lane lane' k (Tells.Need m) front v refl g)
+  link_item_keeps answers lane lane' k now Tells.Beat front v g = pass_keeps lane lane' k Tells.Beat front v refl g
+  link_item_keeps answers lane lane' k now Tells.Show front v g = pass_keeps lane lane' k Tells.Show front v refl g
+  link_item_keeps answers lane lane' k now Tells.Quit front v g = pass_keeps lane lane' k Tells.Quit front v refl g
+
+  other_item_keeps : (answers : Answers) (lane lane' : List Item) (now : ℕ) (what : What) → ((b : ℕ) → signs_of ks b lane' ≡ signs_of ks b lane) →
+      (v : Serving) → Served lane v → Served lane' (after_other_item answers ks now what v)
+  unfolding after_other_item
+  other_item_keeps answers lane lane' now (Tells.Need m) e v g = input_keeps answers lane' ks (In.Need m) now v (served_same lane lane' v v (λ b. ap (λ s. seen_at b v s) (e b)) g)
+  other_item_keeps answers lane lane' now (Tells.Up l) e v g = served_same lane lane' v v (λ b. ap (λ s. seen_at b v s) (e b)) g
+  other_item_keeps answers lane lane' now (Tells.Packet l p) e v g = served_same lane lane' v v (λ b. ap (λ s. seen_at b v s) (e b)) g
+  other_item_keeps answers lane lane' now (Tells.Down l r) e v g = served_same lane lane' v v (λ b. ap (λ s. seen_at b v s) (e b)) g
+  other_item_keeps answers lane lane' now Tells.Beat e v g = served_same lane lane' v v (λ b. ap (λ s. seen_at b v s) (e b)) g
+  other_item_keeps answers lane lane' now Tells.Show e v g = served_same lane lane' v (record v { answer = Says.Show }) (λ b. ap (λ s. seen_at b v s) (e b)) g
+  other_item_keeps answers lane lane' now Tells.Quit e v g = served_same lane lane' v (record v { answer = Says.Quit }) (λ b. ap (λ s. seen_at b v s) (e b)) g
+
+  pub serving_keeps : (answers : Answers) (item : Item) (items : List Item) → Served (item ∷ items) (begin_serving (w.seats n)) → Served items (serving_of answers ks (w.seats n) item)
+  unfolding serving_of
+  serving_keeps answers item items g = go (slice_get ks item.seat) refl
+    where
+      go : (o : Option ℕ) → slice_get ks item.seat ≡ o → Served items (after_item_of answers ks o item.now item.what (after_cuts_tried answers ks (begin_serving (w.seats n))))
+      go (Some k) e = link_item_keeps answers (item ∷ items) items k item.now item.what (λ b. ap (λ s. signs_in b s item.what ++ signs_of ks b items) e) (after_cuts_tried answers ks (begin_serving (w.seats n)))
+          (cuts_tried_keep answers (item ∷ items) ks (begin_serving (w.seats n)) g)
+      go None e = other_item_keeps answers (item ∷ items) items item.now item.what (λ b. sym (ap (λ s. signs_in b s item.what ++ signs_of ks b items) e)) (after_cuts_tried answers ks (begin_serving (w.seats n)))
+          (cuts_tried_keep answers (item ∷ items) ks (begin_serving (w.seats n)) g)
+
+  -- the world before the item is taken
+  begins : (items : List Item) → w.items n ≡ items → Good (look w) w.datagrams seen → Served items (begin_serving (w.seats n))
+  begins items q g = looks (look w) (look (after_serving w n items (begin_serving (w.seats n)))) w.datagrams seen (λ a b. there a b (cases_Bool (nat_eq a n))) g
+    where
+      here : (b : ℕ) → seen_at b (begin_serving (w.seats n)) (signs_of ks b items) ≡ look w n b
+      here b =
+          ap (λ is. seen_at b (begin_serving (w.seats n)) (signs_of ks b is)) (sym q)
+          ∙ ap (λ xs. view_of (settings w n b) (w.ends n b) (w.files n b) ((w.seats n).current b) (signs_of ks b (w.items n)) xs (w.put n b ++ []) (w.steps n b ++ [])) (append-nil (w.cargoes n b))
+          ∙ ap₂ (λ xs ys. view_of (settings w n b) (w.ends n b) (w.files n b) ((w.seats n).current b) (signs_of ks b (w.items n)) (w.cargoes n b) xs ys) (append-nil (w.put n b)) (append-nil (w.steps n b))
+
+      there : (a b : ℕ) → (nat_eq a n ≡ true) ⊎ (nat_eq a n ≡ false) → look (after_serving w n items (begin_serving (w.seats n))) a b ≡ look w a b
+      there a b (inl t) = subst (λ x. look (after_serving w n items (begin_serving (w.seats n))) x b ≡ look w x b) (sym (eqb-true a n t)) (look_at items (begin_serving (w.seats n)) b ∙ here b)
+      there a b (inr t) = look_off items (begin_serving (w.seats n)) a b t
+
+  pub turn_keeps : (c : Choice) → Good (look w) w.datagrams seen → (items : List Item) → w.items n ≡ items → Good (look (after_turn w c n items)) (after_turn w c n items).datagrams seen
+  turn_keeps c g [] q = g
+  turn_keeps c g (item ∷ items) q = serving_keeps c.answers item items (begins (item ∷ items) q g)

@@ -1,0 +1,43 @@
+-- Packets by the lives that they go in.
+use Rattle.std.specs.Prelude.{◌≡◌, ℕ, ◌⊎◌, if◌then◌else◌, List, [], ◌∷◌, ◌++◌}
+use Rattle.tora_packet.specs.declared.Packet.{Packet}
+use Rattle.tora_arq.specs.declared.Life.{Life}
+use Rattle.tora_arq.specs.Lives.{is_same_life}
+use Rattle.tora_seat.specs.declared.Cargo.{Cargo}
+use Rattle.tora_seat.specs.declared.Cargo.TheVariants as Gives
+use Rattle.tora_seat.specs.Serving.{Parcel}
+
+-- the same life, as the other end writes it
+abbrev pub reversed : Life → Life
+reversed life = record { own = life.peer; peer = life.own }
+
+abbrev pub parcel_of : Life → Packet → Parcel
+parcel_of life packet = record { life = life; packet = packet }
+
+-- the packet, where it is of this life
+abbrev pub packet_where : Life → Parcel → List Packet
+packet_where life x = if is_same_life life x.life then x.packet ∷ [] else []
+
+-- the packets of one life, in order
+abbrev pub packets_of : Life → List Parcel → List Packet
+packets_of life [] = []
+packets_of life (x ∷ xs) = packet_where life x ++ packets_of life xs
+
+-- the packets among cargoes
+abbrev pub parcels_in : List Cargo → List Parcel
+parcels_in [] = []
+parcels_in (Gives.Packet life packet ∷ cargoes) = parcel_of life packet ∷ parcels_in cargoes
+parcels_in (Gives.Cut life ∷ cargoes) = parcels_in cargoes
+
+-- one list begins another
+abbrev pub Begins : List Packet → List Packet → Type 0
+Begins xs ys = (rest : List Packet) × (xs ++ rest ≡ ys)
+
+abbrev pub IsIn : {A : Type 0} → A → List A → Type 0
+IsIn x [] = ⊥
+IsIn x (y ∷ ys) = (x ≡ y) ⊎ IsIn x ys
+
+-- holds of each item
+abbrev pub Each : {A : Type 0} → (A → Type 0) → List A → Type 0
+Each P [] = Unit {0}
+Each P (x ∷ xs) = P x × Each P xs

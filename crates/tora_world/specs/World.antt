@@ -1,0 +1,319 @@
+-- The simulated world: all nodes, their links and all datagrams, and what each event does.
+use Rattle.std.specs.Prelude.{ℕ, zero, suc, ◌+◌, ◌==◌, ◌&&◌, Bool, true, false, not, is_some, is_none, nat_lt, nat_le, if◌then◌else◌, List, [], ◌∷◌, ◌++◌, length, slice_get, Option, Some, None}
+use Rattle.tora_packet.specs.declared.Packet.{Packet}
+use Rattle.tora_frame.specs.FrameParts.{FrameParts}
+use Rattle.tora_arq.specs.declared.Life.{Life}
+use Rattle.tora_arq.specs.declared.Times.{Times}
+use Rattle.tora_arq.specs.declared.LinkEvent.{LinkEvent}
+use Rattle.tora_arq.specs.declared.LinkEvent.TheVariants as Link
+use Rattle.tora_arq.specs.Settings.{Settings, settings_of}
+use Rattle.tora_arq.specs.LinkEnd.{EndState, first_end, is_closed, after_open, after_frame, after_tick, after_submit, after_cut, first_event, after_poll_event, frame_due, after_transmit}
+use Rattle.tora_core.specs.declared.Input.{Input}
+use Rattle.tora_core.specs.CoreRun.{CoreView}
+use Rattle.tora_life.specs.declared.state.DiskCall.TheVariants as Disk
+use Rattle.tora_life.specs.declared.state.DiskCall.{DiskCall}
+use Rattle.tora_life.specs.State.{fresh_state, after_crash}
+use Rattle.tora_life.specs.LifeRun.{LifeDisk, opened, state_in, after_event, drawn_by}
+use Rattle.tora_life.specs.LifeRun.LifeEvent.{Draw as DrawsNumber, Arm as ArmsDisk, Restart as OpensAnew}
+use Rattle.tora_seat.specs.declared.What.{What}
+use Rattle.tora_seat.specs.declared.What.TheVariants as Tells
+use Rattle.tora_seat.specs.declared.Item.{Item}
+use Rattle.tora_seat.specs.declared.Cargo.{Cargo}
+use Rattle.tora_seat.specs.declared.Cargo.TheVariants as Gives
+use Rattle.tora_seat.specs.Serving.{SeatState, Offer, Parcel, Answers, Serving, put_one, serving_of, put_to, stepped_from}
+use Rattle.tora_world.specs.declared.Event.{Event}
+use Rattle.tora_world.specs.declared.Event.TheVariants.{Need, Tick, Open, Pull, Transmit, Deliver, Pump, CoreTurn, Arm, Restart}
+use Rattle.tora_world.specs.declared.Call.{Call}
+use Rattle.tora_world.specs.declared.Call.TheVariants as Fails
+use Rattle.tora_world.specs.declared.SimError.{SimError}
+use Rattle.tora_world.specs.declared.SimError.TheVariants as Refused
+use Rattle.tora_world.specs.Topology.{Topology, neighbours_of, is_node, is_link, new_core}
+use Rattle.tora_world.specs.Lists.{packets_of, parcels_in}
+use Rattle.tora_world.specs.LinkMachine.{put_at}
+
+-- what becomes of a datagram that is sent
+pub data Sending : Type 0 where
+  Goes : Sending
+  IsLost : Sending
+  IsGone : Sending
+
+-- the calls of a node that are armed to fail
+pub record Arms : Type 0 where
+  pub sending : Sending
+  pub receive : Bool
+
+pub record World : Type 0 where
+  pub topology : Topology
+  pub times : Times  -- those of every link end
+  pub clock : ℕ
+  pub seats : ℕ → SeatState  -- of each node, its core with the lives of its neighbours
+  pub ends : ℕ → ℕ → EndState  -- of each node and each neighbour, the link end
+  pub files : ℕ → ℕ → LifeDisk  -- and its life file, or the disk of one that did not open
+  pub items : ℕ → List Item  -- the lane into each core
+  pub counts : ℕ → ℕ → ℕ  -- how many items each seat of a node has put since its last restart
+  pub cargoes : ℕ → ℕ → List Cargo  -- the lane from each core to each neighbour
+  pub arms : ℕ → Arms
+  pub datagrams : List FrameParts  -- all that were ever sent
+  pub put : ℕ → ℕ → List Cargo  -- all cargoes that were ever put into that lane
+  pub inputs : ℕ → List (Input × ℕ)  -- the inputs that each core accepted since its node's last restart
+  pub steps : ℕ → ℕ → List Parcel  -- the packets of each neighbour that were ever stepped
+
+-- ---- the first world
+
+abbrev pub first_seat : Topology → ℕ → SeatState
+first_seat t n = record { core = new_core t n; current = λ k. None; pending = λ k. None }
+
+abbrev pub first_world : Topology → Times → World
+first_world t times = record {
+  topology = t;
+  times = times;
+  clock = 0;
+  seats = first_seat t;
+  ends = λ n k. first_end;
+  files = λ n k. opened (fresh_state []);
+  items = λ n. [];
+  counts = λ n seat. 0;
+  cargoes = λ n k. [];
+  arms = λ n. record { sending = Goes; receive = false };
+  datagrams = [];
+  put = λ n k. [];
+  inputs = λ n. [];
+  steps = λ n k. [];
+}
+
+-- ---- what is asked of a world
+
+abbrev pub settings : World → ℕ → ℕ → Settings
+settings w n k = settings_of n k w.times
+
+abbrev pub neighbours : World → ℕ → List ℕ
+neighbours w n = neighbours_of w.topology n
+
+-- the place of a number in a list, or the length of the list where it is not there
+abbrev pub place_of : ℕ → List ℕ → ℕ
+place_of k [] = 0
+place_of k (j ∷ js) = if j == k then 0 else suc (place_of k js)
+
+-- the packets that the core of a put into the lane to b in a life, as a's end writes it
+abbrev pub sent_packets : World → ℕ → ℕ → Life → List Packet
+sent_packets w a b life = packets_of life (parcels_in (w.put a b))
+
+-- the packets of a that the core of b stepped in a life, as b's end writes it
+abbrev pub taken_packets : World → ℕ → ℕ → Life → List Packet
+taken_packets w b a life = packets_of life (w.steps b a)
+
+-- the datagram of a number from 1 on
+abbrev pub datagram : World → ℕ → Option FrameParts
+datagram w zero = None
+datagram w (suc place) = slice_get w.datagrams place
+
+-- ---- why an event is refused
+
+abbrev pub is_empty : {A : Type 0} → List A → Bool
+is_empty [] = true
+is_empty (x ∷ xs) = false
+
+-- there is room for one more item
+abbrev pub has_room : World → ℕ → Bool
+has_room w n = nat_lt (length (w.items n)) 1024
+
+abbrev pub unless_possible : Bool → Option SimError
+unless_possible possible = if possible then None else Some Refused.NotPossible
+
+abbrev pub at_node : World → ℕ → Bool → Option SimError
+at_node w n possible = if is_node w.topology n then unless_possible possible else Some Refused.NoNode
+
+abbrev pub at_link : World → ℕ → ℕ → Bool → Option SimError
+at_link w n k possible = if is_link w.topology n k then unless_possible possible else Some Refused.NoNode
+
+-- the tick at which an event happens
+abbrev pub tick_of : World → Event → ℕ
+tick_of w Tick = suc w.clock
+tick_of w (Need n d) = w.clock
+tick_of w (Open n k) = w.clock
+tick_of w (Pull n k) = w.clock
+tick_of w (Transmit n k) = w.clock
+tick_of w (Deliver i) = w.clock
+tick_of w (Pump n k) = w.clock
+tick_of w (CoreTurn n) = w.clock
+tick_of w (Arm n call) = w.clock
+tick_of w (Restart n torn) = w.clock
+
+-- what the simulator chooses at an event, and other runs may choose otherwise: the clock then, the tick that each link end and each item is
+-- given, and the answer for each cargo
+pub record Choice : Type 0 where
+  pub clock : ℕ
+  pub now : ℕ → ℕ → ℕ
+  pub stamp : ℕ
+  pub answers : Answers
+
+-- whether the event is refused, where it is handed these ticks
+abbrev pub refusal_by : Choice → World → Event → Option SimError
+refusal_by c w (Need n d) = at_node w n (has_room w n)
+refusal_by c w Tick = None
+refusal_by c w (Open n k) = at_link w n k (is_closed (w.ends n k))
+refusal_by c w (Pull n k) = at_link w n k (not (is_empty (w.cargoes n k)))
+refusal_by c w (Transmit n k) = at_link w n k (is_some (frame_due (settings w n k) (w.ends n k) (c.now n k)))
+refusal_by c w (Deliver i) = if is_some (datagram w i) then None else Some Refused.NoDatagram
+refusal_by c w (Pump n k) = at_link w n k (not (is_empty (w.ends n k).events) && has_room w n)
+refusal_by c w (CoreTurn n) = at_node w n (not (is_empty (w.items n)))
+refusal_by c w (Arm n call) = at_node w n true
+refusal_by c w (Restart n torn) = at_node w n true
+
+-- ---- what an event does
+
+abbrev pub with_end : World → ℕ → ℕ → EndState → World
+with_end w n k e = record w { ends = put_at w.ends n k e }
+
+-- an item more in the lane into the core of n
+abbrev pub with_item : World → ℕ → ℕ → ℕ → What → World
+with_item w n seat now what = record w {
+  items = put_one w.items n (w.items n ++ record { seat = seat; number = suc (w.counts n seat); now = now; what = what } ∷ []);
+  counts = put_at w.counts n seat (suc (w.counts n seat));
+}
+
+-- a closed end is opened with the number that its life file draws, if it draws one
+abbrev pub open_with : EndState → ℕ → List ℕ → EndState
+open_with e now [] = e
+open_with e now (number ∷ none) = after_open e number now
+
+abbrev pub after_opening : World → Choice → ℕ → ℕ → World
+after_opening w c n k = record w {
+  ends = put_at w.ends n k (open_with (w.ends n k) (c.now n k) (drawn_by DrawsNumber (w.files n k)));
+  files = put_at w.files n k (after_event DrawsNumber (w.files n k));
+}
+
+-- a cargo is submitted, or cuts
+abbrev pub after_cargo : EndState → Cargo → EndState
+after_cargo e (Gives.Packet life packet) = after_submit e life packet
+after_cargo e (Gives.Cut life) = after_cut e life
+
+abbrev pub after_pull : World → ℕ → ℕ → List Cargo → World
+after_pull w n k [] = w
+after_pull w n k (cargo ∷ cargoes) = record w {
+  ends = put_at w.ends n k (after_cargo (w.ends n k) cargo);
+  cargoes = put_at w.cargoes n k cargoes;
+}
+
+abbrev pub with_datagram : Sending → List FrameParts → FrameParts → List FrameParts
+with_datagram Goes datagrams f = datagrams ++ f ∷ []
+with_datagram IsLost datagrams f = datagrams
+with_datagram IsGone datagrams f = datagrams ++ f ∷ []
+
+-- the first frame due goes out, unless the send is armed to lose it
+abbrev pub after_sending : World → ℕ → ℕ → EndState → Option FrameParts → World
+after_sending w n k e None = w
+after_sending w n k e (Some f) = record w {
+  ends = put_at w.ends n k e;
+  datagrams = with_datagram (w.arms n).sending w.datagrams f;
+  arms = put_one w.arms n (record (w.arms n) { sending = Goes });
+}
+
+-- a datagram is handed to its receiver, unless the receive is armed to fail
+abbrev pub after_receiving : World → Choice → Option FrameParts → World
+after_receiving w c None = w
+after_receiving w c (Some f) =
+    if (w.arms f.header.receiver).receive
+    then record w { arms = put_one w.arms f.header.receiver (record (w.arms f.header.receiver) { receive = false }) }
+    else with_end w f.header.receiver f.header.sender (after_frame (settings w f.header.receiver f.header.sender) (w.ends f.header.receiver f.header.sender) f (c.now f.header.receiver f.header.sender))
+
+-- what a link event tells the core
+abbrev pub what_of : LinkEvent → What
+what_of (Link.Up life) = Tells.Up life
+what_of (Link.Deliver life packet) = Tells.Packet life packet
+what_of (Link.Down life reason) = Tells.Down life reason
+
+-- the first event of a link end goes into the lane, in the seat of its neighbour
+abbrev pub after_pump : World → Choice → ℕ → ℕ → Option LinkEvent → World
+after_pump w c n k None = w
+after_pump w c n k (Some event) = with_item (with_end w n k (after_poll_event (w.ends n k))) n (place_of k (neighbours w n)) c.stamp (what_of event)
+
+-- the node's seat and lanes after an item was served
+abbrev pub after_serving : World → ℕ → List Item → Serving → World
+after_serving w n items v = record w {
+  seats = put_one w.seats n v.seat;
+  items = put_one w.items n items;
+  cargoes = put_one w.cargoes n (λ k. w.cargoes n k ++ put_to k v.offers);
+  put = put_one w.put n (λ k. w.put n k ++ put_to k v.offers);
+  inputs = put_one w.inputs n (w.inputs n ++ v.inputs);
+  steps = put_one w.steps n (λ k. w.steps n k ++ stepped_from k v.steps);
+}
+
+abbrev pub after_turn : World → Choice → ℕ → List Item → World
+after_turn w c n [] = w
+after_turn w c n (item ∷ items) = after_serving w n items (serving_of c.answers (neighbours w n) (w.seats n) item)
+
+-- the next such call of each life file of a node fails
+abbrev pub with_armed_files : World → ℕ → DiskCall → World
+with_armed_files w n call = record w { files = λ a k. if a == n then after_event (ArmsDisk call) (w.files a k) else w.files a k }
+
+abbrev pub after_arming : World → ℕ → Call → World
+after_arming w n Fails.SendLost = record w { arms = put_one w.arms n (record (w.arms n) { sending = IsLost }) }
+after_arming w n Fails.SendGone = record w { arms = put_one w.arms n (record (w.arms n) { sending = IsGone }) }
+after_arming w n Fails.Receive = record w { arms = put_one w.arms n (record (w.arms n) { receive = true }) }
+after_arming w n Fails.Read = with_armed_files w n Disk.Read
+after_arming w n Fails.Write = with_armed_files w n Disk.Write
+after_arming w n Fails.Sync = with_armed_files w n Disk.Sync
+
+-- a life file that a crash left is opened
+abbrev pub reopened : Option (List ℕ) → LifeDisk → LifeDisk
+reopened torn disk = after_event (OpensAnew (after_crash torn (state_in disk))) disk
+
+-- core, ends and lanes are made anew, and the life files are opened
+abbrev pub after_restart : World → ℕ → Option (List ℕ) → World
+after_restart w n torn = record w {
+  seats = put_one w.seats n (first_seat w.topology n);
+  ends = λ a k. if a == n then first_end else w.ends a k;
+  files = λ a k. if a == n then reopened torn (w.files a k) else w.files a k;
+  items = put_one w.items n [];
+  counts = put_one w.counts n (λ seat. 0);
+  cargoes = put_one w.cargoes n (λ k. []);
+  inputs = put_one w.inputs n [];
+}
+
+-- an event that is not refused
+unfoldable pub effect_by : Choice → World → Event → World
+effect_by c w (Need n d) = with_item w n (length (neighbours w n)) c.stamp (Tells.Need d)
+effect_by c w Tick = record w { clock = c.clock; ends = λ n k. after_tick (settings w n k) (w.ends n k) (c.now n k) }
+effect_by c w (Open n k) = after_opening w c n k
+effect_by c w (Pull n k) = after_pull w n k (w.cargoes n k)
+effect_by c w (Transmit n k) = after_sending w n k (after_transmit (settings w n k) (w.ends n k) (c.now n k)) (frame_due (settings w n k) (w.ends n k) (c.now n k))
+effect_by c w (Deliver i) = after_receiving w c (datagram w i)
+effect_by c w (Pump n k) = after_pump w c n k (first_event (w.ends n k))
+effect_by c w (CoreTurn n) = after_turn w c n (w.items n)
+effect_by c w (Arm n call) = after_arming w n call
+effect_by c w (Restart n torn) = after_restart w n torn
+
+-- any event: one that is refused has no effect
+unfoldable pub world_by : Choice → World → Event → World
+world_by c w event = if is_some (refusal_by c w event) then w else effect_by c w event
+
+-- ---- the simulator's own choice: its clock everywhere, and a cargo is put where fewer than 256 wait
+
+abbrev pub own_answers : World → ℕ → Answers
+own_answers w n offers k = nat_lt (length (w.cargoes n k ++ put_to k offers)) 256
+
+abbrev pub node_of : Event → ℕ
+node_of (CoreTurn n) = n
+node_of Tick = 0
+node_of (Need n d) = n
+node_of (Open n k) = n
+node_of (Pull n k) = n
+node_of (Transmit n k) = n
+node_of (Deliver i) = 0
+node_of (Pump n k) = n
+node_of (Arm n call) = n
+node_of (Restart n torn) = n
+
+abbrev pub own_choice : World → Event → Choice
+own_choice w event = record { clock = tick_of w event; now = λ n k. tick_of w event; stamp = tick_of w event; answers = own_answers w (node_of event) }
+
+abbrev pub refusal_of : World → Event → Option SimError
+refusal_of w event = refusal_by (own_choice w event) w event
+
+abbrev pub world_after : World → Event → World
+world_after w event = world_by (own_choice w event) w event
+
+abbrev pub world_after_all : World → List Event → World
+world_after_all w [] = w
+world_after_all w (event ∷ events) = world_after_all (world_after w event) events
