@@ -11,6 +11,5 @@ returns-in-Ok-clause-opened g c = (
   (omega (arith, c.in-Ok.ensures.drawn), ap (λ (n : Numbers). n.drawn) c.in-Ok.ensures.numbers ∙ sym c.in-Ok.ensures.drawn),
 )
 
--- HOLE: `LifeFile::draw` says nothing of the count of failures where it answers `Ok`
 pub returns-in-Ok-clause-disk : goal.returns-in-Ok-clause-disk
-returns-in-Ok-clause-disk g c = ?
+returns-in-Ok-clause-disk g c = c.in-Ok.ensures.failures
