@@ -1,0 +1,55 @@
+//! What a node is to be.
+ghost use Rattle.std.specs.Prelude.{◌≡◌, ◌<◌, All, Err, IfErr, IfOk, MatchOption, None, OnOk};
+ghost use Rattle.tora_core.specs.CoreRun.{core_refusal, first_core};
+
+use std::alloc::Global;
+use std::marker::Model;
+use tora_core::{Core, CoreError};
+use tora_height::Id;
+
+/// A node with its neighbours and the destinations of its table.
+#[derive(Drop)]
+pub struct Config {
+    core: Core,
+}
+
+impl Model for Config {
+    ghost use Rattle.tora_core.specs.CoreRun.{CoreView};
+
+    ghost Value = { CoreView };
+
+    ghost view = { λ c. c.core };
+}
+
+impl Config {
+    /// Node `me` with these neighbours and destinations, in any order, none of them 0.
+    ///
+    /// # Errors
+    /// Those of `Core::new`, in its order.
+    pub fn new(alloc: Global, me: Id, peers: &[Id], dests: &[Id]) -> Result<Config, CoreError>
+        requires me { 0 < me }
+        requires peers { All (λ n. 0 < n) peers.now }
+        requires dests { All (λ n. 0 < n) dests.now }
+        ensures value { IfOk result (λ config. config ≡ first_core me peers.now dests.now) }
+        ensures accepted { OnOk result (core_refusal me peers.now dests.now ≡ None) }
+        ensures refused { MatchOption (core_refusal me peers.now dests.now)
+            (IfErr result (λ e. e ≡ CoreError.Memory)) (λ e. result ≡ Err e) }
+    {
+        let core = Core::new(alloc, me, peers, dests)?;
+        Ok(Config { core })
+    }
+
+    /// The neighbours, ascending.
+    pub fn peers(&self) -> &[Id]
+        ensures { result.now ≡ self.now.neighbours }
+    {
+        self.core.neighbours()
+    }
+
+    /// The core that the node begins with.
+    pub fn into_core(self) -> Core
+        ensures { result ≡ self }
+    {
+        self.core
+    }
+}

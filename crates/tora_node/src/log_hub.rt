@@ -1,0 +1,56 @@
+//! A hub that logs what its link tells.
+use log::{Log, info};
+use std::sync::Wait;
+use tora_height::Id;
+use tora_lane::{Cargo, Gone, What};
+use tora_neighbour::Hub;
+
+/// A hub around another one, which logs that a life of the link begins or ends, as it is put.
+#[derive(Drop)]
+pub struct LogHub<L, H> {
+    /// Where it logs.
+    pub log: L,
+    /// The neighbour.
+    pub peer: Id,
+    /// The hub.
+    pub hub: H,
+}
+
+impl<L: Log, H: Hub> LogHub<L, H> {
+    fn tell(&self, what: &What) {
+        let peer = self.peer;
+        match what {
+            What::Up(life) => {
+                let (own, theirs) = (life.own, life.peer);
+                info!(&self.log; "link {peer} up {own} {theirs}");
+            }
+            What::Down(_, reason) => {
+                let number = reason.number();
+                info!(&self.log; "link {peer} down {number}");
+            }
+            _ => {}
+        }
+    }
+}
+
+impl<L: Log, H: Hub> Hub for LogHub<L, H> {
+    ghost puts = { λ h. H.puts h.hub };
+
+    ghost takes = { λ h. H.takes h.hub };
+
+    ghost gone = { λ h. H.gone h.hub };
+
+    ghost did_put = { λ h now what answer after. H.did_put h.hub now what answer after.hub };
+
+    ghost did_take = { λ h answer after. H.did_take h.hub answer after.hub };
+
+    fn put<R: Wait>(&mut self, rt: &R, now: u64, what: What) -> Result<(), Gone> {
+        self.hub.put(rt, now, what)?;
+        self.tell(&what);
+        Ok(())
+    }
+
+    fn take<R: Wait>(&mut self, rt: &R) -> Option<Cargo> {
+        self.hub.take(rt)
+    }
+}
