@@ -26,11 +26,11 @@ use Rattle.tora_core.proofs.KeptLemmas.{first-kept, outcome_of-kept}
 
 -- ---- an input that is not refused
 
-not-false : (b : Bool) → not b ≡ false → b ≡ true
+pub not-false : (b : Bool) → not b ≡ false → b ≡ true
 not-false true e = refl
 not-false false e = absurd cc
 
-refused-not : (b : Bool) (e : StepError) (o : Option StepError) → (if b then Some e else o) ≡ None → (b ≡ false) × (o ≡ None)
+pub refused-not : (b : Bool) (e : StepError) (o : Option StepError) → (if b then Some e else o) ≡ None → (b ≡ false) × (o ≡ None)
 refused-not true e o h = absurd cc
 refused-not false e o h = (refl, h)
 
@@ -109,11 +109,11 @@ views-of : (me : ℕ) (up : List ℕ) (input : Input) (now : ℕ) (views : List 
 views-of me up input now [] can is = tt
 views-of me up input now (v ∷ views) can is = (next_view-of me up input now v can.0 is.0, views-of me up input now views can.1 is.1)
 
-next_view-destination : (input : Input) (now : ℕ) (v : View) → (next_view input now v).destination ≡ v.destination
+pub next_view-destination : (input : Input) (now : ℕ) (v : View) → (next_view input now v).destination ≡ v.destination
 next_view-destination input now v =
     cond_both (concerns input v.destination) (view_after v input now) v (λ (w : View). w.destination ≡ v.destination) (λ _. (outcome_of-place v input now).destination) (λ _. refl)
 
-destinations_of-next : (input : Input) (now : ℕ) (views : List View) → destinations_of (map (next_view input now) views) ≡ destinations_of views
+pub destinations_of-next : (input : Input) (now : ℕ) (views : List View) → destinations_of (map (next_view input now) views) ≡ destinations_of views
 destinations_of-next input now [] = refl
 destinations_of-next input now (v ∷ views) = let e = next_view-destination input now v in let rest = destinations_of-next input now views in cc
 
@@ -142,7 +142,7 @@ core-kept c input now core ok free =
 
 -- ---- a new core
 
-destinations_of-first : (me : ℕ) (ds : List ℕ) → destinations_of (map (first_view me) ds) ≡ ds
+pub destinations_of-first : (me : ℕ) (ds : List ℕ) → destinations_of (map (first_view me) ds) ≡ ds
 destinations_of-first me [] = refl
 destinations_of-first me (d ∷ ds) = ap (λ (xs : List ℕ). d ∷ xs) (destinations_of-first me ds)
 

@@ -8,6 +8,7 @@
 
 mod destination;
 mod errors;
+mod facts;
 mod laws;
 mod node;
 mod numbers;
@@ -18,6 +19,10 @@ mod table;
 
 use arrayvec::ArrayVec;
 pub use errors::{CoreError, StepError};
+pub use facts::{
+    inputs_are_accepted, links_follow_inputs, numbers_are_put_in_order, numbers_come_and_go,
+    other_views_stay, sends_ascend, tables_stay, up_links_are_of_neighbours,
+};
 pub use laws::{rules_are_kept, runs_are_kept};
 pub use node::Core;
 pub use relation::{

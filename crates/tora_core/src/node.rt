@@ -2,7 +2,7 @@
 ghost use Rattle.std.specs.Prelude.{◌≡◌, ◌<◌, ℕ, All, IfErr, IfNone, IfOk, MatchOption, None, OnErr, [], OnOk, option_copied, IsOk, string_bytes};
 ghost use Rattle.tora_core.specs.CoreRun.{core_after, core_refusal, entry_of, first_core, flag_of, height_of, hop_of, refusal_of, sends_of, view_of};
 ghost use Rattle.tora_core.specs.Numbers.{has_number};
-ghost use Rattle.tora_core.specs.Kept.{IsCore, IsInput};
+ghost use Rattle.tora_core.specs.Kept.{IsCore, IsInput, destinations_of};
 ghost use Rattle.tora_core.specs.ShowText.{show_text};
 ghost use Rattle.tora_core.specs.CoreRun.{is_from, up_after};
 ghost use Rattle.arrayvec.specs.ArrayVec.{array_vec_len};
@@ -36,18 +36,21 @@ pub struct Core {
     me: Id,
     neighbours: ArrayVec<Id, 8>,
     up: ArrayVec<Id, 8>,
+    destinations: ArrayVec<Id, 16>,
     views: Vec<Destination>,
 }
 
 impl Model for Core {
+    ghost use Rattle.std.specs.Prelude.{◌≡◌};
     ghost use Rattle.tora_core.specs.CoreRun.{CoreView};
-    ghost use Rattle.tora_core.specs.Kept.{IsCore};
+    ghost use Rattle.tora_core.specs.Kept.{IsCore, destinations_of};
 
     ghost Value = { CoreView };
 
     ghost view = { λ c. record { me = c.me; neighbours = c.neighbours.items; up = c.up.items; views = c.views.items } };
 
-    ghost invariant = { λ c. IsCore (record { me = c.me; neighbours = c.neighbours.items; up = c.up.items; views = c.views.items }) };
+    ghost invariant = { λ c. IsCore (record { me = c.me; neighbours = c.neighbours.items; up = c.up.items; views = c.views.items })
+        × (c.destinations.items ≡ destinations_of c.views.items) };
 }
 
 impl Core {
@@ -85,6 +88,7 @@ impl Core {
             me,
             neighbours: ascending(neighbours),
             up: ArrayVec::new(),
+            destinations: table,
             views,
         })
     }
@@ -102,6 +106,27 @@ impl Core {
         ensures { result.now ≡ self.now.neighbours }
     {
         self.neighbours.as_slice()
+    }
+
+    /// The destinations of the table, in ascending order.
+    pub fn destinations(&self) -> &[Id]
+        ensures { result.now ≡ destinations_of self.now.views }
+    {
+        self.destinations.as_slice()
+    }
+
+    /// The neighbours whose link is up, in ascending order.
+    pub fn up(&self) -> &[Id]
+        ensures { result.now ≡ self.now.up }
+    {
+        self.up.as_slice()
+    }
+
+    /// Whether the link to a neighbour is up; not so where it is no neighbour.
+    pub fn is_up(&self, k: Id) -> bool
+        ensures { result ≡ has_number k self.now.up }
+    {
+        has_number(k, self.up.as_slice())
     }
 
     /// Takes an input in at a tick, and answers the packets to every up neighbour.
@@ -188,12 +213,6 @@ impl Core {
         ensures { result ≡ has_number k self.now.neighbours }
     {
         has_number(k, self.neighbours.as_slice())
-    }
-
-    fn is_up(&self, k: Id) -> bool
-        ensures { result ≡ has_number k self.now.up }
-    {
-        has_number(k, self.up.as_slice())
     }
 
     /// The view of a destination.
