@@ -31,6 +31,12 @@ pub use relation::{
 use tora_height::Id;
 use tora_packet::Packet;
 
+/// The most neighbours of a node. Own profile.
+pub const MOST_NEIGHBOURS: usize = 8;
+
+/// The most destinations of a table. Own profile.
+pub const MOST_DESTINATIONS: usize = 16;
+
 /// What a core takes in.
 #[derive(Clone, Copy, Debug, PartialEq, Eq)]
 pub enum Input {
@@ -46,7 +52,7 @@ pub enum Input {
 
 /// The packets that one input broadcasts, at most one for each destination, by ascending destination. Each goes to
 /// every neighbour whose link is up after the input.
-pub type Sends = ArrayVec<Packet, 16>;
+pub type Sends = ArrayVec<Packet, MOST_DESTINATIONS>;
 
 #[cfg(test)]
 mod tests;

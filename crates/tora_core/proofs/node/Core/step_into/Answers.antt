@@ -7,7 +7,7 @@ use Rattle.tora_core.specs.View.{View}
 use Rattle.tora_core.specs.CoreRun.{CoreView, refusal_of, core_taking}
 use Rattle.tora_core.specs.Kept.{IsCore, CanTake}
 use Rattle.tora_core.proofs.CoreLemmas.{all-can_take, core-kept, destinations_of-next, room-up}
-use Rattle.tora_core.proofs.node.Core.take.Goals as goal
+use Rattle.tora_core.proofs.node.Core.step_into.Goals as goal
 
 pub step-requires-clause-may : goal.step-requires-clause-may
 step-requires-clause-may c =
