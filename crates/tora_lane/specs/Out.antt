@@ -1,5 +1,5 @@
 -- What a contract sees of a lane to a neighbour.
-use Rattle.std.specs.Prelude.{◌≡◌, ℕ, List}
+use Rattle.std.specs.Prelude.{◌≡◌, ℕ, List, [], ◌∷◌, ◌++◌}
 use denote.RawPtr.{Ptr}
 use Rattle.rtrb.specs.declared.producer.Producer.{Producer}
 use Rattle.rtrb.specs.declared.consumer.Consumer.{Consumer}
@@ -32,3 +32,7 @@ module _ {A P : Type 0} where
 -- the two ends of one lane
 abbrev pub AreEndsOf : SendEnd → ReceiveEnd → Type 0
 AreEndsOf s r = s.ring ≡ r.ring
+
+-- the end after it has sent one cargo more
+abbrev pub with_sent : SendEnd → Cargo → SendEnd
+with_sent end cargo = record end { sent = end.sent ++ cargo ∷ [] }

@@ -1,14 +1,29 @@
 //! Ruled lanes between the core thread and the neighbour threads.
+//!
+//! The lane into the core is a channel under a rule: of each seat, what the core has taken and then what the lane holds
+//! is what the seat has put, numbered from 1 without gaps. The lane to a neighbour is a ring with one producer and one
+//! consumer: what was received and then what is waiting is what was sent. Putting into the lane into the core and taking
+//! from it may wait. Sending to a neighbour and taking there wait for nobody, and take no memory. Own profile.
 #![tactic(auto)]
 
-mod opened;
+mod errors;
+mod laws;
+mod limits;
+mod making;
+mod node_lanes;
 mod out;
+mod out_puts;
 mod ports;
 mod rule;
-mod start;
+#[cfg(test)]
+mod tests;
 
-pub use tora_seat::{Cargo, Item, What};
-pub use opened::{LaneError, Lanes};
+pub use errors::LaneError;
+pub use laws::what_was_offered_was_sent;
+pub use limits::{CORE_LANE_ROOM, MOST_IN_ALL, MOST_LINKS, OUT_LANE_ROOM};
+pub use making::lanes;
+pub use node_lanes::Lanes;
 pub use out::{OutEnd, OutPut, OutTake, settle_out};
+pub use out_puts::OutPuts;
 pub use ports::{CorePort, Gone, InPort, Settled};
-pub use start::lanes;
+pub use tora_seat::{Cargo, Item, What};

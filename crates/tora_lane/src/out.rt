@@ -1,20 +1,15 @@
 //! The lane to a neighbour's thread.
 ghost use Rattle.std.specs.Prelude.{◌≡◌, ◌+◌, ◌^◌, ◌<◌, ◌≤◌, ◌++◌, ◌∷◌, [], List, length, IsOk, IsErr, OnOk, IfOk, IfErr, IfSome, IfNone};
-ghost use Rattle.tora_lane.specs.Out.{AreEndsOf};
+ghost use Rattle.tora_lane.specs.Out.{AreEndsOf, with_sent};
 ghost use Rattle.tora_seat.specs.declared.Cargo.{Cargo};
 
-use tora_seat::Cargo;
+use crate::limits::{MOST_IN_ALL, OUT_LANE_ROOM};
 use rtrb::{Consumer, Producer, PushError, RingBuffer};
 use std::alloc::{AllocError, Global};
 use std::marker::Model;
+use tora_seat::Cargo;
 
-/// Cargoes that a lane can hold.
-pub const ROOM: usize = 256;
-
-/// Cargoes that a lane takes in all.
-pub const MOST: u64 = 1 << 61;
-
-/// The core's end of a lane to a neighbour.
+/// The core's end of the lane to a neighbour. Contracts see all that it has sent, oldest first. Own profile.
 #[derive(Drop)]
 pub struct OutPut {
     producer: Producer<Cargo>,
@@ -33,7 +28,7 @@ impl Model for OutPut {
     ghost invariant = { λ o. (256 ≤ known_free o.producer + length (sent o.producer)) × (o.count ≡ length (sent o.producer)) × (o.count ≤ 2 ^ 61) };
 }
 
-/// The neighbour's end.
+/// The neighbour's end of the lane from the core. Contracts see all that it has received, oldest first. Own profile.
 #[derive(Drop)]
 pub struct OutTake {
     consumer: Consumer<Cargo>,
@@ -47,33 +42,40 @@ impl Model for OutTake {
     ghost view = { λ o. receive_end o.consumer };
 }
 
-/// How many cargoes went through a lane, and how many are left in it.
-#[derive(Clone, Copy, PartialEq, Debug)]
+/// How many cargoes went through a lane to a neighbour, and how many are left in it. Own profile.
+#[derive(Clone, Copy, Debug, PartialEq, Eq)]
 pub struct OutEnd {
+    /// How many cargoes were sent.
     pub sent: u64,
+    /// How many of them were received.
     pub received: u64,
+    /// How many of them are left in the lane.
     pub waiting: u64,
 }
 
-/// A lane with nothing in it.
-pub fn out_lane(alloc: Global) -> Result<(OutPut, OutTake), AllocError>
+// A lane with nothing in it.
+pub(crate) fn out_lane(alloc: Global) -> Result<(OutPut, OutTake), AllocError>
     ensures { IfOk result (λ r. AreEndsOf r.0 r.1 × (r.0.sent ≡ []) × (r.1.received ≡ [])) }
 {
-    let (producer, consumer) = RingBuffer::new(alloc, ROOM)?;
+    let (producer, consumer) = RingBuffer::new(alloc, OUT_LANE_ROOM)?;
     let put = OutPut { producer, count: 0 };
     Ok((put, OutTake { consumer }))
 }
 
 impl OutPut {
-    /// Appends the cargo, or hands it back where the lane is full or was used up.
+    /// Appends the cargo to what was sent. It waits for nobody, and takes no memory.
+    ///
+    /// # Errors
+    ///
+    /// The cargo is handed back, and the lane is as it was, where the lane is full, which it is not before 256 cargoes
+    /// were sent, and always once 2^61 were sent.
     pub fn send(&mut self, cargo: Cargo) -> Result<(), Cargo>
-        ensures lane { self.new.ring ≡ self.old.ring }
-        ensures put { OnOk result (self.new.sent ≡ self.old.sent ++ cargo ∷ []) }
-        ensures back { IfErr result (λ c. (c ≡ cargo) × (self.new.sent ≡ self.old.sent)) }
-        ensures room { length self.old.sent < 256 → IsOk result }
-        ensures spent { 2 ^ 61 ≤ length self.old.sent → IsErr result }
+        ensures put { OnOk result (self.new ≡ with_sent self.old cargo) }
+        ensures back { IfErr result (λ c. (c ≡ cargo) × (self.new ≡ self.old)) }
+        ensures room { length self.old.sent < OUT_LANE_ROOM → IsOk result }
+        ensures spent { MOST_IN_ALL ≤ length self.old.sent → IsErr result }
     {
-        if self.count >= MOST {
+        if self.count >= MOST_IN_ALL {
             return Err(cargo);
         }
         match self.producer.push(cargo) {
@@ -87,7 +89,7 @@ impl OutPut {
 }
 
 impl OutTake {
-    /// Takes the oldest cargo.
+    /// Takes the oldest cargo of the lane, or None where none was found there. It waits for nobody, and takes no memory.
     pub fn take(&mut self) -> Option<Cargo>
         ensures lane { self.new.ring ≡ self.old.ring }
         ensures taken { IfSome result (λ c. self.new.received ≡ self.old.received ++ c ∷ []) }
@@ -100,7 +102,8 @@ impl OutTake {
     }
 }
 
-/// What was received, followed by what is waiting, is what was sent.
+/// Brings both ends of a lane together, once each has ended its work, and tells what became of the cargoes: what was
+/// received and then what is left in the lane is what was sent. Own profile.
 pub fn settle_out(put: OutPut, take: OutTake) -> OutEnd
     requires { AreEndsOf put take }
     ensures { (waiting : List Cargo) × (take.received ++ waiting ≡ put.sent) × (result.sent ≡ length put.sent) × (result.received ≡ length take.received) × (result.waiting ≡ length waiting) }

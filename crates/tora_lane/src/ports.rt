@@ -5,16 +5,18 @@ ghost use Rattle.tora_lane.specs.LaneRule.{items_of};
 ghost use Rattle.tora_lane.specs.Ports.{IsPortOf, IsChannelOf, new_item, new_port, new_core};
 ghost use Rattle.tora_seat.specs.declared.Item.{Item};
 
-use tora_seat::{Item, What};
-use crate::out::MOST;
+use crate::limits::{CORE_LANE_ROOM, MOST_IN_ALL};
 use crate::rule::{LaneRule, LaneView, NewSeat, Puts, Settles, Takes};
 use crossbeam_channel::{Pass, RuledReceiver, RuledSender, bounded_with};
 use std::alloc::{AllocError, Global};
 use std::marker::Model;
 use std::sync::Wait;
+use thiserror::Error;
+use tora_seat::{Item, What};
 
-/// The other side of the lane has ended, or the seat was used up.
-#[derive(Clone, Copy, PartialEq, Debug)]
+/// The other side of the lane has ended, or the seat was used up. A port that answers it answers it for good. Own profile.
+#[derive(Clone, Copy, Debug, PartialEq, Eq, Error)]
+#[error("the lane has ended")]
 pub struct Gone;
 
 pub(crate) type Sender = RuledSender<Item, LaneView, LaneRule>;
@@ -23,7 +25,8 @@ type Receiver = RuledReceiver<Item, LaneView, LaneRule>;
 
 type LanePass = Pass<Item, LaneView>;
 
-/// The port of one seat.
+/// The port of one seat of the lane into the core. Contracts see its lane, its seat, all that it has put, and whether it
+/// has answered `Gone`. Own profile.
 #[derive(Drop)]
 pub struct InPort {
     sender: Sender,
@@ -47,7 +50,8 @@ impl Model for InPort {
     ghost invariant = { λ p. IsSeatAt (sends_on p.sender) p.pass × (lane_view p.pass ≡ Seat p.seat (own_of (lane_view p.pass))) × (p.count ≡ length (own_of (lane_view p.pass))) × (p.count ≤ 2 ^ 61) };
 }
 
-/// The core's port.
+/// The core's port of the lane into the core. Contracts see its lane, how many seats there are, all that it has taken, and
+/// whether it has answered `Gone`. Own profile.
 #[derive(Drop)]
 pub struct CorePort {
     receiver: Receiver,
@@ -71,26 +75,37 @@ impl Model for CorePort {
     ghost invariant = { λ p. IsSeatAt (receives_on p.receiver) p.pass × (lane_view p.pass ≡ Core (length p.counts.items) (took_of (lane_view p.pass)) (known_of (lane_view p.pass))) × ((s : ℕ) → s < length p.counts.items → slice_index p.counts.items s ≡ length (items_of s (took_of (lane_view p.pass)))) };
 }
 
-/// What a seat has put, and what became of it.
-#[derive(Clone, Copy, PartialEq, Debug)]
+/// What a seat has put, and what became of it. Own profile.
+#[derive(Clone, Copy, Debug, PartialEq, Eq)]
 pub struct Settled {
+    /// The seat.
     pub seat: usize,
+    /// How many items it has put.
     pub put: u64,
+    /// How many of them the core has taken.
     pub taken: u64,
+    /// How many of them are left in the lane.
     pub left: u64,
 }
 
 impl InPort {
-    /// Adds an item at the back of the lane, with the next number of the seat. It may wait.
+    /// Puts an item at the back of the lane into the core, with the next number of the seat. It may wait.
+    ///
+    /// `now` is the tick of 100 ms at which it is put.
+    ///
+    /// # Errors
+    ///
+    /// `Gone` where the core's port has ended, or where the seat has put 2^61 items, and from then on. What was put is as
+    /// it was.
     pub fn put<R: Wait>(&mut self, rt: &R, now: u64, what: What) -> Result<(), Gone>
         ensures lane { (self.new.lane ≡ self.old.lane) × (self.new.seat ≡ self.old.seat) }
         ensures put { OnOk result (self.new.put ≡ self.old.put ++ new_item self.old.seat (length self.old.put + 1) now what ∷ []) }
         ensures open { OnOk result (self.new.gone ≡ false) }
         ensures gone { OnErr result ((self.new.put ≡ self.old.put) × (self.new.gone ≡ true)) }
         ensures stays { self.old.gone ≡ true → IsErr result }
-        ensures most { 2 ^ 61 ≤ length self.old.put → IsErr result }
+        ensures most { MOST_IN_ALL ≤ length self.old.put → IsErr result }
     {
-        if self.gone || self.count >= MOST {
+        if self.gone || self.count >= MOST_IN_ALL {
             self.gone = true;
             return Err(Gone);
         }
@@ -113,15 +128,12 @@ impl InPort {
     }
 }
 
-/// Items that the lane into the core can hold.
-pub const CORE_ROOM: usize = 1024;
-
 // A lane with no seat, and its sender.
 pub(crate) fn core_lane(alloc: Global) -> Result<(CorePort, Sender), AllocError>
     ensures { IfOk result (λ r. (r.0 ≡ new_core r.0.lane 0) × IsChannelOf r.0.lane (sends_on r.1)) }
 {
     let (sender, receiver, pass) = bounded_with::<Item, LaneView, LaneRule, Global>(
-        alloc, CORE_ROOM,
+        alloc, CORE_LANE_ROOM,
     )?;
     let core = CorePort {
         receiver,
@@ -153,7 +165,11 @@ impl CorePort {
         })
     }
 
-    /// Takes the front of the lane. It may wait.
+    /// Takes the item at the front of the lane into the core: of its seat the one with the next number. It may wait.
+    ///
+    /// # Errors
+    ///
+    /// `Gone` where all ports of seats have ended, and from then on. What was taken is as it was.
     pub fn take<R: Wait>(&mut self, rt: &R) -> Result<Item, Gone>
         ensures lane { (self.new.lane ≡ self.old.lane) × (self.new.seats ≡ self.old.seats) }
         ensures taken { IfOk result (λ x. (self.new.taken ≡ self.old.taken ++ x ∷ []) × (x.seat < self.old.seats) × (x.number ≡ length (items_of x.seat self.old.taken) + 1)) }
@@ -176,7 +192,8 @@ impl CorePort {
         }
     }
 
-    /// Takes in the port of a seat whose thread has ended. What was taken of the seat, followed by what is left in the lane, is what it has put.
+    /// Takes in the port of a seat once its thread has ended, and tells what became of its items: what was taken of the
+    /// seat and then what is left of it in the lane is what it has put.
     pub fn settle<R: Wait>(&mut self, _rt: &R, port: InPort) -> Settled
         requires { IsPortOf self.old port }
         ensures same { self.new ≡ self.old }

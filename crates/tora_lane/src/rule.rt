@@ -1,7 +1,7 @@
 //! The rule of the lane into the core. The types here are for the proofs alone.
-use tora_seat::Item;
 use crossbeam_channel::protocol::{Join, Lesson, Outcome, Protocol, Split};
 use std::collections::LinkedList;
+use tora_seat::Item;
 
 /// What the holder of a pass knows. No value of it is made.
 pub enum LaneView {
@@ -13,6 +13,7 @@ pub enum LaneView {
     Spent,
 }
 
+/// The rule of the lane: of each seat, what was taken and then what the lane holds is what was put.
 pub struct LaneRule;
 
 impl Protocol<Item, LaneView> for LaneRule {
@@ -25,6 +26,7 @@ impl Protocol<Item, LaneView> for LaneRule {
     ghost first = { Core 0 [] [] };
 }
 
+/// A seat puts an item.
 pub struct Puts;
 
 impl Outcome<Item, LaneView> for Puts {
@@ -38,6 +40,7 @@ impl Lesson<Item, LaneView> for Puts {
     ghost fact = { λ v items. Unit {0} };
 }
 
+/// The core takes an item.
 pub struct Takes;
 
 impl Outcome<Item, LaneView> for Takes {
@@ -51,6 +54,7 @@ impl Lesson<Item, LaneView> for Takes {
     ghost fact = { λ v items. Unit {0} };
 }
 
+/// The core makes the next seat.
 pub struct NewSeat;
 
 impl Split<LaneView> for NewSeat {
@@ -61,6 +65,7 @@ impl Split<LaneView> for NewSeat {
     ghost right = { new_seat };
 }
 
+/// The core takes in a seat, and learns what became of its items.
 pub struct Settles;
 
 impl Join<LaneView> for Settles {
