@@ -5,8 +5,10 @@
 #![tactic(auto)]
 
 mod lanes;
+mod rows;
 
 pub use lanes::OutLanes;
+pub use rows::LinkRow;
 use tora_arq::{Life, Reason};
 use tora_core::StepError;
 use tora_height::Id;
@@ -65,4 +67,15 @@ pub enum Answer {
     Show,
     /// The core is to end.
     Quit,
+}
+
+/// A packet of a neighbour that was handed to the core.
+#[derive(Clone, Copy, Debug, PartialEq, Eq)]
+pub struct Stepped {
+    /// The neighbour.
+    pub from: Id,
+    /// The life that it came in.
+    pub life: Life,
+    /// The packet.
+    pub packet: Packet,
 }
