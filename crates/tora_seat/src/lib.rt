@@ -4,9 +4,11 @@
 //! packets of the current life, and that a life is cut. Own profile.
 #![tactic(auto)]
 
+mod inputs;
 mod lanes;
 mod rows;
 
+pub use inputs::accepted_inputs_make_the_core;
 pub use lanes::OutLanes;
 pub use rows::LinkRow;
 use tora_arq::{Life, Reason};

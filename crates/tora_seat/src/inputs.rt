@@ -1,0 +1,11 @@
+//! What the inputs that a core accepted in an item make of it.
+ghost use Rattle.std.specs.Prelude.{◌≡◌, ℕ, List};
+ghost use Rattle.tora_core.specs.CoreRun.{core_after_all};
+ghost use Rattle.tora_seat.specs.Serving.{Answers, SeatState, serving_of};
+ghost use Rattle.tora_seat.specs.declared.Item.{Item};
+
+/// The core after an item is the run of the inputs that it accepted in it, each with the tick of the item.
+pub fn accepted_inputs_make_the_core()
+    ensures runs { (answers : Answers) (neighbours : List ℕ) (seat : SeatState) (item : Item)
+        → (serving_of answers neighbours seat item).seat.core ≡ core_after_all seat.core (serving_of answers neighbours seat item).inputs }
+{}
