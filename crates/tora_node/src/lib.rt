@@ -6,9 +6,12 @@
 
 mod commands;
 mod config;
+mod core_thread;
 mod log_hub;
 mod node;
 
 pub use commands::{Command, LONGEST_COMMAND, command_of, run_commands};
 pub use config::Config;
+pub use core_thread::{CoreEnd, run_core};
 pub use log_hub::LogHub;
+pub use node::{Ended, run_node};

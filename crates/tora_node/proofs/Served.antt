@@ -1,0 +1,95 @@
+-- Items that are served one after another.
+use Rattle.std.proofs.Common.{◌≡◌, ℕ, List, [], ◌∷◌, ◌++◌, refl, sym, ap, ap₂, subst, ◌∙◌, append_assoc, append-nil, Option, Some, None}
+use Rattle.std.specs.Prelude.{Bool}
+use Rattle.std.specs.Io.KnownBytes.{Appends}
+use Rattle.tora_core.specs.declared.Input.{Input}
+use Rattle.tora_core.specs.CoreRun.{CoreView, core_after, core_after_all}
+use Rattle.tora_seat.specs.declared.Item.{Item}
+use Rattle.tora_seat.specs.declared.Cargo.{Cargo}
+use Rattle.tora_seat.specs.Serving.{Answers, Offer, SeatState, Serving, serving_of}
+use Rattle.tora_seat.specs.Offers.{AreOffered, Follows}
+use Rattle.tora_node.specs.CoreRuns.{ServedItem, answers_told, serving_told, AreServed, items_served, offers_made, inputs_stepped, text_of, text_served}
+use Rattle.tora_node.proofs.Told.{told_follows, offered_then}
+
+items_more : (xs : List ServedItem) (x : ServedItem) → items_served (xs ++ x ∷ []) ≡ items_served xs ++ x.item ∷ []
+items_more [] x = refl
+items_more (y ∷ xs) x = ap (λ (l : List Item). y.item ∷ l) (items_more xs x)
+
+offers_more : (xs : List ServedItem) (x : ServedItem) → offers_made (xs ++ x ∷ []) ≡ offers_made xs ++ x.offers
+offers_more [] x = append-nil x.offers
+offers_more (y ∷ xs) x = ap (λ (l : List Offer). y.offers ++ l) (offers_more xs x) ∙ sym (append_assoc y.offers (offers_made xs) x.offers)
+
+served_more : (ks : List ℕ) (s mid : SeatState) (xs : List ServedItem) (x : ServedItem) → AreServed ks s xs mid → (serving_told ks mid x).offers ≡ x.offers → AreServed ks s (xs ++ x ∷ []) (serving_told ks mid x).seat
+served_more ks s mid [] x p q = subst (λ (t : SeatState). ((serving_told ks t x).offers ≡ x.offers) × ((serving_told ks mid x).seat ≡ (serving_told ks t x).seat)) p (q, refl)
+served_more ks s mid (y ∷ xs) x p q = (p.0, served_more ks (serving_told ks s y).seat mid xs x p.1 q)
+
+text_more : (ks : List ℕ) (s mid : SeatState) (xs : List ServedItem) (x : ServedItem) → AreServed ks s xs mid → text_served ks s (xs ++ x ∷ []) ≡ text_served ks s xs ++ text_of x.item (serving_told ks mid x)
+text_more ks s mid [] x p = subst (λ (t : SeatState). text_served ks t (x ∷ []) ≡ text_of x.item (serving_told ks mid x)) p (append-nil (text_of x.item (serving_told ks mid x)))
+text_more ks s mid (y ∷ xs) x p =
+    let t : Serving = serving_told ks s y in
+    ap (λ (l : List ℕ). text_of y.item t ++ l) (text_more ks t.seat mid xs x p.1) ∙ sym (append_assoc (text_of y.item t) (text_served ks t.seat xs) (text_of x.item (serving_told ks mid x)))
+
+-- ---- a run: what was taken, offered and written since its start
+
+pub record Ran {O : Type 0} (did : O → ℕ → Cargo → Bool → O → Type 0) (ks : List ℕ) (s : SeatState) (outs : O) (taken : List Item) (old : Option (List ℕ))
+    (now : SeatState) (outs_now : O) (taken_now : List Item) (new : Option (List ℕ)) : Type 0 where
+  pub xs : List ServedItem
+  pub taken_is : taken_now ≡ taken ++ items_served xs
+  pub served : AreServed ks s xs now
+  pub offered : AreOffered did ks outs (offers_made xs) outs_now
+  pub written : Appends old new (text_served ks s xs)
+
+Appends-nil : (old : Option (List ℕ)) → Appends old old []
+Appends-nil None = tt
+Appends-nil (Some xs) = sym (append-nil xs)
+
+Appends-then : (a b c : Option (List ℕ)) (xs ys : List ℕ) → Appends a b xs → Appends b c ys → Appends a c (xs ++ ys)
+Appends-then None b c xs ys p q = tt
+Appends-then (Some a) None c xs ys p q = absurd p
+Appends-then (Some a) (Some b) None xs ys p q = absurd q
+Appends-then (Some a) (Some b) (Some c) xs ys p q = q ∙ ap (λ (t : List ℕ). t ++ ys) p ∙ append_assoc a xs ys
+
+abbrev pub nothing_ran : {O : Type 0} → (did : O → ℕ → Cargo → Bool → O → Type 0) (ks : List ℕ) (s : SeatState) (outs : O) (taken : List Item) (old : Option (List ℕ)) → Ran did ks s outs taken old s outs taken old
+nothing_ran did ks s outs taken old = record { xs = []; taken_is = sym (append-nil taken); served = refl; offered = refl; written = Appends-nil old }
+
+-- one more item: it was taken, served with these offers, and what it asks for was written
+module _ {O : Type 0} (did : O → ℕ → Cargo → Bool → O → Type 0) (ks : List ℕ) (s : SeatState) (outs : O) (taken : List Item) (old : Option (List ℕ))
+    (mid : SeatState) (outs_mid : O) (taken_mid : List Item) (mid_text : Option (List ℕ)) (r : Ran did ks s outs taken old mid outs_mid taken_mid mid_text)
+    (item : Item) (offers : List Offer) (outs_new : O) (taken_new : List Item) (v : Serving) where
+  abbrev pub one : ServedItem
+  one = record { item = item; offers = offers }
+
+  served_as : ((answers : Answers) → Follows answers [] offers → serving_of answers ks mid item ≡ v) → serving_told ks mid one ≡ v
+  served_as f = f (answers_told offers) (told_follows [] offers)
+
+  -- what holds whether or not its text was written
+  pub served_one : ((answers : Answers) → Follows answers [] offers → serving_of answers ks mid item ≡ v) → v.offers ≡ offers → AreServed ks s (r.xs ++ one ∷ []) v.seat
+  served_one f e = subst (λ (w : Serving). AreServed ks s (r.xs ++ one ∷ []) w.seat) (served_as f)
+      (served_more ks s mid r.xs one r.served (ap (λ (w : Serving). w.offers) (served_as f) ∙ e))
+
+  pub offered_one : AreOffered did ks outs_mid offers outs_new → AreOffered did ks outs (offers_made (r.xs ++ one ∷ [])) outs_new
+  offered_one a = subst (λ (l : List Offer). AreOffered did ks outs l outs_new) (sym (offers_more r.xs one)) (offered_then did ks outs outs_mid outs_new (offers_made r.xs) offers r.offered a)
+
+  pub taken_one : taken_new ≡ taken_mid ++ item ∷ [] → taken_new ≡ taken ++ items_served (r.xs ++ one ∷ [])
+  taken_one e = e ∙ ap (λ (l : List Item). l ++ item ∷ []) r.taken_is ∙ append_assoc taken (items_served r.xs) (item ∷ []) ∙ ap (λ (l : List Item). taken ++ l) (sym (items_more r.xs one))
+
+  pub written_one : ((answers : Answers) → Follows answers [] offers → serving_of answers ks mid item ≡ v) → (new : Option (List ℕ)) → Appends mid_text new (text_of item v) → Appends old new (text_served ks s (r.xs ++ one ∷ []))
+  written_one f new w =
+      subst (λ (l : List ℕ). Appends old new l) (sym (text_more ks s mid r.xs one r.served))
+      (Appends-then old mid_text new (text_served ks s r.xs) (text_of item (serving_told ks mid one)) r.written
+      (subst (λ (u : Serving). Appends mid_text new (text_of item u)) (sym (served_as f)) w))
+
+-- ---- the core
+
+runs_then : (c : CoreView) (xs ys : List (Input × ℕ)) → core_after_all c (xs ++ ys) ≡ core_after_all (core_after_all c xs) ys
+runs_then c [] ys = refl
+runs_then c ((i, t) ∷ xs) ys = runs_then (core_after c i t) xs ys
+
+abbrev pub Accepts : Type 0
+Accepts = (answers : Answers) (ks : List ℕ) (seat : SeatState) (item : Item) → (serving_of answers ks seat item).seat.core ≡ core_after_all seat.core (serving_of answers ks seat item).inputs
+
+pub core_is : Accepts → (ks : List ℕ) (s after : SeatState) (xs : List ServedItem) → AreServed ks s xs after → after.core ≡ core_after_all s.core (inputs_stepped ks s xs)
+core_is law ks s after [] p = ap (λ (t : SeatState). t.core) p
+core_is law ks s after (x ∷ xs) p =
+    let t : Serving = serving_told ks s x in
+    core_is law ks t.seat after xs p.1 ∙ ap (λ (c : CoreView). core_after_all c (inputs_stepped ks t.seat xs)) (law (answers_told x.offers) ks s x.item) ∙ sym (runs_then s.core t.inputs (inputs_stepped ks t.seat xs))
