@@ -190,7 +190,8 @@ impl Core {
         has_number(k, self.neighbours.as_slice())
     }
 
-    fn is_up(&self, k: Id) -> bool
+    /// Whether the link to neighbour `k` is up; not so where `k` is no neighbour.
+    pub fn is_up(&self, k: Id) -> bool
         ensures { result ≡ has_number k self.now.up }
     {
         has_number(k, self.up.as_slice())

@@ -6,9 +6,11 @@
 
 mod lanes;
 mod rows;
+mod seat;
 
 pub use lanes::OutLanes;
 pub use rows::LinkRow;
+pub use seat::CoreSeat;
 use tora_arq::{Life, Reason};
 use tora_core::StepError;
 use tora_height::Id;
