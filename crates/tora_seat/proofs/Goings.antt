@@ -176,7 +176,7 @@ unfolding after_broadcast
 sents_nil packet answers v = refl
 
 -- a row in its place
-at_place : (P : List LinkRow → ℕ → LinkRow → List LinkRow → Type 0) (rows : List LinkRow) (i : ℕ) (d new : LinkRow) → i < length rows →
+pub at_place : (P : List LinkRow → ℕ → LinkRow → List LinkRow → Type 0) (rows : List LinkRow) (i : ℕ) (d new : LinkRow) → i < length rows →
     ((pre : List LinkRow) (row : LinkRow) (rest : List LinkRow) → length pre ≡ i → row ≡ get_or rows i d → P (pre ++ row ∷ rest) (length pre) row (pre ++ new ∷ rest)) → P rows i (get_or rows i d) (set rows i new)
 at_place P rows i d new lt f =
     let n = length_take rows i lt in

@@ -2,3 +2,6 @@ pub mod Chains
 pub mod Places
 pub mod Goings
 mod CoreFollows
+pub mod Steps
+pub mod Seats
+pub mod Ups

@@ -1,9 +1,11 @@
 -- What the core's seat keeps: the core, a row for each neighbour, and what the last item came to.
-use Rattle.std.specs.Prelude.{ℕ, ◌==◌, Bool, if◌then◌else◌, List, [], ◌∷◌, map, Option, None, Some}
+use Rattle.std.specs.Prelude.{ℕ, ◌==◌, Bool, if◌then◌else◌, List, [], ◌∷◌, map, find, option_map, is_none, ◌&&◌, Option, None, Some}
 use Rattle.tora_arq.specs.declared.Life.{Life}
 use Rattle.tora_core.specs.declared.Input.{Input}
 use Rattle.tora_core.specs.CoreRun.{CoreView}
+use Rattle.tora_core.specs.Numbers.{has_number}
 use Rattle.tora_seat.specs.declared.Answer.{Answer}
+use Rattle.tora_seat.specs.declared.Answer.TheVariants as Says
 use Rattle.tora_seat.specs.declared.rows.LinkRow.{LinkRow}
 use Rattle.tora_seat.specs.declared.Stepped.{Stepped}
 use Rattle.tora_seat.specs.Serving.{SeatState, Serving, Step, Offer}
@@ -47,3 +49,18 @@ serving_at now s offers = record {
   steps = steps_of s.stepped;
   answer = s.answer;
 }
+
+-- a row of a new seat
+abbrev pub new_row : ℕ → LinkRow
+new_row k = record { neighbour = k; current = None; pending = None }
+
+-- the seat of a core, with no life at all
+abbrev pub first_seat : CoreView → SeatView
+first_seat core = record { core = core; rows = map new_row core.neighbours; inputs = []; stepped = None; answer = Says.Nothing }
+
+-- the link is up at the core, and no life is current
+abbrev pub is_cut : CoreView → LinkRow → Bool
+is_cut core row = has_number row.neighbour core.up && is_none row.current
+
+abbrev pub first_cut_of : CoreView → List LinkRow → Option ℕ
+first_cut_of core rows = option_map (λ row. row.neighbour) (find (is_cut core) rows)

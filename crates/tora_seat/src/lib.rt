@@ -7,10 +7,12 @@
 mod inputs;
 mod lanes;
 mod rows;
+mod seat;
 
 pub use inputs::accepted_inputs_make_the_core;
 pub use lanes::OutLanes;
 pub use rows::LinkRow;
+pub use seat::CoreSeat;
 use tora_arq::{Life, Reason};
 use tora_core::StepError;
 use tora_height::Id;
