@@ -39,7 +39,7 @@ pub record Ran {O : Type 0} (did : O → ℕ → Cargo → Bool → O → Type 0
   pub offered : AreOffered did ks outs (offers_made xs) outs_now
   pub written : Appends old new (text_served ks s xs)
 
-Appends-nil : (old : Option (List ℕ)) → Appends old old []
+pub Appends-nil : (old : Option (List ℕ)) → Appends old old []
 Appends-nil None = tt
 Appends-nil (Some xs) = sym (append-nil xs)
 
@@ -52,32 +52,45 @@ Appends-then (Some a) (Some b) (Some c) xs ys p q = q ∙ ap (λ (t : List ℕ).
 abbrev pub nothing_ran : {O : Type 0} → (did : O → ℕ → Cargo → Bool → O → Type 0) (ks : List ℕ) (s : SeatState) (outs : O) (taken : List Item) (old : Option (List ℕ)) → Ran did ks s outs taken old s outs taken old
 nothing_ran did ks s outs taken old = record { xs = []; taken_is = sym (append-nil taken); served = refl; offered = refl; written = Appends-nil old }
 
--- one more item: it was taken, served with these offers, and what it asks for was written
+-- one more item was taken and served, with these offers; what it asks for is still to be written
+pub record Done {O : Type 0} (did : O → ℕ → Cargo → Bool → O → Type 0) (ks : List ℕ) (s : SeatState) (outs : O) (taken : List Item) (old : Option (List ℕ))
+    (item : Item) (v : Serving) (outs_new : O) (taken_new : List Item) (mid_text : Option (List ℕ)) : Type 0 where
+  pub front : List ServedItem
+  pub x : ServedItem
+  pub item_is : x.item ≡ item
+  pub taken_is : taken_new ≡ taken ++ items_served (front ++ x ∷ [])
+  pub served : AreServed ks s (front ++ x ∷ []) v.seat
+  pub offered : AreOffered did ks outs (offers_made (front ++ x ∷ [])) outs_new
+  pub written : (new : Option (List ℕ)) → Appends mid_text new (text_of item v) → Appends old new (text_served ks s (front ++ x ∷ []))
+
 module _ {O : Type 0} (did : O → ℕ → Cargo → Bool → O → Type 0) (ks : List ℕ) (s : SeatState) (outs : O) (taken : List Item) (old : Option (List ℕ))
     (mid : SeatState) (outs_mid : O) (taken_mid : List Item) (mid_text : Option (List ℕ)) (r : Ran did ks s outs taken old mid outs_mid taken_mid mid_text)
     (item : Item) (offers : List Offer) (outs_new : O) (taken_new : List Item) (v : Serving) where
-  abbrev pub one : ServedItem
-  one = record { item = item; offers = offers }
+  abbrev pub Agrees : List ℕ → Type 0
+  Agrees ks = (answers : Answers) → Follows answers [] offers → serving_of answers ks mid item ≡ v
 
-  served_as : ((answers : Answers) → Follows answers [] offers → serving_of answers ks mid item ≡ v) → serving_told ks mid one ≡ v
+  served_as : Agrees ks → serving_told ks mid (record { item = item; offers = offers }) ≡ v
   served_as f = f (answers_told offers) (told_follows [] offers)
 
-  -- what holds whether or not its text was written
-  pub served_one : ((answers : Answers) → Follows answers [] offers → serving_of answers ks mid item ≡ v) → v.offers ≡ offers → AreServed ks s (r.xs ++ one ∷ []) v.seat
-  served_one f e = subst (λ (w : Serving). AreServed ks s (r.xs ++ one ∷ []) w.seat) (served_as f)
-      (served_more ks s mid r.xs one r.served (ap (λ (w : Serving). w.offers) (served_as f) ∙ e))
+  done_here : taken_new ≡ taken_mid ++ item ∷ [] → AreOffered did ks outs_mid offers outs_new → Agrees ks → v.offers ≡ offers → Done did ks s outs taken old item v outs_new taken_new mid_text
+  done_here e a f same =
+      let x : ServedItem = record { item = item; offers = offers } in
+      record {
+        front = r.xs;
+        x = x;
+        item_is = refl;
+        taken_is = e ∙ ap (λ (l : List Item). l ++ item ∷ []) r.taken_is ∙ append_assoc taken (items_served r.xs) (item ∷ []) ∙ ap (λ (l : List Item). taken ++ l) (sym (items_more r.xs x));
+        served = subst (λ (w : Serving). AreServed ks s (r.xs ++ x ∷ []) w.seat) (served_as f) (served_more ks s mid r.xs x r.served (ap (λ (w : Serving). w.offers) (served_as f) ∙ same));
+        offered = subst (λ (l : List Offer). AreOffered did ks outs l outs_new) (sym (offers_more r.xs x)) (offered_then did ks outs outs_mid outs_new (offers_made r.xs) offers r.offered a);
+        written = λ new w.
+            subst (λ (l : List ℕ). Appends old new l) (sym (text_more ks s mid r.xs x r.served))
+            (Appends-then old mid_text new (text_served ks s r.xs) (text_of item (serving_told ks mid x)) r.written
+            (subst (λ (u : Serving). Appends mid_text new (text_of item u)) (sym (served_as f)) w));
+      }
 
-  pub offered_one : AreOffered did ks outs_mid offers outs_new → AreOffered did ks outs (offers_made (r.xs ++ one ∷ [])) outs_new
-  offered_one a = subst (λ (l : List Offer). AreOffered did ks outs l outs_new) (sym (offers_more r.xs one)) (offered_then did ks outs outs_mid outs_new (offers_made r.xs) offers r.offered a)
-
-  pub taken_one : taken_new ≡ taken_mid ++ item ∷ [] → taken_new ≡ taken ++ items_served (r.xs ++ one ∷ [])
-  taken_one e = e ∙ ap (λ (l : List Item). l ++ item ∷ []) r.taken_is ∙ append_assoc taken (items_served r.xs) (item ∷ []) ∙ ap (λ (l : List Item). taken ++ l) (sym (items_more r.xs one))
-
-  pub written_one : ((answers : Answers) → Follows answers [] offers → serving_of answers ks mid item ≡ v) → (new : Option (List ℕ)) → Appends mid_text new (text_of item v) → Appends old new (text_served ks s (r.xs ++ one ∷ []))
-  written_one f new w =
-      subst (λ (l : List ℕ). Appends old new l) (sym (text_more ks s mid r.xs one r.served))
-      (Appends-then old mid_text new (text_served ks s r.xs) (text_of item (serving_told ks mid one)) r.written
-      (subst (λ (u : Serving). Appends mid_text new (text_of item u)) (sym (served_as f)) w))
+  -- the neighbours are those of the start
+  pub done : (now : List ℕ) → now ≡ ks → taken_new ≡ taken_mid ++ item ∷ [] → AreOffered did now outs_mid offers outs_new → Agrees now → v.offers ≡ offers → Done did ks s outs taken old item v outs_new taken_new mid_text
+  done now e t a f same = done_here t (subst (λ (l : List ℕ). AreOffered did l outs_mid offers outs_new) e a) (subst Agrees e f) same
 
 -- ---- the core
 

@@ -13,7 +13,7 @@ use std::io::Write;
 use std::sync::Wait;
 use tora_lane::CorePort;
 use tora_neighbour::NodeError;
-use tora_seat::{Answer, CoreSeat, OutLanes, What};
+use tora_seat::{Answer, CoreSeat, OutLanes, What, accepted_inputs_make_the_core};
 
 /// What is left of the core's thread.
 #[derive(Drop)]
@@ -117,31 +117,39 @@ pub fn run_core<R: Wait, O: OutLanes, W: Write>(
     let mut seat = seat;
     let mut port = port;
     let mut outs = outs;
+    accepted_inputs_make_the_core();
     for _ in rt.forever() {
-        let Ok(item) = port.take(rt) else {
-            return CoreEnd {
-                seat,
-                port,
-                outs,
-                fault: None,
-            };
-        };
-        let answer = seat.serve(&item, &mut outs);
-        if is_quit(&item.what) {
-            return CoreEnd {
-                seat,
-                port,
-                outs,
-                fault: None,
-            };
-        }
-        if let Err(fault) = reply(alloc, &seat, &item.what, &answer, writer) {
-            return CoreEnd {
-                seat,
-                port,
-                outs,
-                fault: Some(fault),
-            };
+        match port.take(rt) {
+            Err(_) => {
+                return CoreEnd {
+                    seat,
+                    port,
+                    outs,
+                    fault: None,
+                };
+            }
+            Ok(item) => {
+                let answer = seat.serve(&item, &mut outs);
+                if is_quit(&item.what) {
+                    return CoreEnd {
+                        seat,
+                        port,
+                        outs,
+                        fault: None,
+                    };
+                }
+                match reply(alloc, &seat, &item.what, &answer, writer) {
+                    Ok(()) => {}
+                    Err(fault) => {
+                        return CoreEnd {
+                            seat,
+                            port,
+                            outs,
+                            fault: Some(fault),
+                        };
+                    }
+                }
+            }
         }
     }
     unreachable!()

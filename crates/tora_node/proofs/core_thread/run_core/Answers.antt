@@ -1,0 +1,96 @@
+use Rattle.std.proofs.Common.{◌≡◌, ◌≤◌, ◌++◌, ◌∷◌, [], ℕ, List, length, refl, sym, ap, subst, ◌∙◌, inl, inr, arith, Some, None, Option}
+use Rattle.std.specs.Io.KnownBytes.{Appends}
+use Rattle.tora_seat.specs.declared.Item.{Item}
+use Rattle.tora_seat.specs.Rows.{state_of, serving_at}
+use Rattle.tora_seat.specs.declared.Answer.{Answer}
+use Rattle.tora_seat.specs.declared.What.{What}
+use Rattle.tora_seat.specs.declared.What.TheVariants.{Quit}
+use Rattle.tora_node.specs.CoreRuns.{reply_text, MayFail}
+use Rattle.tora_node.proofs.Served.{Appends-nil, nothing_ran, done, core_is}
+use Rattle.tora_node.proofs.core_thread.run_core.Goals as goal
+
+pub loop-init : goal.loop-init
+loop-init g c = record {
+  lanes = c.requires;
+  neighbours = refl;
+  ran = nothing_ran g.O.OutLanes.did_offer c.args.seat.core.neighbours (state_of c.args.seat) c.args.outs c.args.port.taken (g.W.Write.contents c.args.writer.now);
+}
+
+pub returns-in-Err : goal.returns-in-Err
+returns-in-Err g c =
+    let r = c.loop.invariant.ran in
+    let gone = c.in-Err.ensures.gone in
+    let ks = c.args.seat.core.neighbours in
+    record { runs = (
+      r.xs,
+      gone.0 ∙ r.taken_is,
+      r.served,
+      r.offered,
+      core_is c.accepted_inputs_make_the_core.ensures.runs ks (state_of c.args.seat) (state_of c.loop.seat) r.xs r.served,
+      (λ none. r.written),
+      inr gone.1,
+    ) }
+
+pub returns-then-is_quit : goal.returns-then-is_quit
+returns-then-is_quit g c =
+    let h = c.loop.invariant in
+    let t = c.serve-answer.ensures.served in
+    let ks = c.args.seat.core.neighbours in
+    let v = serving_at c.in-Ok.item.now c.serve-answer.new.self t.0 in
+    let d = done g.O.OutLanes.did_offer ks (state_of c.args.seat) c.args.outs c.args.port.taken (g.W.Write.contents c.args.writer.now)
+        (state_of c.loop.seat) c.loop.outs c.loop.port.taken (g.W.Write.contents c.loop.writer) h.ran
+        c.in-Ok.item t.0 c.serve-answer.new.outs c.take.new.self.taken v c.loop.seat.core.neighbours h.neighbours c.in-Ok.ensures.taken.0 t.1 t.2 refl in
+    let quit = c.is_quit.ensures c.if-is_quit.true in
+    let text = g.W.Write.contents c.loop.writer in
+    record { runs = (
+      d.front ++ d.x ∷ [],
+      d.taken_is,
+      d.served,
+      d.offered,
+      core_is c.accepted_inputs_make_the_core.ensures.runs ks (state_of c.args.seat) (state_of c.serve-answer.new.self) (d.front ++ d.x ∷ []) d.served,
+      (λ none. d.written text (subst (λ (w : What). Appends text text (reply_text w v.answer v.seat.core)) (sym quit) (Appends-nil text))),
+      inl (d.front, d.x, refl, ap (λ (i : Item). i.what) d.item_is ∙ quit),
+    ) }
+
+pub returns-in-Err-reply : goal.returns-in-Err-reply
+returns-in-Err-reply g c =
+    let h = c.loop.invariant in
+    let t = c.serve-answer.ensures.served in
+    let ks = c.args.seat.core.neighbours in
+    let v = serving_at c.in-Ok.item.now c.serve-answer.new.self t.0 in
+    let d = done g.O.OutLanes.did_offer ks (state_of c.args.seat) c.args.outs c.args.port.taken (g.W.Write.contents c.args.writer.now)
+        (state_of c.loop.seat) c.loop.outs c.loop.port.taken (g.W.Write.contents c.loop.writer) h.ran
+        c.in-Ok.item t.0 c.serve-answer.new.outs c.take.new.self.taken v c.loop.seat.core.neighbours h.neighbours c.in-Ok.ensures.taken.0 t.1 t.2 refl in
+    record { runs = (
+      d.front ++ d.x ∷ [],
+      d.taken_is,
+      d.served,
+      d.offered,
+      core_is c.accepted_inputs_make_the_core.ensures.runs ks (state_of c.args.seat) (state_of c.serve-answer.new.self) (d.front ++ d.x ∷ []) d.served,
+      (λ none. absurd (cc)),
+      (d.front, d.x, refl, subst (λ (i : Item). MayFail c.in-Err-reply.fault i.what) (sym d.item_is) c.in-Err-reply.ensures.err),
+    ) }
+
+pub loop-preserved : goal.loop-preserved
+loop-preserved g c =
+    let h = c.loop.invariant in
+    let t = c.serve-answer.ensures.served in
+    let ks = c.args.seat.core.neighbours in
+    let v = serving_at c.in-Ok.item.now c.serve-answer.new.self t.0 in
+    let d = done g.O.OutLanes.did_offer ks (state_of c.args.seat) c.args.outs c.args.port.taken (g.W.Write.contents c.args.writer.now)
+        (state_of c.loop.seat) c.loop.outs c.loop.port.taken (g.W.Write.contents c.loop.writer) h.ran
+        c.in-Ok.item t.0 c.serve-answer.new.outs c.take.new.self.taken v c.loop.seat.core.neighbours h.neighbours c.in-Ok.ensures.taken.0 t.1 t.2 refl in
+    let same = c.serve-answer.ensures.neighbours in
+    let count = c.serve-answer.ensures.count in
+    let new = g.W.Write.contents c.reply.new.writer in
+    record {
+      lanes = omega (arith, ap (λ (l : List ℕ). length l) same, count, h.lanes);
+      neighbours = same ∙ h.neighbours;
+      ran = record {
+        xs = d.front ++ d.x ∷ [];
+        taken_is = d.taken_is;
+        served = d.served;
+        offered = d.offered;
+        written = d.written new (subst (λ (a : Answer). Appends (g.W.Write.contents c.loop.writer) new (reply_text c.in-Ok.item.what a v.seat.core)) c.serve-answer.ensures.answer c.in-Ok-reply.ensures.ok);
+      };
+    }
