@@ -1,5 +1,5 @@
 //! A node and its threads.
-ghost use Rattle.std.specs.Prelude.{◌≡◌, ◌≢◌, ◌<◌, ◌≤◌, ℕ, length};
+ghost use Rattle.std.specs.Prelude.{◌≡◌, ◌≢◌, ◌<◌, ◌≤◌, ℕ, IfOk, length};
 ghost use Rattle.std.specs.Thread.{IsSync, IsSend};
 ghost use Rattle.tora_arq.specs.LinkEnd.{first_end};
 
@@ -16,7 +16,7 @@ use std::thread::Threads;
 use tora_arq::{LinkEnd, Times};
 use tora_core::Core;
 use tora_height::Id;
-use tora_lane::{CorePort, InPort, LaneError, Lanes, OutPuts, OutTake, What, lanes};
+use tora_lane::{CorePort, InPort, LaneError, Lanes, OutPut, OutPuts, OutTake, What, lanes};
 use tora_life::{Disk, LifeFile};
 use tora_neighbour::{Clock, LaneHub, Link, NodeError, Tally, Wire, run_neighbour};
 use tora_seat::CoreSeat;
@@ -89,15 +89,6 @@ fn bad_datagrams(tally: &Tally) -> u64 {
 /// The greatest number of a `FrameError`.
 const LAST_FRAME_ERROR: u8 = 9;
 
-/// What the core's thread works with.
-#[derive(Drop)]
-struct CoreWork {
-    seat: CoreSeat,
-    port: CorePort,
-    outs: OutPuts,
-    ghost lanes: { length seat.core.neighbours ≤ length outs.ends.items },
-}
-
 /// What the core's thread came to. Its port has ended with it.
 #[derive(Drop)]
 struct CoreOutcome {
@@ -105,22 +96,37 @@ struct CoreOutcome {
     fault: Option<NodeError>,
 }
 
-/// The core's thread.
-fn core_side<R: Wait, Wr: Write>(
-    rt: &R,
+/// The work of the core's thread: the seat, its lanes, and what it writes to.
+#[derive(Drop)]
+struct CoreStart<'a, Wr> {
     alloc: Global,
-    work: CoreWork,
-    writer: &mut Wr,
-) -> CoreOutcome {
-    let CoreWork {
-        seat,
-        port,
-        outs,
-    } = work;
-    let end = run_core(rt, alloc, seat, port, outs, writer);
-    CoreOutcome {
-        seat: end.seat,
-        fault: end.fault,
+    seat: CoreSeat,
+    port: CorePort,
+    outs: OutPuts,
+    writer: &'a mut Wr,
+    ghost lanes: { length seat.core.neighbours ≤ length outs.ends.items },
+}
+
+/// The work of the thread of a core.
+trait CoreTask {
+    /// Does it.
+    fn run_core<R: Wait>(self, rt: &R) -> CoreOutcome;
+}
+
+impl<'a, Wr: Write> CoreTask for CoreStart<'a, Wr> {
+    fn run_core<R: Wait>(self, rt: &R) -> CoreOutcome {
+        let CoreStart {
+            alloc,
+            seat,
+            port,
+            outs,
+            writer,
+        } = self;
+        let end = run_core(rt, alloc, seat, port, outs, writer);
+        CoreOutcome {
+            seat: end.seat,
+            fault: end.fault,
+        }
     }
 }
 
@@ -162,7 +168,9 @@ fn new_ends(alloc: Global, core: &Core) -> Option<Vec<NewEnd>> {
 }
 
 /// The lanes of a node with so many links.
-fn new_lanes<R: Wait>(rt: &R, alloc: Global, links: usize) -> Result<Lanes, NodeError> {
+fn new_lanes<R: Wait>(rt: &R, alloc: Global, links: usize) -> Result<Lanes, NodeError>
+    ensures { IfOk result (λ l. length l.outs.items ≡ links) }
+{
     match lanes(rt, alloc, links) {
         Ok(lanes) => Ok(lanes),
         Err(LaneError::Memory) => Err(NodeError::Memory),
@@ -223,19 +231,18 @@ fn new_starts<'a, D: Disk + Drop, W: Wire + Drop, C>(
 /// neighbours, in order; there is room for them.
 fn run_threads<
     R: Threads + Wait + Log + Sync,
+    K: CoreTask + Send + Drop,
     T: Task + Send + Drop,
     C: Clock,
     Rd: Read,
-    Wr: Write + Send,
 >(
     rt: &R,
     alloc: Global,
-    work: CoreWork,
+    core_task: K,
     command: InPort,
     tasks: Vec<T>,
     clock: &C,
     reader: &mut Rd,
-    writer: &mut Wr,
 ) -> Option<(CoreOutcome, Vec<Outcome>)> {
     let mut command = command;
     let mut handles = Vec::new(alloc);
@@ -250,9 +257,9 @@ fn run_threads<
         thread::scope_env(),
         rt,
         |scope| -> Option<(CoreOutcome, Vec<Outcome>)>
-            requires { IsSync R.row × IsSend T.row × IsSend Wr.row }
+            requires { IsSync R.row × IsSend K.row × IsSend T.row }
         {
-            let Ok(core_thread) = scope.spawn(move || core_side(rt, alloc, work, writer)) else {
+            let Ok(core_thread) = scope.spawn(move || core_task.run_core(rt)) else {
                 return None;
             };
             let mut has_all = true;
@@ -278,6 +285,28 @@ fn run_threads<
             if has_all { Some((core, outcomes)) } else { None }
         },
     )
+}
+
+/// Puts the parts of the core's work together.
+fn new_core_start<'a, Wr>(
+    alloc: Global,
+    core: Core,
+    port: CorePort,
+    outs: Vec<OutPut>,
+    writer: &'a mut Wr,
+) -> Option<CoreStart<'a, Wr>>
+    requires { length core.neighbours ≤ length outs.items }
+{
+    let Ok(seat) = CoreSeat::new(alloc, core) else {
+        return None;
+    };
+    Some(CoreStart {
+        alloc,
+        seat,
+        port,
+        outs: OutPuts { ends: outs },
+        writer,
+    })
 }
 
 /// The first fault: the core's, then that of the least neighbour.
@@ -335,16 +364,11 @@ pub fn run_node<
     let Some(starts) = new_starts(alloc, ends, files, wires, links, clock) else {
         return Err(NodeError::Memory);
     };
-    let Ok(seat) = CoreSeat::new(alloc, core) else {
+    let Some(core_task) = new_core_start(alloc, core, port, outs, writer) else {
         return Err(NodeError::Memory);
     };
-    let work = CoreWork {
-        seat,
-        port,
-        outs: OutPuts { ends: outs },
-    };
     let Some((core, outcomes)) = run_threads(
-        rt, alloc, work, command, starts, clock, reader, writer,
+        rt, alloc, core_task, command, starts, clock, reader,
     ) else {
         return Err(NodeError::Memory);
     };
