@@ -1,10 +1,10 @@
 -- The first packet due, and one that is given up, by their places.
-use Rattle.std.proofs.Common.{◌≡◌, ℕ, zero, suc, ◌+◌, ◌<◌, ◌≤◌, Bool, true, false, min, List, [], ◌∷◌, length, drop, Option, Some, None, refl, ap, ◌∙◌, arith, slice_get, slice_set}
+use Rattle.std.proofs.Common.{◌≡◌, ℕ, zero, suc, ◌+◌, ◌<◌, ◌≤◌, true, false, min, List, [], ◌∷◌, length, drop, Some, None, refl, arith, slice_get, slice_set}
 use Rattle.std.proofs.lemmas.Bool.Decides.{nat_tests}
 use Rattle.std.proofs.lemmas.Option.{slice_get_within}
 use Rattle.tora_arq.specs.declared.Times.{Times}
 use Rattle.tora_arq.specs.declared.queue.QueuedPacket.{QueuedPacket}
-use Rattle.tora_arq.specs.SendQueue.{retried, is_ready, is_given_up, has_given_up, first_due, due_packet, due_behind, AreLate, IsFirstReady}
+use Rattle.tora_arq.specs.SendQueue.{retried, is_ready, is_given_up, has_given_up, first_due, due_packet, AreLate}
 use Rattle.tora_arq.specs.EndRange.{AreUntried}
 
 -- ---- given up

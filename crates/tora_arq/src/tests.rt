@@ -98,14 +98,7 @@ fn end_of(rt: &impl Abort, alloc: Global, me: Id, peer: Id, life: u64) -> LinkEn
     end_with(rt, alloc, me, peer, life, Times::STANDARD)
 }
 
-fn end_with(
-    rt: &impl Abort,
-    alloc: Global,
-    me: Id,
-    peer: Id,
-    life: u64,
-    times: Times,
-) -> LinkEnd
+fn end_with(rt: &impl Abort, alloc: Global, me: Id, peer: Id, life: u64, times: Times) -> LinkEnd
     requires me { 0 < me }
     requires peer { 0 < peer }
     requires other { me ≢ peer }
@@ -199,7 +192,13 @@ fn window_delivers_in_order_after_a_loss(rt: HostRuntime) -> Result<(), Fail> {
     }
     let lost = one.poll_transmit(0).expect(&rt, "a frame");
     assert_eq!(&rt; *lost.body(), Body::Data(1, 0, query(&rt, 1)));
-    hands(&rt, &mut one, &mut two, 0, &[Verdict::Ahead, Verdict::Ahead]);
+    hands(
+        &rt,
+        &mut one,
+        &mut two,
+        0,
+        &[Verdict::Ahead, Verdict::Ahead],
+    );
     tells(&rt, &mut two, &[]);
     hands(&rt, &mut two, &mut one, 0, &[Verdict::Repeated]);
     let again = [Verdict::Accepted, Verdict::Repeated, Verdict::Repeated];
@@ -297,8 +296,10 @@ fn acknowledged_packets_leave_the_queue(rt: HostRuntime) -> Result<(), Fail> {
         assert_eq!(&rt; end.submit(LIFE, query(&rt, number)), Ok(()));
     }
     takes(&rt, &mut end, &[(9, 5, Sent::Ack(1), Verdict::Foreign)]);
-    let (first, second) = (query(&rt, 1), query(&rt, 2));
-    let both = [Body::Data(1, 0, first), Body::Data(2, 0, second)];
+    let both = [
+        Body::Data(1, 0, query(&rt, 1)),
+        Body::Data(2, 0, query(&rt, 2)),
+    ];
     sends(&rt, &mut end, 0, &both);
     let rows = [
         (9, 5, Sent::Ack(0), Verdict::Repeated),
@@ -309,7 +310,7 @@ fn acknowledged_packets_leave_the_queue(rt: HostRuntime) -> Result<(), Fail> {
     assert_eq!(&rt; end.waiting(), 2);
     takes(&rt, &mut end, &rows);
     assert_eq!(&rt; end.waiting(), 1);
-    sends(&rt, &mut end, 5, &[Body::Data(2, 0, second)]);
+    sends(&rt, &mut end, 5, &[Body::Data(2, 0, query(&rt, 2))]);
     Ok(())
 }
 
@@ -423,7 +424,10 @@ fn clock_that_goes_back_counts_as_no_time(rt: HostRuntime) -> Result<(), Fail> {
 fn an_end_is_printed(rt: HostRuntime) -> Result<(), Fail> {
     let end = end_of(&rt, rt.alloc(), 1, 2, 5);
     let text = format!(in rt.alloc(); "{end:?}")?;
-    assert!(&rt; text.as_str().starts_with("LinkEnd { settings: Settings { me: 1, peer: 2,"));
+    assert!(&rt;
+        text.as_str()
+            .starts_with("LinkEnd { settings: Settings { me: 1, peer: 2,")
+    );
     let words = format!(in rt.alloc(); "{} {}", Reason::NewPeer, Verdict::Ahead)?;
     assert_eq!(&rt; words.as_str(), "new peer ahead");
     Ok(())

@@ -8,9 +8,9 @@ ghost use Rattle.tora_arq.specs.EndRange.{IsEndState};
 ghost use Rattle.tora_arq.specs.StateView.{settings_in, state_in};
 ghost use Rattle.tora_arq.specs.declared.TheConstants.{WINDOW};
 
+use crate::Life;
 use crate::settings::{Settings, ticks_passed};
 use crate::state::{Phase, State};
-use crate::Life;
 use tora_frame::{Body, Frame, Header};
 
 impl Settings {

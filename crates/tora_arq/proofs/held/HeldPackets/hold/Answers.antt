@@ -1,4 +1,4 @@
-use Rattle.std.proofs.Common.{◌≡◌, ◌+◌, ◌≤◌, length, None, sym, ap, ◌∙◌, arith, slice_get}
+use Rattle.std.proofs.Common.{◌≡◌, ◌+◌, length, sym, ap, ◌∙◌, arith}
 use Rattle.std.specs.Option.{option_copied}
 use Rattle.tora_arq.specs.Held.{padded}
 use Rattle.tora_arq.proofs.HeldLemmas.{padded_within, none_past}

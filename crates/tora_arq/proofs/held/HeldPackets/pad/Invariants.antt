@@ -1,4 +1,4 @@
-use Rattle.std.proofs.Common.{◌≡◌, ◌≤◌, length}
+use Rattle.std.proofs.Common.{◌≡◌, length}
 use Rattle.tora_arq.specs.Held.{padded}
 use Rattle.tora_arq.specs.declared.TheConstants.{WINDOW}
 use Rattle.tora_arq.proofs.held.HeldPackets.pad.Given as goal

@@ -1,4 +1,4 @@
-use Rattle.std.proofs.Common.{◌≡◌, ◌≤◌, min, length, sym, arith}
+use Rattle.std.proofs.Common.{sym, arith}
 use Rattle.tora_arq.specs.declared.TheConstants.{WINDOW}
 use Rattle.tora_arq.proofs.QueueLemmas.{none_given_up_here}
 use Rattle.tora_arq.proofs.queue.SendQueue.has_given_up.Goals as goal

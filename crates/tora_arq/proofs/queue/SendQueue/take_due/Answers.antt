@@ -1,9 +1,9 @@
-use Rattle.std.proofs.Common.{◌≡◌, ◌+◌, ◌<◌, ℕ, List, length, Some, slice_set, sym, ap, ◌∙◌, subst, arith}
+use Rattle.std.proofs.Common.{◌≡◌, ◌+◌, List, length, Some, slice_set, sym, ap, ◌∙◌, arith}
 use Rattle.std.proofs.lemmas.Option.{slice_get_within}
 use Rattle.circular_buffer.specs.Buffer.{Buffer}
 use Rattle.tora_arq.specs.declared.TheConstants.{WINDOW}
 use Rattle.tora_arq.specs.declared.queue.QueuedPacket.{QueuedPacket}
-use Rattle.tora_arq.specs.SendQueue.{DuePacket, due_packet, retried, first_due}
+use Rattle.tora_arq.specs.SendQueue.{due_packet, retried}
 use Rattle.tora_arq.proofs.QueueLemmas.{none_due, due_at}
 use Rattle.tora_arq.proofs.queue.SendQueue.take_due.Goals as goal
 

@@ -1,4 +1,4 @@
-use Rattle.std.proofs.Common.{arith, subst, sym, length, ◌≤◌, max, suc, ap}
+use Rattle.std.proofs.Common.{arith, length, ap}
 use Rattle.tora_arq.proofs.FactSteps.{length-hold_at}
 use Rattle.tora_arq.proofs.state.State.hold.Goals as goal
 

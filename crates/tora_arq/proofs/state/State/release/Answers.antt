@@ -1,5 +1,4 @@
-use Rattle.std.proofs.Common.{◌≡◌, ◌+◌, ◌<◌, List, [], ◌∷◌, ◌++◌, length, drop, Option, Some, None, sym, ap, ◌∙◌, arith, length-append}
-use Rattle.tora_packet.specs.declared.Packet.{Packet}
+use Rattle.std.proofs.Common.{◌≡◌, [], ◌∷◌, length, drop, Some, None, sym, ap, ◌∙◌, arith, length-append}
 use Rattle.tora_arq.specs.declared.LinkEvent.TheVariants.{Deliver}
 use Rattle.tora_arq.specs.Held.{first_held}
 use Rattle.tora_arq.specs.LinkEnd.{EndState}
