@@ -1,3 +1,4 @@
+pub mod HeldLemmas
 pub mod QueueLemmas
 pub mod ReceiveLemmas
 pub mod RangeLemmas
@@ -5,3 +6,6 @@ pub mod FactSteps
 pub mod FactCalls
 pub mod FactLists
 pub mod FactRuns
+pub mod PollLemmas
+pub mod RefusalLemmas
+pub mod PeerLemmas
