@@ -15,7 +15,7 @@ use Rattle.tora_core.specs.Numbers.{has_number, with_number, without_number, asc
 use Rattle.tora_core.specs.View.{View}
 use Rattle.tora_core.specs.Rules.{outcome_of, packet_of, packet_sent}
 use Rattle.tora_core.specs.CoreRun.{CoreView, concerns, core_after, core_taking, has_destination, is_from, is_of, next_packet, next_view, refusal_of, sends_of, up_after, view_of}
-use Rattle.tora_core.specs.Kept.{IsCore, IsPart, destinations_of}
+use Rattle.tora_core.specs.Kept.{IsCore, IsLinked, IsOver, IsPart, IsViewOf, destinations_of}
 use Rattle.tora_core.proofs.RowLemmas.{all-weaker}
 use Rattle.tora_core.proofs.NumberLemmas.{all-other, ascending-with_number, all-without, not-same, same-number}
 use Rattle.tora_core.proofs.CoreLemmas.{destinations_of-next, next_view-destination, not-false, refused-not}
@@ -283,3 +283,16 @@ sends-known input now (v ∷ views) =
 pub known-sends : (c : CoreView) (input : Input) (now : ℕ) → AllByRecursion (λ (packet : Packet). has_destination (destination_of packet) c.views ≡ true) (sends_of c input now)
 known-sends c input now =
     cond_both (is_some (refusal_of c input)) [] (filter_map (next_packet input now) c.views) (AllByRecursion (IsKnown c.views)) (λ _. tt) (λ _. sends-known input now c.views)
+
+-- ---- what an input that is not refused finds
+
+-- the rows of each view are those of the up neighbours
+pub all-over : (me : ℕ) (up : List ℕ) (views : List View) → AllByRecursion (IsViewOf me up) views → AllByRecursion (IsOver up) views
+all-over me up [] all = tt
+all-over me up (v ∷ views) all = (all.0.neighbours, all-over me up views all.1)
+
+pub linked : (c : CoreView) (input : Input) → refusal_of c input ≡ None → IsLinked input c.up
+linked c (In.Need d) free = tt
+linked c (In.LinkUp k) free = tt
+linked c (In.LinkDown k) free = (free-down c k free).1
+linked c (In.Packet k packet) free = (free-packet c k packet free).1

@@ -15,4 +15,6 @@ pub mod ReactsTotal
 pub mod ReactsCore
 pub mod ReactsHop
 pub mod Worked
+pub mod LinkLemmas
+pub mod RowPlaces
 pub mod AfterInputs

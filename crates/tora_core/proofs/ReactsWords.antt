@@ -262,14 +262,14 @@ lt-gt Less = refl
 lt-gt Equal = refl
 lt-gt Greater = refl
 
-below-above : (a b : Quintuple) → is_lt (height_cmp a b) ≡ is_gt (height_cmp b a)
+pub below-above : (a b : Quintuple) → is_lt (height_cmp a b) ≡ is_gt (height_cmp b a)
 below-above a b = ap is_lt (height_cmp_total.antisymm a b) ∙ lt-gt (height_cmp b a)
 
 -- not below, chained
-not-below : (a b m : Quintuple) → is_lt (height_cmp a b) ≡ false → is_lt (height_cmp b m) ≡ false → is_lt (height_cmp a m) ≡ false
+pub not-below : (a b m : Quintuple) → is_lt (height_cmp a b) ≡ false → is_lt (height_cmp b m) ≡ false → is_lt (height_cmp a m) ≡ false
 not-below a b m x y = below-above a m ∙ upto height_cmp_total m b a (sym (below-above b m) ∙ y) (sym (below-above a b) ∙ x)
 
-lt-not_gt : (o : Ordering) → is_lt o ≡ true → is_gt o ≡ false
+pub lt-not_gt : (o : Ordering) → is_lt o ≡ true → is_gt o ≡ false
 lt-not_gt Less e = refl
 lt-not_gt Equal e = refl
 lt-not_gt Greater e = absurd cc

@@ -14,7 +14,7 @@ use Rattle.tora_core.specs.declared.errors.CoreError.{CoreError}
 use Rattle.tora_core.specs.declared.errors.CoreError.TheVariants as Refusal
 use Rattle.tora_core.specs.declared.TheConstants.{MOST_DESTINATIONS, MOST_NEIGHBOURS}
 use Rattle.tora_core.specs.Numbers.{has_number, with_number, without_number, ascending, has_repeat}
-use Rattle.tora_core.specs.View.{View, first_view, next_hop_of}
+use Rattle.tora_core.specs.View.{View, downstream_count, first_view, next_hop_of}
 use Rattle.tora_core.specs.Rules.{view_after, packet_sent}
 
 pub record CoreView : Type 0 where
@@ -141,6 +141,10 @@ entry_of c d k = option_and_then (entry_in k) (view_of c d)
 
 abbrev pub flag_of : CoreView → ℕ → Bool
 flag_of c d = option_map_or (λ v. v.flag) (view_of c d) false
+
+-- how many neighbours are downstream, where the table has the destination
+abbrev pub downstream_of : CoreView → ℕ → Option ℕ
+downstream_of c d = option_map downstream_count (view_of c d)
 
 abbrev pub hop_of : CoreView → ℕ → Option ℕ
 hop_of c d = option_and_then next_hop_of (view_of c d)

@@ -12,7 +12,7 @@ use Rattle.tora_core.specs.declared.rows.Row.{Row}
 use Rattle.tora_core.specs.declared.destination.Broadcast.{Broadcast}
 use Rattle.tora_core.specs.declared.destination.Broadcast.TheVariants as Tell
 use Rattle.tora_core.specs.declared.TheConstants.{MOST_DESTINATIONS, MOST_NEIGHBOURS}
-use Rattle.tora_core.specs.Numbers.{IsAscending}
+use Rattle.tora_core.specs.Numbers.{IsAscending, has_number}
 use Rattle.tora_core.specs.View.{View, up_neighbours, known_heights, has_downstream}
 use Rattle.tora_core.specs.Rules.{Outcome}
 use Rattle.tora_core.specs.CoreRun.{CoreView, concerns}
@@ -87,6 +87,17 @@ MakesPacket destination (Tell.Clear tau oid) = IsClear (clear_of destination tau
 pub record CanTake (input : Input) (v : View) : Type 0 where
   pub kept : IsKept v
   pub may : concerns input v.destination ≡ true → MayCome v input × HasRoom v input
+
+-- the rows are those of these up neighbours
+abbrev pub IsOver : List ℕ → View → Type 0
+IsOver up v = up_neighbours v ≡ up
+
+-- a link that goes down, or over which a packet comes, is up
+abbrev pub IsLinked : Input → List ℕ → Type 0
+IsLinked (In.Need d) up = Unit {0}
+IsLinked (In.LinkUp k) up = Unit {0}
+IsLinked (In.LinkDown k) up = has_number k up ≡ true
+IsLinked (In.Packet k packet) up = has_number k up ≡ true
 
 -- ---- one core
 

@@ -1,6 +1,7 @@
 pub mod Errors
 pub mod Numbers
 pub mod View
+pub mod Links
 pub mod Heights
 pub mod Rules
 pub mod CoreRun

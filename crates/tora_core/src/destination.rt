@@ -1,23 +1,20 @@
 //! TORA's rules for one destination (Park and Corson 1997, section 3).
-ghost use Rattle.std.specs.Prelude.{◌≡◌, ◌==◌, ◌<◌, None, Some, IfSome, MatchBool, option_map, pos};
+ghost use Rattle.std.specs.Prelude.{◌≡◌, ◌==◌, ◌<◌, None, Some, IfSome, MatchBool, nat_lt, option_map, pos};
 ghost use Rattle.tora_height.specs.Height.{IsLevel, quintuple, destination_height};
 ghost use Rattle.tora_packet.specs.PacketParts.{IsId};
-ghost use Rattle.tora_core.specs.View.{first_view, has_downstream, lacks_downstream, next_hop_of};
+ghost use Rattle.std.specs.List.{position_or_len};
+ghost use Rattle.tora_core.specs.Links.{IsOnlyPlace, directions_of};
+ghost use Rattle.tora_core.specs.View.{downstream_count, up_neighbours, first_view, has_downstream, lacks_downstream, next_hop_of};
 ghost use Rattle.tora_core.specs.CoreRun.{entry_in};
 ghost use Rattle.tora_core.specs.declared.Input.{Input};
 ghost use Rattle.tora_core.specs.Heights.{fitted_height, fresh_time};
 ghost use Rattle.tora_core.specs.Kept.{HasRoom, IsKept, MakesPacket, MayCome};
 ghost use Rattle.tora_core.specs.Rules.{query_broadcast, update_broadcast, joined_height, after_join, new_level, after_erase, after_link_loss, after_update_loss, propagated_level, reflected_level, link_row, on_need, on_query, on_update, on_clear, on_packet, cleared_level, outcome_of, packet_of, packet_sent, view_after};
 
-use crate::MOST_NEIGHBOURS;
-use crate::rows::{
-    Row, all_at, are_null, clear_level, entry_of, erase_all, greatest_level, has_downstream,
-    insert_row, is_entry_at, is_told, least_delta, least_height, next_hop, remove_row, set_entry,
-    tell_all, time_after_all,
-};
-use arrayvec::ArrayVec;
+use crate::links::Links;
+use crate::rows::{Row, all_at, entry_of, greatest_level, is_entry_at, least_delta, time_after_all};
 use std::marker::Model;
-use tora_height::{Entry, Height, Id, Level};
+use tora_height::{Direction, Entry, Height, Id, Level};
 use tora_packet::{Clear, Packet, Query, Update};
 
 /// What is broadcast of a destination.
@@ -43,9 +40,8 @@ fn fitted(tau: u64, oid: Id, r: u8, delta: i32, id: Id) -> Entry
 pub struct Destination {
     me: Id,
     destination: Id,
-    height: Entry,
     flag: bool,
-    rows: ArrayVec<Row, MOST_NEIGHBOURS>,
+    links: Links,
     last: u64,
 }
 
@@ -56,7 +52,7 @@ impl Model for Destination {
 
     ghost Value = { View };
 
-    ghost view = { λ d. record { me = d.me; destination = d.destination; height = d.height; flag = d.flag; rows = d.rows.items; last = d.last } };
+    ghost view = { λ d. record { me = d.me; destination = d.destination; height = d.links.own; flag = d.flag; rows = d.links.rows; last = d.last } };
 
     ghost invariant = { λ d. IsId d.me × (d.last ≤ 2 ^ 62) };
 }
@@ -71,13 +67,12 @@ impl Destination {
         Destination {
             me,
             destination,
-            height: if me == destination {
+            flag: false,
+            links: Links::new(if me == destination {
                 Some(Height::zero(destination))
             } else {
                 None
-            },
-            flag: false,
-            rows: ArrayVec::new(),
+            }),
             last: 0,
         }
     }
@@ -91,7 +86,7 @@ impl Destination {
     pub fn height(&self) -> Entry
         ensures { result ≡ self.now.height }
     {
-        self.height
+        self.links.own()
     }
 
     pub fn flag(&self) -> bool
@@ -103,21 +98,35 @@ impl Destination {
     pub fn rows(&self) -> &[Row]
         ensures { result.now ≡ self.now.rows }
     {
-        self.rows.as_slice()
+        self.links.rows()
+    }
+
+    /// The direction of the link of each row.
+    pub fn directions(&self) -> &[Direction]
+        ensures { result.now ≡ directions_of self.now.height self.now.rows }
+    {
+        self.links.directions()
+    }
+
+    /// How many neighbours are downstream.
+    pub fn downstream(&self) -> u32
+        ensures { result ≡ downstream_count self.now }
+    {
+        self.links.downstream()
     }
 
     /// The entry of a neighbour whose link is up.
     pub fn entry(&self, k: Id) -> Option<Entry>
         ensures { result ≡ entry_in k self.now }
     {
-        entry_of(k, self.rows.as_slice())
+        entry_of(k, self.links.rows())
     }
 
     /// The downstream neighbour with the lowest entry.
     pub fn next_hop(&self) -> Option<Id>
         ensures { result ≡ next_hop_of self.now }
     {
-        next_hop(self.height, self.rows.as_slice())
+        self.links.next_hop()
     }
 
     /// A route to the destination is needed: answers the packet to every up neighbour. The rule for it reads no clock.
@@ -131,39 +140,42 @@ impl Destination {
         packet_to_send(destination, broadcast)
     }
 
-    /// As `need`, for a packet of a neighbour for the destination.
-    pub fn packet(&mut self, k: Id, packet: &Packet, now: u64) -> Option<Packet>
+    /// As `need`, for a packet of the neighbour `k`, whose row is at `place`, for the destination.
+    pub fn packet(&mut self, k: Id, place: usize, packet: &Packet, now: u64) -> Option<Packet>
         requires kept { IsKept self.old }
+        requires place { IsOnlyPlace k place (up_neighbours self.old) }
         requires may { MayCome self.old (Input.Packet k packet.now) }
         ensures view { self.new ≡ view_after self.old (Input.Packet k packet.now) now }
         ensures packet { result ≡ packet_sent self.old (Input.Packet k packet.now) now }
     {
         let destination = self.destination;
-        let broadcast = self.react_to_packet(k, packet, now);
+        let broadcast = self.react_to_packet(k, place, packet, now);
         packet_to_send(destination, broadcast)
     }
 
-    /// As `need`, for the link to a neighbour that came up. The rules for it read no clock.
-    pub fn link_up(&mut self, k: Id) -> Option<Packet>
+    /// As `need`, for the link to a neighbour that came up, whose row goes to `place`. The rules for it read no clock.
+    pub fn link_up(&mut self, k: Id, place: usize) -> Option<Packet>
         requires kept { IsKept self.old }
+        requires place { place ≡ position_or_len (λ row. nat_lt k row.neighbour) self.old.rows }
         requires may { MayCome self.old (Input.LinkUp k) }
         requires room { HasRoom self.old (Input.LinkUp k) }
         ensures view { self.new ≡ view_after self.old (Input.LinkUp k) 0 }
         ensures packet { result ≡ packet_sent self.old (Input.LinkUp k) 0 }
     {
         let destination = self.destination;
-        let broadcast = self.react_to_link_up(k);
+        let broadcast = self.react_to_link_up(k, place);
         packet_to_send(destination, broadcast)
     }
 
-    /// As `need`, for the link to a neighbour that went down.
-    pub fn link_down(&mut self, k: Id, now: u64) -> Option<Packet>
+    /// As `need`, for the link to neighbour `k`, whose row is at `place`, that went down.
+    pub fn link_down(&mut self, k: Id, place: usize, now: u64) -> Option<Packet>
         requires kept { IsKept self.old }
+        requires place { IsOnlyPlace k place (up_neighbours self.old) }
         ensures view { self.new ≡ view_after self.old (Input.LinkDown k) now }
         ensures packet { result ≡ packet_sent self.old (Input.LinkDown k) now }
     {
         let destination = self.destination;
-        let broadcast = self.react_to_link_down(k, now);
+        let broadcast = self.react_to_link_down(k, place, now);
         packet_to_send(destination, broadcast)
     }
 
@@ -174,14 +186,21 @@ impl Destination {
         if self.is_own() { None } else { self.on_need() }
     }
 
-    fn react_to_packet(&mut self, k: Id, packet: &Packet, now: u64) -> Option<Broadcast>
+    fn react_to_packet(
+        &mut self,
+        k: Id,
+        place: usize,
+        packet: &Packet,
+        now: u64,
+    ) -> Option<Broadcast>
+        requires { IsOnlyPlace k place (up_neighbours self.old) }
         ensures view { self.new ≡ (outcome_of self.old (Input.Packet k packet.now) now).view }
         ensures broadcast { result ≡ (outcome_of self.old (Input.Packet k packet.now) now).broadcast }
     {
         if self.is_own() {
             None
         } else {
-            self.on_packet(k, packet, now)
+            self.on_packet(k, place, packet, now)
         }
     }
 
@@ -192,12 +211,14 @@ impl Destination {
         self.me == self.destination
     }
 
-    fn react_to_link_up(&mut self, k: Id) -> Option<Broadcast>
-        requires { HasRoom self.old (Input.LinkUp k) }
+    fn react_to_link_up(&mut self, k: Id, place: usize) -> Option<Broadcast>
+        requires place { place ≡ position_or_len (λ row. nat_lt k row.neighbour) self.old.rows }
+        requires room { HasRoom self.old (Input.LinkUp k) }
         ensures view { self.new ≡ (outcome_of self.old (Input.LinkUp k) 0).view }
         ensures broadcast { result ≡ (outcome_of self.old (Input.LinkUp k) 0).broadcast }
     {
-        insert_row(&mut self.rows, first_row(self.me, self.destination, k));
+        self.links
+            .insert(place, first_row(self.me, self.destination, k));
         if self.is_own() || !self.flag {
             None
         } else if k == self.destination {
@@ -207,11 +228,12 @@ impl Destination {
         }
     }
 
-    fn react_to_link_down(&mut self, k: Id, now: u64) -> Option<Broadcast>
+    fn react_to_link_down(&mut self, k: Id, place: usize, now: u64) -> Option<Broadcast>
+        requires { IsOnlyPlace k place (up_neighbours self.old) }
         ensures view { self.new ≡ (outcome_of self.old (Input.LinkDown k) now).view }
         ensures broadcast { result ≡ (outcome_of self.old (Input.LinkDown k) now).broadcast }
     {
-        remove_row(&mut self.rows, k);
+        self.links.remove(k, place);
         if self.is_own() || !self.lacks_downstream() {
             None
         } else {
@@ -219,13 +241,14 @@ impl Destination {
         }
     }
 
-    fn on_packet(&mut self, k: Id, packet: &Packet, now: u64) -> Option<Broadcast>
+    fn on_packet(&mut self, k: Id, place: usize, packet: &Packet, now: u64) -> Option<Broadcast>
+        requires { IsOnlyPlace k place (up_neighbours self.old) }
         ensures view { self.new ≡ (on_packet self.old k packet.now now).view }
         ensures broadcast { result ≡ (on_packet self.old k packet.now now).broadcast }
     {
         match packet {
-            Packet::Qry(_) => self.on_query(k),
-            Packet::Upd(update) => self.on_update(k, update.height(), now),
+            Packet::Qry(_) => self.on_query(k, place),
+            Packet::Upd(update) => self.on_update(k, place, update.height(), now),
             Packet::Clr(clear) => self.on_clear(cleared_level(clear), now),
         }
     }
@@ -234,14 +257,15 @@ impl Destination {
         ensures view { self.new ≡ (on_need self.old).view }
         ensures broadcast { result ≡ (on_need self.old).broadcast }
     {
-        if are_null(self.rows.as_slice()) && !self.flag {
+        if self.links.are_null() && !self.flag {
             self.broadcast_query()
         } else {
             None
         }
     }
 
-    fn on_query(&mut self, k: Id) -> Option<Broadcast>
+    fn on_query(&mut self, k: Id, place: usize) -> Option<Broadcast>
+        requires { IsOnlyPlace k place (up_neighbours self.old) }
         ensures view { self.new ≡ (on_query self.old k).view }
         ensures broadcast { result ≡ (on_query self.old k).broadcast }
     {
@@ -251,20 +275,21 @@ impl Destination {
             } else {
                 None
             }
-        } else if self.height.is_none() {
+        } else if self.links.own().is_none() {
             self.join()
-        } else if !is_told(k, self.rows.as_slice()) {
+        } else if !self.links.is_told(k, place) {
             self.broadcast_update()
         } else {
             None
         }
     }
 
-    fn on_update(&mut self, k: Id, height: Height, now: u64) -> Option<Broadcast>
+    fn on_update(&mut self, k: Id, place: usize, height: Height, now: u64) -> Option<Broadcast>
+        requires { IsOnlyPlace k place (up_neighbours self.old) }
         ensures view { self.new ≡ (on_update self.old k height now).view }
         ensures broadcast { result ≡ (on_update self.old k height now).broadcast }
     {
-        set_entry(k, height, self.rows.as_mut_slice());
+        self.links.set_entry(k, place, height);
         if self.flag {
             self.join()
         } else if self.lacks_downstream() {
@@ -278,10 +303,10 @@ impl Destination {
         ensures view { self.new ≡ (on_clear self.old level now).view }
         ensures broadcast { result ≡ (on_clear self.old level now).broadcast }
     {
-        if is_entry_at(level, self.height) {
+        if is_entry_at(level, self.links.own()) {
             return self.erase(level);
         }
-        clear_level(self.destination, level, self.rows.as_mut_slice());
+        self.links.clear_level(self.destination, level);
         if self.lacks_downstream() {
             self.after_link_loss(now)
         } else {
@@ -292,13 +317,13 @@ impl Destination {
     fn has_downstream(&self) -> bool
         ensures { result ≡ has_downstream self.now }
     {
-        has_downstream(self.height, self.rows.as_slice())
+        self.links.has_downstream()
     }
 
     fn lacks_downstream(&self) -> bool
         ensures { result ≡ lacks_downstream self.now }
     {
-        self.height.is_some() && !self.has_downstream()
+        self.links.own().is_some() && !self.has_downstream()
     }
 
     /// From now on a route is required.
@@ -315,8 +340,8 @@ impl Destination {
         ensures view { self.new ≡ (update_broadcast self.old).view }
         ensures broadcast { result ≡ (update_broadcast self.old).broadcast }
     {
-        let height = self.height?;
-        tell_all(self.rows.as_mut_slice());
+        let height = self.links.own()?;
+        self.links.tell_all();
         Some(Broadcast::Update(height))
     }
 
@@ -326,7 +351,8 @@ impl Destination {
         ensures view { self.new ≡ (after_join self.old).view }
         ensures broadcast { result ≡ (after_join self.old).broadcast }
     {
-        self.height = self.joined_height();
+        let own = self.joined_height();
+        self.links.set_own(own);
         self.flag = false;
         self.broadcast_update()
     }
@@ -334,7 +360,7 @@ impl Destination {
     fn joined_height(&self) -> Entry
         ensures { result ≡ joined_height self.now }
     {
-        match least_height(self.rows.as_slice()) {
+        match self.links.least() {
             None => None,
             Some(low) => fitted(low.tau(), low.oid(), low.r(), low.delta() + 1, self.me),
         }
@@ -346,8 +372,8 @@ impl Destination {
         ensures view { self.new ≡ (after_link_loss self.old now).view }
         ensures broadcast { result ≡ (after_link_loss self.old now).broadcast }
     {
-        if are_null(self.rows.as_slice()) {
-            self.height = None;
+        if self.links.are_null() {
+            self.links.set_own(None);
             return None;
         }
         self.define_level(now)
@@ -359,11 +385,11 @@ impl Destination {
         ensures view { self.new ≡ (after_update_loss self.old now).view }
         ensures broadcast { result ≡ (after_update_loss self.old now).broadcast }
     {
-        let Some(level) = greatest_level(self.rows.as_slice()) else {
-            self.height = None;
+        let Some(level) = greatest_level(self.links.rows()) else {
+            self.links.set_own(None);
             return None;
         };
-        if !all_at(level, self.rows.as_slice()) {
+        if !all_at(level, self.links.rows()) {
             return self.propagate(level);
         }
         if level.r == 0 {
@@ -379,11 +405,11 @@ impl Destination {
     fn fresh_time(&self, now: u64) -> u64
         ensures { result ≡ fresh_time self.now now }
     {
-        let own = match self.height {
+        let own = match self.links.own() {
             None => 0,
             Some(height) => height.tau() + 1,
         };
-        let known = own.max(time_after_all(self.rows.as_slice()));
+        let known = own.max(time_after_all(self.links.rows()));
         let later = (self.last + 1).max(known);
         now.max(1u64.max(later))
     }
@@ -395,8 +421,8 @@ impl Destination {
         ensures broadcast { result ≡ (new_level self.old now).broadcast }
     {
         let time = self.fresh_time(now);
-        self.height = fitted(time, self.me, 0, 0, self.me);
-        if let Some(height) = self.height {
+        self.links.set_own(fitted(time, self.me, 0, 0, self.me));
+        if let Some(height) = self.links.own() {
             self.last = height.tau();
         }
         self.broadcast_update()
@@ -407,10 +433,11 @@ impl Destination {
         ensures view { self.new ≡ (propagated_level self.old level).view }
         ensures broadcast { result ≡ (propagated_level self.old level).broadcast }
     {
-        self.height = match least_delta(level, self.rows.as_slice()) {
+        let own = match least_delta(level, self.links.rows()) {
             None => None,
             Some(delta) => fitted(level.tau, level.oid, level.r, delta - 1, self.me),
         };
+        self.links.set_own(own);
         self.broadcast_update()
     }
 
@@ -420,7 +447,7 @@ impl Destination {
         ensures view { self.new ≡ (reflected_level self.old level).view }
         ensures broadcast { result ≡ (reflected_level self.old level).broadcast }
     {
-        self.height = reflected(level, self.me);
+        self.links.set_own(reflected(level, self.me));
         self.broadcast_update()
     }
 
@@ -430,8 +457,8 @@ impl Destination {
         ensures view { self.new ≡ (after_erase self.old level.tau level.oid).view }
         ensures broadcast { result ≡ (after_erase self.old level.tau level.oid).broadcast }
     {
-        self.height = None;
-        erase_all(self.destination, self.rows.as_mut_slice());
+        self.links.set_own(None);
+        self.links.erase_all(self.destination);
         Some(Broadcast::Clear(level.tau, level.oid))
     }
 }

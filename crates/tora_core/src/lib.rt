@@ -10,6 +10,7 @@ mod destination;
 mod errors;
 mod facts;
 mod laws;
+mod links;
 mod node;
 mod numbers;
 mod relation;

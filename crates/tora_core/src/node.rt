@@ -1,6 +1,6 @@
 //! The core of a node.
 ghost use Rattle.std.specs.Prelude.{◌≡◌, ◌<◌, ℕ, All, IfErr, IfNone, IfOk, MatchOption, None, OnErr, [], OnOk, option_copied, IsOk, string_bytes};
-ghost use Rattle.tora_core.specs.CoreRun.{link_fault, core_after, core_refusal, entry_of, first_core, flag_of, height_of, hop_of, refusal_of, sends_of, view_of};
+ghost use Rattle.tora_core.specs.CoreRun.{downstream_of, link_fault, core_after, core_refusal, entry_of, first_core, flag_of, height_of, hop_of, refusal_of, sends_of, view_of};
 ghost use Rattle.tora_core.specs.Numbers.{has_number};
 ghost use Rattle.tora_core.specs.Kept.{IsCore, IsInput, destinations_of};
 ghost use Rattle.tora_core.specs.ShowText.{show_text};
@@ -12,7 +12,7 @@ use crate::destination::Destination;
 use crate::errors::{CoreError, StepError};
 use crate::numbers::{ascending, has_number, has_repeat, insert_number, remove_number};
 use crate::show::text_of;
-use crate::table::{first_views, has_destination, place_of, step};
+use crate::table::{first_views, has_destination, step};
 use crate::{Input, MOST_DESTINATIONS, MOST_NEIGHBOURS, Sends};
 use arrayvec::ArrayVec;
 use std::alloc::Global;
@@ -164,7 +164,14 @@ impl Core {
         if let Some(error) = self.refusal(input) {
             return Err(error);
         }
-        step(&mut self.views, input, now, sends);
+        step(
+            &mut self.views,
+            self.destinations.as_slice(),
+            self.up.as_slice(),
+            input,
+            now,
+            sends,
+        );
         note(input, &mut self.up);
         Ok(())
     }
@@ -251,6 +258,14 @@ impl Core {
         ensures { result ≡ hop_of self.now d }
     {
         self.view(d).and_then(|view| view.next_hop())
+    }
+
+    /// How many neighbours are downstream for a destination: those whose entry is not NULL, and lower than the own height
+    /// where that is not NULL. `None` where the table does not have the destination.
+    pub fn downstream(&self, d: Id) -> Option<u32>
+        ensures { result ≡ downstream_of self.now d }
+    {
+        self.view(d).map(|view| view.downstream())
     }
 
     /// The core as text: for each destination in ascending order the line `to D height H flag F hop K`, and then for

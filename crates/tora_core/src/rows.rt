@@ -1,13 +1,12 @@
 //! The rows of a view, read and changed.
-ghost use Rattle.std.specs.Prelude.{◌≡◌, ◌<◌, ◌≤◌, ◌+◌, ◌^◌, ◌≤ℤ◌, pos, neg_ℤ, IfSome, fold, filter, nat_lt, position, option_map, option_copied, find, ◌==◌, None, take};
+ghost use Rattle.std.specs.Prelude.{◌≡◌, ◌<◌, ◌≤◌, ◌+◌, ◌^◌, ◌≤ℤ◌, pos, neg_ℤ, IfSome, fold, filter, nat_lt, position, length, slice_index_or, option_map, option_copied, find, ◌==◌, None};
 ghost use Rattle.std.specs.List.{list_any, list_all};
 ghost use Rattle.arrayvec.specs.ArrayVec.{array_vec_len};
 ghost use Rattle.tora_height.specs.Height.{IsLevel};
-ghost use Rattle.tora_core.specs.View.{heights_of, are_null, is_downstream, lower_of, least_height, lower_row_of, higher_level_of, greatest_level, lower_delta_of, least_delta, is_at, all_told, told_row, row_with_entry, is_told, with_entry, erased_row, all_erased, cleared_row, all_cleared, is_entry_at, with_row, without_row};
+ghost use Rattle.tora_core.specs.View.{neighbours_of, heights_of, are_null, is_downstream, lower_of, least_height, lower_row_of, higher_level_of, greatest_level, lower_delta_of, least_delta, is_at, all_told, told_row, row_with_entry, is_told, with_entry, erased_row, all_erased, cleared_row, all_cleared, is_entry_at, with_row, without_row};
 ghost use Rattle.tora_core.specs.Heights.{time_after_all};
+ghost use Rattle.tora_core.specs.Links.{with_entry_at};
 
-use crate::MOST_NEIGHBOURS;
-use arrayvec::ArrayVec;
 use tora_height::{Entry, Height, Id, Level};
 
 /// What a node knows of one neighbour whose link is up.
@@ -29,36 +28,6 @@ pub fn is_downstream(own: Entry, entry: Entry) -> bool
         (None, Some(_)) => true,
         (Some(own), Some(entry)) => entry.is_lower(&own),
     }
-}
-
-pub fn has_downstream(own: Entry, rows: &[Row]) -> bool
-    ensures { result ≡ list_any (λ row. is_downstream own row.entry) rows.now }
-{
-    rows.iter().any(|row| is_downstream(own, row.entry))
-}
-
-fn lower_of(best: Entry, height: Height) -> Entry
-    ensures { result ≡ lower_of best height }
-{
-    match best {
-        None => Some(height),
-        Some(best) => {
-            if height.is_lower(&best) {
-                Some(height)
-            } else {
-                Some(best)
-            }
-        }
-    }
-}
-
-/// The least entry that is not NULL.
-pub fn least_height(rows: &[Row]) -> Entry
-    ensures { result ≡ least_height (heights_of rows.now) }
-{
-    rows.iter()
-        .filter_map(|row| row.entry)
-        .fold(None, |best, height| lower_of(best, height))
 }
 
 fn higher_level_of(best: Option<Level>, height: Height) -> Option<Level>
@@ -147,19 +116,6 @@ pub fn least_delta(level: Level, rows: &[Row]) -> Option<i32>
     best
 }
 
-/// Whether every entry is NULL.
-pub fn are_null(rows: &[Row]) -> bool
-    ensures { result ≡ are_null rows.now }
-{
-    rows.iter().all(|row| row.entry.is_none())
-}
-
-pub fn is_told(k: Id, rows: &[Row]) -> bool
-    ensures { result ≡ is_told k rows.now }
-{
-    rows.iter().any(|row| row.neighbour == k && row.told)
-}
-
 fn tell_row(row: &mut Row)
     ensures { row.new ≡ told_row row.old }
 {
@@ -175,20 +131,20 @@ pub fn tell_all(rows: &mut [Row])
     }
 }
 
-fn set_row_entry(k: Id, height: Height, row: &mut Row)
-    ensures { row.new ≡ row_with_entry k height row.old }
+/// The row at a place.
+pub fn row_at(place: usize, rows: &[Row]) -> &Row
+    requires { place < length rows.now }
+    ensures { result.now ≡ slice_index_or rows.now place result.now }
 {
-    if row.neighbour == k {
-        row.entry = Some(height);
-    }
+    &rows[place]
 }
 
-pub fn set_entry(k: Id, height: Height, rows: &mut [Row])
-    ensures { rows.new ≡ with_entry k height rows.old }
+/// Takes another height for the neighbour whose row is at `place`.
+pub fn put_entry(place: usize, height: Height, rows: &mut [Row])
+    requires { place < length rows.old }
+    ensures { rows.new ≡ with_entry_at place height rows.old }
 {
-    for row in rows.iter_mut() {
-        set_row_entry(k, height, row);
-    }
+    rows[place].entry = Some(height);
 }
 
 fn erase_row(destination: Id, row: &mut Row)
@@ -234,70 +190,6 @@ pub fn clear_level(destination: Id, level: Level, rows: &mut [Row])
     for row in rows.iter_mut() {
         clear_row(destination, level, row);
     }
-}
-
-/// The first row of a neighbour with a greater number.
-fn place_of(k: Id, rows: &[Row]) -> Option<usize>
-    ensures { result ≡ position (λ row. nat_lt k row.neighbour) rows.now }
-{
-    rows.iter().position(|row| k < row.neighbour)
-}
-
-pub fn insert_row(rows: &mut ArrayVec<Row, MOST_NEIGHBOURS>, row: Row)
-    requires { array_vec_len rows.old < MOST_NEIGHBOURS }
-    ensures { rows.new.items ≡ with_row row rows.old.items }
-{
-    let at = place_of(row.neighbour, rows.as_slice()).unwrap_or(rows.len());
-    rows.insert(at, row);
-}
-
-pub fn remove_row(rows: &mut ArrayVec<Row, MOST_NEIGHBOURS>, k: Id)
-    ensures { rows.new.items ≡ without_row k rows.old.items }
-{
-    let kept = keep_others(rows.as_mut_slice(), k);
-    rows.truncate(kept);
-}
-
-/// Moves the rows of the other neighbours to the front, in their order, and counts them.
-fn keep_others(rows: &mut [Row], k: Id) -> usize
-    ensures { take result rows.new ≡ without_row k rows.old }
-{
-    let mut kept = 0;
-    for i in 0..rows.len() {
-        if rows[i].neighbour != k {
-            if kept < i {
-                rows[kept] = rows[i];
-            }
-            kept += 1;
-        }
-    }
-    kept
-}
-
-fn lower_row_of(best: Option<Row>, row: Row) -> Option<Row>
-    ensures { result ≡ lower_row_of best row }
-{
-    match best {
-        None => Some(row),
-        Some(best) => {
-            if is_downstream(best.entry, row.entry) {
-                Some(row)
-            } else {
-                Some(best)
-            }
-        }
-    }
-}
-
-/// The downstream neighbour with the lowest entry.
-pub fn next_hop(own: Entry, rows: &[Row]) -> Option<Id>
-    ensures { result ≡ option_map (λ row. row.neighbour) (fold lower_row_of None (filter (λ row. is_downstream own row.entry) rows.now)) }
-{
-    rows.iter()
-        .copied()
-        .filter(|row| is_downstream(own, row.entry))
-        .fold(None, |best, row| lower_row_of(best, row))
-        .map(|row| row.neighbour)
 }
 
 fn row_of(k: Id, rows: &[Row]) -> Option<&Row>

@@ -1,14 +1,16 @@
 //! The views of a node's destinations, by ascending destination.
-ghost use Rattle.std.specs.Prelude.{◌≡◌, ◌≤◌, ◌<◌, length, map, filter_map, position, All, true, Some, None, IsSome, IfOk, [], ◌++◌};
-ghost use Rattle.std.specs.List.{cons_option};
+ghost use Rattle.std.specs.Prelude.{◌≡◌, ◌≤◌, ◌<◌, length, map, filter_map, position, nat_lt, ◌==◌, All, true, Some, IfOk, [], ◌++◌};
+ghost use Rattle.std.specs.List.{cons_option, position_or_len};
 ghost use Rattle.arrayvec.specs.ArrayVec.{array_vec_len};
-ghost use Rattle.tora_core.specs.Numbers.{IsAscending};
-ghost use Rattle.tora_core.specs.View.{first_view};
+ghost use Rattle.tora_core.specs.Numbers.{IsAscending, has_number};
+ghost use Rattle.tora_core.specs.View.{first_view, up_neighbours};
+ghost use Rattle.tora_core.specs.Links.{IsOnlyPlace};
 ghost use Rattle.tora_core.specs.CoreRun.{concerns, has_destination, is_of, next_packet, next_view, own_destination};
-ghost use Rattle.tora_core.specs.Kept.{CanTake, destinations_of};
+ghost use Rattle.tora_core.specs.Kept.{CanTake, IsLinked, IsOver, destinations_of};
 ghost use Rattle.tora_packet.specs.PacketParts.{IsId};
 
 use crate::destination::Destination;
+use crate::numbers::{place_above, place_of};
 use crate::{Input, MOST_DESTINATIONS, Sends};
 use std::alloc::{AllocError, Global};
 use tora_height::Id;
@@ -37,82 +39,131 @@ pub fn has_destination(d: Id, views: &[Destination]) -> bool
     views.iter().any(|view| view.destination() == d)
 }
 
-/// The place of the view of a destination.
-pub fn place_of(d: Id, views: &[Destination]) -> Option<usize>
-    ensures { result ≡ position (is_of d) views.now }
-{
-    views.iter().position(|view| view.destination() == d)
-}
-
-/// Takes an input in, and lists the packets to every up neighbour. It takes no memory.
-pub fn step(views: &mut [Destination], input: &Input, now: u64, sends: &mut Sends)
+/// Takes an input in, and lists the packets to every up neighbour. `destinations` are those of the views, and `up` the
+/// neighbours whose link is up before the input. It takes no memory.
+pub fn step(
+    views: &mut [Destination],
+    destinations: &[Id],
+    up: &[Id],
+    input: &Input,
+    now: u64,
+    sends: &mut Sends,
+)
     requires may { All (CanTake input.now) views.old }
     requires few { length views.old ≤ MOST_DESTINATIONS }
-    requires ascending { IsAscending (destinations_of views.old) }
+    requires ascending { IsAscending destinations.now }
+    requires names { destinations.now ≡ destinations_of views.old }
+    requires sorted { IsAscending up.now }
+    requires rows { All (IsOver up.now) views.old }
+    requires linked { IsLinked input.now up.now }
     requires empty { sends.old.items ≡ [] }
     ensures views { views.new ≡ map (next_view input.now now) views.old }
     ensures sends { sends.new.items ≡ filter_map (next_packet input.now now) views.old }
 {
     match input {
-        Input::LinkUp(k) => link_up(views, *k, sends),
-        Input::LinkDown(k) => link_down(views, *k, now, sends),
-        Input::Need(d) => step_need(*d, views, now, sends),
-        Input::Packet(k, packet) => step_packet(*k, packet, views, now, sends),
+        Input::LinkUp(k) => link_up(views, *k, place_for(*k, up), sends),
+        Input::LinkDown(k) => link_down(views, *k, place_in(*k, up), now, sends),
+        Input::Need(d) => step_need(*d, views, destinations, now, sends),
+        Input::Packet(k, packet) => {
+            step_packet(
+                *k,
+                place_in(*k, up),
+                packet,
+                views,
+                destinations,
+                now,
+                sends,
+            )
+        }
     }
 }
 
-/// A link that came up goes to every view.
-fn link_up(views: &mut [Destination], k: Id, sends: &mut Sends)
+/// The place of a neighbour whose link is up.
+fn place_in(k: Id, up: &[Id]) -> usize
+    requires { IsAscending up.now × (has_number k up.now ≡ true) }
+    ensures { IsOnlyPlace k result up.now }
+{
+    place_of(k, up).unwrap_or(up.len())
+}
+
+/// The place of a neighbour whose link comes up: before the first greater one.
+fn place_for(k: Id, up: &[Id]) -> usize
+    ensures { result ≡ position_or_len (λ n. nat_lt k n) up.now }
+{
+    place_above(k, up).unwrap_or(up.len())
+}
+
+/// A link that came up goes to every view, as a row at `place`.
+fn link_up(views: &mut [Destination], k: Id, place: usize, sends: &mut Sends)
     requires may { All (CanTake (Input.LinkUp k)) views.old }
     requires few { length views.old ≤ MOST_DESTINATIONS }
+    requires rows { All (λ v. place ≡ position_or_len (λ row. nat_lt k row.neighbour) v.rows) views.old }
     requires empty { sends.old.items ≡ [] }
     ensures views { views.new ≡ map (next_view (Input.LinkUp k) 0) views.old }
     ensures sends { sends.new.items ≡ filter_map (next_packet (Input.LinkUp k) 0) views.old }
 {
     for view in views.iter_mut() {
-        list(view.link_up(k), sends);
+        list(view.link_up(k, place), sends);
     }
 }
 
-/// A link that went down goes to every view.
-fn link_down(views: &mut [Destination], k: Id, now: u64, sends: &mut Sends)
+/// A link that went down goes to every view, where its row is at `place`.
+fn link_down(views: &mut [Destination], k: Id, place: usize, now: u64, sends: &mut Sends)
     requires may { All (CanTake (Input.LinkDown k)) views.old }
     requires few { length views.old ≤ MOST_DESTINATIONS }
+    requires rows { All (λ v. IsOnlyPlace k place (up_neighbours v)) views.old }
     requires empty { sends.old.items ≡ [] }
     ensures views { views.new ≡ map (next_view (Input.LinkDown k) now) views.old }
     ensures sends { sends.new.items ≡ filter_map (next_packet (Input.LinkDown k) now) views.old }
 {
     for view in views.iter_mut() {
-        list(view.link_down(k, now), sends);
+        list(view.link_down(k, place, now), sends);
     }
 }
 
 /// A need goes to the view of its destination alone. The rule for it reads no clock: `now` is any tick.
-fn step_need(d: Id, views: &mut [Destination], now: u64, sends: &mut Sends)
+fn step_need(
+    d: Id,
+    views: &mut [Destination],
+    destinations: &[Id],
+    now: u64,
+    sends: &mut Sends,
+)
     requires may { All (CanTake (Input.Need d)) views.old }
-    requires ascending { IsAscending (destinations_of views.old) }
+    requires ascending { IsAscending destinations.now }
+    requires names { destinations.now ≡ destinations_of views.old }
     requires empty { sends.old.items ≡ [] }
     ensures views { views.new ≡ map (next_view (Input.Need d) now) views.old }
     ensures sends { sends.new.items ≡ filter_map (next_packet (Input.Need d) now) views.old }
 {
-    let Some(place) = place_of(d, views) else {
+    let Some(place) = place_of(d, destinations) else {
         return;
     };
     list(views[place].need(), sends);
 }
 
-/// A packet goes to the view of its destination alone.
-fn step_packet(k: Id, packet: &Packet, views: &mut [Destination], now: u64, sends: &mut Sends)
+/// A packet of neighbour `k`, whose rows are at `row`, goes to the view of its destination alone.
+fn step_packet(
+    k: Id,
+    row: usize,
+    packet: &Packet,
+    views: &mut [Destination],
+    destinations: &[Id],
+    now: u64,
+    sends: &mut Sends,
+)
     requires may { All (CanTake (Input.Packet k packet.now)) views.old }
-    requires ascending { IsAscending (destinations_of views.old) }
+    requires ascending { IsAscending destinations.now }
+    requires names { destinations.now ≡ destinations_of views.old }
+    requires rows { All (λ v. IsOnlyPlace k row (up_neighbours v)) views.old }
     requires empty { sends.old.items ≡ [] }
     ensures views { views.new ≡ map (next_view (Input.Packet k packet.now) now) views.old }
     ensures sends { sends.new.items ≡ filter_map (next_packet (Input.Packet k packet.now) now) views.old }
 {
-    let Some(place) = place_of(packet.destination(), views) else {
+    let Some(place) = place_of(packet.destination(), destinations) else {
         return;
     };
-    list(views[place].packet(k, packet, now), sends);
+    list(views[place].packet(k, row, packet, now), sends);
 }
 
 /// Lists a packet, where there is one.

@@ -1,7 +1,9 @@
-use Rattle.std.proofs.Common.{◌≡◌, ◌∙◌, sym, ap, subst, length, ◌<◌, ℕ, true, List, [], ◌++◌, Option, Some}
+use Rattle.std.proofs.Common.{◌≡◌, ◌∙◌, sym, ap, subst, length, ◌<◌, ℕ, ◌==◌, true, List, [], ◌++◌, Option, Some}
 use Rattle.tora_packet.specs.declared.Packet.{Packet}
 use Rattle.std.specs.Prelude.{slice_index_or, slice_set, if◌then◌else◌}
-use Rattle.std.specs.List.{cons_option}
+use Rattle.std.specs.List.{cons_option, position}
+use Rattle.tora_core.specs.Numbers.{IsAscending}
+use Rattle.tora_core.proofs.RowPlaces.{names-views}
 use Rattle.tora_core.specs.declared.Input.TheVariants as In
 use Rattle.tora_core.specs.View.{View}
 use Rattle.tora_core.specs.Rules.{view_after, packet_sent}
@@ -11,12 +13,12 @@ use Rattle.tora_core.proofs.table.step_packet.Goals as goal
 
 pub returns-in_default-clause-views : goal.returns-in_default-clause-views
 returns-in_default-clause-views c =
-    let none = none-passes (is_of c.destination.result) c.args.views.now (sym c.place_of.ensures ∙ c.in_default.is) in
+    let none = none-passes (is_of c.destination.result) c.args.views.now (sym (names-views c.destination.result c.args.views.now) ∙ sym (ap (λ (ns : List ℕ). position (λ n. n == c.destination.result) ns) c.requires.names) ∙ sym c.place_of.ensures ∙ c.in_default.is) in
     sym (views-none (In.Packet c.args.k c.args.packet.now) c.args.now c.destination.result (ap Some (sym c.destination.ensures.value)) c.args.views.now none)
 
 pub returns-in_default-clause-sends : goal.returns-in_default-clause-sends
 returns-in_default-clause-sends c =
-    let none = none-passes (is_of c.destination.result) c.args.views.now (sym c.place_of.ensures ∙ c.in_default.is) in
+    let none = none-passes (is_of c.destination.result) c.args.views.now (sym (names-views c.destination.result c.args.views.now) ∙ sym (ap (λ (ns : List ℕ). position (λ n. n == c.destination.result) ns) c.requires.names) ∙ sym c.place_of.ensures ∙ c.in_default.is) in
     let sends = sends-none (In.Packet c.args.k c.args.packet.now) c.args.now c.destination.result (ap Some (sym c.destination.ensures.value)) c.args.views.now none in
     cc
 
@@ -25,7 +27,7 @@ pub packet-requires-clause-may : goal.packet-requires-clause-may
 packet-requires-clause-may c =
     let views = c.args.views.now in
     let x = c.index-views-place.result in
-    let place = place-Some (is_of c.destination.result) views c.in-Some.place (sym c.place_of.ensures ∙ c.in-Some.is) in
+    let place = place-Some (is_of c.destination.result) views c.in-Some.place (sym (names-views c.destination.result c.args.views.now) ∙ sym (ap (λ (ns : List ℕ). position (λ n. n == c.destination.result) ns) c.requires.names) ∙ sym c.place_of.ensures ∙ c.in-Some.is) in
     let P : ℕ → Type 0 = λ i. x ≡ slice_index_or views i x in
     let read = subst P place.1 c.index-views-place.is in
     let own = concerned (In.Packet c.args.k c.args.packet.now) c.args.now c.destination.result (ap Some (sym c.destination.ensures.value)) x (found (In.Packet c.args.k c.args.packet.now) c.args.now c.destination.result (ap Some (sym c.destination.ensures.value)) views x place.0 read) in
@@ -37,10 +39,10 @@ pub returns-clause-views : goal.returns-clause-views
 returns-clause-views c =
     let views = c.args.views.now in
     let x = c.index-views-place.result in
-    let place = place-Some (is_of c.destination.result) views c.in-Some.place (sym c.place_of.ensures ∙ c.in-Some.is) in
+    let place = place-Some (is_of c.destination.result) views c.in-Some.place (sym (names-views c.destination.result c.args.views.now) ∙ sym (ap (λ (ns : List ℕ). position (λ n. n == c.destination.result) ns) c.requires.names) ∙ sym c.place_of.ensures ∙ c.in-Some.is) in
     let P : ℕ → Type 0 = λ i. x ≡ slice_index_or views i x in
     let read = subst P place.1 c.index-views-place.is in
-    let at = views-at (In.Packet c.args.k c.args.packet.now) c.args.now c.destination.result (ap Some (sym c.destination.ensures.value)) views x c.requires.ascending place.0 read in
+    let at = views-at (In.Packet c.args.k c.args.packet.now) c.args.now c.destination.result (ap Some (sym c.destination.ensures.value)) views x (subst IsAscending c.requires.names c.requires.ascending) place.0 read in
     let own = concerned (In.Packet c.args.k c.args.packet.now) c.args.now c.destination.result (ap Some (sym c.destination.ensures.value)) x (found (In.Packet c.args.k c.args.packet.now) c.args.now c.destination.result (ap Some (sym c.destination.ensures.value)) views x place.0 read) in
     let new : c.packet.new.self ≡ next_view (In.Packet c.args.k c.args.packet.now) c.args.now x =
     c.packet.ensures.view ∙ ap (λ (v : View). view_after v (In.Packet c.args.k c.args.packet.now) c.args.now) (sym c.index-views-place.is) ∙ sym (view-taken (In.Packet c.args.k c.args.packet.now) c.args.now x own) in
@@ -50,10 +52,10 @@ pub returns-clause-sends : goal.returns-clause-sends
 returns-clause-sends c =
     let views = c.args.views.now in
     let x = c.index-views-place.result in
-    let place = place-Some (is_of c.destination.result) views c.in-Some.place (sym c.place_of.ensures ∙ c.in-Some.is) in
+    let place = place-Some (is_of c.destination.result) views c.in-Some.place (sym (names-views c.destination.result c.args.views.now) ∙ sym (ap (λ (ns : List ℕ). position (λ n. n == c.destination.result) ns) c.requires.names) ∙ sym c.place_of.ensures ∙ c.in-Some.is) in
     let P : ℕ → Type 0 = λ i. x ≡ slice_index_or views i x in
     let read = subst P place.1 c.index-views-place.is in
-    let at = sends-at (In.Packet c.args.k c.args.packet.now) c.args.now c.destination.result (ap Some (sym c.destination.ensures.value)) views x c.requires.ascending place.0 read in
+    let at = sends-at (In.Packet c.args.k c.args.packet.now) c.args.now c.destination.result (ap Some (sym c.destination.ensures.value)) views x (subst IsAscending c.requires.names c.requires.ascending) place.0 read in
     let own = concerned (In.Packet c.args.k c.args.packet.now) c.args.now c.destination.result (ap Some (sym c.destination.ensures.value)) x (found (In.Packet c.args.k c.args.packet.now) c.args.now c.destination.result (ap Some (sym c.destination.ensures.value)) views x place.0 read) in
     let from : c.args.sends.now.items ≡ [] = c.requires.empty in
     let sent : c.packet.result ≡ next_packet (In.Packet c.args.k c.args.packet.now) c.args.now x =

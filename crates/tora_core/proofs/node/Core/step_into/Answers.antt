@@ -5,7 +5,8 @@ use Rattle.std.specs.List.{refill}
 use Rattle.tora_core.specs.declared.Input.{Input}
 use Rattle.tora_core.specs.View.{View}
 use Rattle.tora_core.specs.CoreRun.{CoreView, refusal_of, core_taking}
-use Rattle.tora_core.specs.Kept.{IsCore, CanTake}
+use Rattle.tora_core.specs.Kept.{IsCore, CanTake, IsOver}
+use Rattle.tora_core.proofs.AfterInputs.{all-over, linked, part-ascending}
 use Rattle.tora_core.proofs.CoreLemmas.{all-can_take, core-kept, destinations_of-next, room-up}
 use Rattle.tora_core.proofs.node.Core.step_into.Goals as goal
 
@@ -33,3 +34,24 @@ invariant_of-self c =
     let same = refill-same c.self.inside.views.len c.self.inside.views.items c.step.new.views (omega (arith, c.step.auto.views, c.deref_mut.ensures.len)) in
     rw (same, c.note.ensures, c.step.ensures.views, c.deref_mut.ensures.value)
     (kept, c.self.invariant.1 ∙ sym (destinations_of-next c.args.input.now c.args.now c.self.inside.views.items))
+
+pub step-requires-clause-ascending : goal.step-requires-clause-ascending
+step-requires-clause-ascending c = rw (c.as_slice.ensures.value, c.self.invariant.1) c.self.invariant.0.ascending_destinations
+
+pub step-requires-clause-names : goal.step-requires-clause-names
+step-requires-clause-names c = rw (c.as_slice.ensures.value, c.deref_mut.ensures.value) c.self.invariant.1
+
+pub step-requires-clause-sorted : goal.step-requires-clause-sorted
+step-requires-clause-sorted c =
+    rw c.as_slice-2.ensures.value (part-ascending c.self.inside.up.items c.self.inside.neighbours.items c.self.invariant.0.up c.self.invariant.0.ascending_neighbours)
+
+pub step-requires-clause-rows : goal.step-requires-clause-rows
+step-requires-clause-rows c =
+    rw (c.deref_mut.ensures.value, c.as_slice-2.ensures.value)
+    (All-from_recursion (IsOver c.self.inside.up.items) c.self.inside.views.items (all-over c.self.inside.me c.self.inside.up.items c.self.inside.views.items c.self.invariant.0.views))
+
+pub step-requires-clause-linked : goal.step-requires-clause-linked
+step-requires-clause-linked c =
+    let core : CoreView = record { me = c.self.inside.me; neighbours = c.self.inside.neighbours.items; up = c.self.inside.up.items; views = c.self.inside.views.items } in
+    let free : refusal_of core c.args.input.now ≡ None = ap (λ (x : CoreView). refusal_of x c.args.input.now) c.self.view_is ∙ sym c.refusal.ensures.value ∙ c.in_default.is in
+    rw c.as_slice-2.ensures.value (linked core c.args.input.now free)

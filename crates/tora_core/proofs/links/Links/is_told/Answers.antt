@@ -1,0 +1,29 @@
+use Rattle.std.proofs.Common.{◌≡◌, ◌≢◌, ◌∙◌, refl, sym, ap, subst, ℕ, ◌+◌, ◌<◌, ◌≤◌, Bool, true, false, List, [], Option, Some, None, is_none, nat_lt, length, arith}
+use Rattle.std.specs.Prelude.{IfSome, is_some, slice_index_or}
+use Rattle.tora_core.specs.Links.{IsLeastAt, IsLeastPlace, IsOnlyPlace, LinkTable, downstream_in, directions_of, entry_at, is_down, low_of}
+use Rattle.tora_core.specs.View.{are_null, heights_of, is_downstream, is_told, least_height, neighbours_of}
+use Rattle.tora_core.specs.declared.rows.Row.{Row}
+use Rattle.tora_height.specs.Height.{Quintuple}
+use Rattle.tora_core.proofs.LinkLemmas.{only-here, only-told, only-within}
+use Rattle.tora_core.proofs.links.Links.is_told.Goals as goal
+
+pub row_at-row-requires : goal.row_at-row-requires
+row_at-row-requires c =
+    let only : IsOnlyPlace c.args.k c.args.place (neighbours_of c.self.inside.rows.items) = subst (λ (t : LinkTable). IsOnlyPlace c.args.k c.args.place (neighbours_of t.rows)) (sym c.self.view_is) c.requires in
+    rw c.as_slice.ensures.value (only-within c.args.k c.args.place c.self.inside.rows.items only)
+
+pub prove-unreachable-requires : goal.prove-unreachable-requires
+prove-unreachable-requires c =
+    let only : IsOnlyPlace c.args.k c.args.place (neighbours_of c.self.inside.rows.items) = subst (λ (t : LinkTable). IsOnlyPlace c.args.k c.args.place (neighbours_of t.rows)) (sym c.self.view_is) c.requires in
+    let row = c.row_at-row.result.now in
+    let P : List Row → Type 0 = λ rows. row ≡ slice_index_or rows c.args.place row in
+    let read = subst P c.as_slice.ensures.value c.row_at-row.ensures in
+    c.if-prove.true (ap (λ (r : Row). r.neighbour) read ∙ only-here c.args.k c.args.place c.self.inside.rows.items row only)
+
+pub returns : goal.returns
+returns c =
+    let only : IsOnlyPlace c.args.k c.args.place (neighbours_of c.self.inside.rows.items) = subst (λ (t : LinkTable). IsOnlyPlace c.args.k c.args.place (neighbours_of t.rows)) (sym c.self.view_is) c.requires in
+    let row = c.row_at-row.result.now in
+    let P : List Row → Type 0 = λ rows. row ≡ slice_index_or rows c.args.place row in
+    let read = subst P c.as_slice.ensures.value c.row_at-row.ensures in
+    ap (λ (r : Row). r.told) read ∙ sym (only-told c.args.k c.args.place c.self.inside.rows.items row only) ∙ ap (λ (t : LinkTable). is_told c.args.k t.rows) c.self.view_is

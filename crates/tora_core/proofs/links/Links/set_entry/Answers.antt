@@ -1,0 +1,109 @@
+use Rattle.std.proofs.Common.{◌≡◌, ◌≢◌, ◌∙◌, refl, sym, ap, subst, ℕ, ◌+◌, ◌<◌, ◌≤◌, Bool, true, false, List, [], Option, Some, None, nat_lt, length, lit<, arith}
+use Rattle.std.specs.Prelude.{IfSome, slice_index_or, slice_set, if◌then◌else◌}
+use Rattle.std.specs.List.{insert, remove, position_or_len, refill}
+use Rattle.tora_height.specs.declared.Direction.{Direction}
+use Rattle.tora_core.specs.declared.rows.Row.{Row}
+use Rattle.tora_core.specs.Links.{AreKept, IsLeastPlace, IsOnlyPlace, LinkTable, with_entry_at}
+use Rattle.tora_core.specs.View.{neighbours_of, with_entry, with_row, without_row}
+use Rattle.tora_core.proofs.LinkLemmas.{before-counted, kept-few, kept-lengths, kept-set, only-here, only-set, only-within, refill-same, table-is}
+use Rattle.tora_height.specs.HeightOrder.{link_status}
+use Rattle.tora_core.specs.Links.{is_down}
+use Rattle.tora_core.proofs.links.Links.set_entry.Goals.{in-None, in-Some}
+use Rattle.tora_core.proofs.links.Links.set_entry.Goals as goal
+
+pub row_at-requires : goal.row_at-requires
+row_at-requires c =
+    let only : IsOnlyPlace c.args.k c.args.place (neighbours_of c.self.inside.rows.items) = subst (λ (t : LinkTable). IsOnlyPlace c.args.k c.args.place (neighbours_of t.rows)) (sym c.self.view_is) c.requires in
+    let rows = c.self.inside.rows.items in
+    let lt : c.args.place < length rows = only-within c.args.k c.args.place rows only in
+    rw c.as_slice.ensures.value lt
+
+pub prove-unreachable-requires : goal.prove-unreachable-requires
+prove-unreachable-requires c =
+    let only : IsOnlyPlace c.args.k c.args.place (neighbours_of c.self.inside.rows.items) = subst (λ (t : LinkTable). IsOnlyPlace c.args.k c.args.place (neighbours_of t.rows)) (sym c.self.view_is) c.requires in
+    let rows = c.self.inside.rows.items in
+    let lt : c.args.place < length rows = only-within c.args.k c.args.place rows only in
+    let row = c.row_at.result.now in
+    let P : List Row → Type 0 = λ xs. row ≡ slice_index_or xs c.args.place row in
+    let read = subst P c.as_slice.ensures.value c.row_at.ensures in
+    c.if-prove.true (ap (λ (r : Row). r.neighbour) read ∙ only-here c.args.k c.args.place rows row only)
+
+pub least_with-least-requires-clause-place : goal.least_with-least-requires-clause-place
+least_with-least-requires-clause-place c =
+    let only : IsOnlyPlace c.args.k c.args.place (neighbours_of c.self.inside.rows.items) = subst (λ (t : LinkTable). IsOnlyPlace c.args.k c.args.place (neighbours_of t.rows)) (sym c.self.view_is) c.requires in
+    let rows = c.self.inside.rows.items in
+    let lt : c.args.place < length rows = only-within c.args.k c.args.place rows only in
+    rw c.as_slice-2.ensures.value lt
+
+pub put_direction-before-requires : goal.put_direction-before-requires
+put_direction-before-requires c =
+    let only : IsOnlyPlace c.args.k c.args.place (neighbours_of c.self.inside.rows.items) = subst (λ (t : LinkTable). IsOnlyPlace c.args.k c.args.place (neighbours_of t.rows)) (sym c.self.view_is) c.requires in
+    let rows = c.self.inside.rows.items in
+    let lt : c.args.place < length rows = only-within c.args.k c.args.place rows only in
+    let same = kept-lengths c.self.inside.own rows c.self.inside.directions.items c.self.inside.downstream c.self.inside.least c.self.invariant in
+    rw (c.as_mut_slice.ensures.value, same) lt
+
+pub recounted-self-inside-requires-clause-some : goal.recounted-self-inside-requires-clause-some
+recounted-self-inside-requires-clause-some c =
+    let only : IsOnlyPlace c.args.k c.args.place (neighbours_of c.self.inside.rows.items) = subst (λ (t : LinkTable). IsOnlyPlace c.args.k c.args.place (neighbours_of t.rows)) (sym c.self.view_is) c.requires in
+    let rows = c.self.inside.rows.items in
+    let lt : c.args.place < length rows = only-within c.args.k c.args.place rows only in
+    let before = c.put_direction-before.result in
+    let P : List Direction → Type 0 = λ xs. before ≡ slice_index_or xs c.args.place before in
+    let read = subst P c.as_mut_slice.ensures.value c.put_direction-before.ensures.before in
+    before-counted c.self.inside.own rows c.self.inside.directions.items c.self.inside.downstream c.self.inside.least c.args.place before c.self.invariant lt read
+
+pub recounted-self-inside-requires-clause-few : goal.recounted-self-inside-requires-clause-few
+recounted-self-inside-requires-clause-few c =
+    let few = kept-few c.self.inside.own c.self.inside.rows.items c.self.inside.directions.items c.self.inside.downstream c.self.inside.least c.self.invariant in
+    let fits = c.as_slice.ensures.fits in
+    let same = ap (λ xs. length xs) c.as_slice.ensures.value in
+    omega arith
+
+pub put_entry-requires : goal.put_entry-requires
+put_entry-requires c =
+    let only : IsOnlyPlace c.args.k c.args.place (neighbours_of c.self.inside.rows.items) = subst (λ (t : LinkTable). IsOnlyPlace c.args.k c.args.place (neighbours_of t.rows)) (sym c.self.view_is) c.requires in
+    let rows = c.self.inside.rows.items in
+    let lt : c.args.place < length rows = only-within c.args.k c.args.place rows only in
+    rw c.as_mut_slice-2.ensures.value lt
+
+pub invariant_of-self : goal.invariant_of-self
+invariant_of-self c =
+    let only : IsOnlyPlace c.args.k c.args.place (neighbours_of c.self.inside.rows.items) = subst (λ (t : LinkTable). IsOnlyPlace c.args.k c.args.place (neighbours_of t.rows)) (sym c.self.view_is) c.requires in
+    let rows = c.self.inside.rows.items in
+    let lt : c.args.place < length rows = only-within c.args.k c.args.place rows only in
+    let written = refill-same (length c.self.inside.directions.items) c.self.inside.directions.items c.put_direction-before.new.directions (c.put_direction-before.auto.directions ∙ ap (λ xs. length xs) c.as_mut_slice.ensures.value) in
+    let told = refill-same (length rows) rows c.put_entry.new.rows (c.put_entry.auto.rows ∙ ap (λ xs. length xs) c.as_mut_slice-2.ensures.value) in
+    let entries : c.put_entry.new.rows ≡ with_entry_at c.args.place c.args.height rows = c.put_entry.ensures ∙ ap (with_entry_at c.args.place c.args.height) c.as_mut_slice-2.ensures.value in
+    let before = c.put_direction-before.result in
+    let P : List Direction → Type 0 = λ xs. before ≡ slice_index_or xs c.args.place before in
+    let read = subst P c.as_mut_slice.ensures.value c.put_direction-before.ensures.before in
+    let directed : c.put_direction-before.new.directions ≡ slice_set c.self.inside.directions.items c.args.place (link_status c.self.inside.own (Some c.args.height)) =
+    c.put_direction-before.ensures.after ∙ ap (λ (xs : List Direction). slice_set xs c.args.place c.status-direction.result) c.as_mut_slice.ensures.value
+    ∙ ap (slice_set c.self.inside.directions.items c.args.place) c.status-direction.ensures in
+    let least : IsLeastPlace c.match-least.self (with_entry_at c.args.place c.args.height rows) =
+    elim c.match-least.branch [
+      in-None w ↦ subst (λ (l : Option ℕ). IsLeastPlace l (with_entry_at c.args.place c.args.height rows)) (sym w.self-is)
+      (subst (IsLeastPlace w.place_of_least-self-inside.result) (w.as_slice-in-None.ensures.value ∙ told ∙ entries) w.place_of_least-self-inside.ensures)
+      | in-Some w ↦
+      (let known : IfSome c.least_with-least.result (λ i. IsLeastPlace (Some i) (with_entry_at c.args.place c.args.height rows)) =
+      subst (λ (xs : List Row). IfSome c.least_with-least.result (λ i. IsLeastPlace (Some i) (with_entry_at c.args.place c.args.height xs))) c.as_slice-2.ensures.value c.least_with-least.ensures in
+      let found : IsLeastPlace (Some w.in-Some.place) (with_entry_at c.args.place c.args.height rows) =
+      subst (λ (l : Option ℕ). IfSome l (λ i. IsLeastPlace (Some i) (with_entry_at c.args.place c.args.height rows))) w.in-Some.is known in
+      subst (λ (l : Option ℕ). IsLeastPlace l (with_entry_at c.args.place c.args.height rows)) (sym w.self-is) found)
+    ] in
+    rw (told, written, entries, directed)
+    (kept-set c.self.inside.own rows c.self.inside.directions.items c.self.inside.downstream c.self.inside.least c.args.place c.args.height before c.recounted-self-inside.result c.match-least.self
+    c.self.invariant lt read (c.recounted-self-inside.ensures ∙ ap (λ (d : Direction). c.self.inside.downstream + (if is_down d then 1 else 0)) c.status-direction.ensures) least)
+
+pub returns : goal.returns
+returns c =
+    let only : IsOnlyPlace c.args.k c.args.place (neighbours_of c.self.inside.rows.items) = subst (λ (t : LinkTable). IsOnlyPlace c.args.k c.args.place (neighbours_of t.rows)) (sym c.self.view_is) c.requires in
+    let rows = c.self.inside.rows.items in
+    let lt : c.args.place < length rows = only-within c.args.k c.args.place rows only in
+    let written = refill-same (length c.self.inside.directions.items) c.self.inside.directions.items c.put_direction-before.new.directions (c.put_direction-before.auto.directions ∙ ap (λ xs. length xs) c.as_mut_slice.ensures.value) in
+    let told = refill-same (length rows) rows c.put_entry.new.rows (c.put_entry.auto.rows ∙ ap (λ xs. length xs) c.as_mut_slice-2.ensures.value) in
+    let entries : c.put_entry.new.rows ≡ with_entry_at c.args.place c.args.height rows = c.put_entry.ensures ∙ ap (with_entry_at c.args.place c.args.height) c.as_mut_slice-2.ensures.value in
+    let new : refill (length rows) rows c.put_entry.new.rows ≡ with_entry c.args.k c.args.height c.args.self.now.rows =
+    told ∙ entries ∙ sym (only-set c.args.k c.args.place c.args.height rows only) ∙ ap (λ (t : LinkTable). with_entry c.args.k c.args.height t.rows) c.self.view_is in
+    table-is c.self.inside.own c.args.self.now.own (refill (length rows) rows c.put_entry.new.rows) (with_entry c.args.k c.args.height c.args.self.now.rows) (ap (λ (t : LinkTable). t.own) c.self.view_is) new

@@ -1,0 +1,16 @@
+use Rattle.std.proofs.Common.{◌≡◌, ◌≢◌, ◌∙◌, refl, sym, ap, subst, ℕ, ◌+◌, ◌<◌, ◌≤◌, Bool, true, false, List, [], Option, Some, None, is_none, nat_lt, length, arith}
+use Rattle.tora_core.specs.Links.{IsLeastAt, IsLeastPlace, IsOnlyPlace, LinkTable, downstream_in, directions_of, entry_at, is_down, low_of}
+use Rattle.tora_core.specs.View.{all_told}
+use Rattle.tora_core.proofs.LinkLemmas.{directions-told, downstream-told, least-told, refill-same}
+use Rattle.tora_core.proofs.links.Links.tell_all.Goals as goal
+
+pub invariant_of-self : goal.invariant_of-self
+invariant_of-self c =
+    let rows = c.self.inside.rows.items in
+    let same = refill-same (length rows) rows c.tell_all.new.rows (c.tell_all.auto.rows ∙ ap (λ xs. length xs) c.as_mut_slice.ensures.value) in
+    let told : c.tell_all.new.rows ≡ all_told rows = c.tell_all.ensures ∙ ap all_told c.as_mut_slice.ensures.value in
+    rw (same, told) (record {
+      directions_are = c.self.invariant.directions_are ∙ directions-told c.self.inside.own rows;
+      downstream_is = c.self.invariant.downstream_is ∙ downstream-told c.self.inside.own rows;
+      least_is = least-told c.self.inside.least rows c.self.invariant.least_is;
+    })

@@ -1,0 +1,12 @@
+use Rattle.std.proofs.Common.{◌≡◌, ◌∙◌, sym, ap, subst, ℕ, ◌==◌, nat_lt, Option, length}
+use Rattle.std.specs.Prelude.{unwrap_or}
+use Rattle.std.specs.List.{position_or_len}
+use Rattle.tora_core.specs.Links.{IsOnlyPlace}
+use Rattle.tora_core.proofs.RowPlaces.{only-of, place-or-length}
+use Rattle.tora_core.proofs.table.place_in.Goals as goal
+
+pub returns : goal.returns
+returns c =
+    let at : c.unwrap_or.result ≡ position_or_len (λ n. n == c.args.k) c.args.up.now =
+    c.unwrap_or.ensures ∙ ap (λ (o : Option ℕ). unwrap_or o (length c.args.up.now)) c.place_of.ensures ∙ place-or-length (λ n. n == c.args.k) c.args.up.now in
+    subst (λ (i : ℕ). IsOnlyPlace c.args.k i c.args.up.now) (sym at) (only-of c.args.k c.args.up.now c.requires.0 c.requires.1)

@@ -1,0 +1,87 @@
+-- What a core keeps of the rows of one destination: the directions of the links, how many are downstream, and the row
+-- with the least height.
+use Rattle.std.specs.Prelude.{◌≡◌, ◌≢◌, ℕ, zero, suc, Bool, true, false, List, [], ◌∷◌, length, map, filter, Option, None, Some}
+use Rattle.std.specs.List.{AllByRecursion}
+use Rattle.std.specs.Ordering.{is_lt}
+use Rattle.tora_height.specs.declared.Direction.{Direction}
+use Rattle.tora_height.specs.declared.Direction.TheVariants.{Down, Up, Undirected}
+use Rattle.tora_height.specs.Height.{Quintuple}
+use Rattle.tora_height.specs.HeightOrder.{height_cmp, link_status}
+use Rattle.tora_core.specs.declared.rows.Row.{Row}
+use Rattle.tora_core.specs.View.{is_downstream}
+
+-- the own height, and the rows of the up neighbours
+pub record LinkTable : Type 0 where
+  pub own : Option Quintuple
+  pub rows : List Row
+
+-- ---- directions
+
+abbrev pub is_down : Direction → Bool
+is_down Up = false
+is_down Down = true
+is_down Undirected = false
+
+-- the direction of each link
+abbrev pub directions_of : Option Quintuple → List Row → List Direction
+directions_of own rows = map (λ row. link_status own row.entry) rows
+
+-- how many links are downstream
+abbrev pub downstream_in : Option Quintuple → List Row → ℕ
+downstream_in own rows = length (filter (λ row. is_downstream own row.entry) rows)
+
+-- ---- the row with the least height
+
+-- the entry is NULL, or above h
+abbrev pub is_above : Quintuple → Option Quintuple → Bool
+is_above h None = true
+is_above h (Some entry) = is_lt (height_cmp h entry)
+
+-- the entry is NULL, or not below h
+abbrev pub IsNotBelow : Quintuple → Row → Type 0
+IsNotBelow h row = is_downstream (Some h) row.entry ≡ false
+
+-- the first row with the least height is at this place, and that height is h
+abbrev pub IsLeastAt : ℕ → Quintuple → List Row → Type 0
+IsLeastAt place h [] = ⊥
+IsLeastAt zero h (row ∷ rows) = (row.entry ≡ Some h) × AllByRecursion (IsNotBelow h) rows
+IsLeastAt (suc place) h (row ∷ rows) = (is_above h row.entry ≡ true) × IsLeastAt place h rows
+
+abbrev pub IsNull : Row → Type 0
+IsNull row = row.entry ≡ None
+
+-- the place of the first row with the least height, and none where every entry is NULL
+abbrev pub IsLeastPlace : Option ℕ → List Row → Type 0
+IsLeastPlace None rows = AllByRecursion IsNull rows
+IsLeastPlace (Some place) rows = (h : Quintuple) × IsLeastAt place h rows
+
+-- the entry at this place
+abbrev pub entry_at : ℕ → List Row → Option Quintuple
+entry_at place [] = None
+entry_at zero (row ∷ rows) = row.entry
+entry_at (suc place) (row ∷ rows) = entry_at place rows
+
+-- the entry at the place of the least row, where there is one
+abbrev pub low_of : Option ℕ → List Row → Option Quintuple
+low_of None rows = None
+low_of (Some place) rows = entry_at place rows
+
+-- with another entry at this place
+abbrev pub with_entry_at : ℕ → Quintuple → List Row → List Row
+with_entry_at place h [] = []
+with_entry_at zero h (row ∷ rows) = record row { entry = Some h } ∷ rows
+with_entry_at (suc place) h (row ∷ rows) = row ∷ with_entry_at place h rows
+
+-- what is kept is what the own height and the rows give
+pub record AreKept (own : Option Quintuple) (rows : List Row) (directions : List Direction) (downstream : ℕ) (least : Option ℕ) : Type 0 where
+  pub directions_are : directions ≡ directions_of own rows
+  pub downstream_is : downstream ≡ downstream_in own rows
+  pub least_is : IsLeastPlace least rows
+
+-- ---- the place of a neighbour's row
+
+-- k stands at this place of the numbers, and nowhere else
+abbrev pub IsOnlyPlace : ℕ → ℕ → List ℕ → Type 0
+IsOnlyPlace k place [] = ⊥
+IsOnlyPlace k zero (n ∷ numbers) = (n ≡ k) × AllByRecursion (λ (m : ℕ). m ≢ k) numbers
+IsOnlyPlace k (suc place) (n ∷ numbers) = (n ≢ k) × IsOnlyPlace k place numbers
