@@ -81,3 +81,6 @@ pub struct Stepped {
     /// The packet.
     pub packet: Packet,
 }
+
+#[cfg(test)]
+mod tests;
