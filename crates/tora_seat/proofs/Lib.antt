@@ -4,3 +4,6 @@ pub mod Goings
 pub mod Steps
 pub mod Seats
 pub mod Ups
+pub mod Histories
+pub mod ItemFacts
+pub mod ItemLaws

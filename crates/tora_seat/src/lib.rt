@@ -5,10 +5,14 @@
 #![tactic(auto)]
 
 mod lanes;
+mod laws;
 mod rows;
 mod seat;
 
 pub use lanes::OutLanes;
+pub use laws::{
+    handed_back_packets_end_their_lives, lives_are_current_where_links_are_up, lives_have_no_gap,
+};
 pub use rows::LinkRow;
 pub use seat::CoreSeat;
 use tora_arq::{Life, Reason};
