@@ -7,3 +7,4 @@ pub mod Ups
 pub mod Histories
 pub mod ItemFacts
 pub mod ItemLaws
+pub mod Counts

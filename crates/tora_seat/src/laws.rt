@@ -24,3 +24,10 @@ pub fn handed_back_packets_end_their_lives()
     ensures { (answers : Answers) (ks : List ℕ) (s : SeatState) (item : Item) (k : ℕ) → ks ≡ s.core.neighbours → has_repeat ks ≡ false
         → IsInStep ks s → has_number k ks ≡ true → EndsAtBack ks s item k (serving_of answers ks s item) }
 {}
+
+/// An item makes the core accept at most two inputs more than there are neighbours: each link goes down at most once,
+/// but for a link whose life is replaced and cut at once.
+pub fn items_step_few_inputs()
+    ensures { (answers : Answers) (ks : List ℕ) (s : SeatState) (item : Item) → ks ≡ s.core.neighbours → has_repeat ks ≡ false
+        → length (serving_of answers ks s item).inputs ≤ length ks + 2 }
+{}
