@@ -199,3 +199,20 @@ fn packet_of_the_current_life_is_handed_to_the_core(rt: HostRuntime) -> Result<(
     assert_eq!(rt; seat.stepped(), None);
     Ok(())
 }
+
+#[test]
+fn items_and_cargoes_are_shown(rt: HostRuntime) -> Result<(), Fail> {
+    let alloc = rt.alloc();
+    let item = Item {
+        seat: 0,
+        number: 1,
+        now: 7,
+        what: What::Up(FIRST),
+    };
+    let cut = Cargo::Cut(FIRST);
+    let refused = Answer::Refused(StepError::NotUp);
+    let text = format!(in alloc; "{item}, {cut}, {refused}")?;
+    let expected = format!(in alloc; "0 1 7 up 5/9, cut 5/9, refused: {}", StepError::NotUp)?;
+    assert_eq!(rt; text.as_str(), expected.as_str());
+    Ok(())
+}
