@@ -5,3 +5,7 @@ mod CoreFollows
 pub mod Steps
 pub mod Seats
 pub mod Ups
+pub mod Histories
+pub mod ItemFacts
+pub mod ItemLaws
+pub mod Counts

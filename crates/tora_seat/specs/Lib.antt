@@ -2,3 +2,4 @@ pub mod Serving
 pub mod Offers
 pub mod Rows
 pub mod Bodies
+pub mod SeatLaws

@@ -2,15 +2,32 @@
 //!
 //! A link gives its core items: a life that came up, its packets, and that it went down. The core gives a link cargoes:
 //! packets of the current life, and that a life is cut. Own profile.
+//!
+//! The seat of a core serves one item after another over any lanes, and says what each came to:
+//!
+//! ```rust
+//! let core = Core::new(alloc, 1, &[2, 3], &[4])?;
+//! let mut seat = CoreSeat::new(alloc, core)?;
+//! let item = Item { seat: 0, number: 1, now: 7, what: What::Up(life) };
+//! let answer = seat.serve(&item, &mut lanes); // offers the cargoes of the links to `lanes`
+//! assert_eq!(rt; seat.inputs(), [Input::LinkUp(2)].as_slice());
+//! assert_eq!(rt; seat.current(0), Some(life));
+//! ```
 #![tactic(auto)]
 
+mod display;
 mod inputs;
 mod lanes;
+mod laws;
 mod rows;
 mod seat;
 
 pub use inputs::accepted_inputs_make_the_core;
 pub use lanes::OutLanes;
+pub use laws::{
+    handed_back_packets_end_their_lives, items_step_few_inputs, lives_are_current_where_links_are_up,
+    lives_have_no_gap,
+};
 pub use rows::LinkRow;
 pub use seat::CoreSeat;
 use tora_arq::{Life, Reason};
@@ -83,3 +100,6 @@ pub struct Stepped {
     /// The packet.
     pub packet: Packet,
 }
+
+#[cfg(test)]
+mod tests;

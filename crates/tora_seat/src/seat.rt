@@ -12,7 +12,7 @@ use crate::{Answer, Item, LinkRow, OutLanes, Stepped, What};
 use std::alloc::{AllocError, Global};
 use std::marker::Model;
 use tora_arq::Life;
-use tora_core::{Core, Input};
+use tora_core::{Core, Input, Sends};
 use tora_height::Id;
 use tora_packet::Packet;
 
@@ -22,6 +22,7 @@ pub struct CoreSeat {
     core: Core,
     rows: Vec<LinkRow>,
     inputs: Vec<Input>,
+    sends: Sends,
     stepped: Option<Stepped>,
     answer: Answer,
 }
@@ -70,10 +71,10 @@ impl CoreSeat {
         ensures stepped { length self.new.inputs ≤ length self.old.inputs + 1 }
         ensures goes { SeatGoes O.did_offer (λ answers ks. after_step answers ks input.now now) now self.old outs.old self.new outs.new }
     {
-        match self.core.step(*input, now) {
-            Ok(sends) => {
+        match self.core.step_into(input, now, &mut self.sends) {
+            Ok(()) => {
                 self.inputs.push_reserved(*input);
-                broadcast_all(&mut self.rows, sends.as_slice(), outs);
+                broadcast_all(&mut self.rows, self.sends.as_slice(), outs);
             }
             Err(error) => self.answer = Answer::Refused(error),
         }
@@ -308,6 +309,7 @@ impl CoreSeat {
             core,
             rows,
             inputs,
+            sends: Sends::new(),
             stepped: None,
             answer: Answer::Nothing,
         })

@@ -1,0 +1,113 @@
+-- What serving an item keeps, in terms of lives, packets and inputs.
+use Rattle.std.specs.Prelude.{◌≡◌, ◌⊎◌, ℕ, ◌==◌, ◌&&◌, ◌||◌, not, Bool, true, false, is_some, if◌then◌else◌, List, [], ◌∷◌, ◌++◌, slice_get, Option, None, Some}
+use Rattle.tora_packet.specs.declared.Packet.{Packet}
+use Rattle.tora_arq.specs.declared.Life.{Life}
+use Rattle.tora_core.specs.declared.Input.{Input}
+use Rattle.tora_core.specs.declared.Input.TheVariants as In
+use Rattle.tora_core.specs.Numbers.{has_number}
+use Rattle.tora_core.specs.CoreRun.{CoreView, core_after, sends_of}
+use Rattle.tora_seat.specs.declared.What.{What}
+use Rattle.tora_seat.specs.declared.What.TheVariants as Tells
+use Rattle.tora_seat.specs.declared.Item.{Item}
+use Rattle.tora_seat.specs.declared.Cargo.{Cargo}
+use Rattle.tora_seat.specs.declared.Cargo.TheVariants as Gives
+use Rattle.tora_seat.specs.Serving.{SeatState, Serving, Offer}
+
+-- a life is current exactly where the core has the link up
+abbrev pub IsInStep : List ℕ → SeatState → Type 0
+IsInStep ks s = (k : ℕ) → has_number k ks ≡ true → is_some (s.current k) ≡ has_number k s.core.up
+
+-- ---- what was offered to a neighbour
+
+abbrev pub is_packet : Cargo → Bool
+is_packet (Gives.Packet life packet) = true
+is_packet (Gives.Cut life) = false
+
+-- a packet for this neighbour that was handed back
+abbrev pub is_back : ℕ → Offer → Bool
+is_back k o = (o.to == k) && (is_packet o.cargo && not o.put)
+
+-- some packet for this neighbour was handed back
+abbrev pub has_back : ℕ → List Offer → Bool
+has_back k [] = false
+has_back k (o ∷ offers) = is_back k o || has_back k offers
+
+abbrev pub has_offer : ℕ → List Offer → Bool
+has_offer k [] = false
+has_offer k (o ∷ offers) = (o.to == k) || has_offer k offers
+
+-- after a packet that was handed back nothing more is offered to this neighbour
+abbrev pub NothingAfterBack : ℕ → List Offer → Type 0
+NothingAfterBack k [] = Unit {0}
+NothingAfterBack k (o ∷ offers) = (is_back k o ≡ true → has_offer k offers ≡ false) × NothingAfterBack k offers
+
+-- the packet of a cargo, where it is one
+abbrev pub packet_in : Cargo → List Packet
+packet_in (Gives.Packet life packet) = packet ∷ []
+packet_in (Gives.Cut life) = []
+
+-- the packets that were put into the lane to this neighbour, in order
+abbrev pub packets_put : ℕ → List Offer → List Packet
+packets_put k [] = []
+packets_put k (o ∷ offers) = (if (o.to == k) && o.put then packet_in o.cargo else []) ++ packets_put k offers
+
+-- a packet goes in this life
+abbrev pub IsOfLife : Option Life → Cargo → Type 0
+IsOfLife life (Gives.Packet other packet) = life ≡ Some other
+IsOfLife life (Gives.Cut other) = Unit {0}
+
+-- every packet that was offered to this neighbour goes in this life
+abbrev pub AreOfLife : ℕ → Option Life → List Offer → Type 0
+AreOfLife k life [] = Unit {0}
+AreOfLife k life (o ∷ offers) = (o.to ≡ k → IsOfLife life o.cargo) × AreOfLife k life offers
+
+-- ---- what the core did
+
+-- the packets that inputs broadcast to this neighbour: those of each input after which its link is up
+abbrev pub broadcast_to : ℕ → CoreView → List (Input × ℕ) → List Packet
+broadcast_to k c [] = []
+broadcast_to k c ((input, now) ∷ inputs) = (if has_number k (core_after c input now).up then sends_of c input now else []) ++ broadcast_to k (core_after c input now) inputs
+
+abbrev pub is_link_down : ℕ → Input → Bool
+is_link_down k (In.LinkUp j) = false
+is_link_down k (In.LinkDown j) = j == k
+is_link_down k (In.Packet j packet) = false
+is_link_down k (In.Need d) = false
+
+-- the link to this neighbour is among those that these inputs stepped down
+abbrev pub has_link_down : ℕ → List (Input × ℕ) → Bool
+has_link_down k [] = false
+has_link_down k ((input, now) ∷ inputs) = is_link_down k input || has_link_down k inputs
+
+-- the life that packets for this neighbour go in while an item is served: the one that the item brings up for it, or else the current one
+abbrev pub life_brought : ℕ → Option ℕ → What → Option Life → Option Life
+life_brought k None what life = life
+life_brought k (Some j) (Tells.Up new) life = if j == k then Some new else life
+life_brought k (Some j) (Tells.Packet other packet) life = life
+life_brought k (Some j) (Tells.Down other reason) life = life
+life_brought k (Some j) Tells.Beat life = life
+life_brought k (Some j) (Tells.Need d) life = life
+life_brought k (Some j) Tells.Show life = life
+life_brought k (Some j) Tells.Quit life = life
+
+abbrev pub life_served : List ℕ → SeatState → Item → ℕ → Option Life
+life_served ks s item k = life_brought k (slice_get ks item.seat) item.what (s.current k)
+
+-- the first list is the beginning of the second
+abbrev pub Begins : List Packet → List Packet → Type 0
+Begins xs ys = (rest : List Packet) × (xs ++ rest ≡ ys)
+
+-- ---- what holds of an item that was served, at a neighbour
+
+-- of the life served, what was put is the beginning of what the core broadcast while its link was up, and all of it where nothing was handed back
+pub record HasNoGap (ks : List ℕ) (first : SeatState) (item : Item) (k : ℕ) (v : Serving) : Type 0 where
+  pub life : AreOfLife k (life_served ks first item k) v.offers
+  pub begins : Begins (packets_put k v.offers) (broadcast_to k first.core v.inputs)
+  pub whole : has_back k v.offers ≡ false → packets_put k v.offers ≡ broadcast_to k first.core v.inputs
+
+-- where a packet was handed back, its life is over: nothing more is offered, its cut is pending, and the link is stepped down in this very item
+pub record EndsAtBack (ks : List ℕ) (first : SeatState) (item : Item) (k : ℕ) (v : Serving) : Type 0 where
+  pub nothing_more : NothingAfterBack k v.offers
+  pub over : has_back k v.offers ≡ true → v.seat.current k ≡ None
+  pub pending : has_back k v.offers ≡ true → v.seat.pending k ≡ life_served ks first item k
+  pub down : has_back k v.offers ≡ true → has_link_down k v.inputs ≡ true
