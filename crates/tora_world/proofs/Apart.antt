@@ -1,9 +1,10 @@
 -- Where no link is named twice, the neighbours of a node are different from each other.
-use Rattle.std.proofs.Common.{◌≡◌, ℕ, Bool, true, false, true≢false, ◌&&◌, ◌||◌, ◌⊎◌, inl, inr, ⊎_elim, List, [], ◌∷◌, nat_eq, nat_lt, if◌then◌else◌, refl, sym, ap, ap₂, ◌∙◌, subst, eqb-true, eq-eqb}
+use Rattle.std.proofs.Common.{◌≡◌, ℕ, Bool, true, false, true≢false, ◌&&◌, ◌||◌, ◌⊎◌, inl, inr, ⊎_elim, List, [], ◌∷◌, Some, None, nat_eq, nat_lt, if◌then◌else◌, refl, sym, ap, ap₂, ◌∙◌, subst, eqb-true, eq-eqb}
 use Rattle.std.proofs.lemmas.Bool.{cond_both, cases_Bool, and_from, false_from_ne_true}
 use Rattle.std.specs.Prelude.{fold}
 use Rattle.tora_core.specs.Numbers.{has_number, with_number, ascending, has_repeat}
-use Rattle.tora_world.specs.Topology.{Link, Topology, other_ends, neighbours_of, is_same_link, has_link, has_repeated_link}
+use Rattle.tora_core.specs.declared.errors.CoreError.TheVariants as Fault
+use Rattle.tora_world.specs.Topology.{Link, Topology, other_ends, neighbours_of, is_same_link, has_link, has_repeated_link, has_too_many, has_own_link, topology_fault}
 use Rattle.tora_world.proofs.Events.{turned}
 use Rattle.tora_world.proofs.Numbers.{or_left, or_none, has-with}
 
@@ -111,5 +112,15 @@ ends_apart n (link ∷ links) h = go (cases_Bool (nat_eq link.a n)) (cases_Bool 
         ap (λ x. has_repeat (if x then link.b ∷ other_ends n links else (if nat_eq link.b n then link.a ∷ other_ends n links else other_ends n links))) a
         ∙ ap (λ y. has_repeat (if y then link.a ∷ other_ends n links else other_ends n links)) b ∙ again d.1
 
-pub neighbours_apart : (t : Topology) (n : ℕ) → has_repeated_link t.links ≡ false → has_repeat (neighbours_of t n) ≡ false
-neighbours_apart t n h = repeat_sorted [] (other_ends n t.links) refl (ends_apart n t.links h) (λ j i. refl)
+-- a topology that is not refused names no link twice
+names_once : (t : Topology) → topology_fault t ≡ None → has_repeated_link t.links ≡ false
+names_once t none = go (has_too_many t) (has_repeated_link t.links) none
+  where
+    go : (many twice : Bool) →
+        (if many then Some Fault.TooMany else if twice || has_repeat t.destinations then Some Fault.Repeated else if has_own_link t.links then Some Fault.OwnId else None) ≡ None → twice ≡ false
+    go true twice e = absurd (cc)
+    go false true e = absurd (cc)
+    go false false e = refl
+
+pub neighbours_apart : (t : Topology) (n : ℕ) → topology_fault t ≡ None → has_repeat (neighbours_of t n) ≡ false
+neighbours_apart t n none = repeat_sorted [] (other_ends n t.links) refl (ends_apart n t.links (names_once t none)) (λ j i. refl)
