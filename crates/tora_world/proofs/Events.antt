@@ -13,7 +13,7 @@ use Rattle.tora_arq.specs.declared.state.Phase.{Phase}
 use Rattle.tora_arq.specs.declared.state.Phase.TheVariants.{Closed, Unbound, Bound}
 use Rattle.tora_arq.specs.Lives.{is_same_life as same, life_of}
 use Rattle.tora_arq.specs.Settings.{Settings, settings_of}
-use Rattle.tora_arq.specs.LinkEnd.{EndState, first_end, count_of, after_open, after_tick, after_frame, after_transmit, frame_due, frame_sent, first_event, after_poll_event, submit_answer}
+use Rattle.tora_arq.specs.LinkEnd.{EndState, first_end, bound_life, count_of, after_open, after_tick, after_frame, after_transmit, frame_due, frame_sent, first_event, after_poll_event, submit_answer}
 use Rattle.tora_arq.specs.LinkFacts.{LinkCall, IsPossible, after_call, packet_submitted, packet_where_ok, HandsInFrameOf, IsFrameOf, IsFrameSent, IsFrameSentIn, IsDataOf, IsBodyOf, IsPacketAt, BodyTells, CallTells, IsCountOfCall, events_left}
 use Rattle.tora_arq.specs.LinkFacts.LinkCall.{Frame as Hears, Tick as Ticks, Submit as Submits, Transmit as Transmits, Cut as Cuts, PollEvent as Polls}
 use Rattle.tora_arq.specs.declared.Times.{Times}
@@ -34,15 +34,16 @@ use Rattle.tora_world.specs.declared.Call.{Call}
 use Rattle.tora_world.specs.declared.Call.TheVariants as Fails
 use Rattle.tora_world.specs.Topology.{is_link}
 use Rattle.tora_world.specs.Lists.{reversed as flip, packet_where as only, packets_of as of, parcels_in, parcel_of, Begins, IsIn, Each}
-use Rattle.tora_world.specs.LinkMachine.{put_at as put, MachineEnd as Pair, Machine, machine_after as state, IsLast}
+use Rattle.tora_world.specs.LinkMachine.{put_at as put, MachineEnd as Pair, Machine, MachineStep as Step, machine_after as state, made, IsLast}
 use Rattle.tora_world.specs.World.{World, Choice, Sending, settings, neighbours, place_of, datagram, first_seat, with_end, with_item, open_with, after_opening, after_cargo, after_pull, with_datagram, after_sending, after_receiving, what_of, after_pump, with_armed_files, after_arming, reopened, after_restart}
 use Rattle.tora_world.specs.World.Sending.{Goes, IsLost, IsGone}
+use Rattle.tora_world.specs.MachineRun.{steps_of_opening, steps_of_binding, steps_of_frame, steps_of_restart}
 use Rattle.tora_world.proofs.Laws.{LinkLaws, LifeLaws}
 use Rattle.tora_world.proofs.Basics.{at_pair, put_at, put_off, by_pair, same_true, same_refl, at_begins, Each_at}
 use Rattle.tora_world.proofs.Views.{Sign, View, sign_of, AllOf, InPhase, InLife, InWait, Rel, Tells, Told, Good, Seen, from}
 use Rattle.tora_world.proofs.Views.Sign.{Rest}
-use Rattle.tora_world.proofs.Moves.{IsCall, called, call_stays, polls, refiles, restarts}
-use Rattle.tora_world.proofs.Goods.{Changes, idle, looks, everywhere, good_opens, good_call, frames_more}
+use Rattle.tora_world.proofs.Moves.{IsCall, called, call_stays, polls, refiles, ClosesMore, restarts}
+use Rattle.tora_world.proofs.Goods.{Changes, idle, looks, everywhere, good_opens, good_call, good_hears, good_restarts, frames_more}
 use Rattle.tora_world.proofs.Looks.{sign_in, signs_in, signs_of, view_of, look, look_call, signs-append, none_past, at_place, sign_what}
 
 pub put_one_at : {A : Type 0} (f : ℕ → A) (n : ℕ) (v : A) → put_one f n v n ≡ v
@@ -139,9 +140,13 @@ one_number (Opened numbers s) = go (draw_answer numbers s)
     go (Ok x) = inr (x, refl)
     go (Err e) = inl refl
 
-module _ (laws : LinkLaws) (lows : LifeLaws) (w : World) (seen : Seen) where
+module _ (laws : LinkLaws) (lows : LifeLaws) (steps : List Step) (w : World) (seen : Seen) where
   abbrev pub Fine : World → Type 0
-  Fine w = Good (look w) w.datagrams seen
+  Fine w = Good steps (look w) w.datagrams seen
+
+  -- once these steps are made
+  abbrev pub FineBy : List Step → World → Type 0
+  FineBy ss w = Good (made ss steps) (look w) w.datagrams seen
 
   -- an end changes by a call that polls nothing
   end_changes : (n k : ℕ) (call : LinkCall) → IsPossible (w.ends n k) call → events_left (w.ends n k) call ≡ (w.ends n k).events →
@@ -158,7 +163,7 @@ module _ (laws : LinkLaws) (lows : LifeLaws) (w : World) (seen : Seen) where
   -- a lane in which the law sees the same
   lane_looks : (n : ℕ) (lane : List Item) → ((b : ℕ) → signs_of (neighbours w n) b lane ≡ signs_of (neighbours w n) b (w.items n)) → Fine w → Fine (record w { items = put_one w.items n lane })
   lane_looks n lane e g =
-      looks (look w) (look (record w { items = put_one w.items n lane })) w.datagrams seen
+      looks steps (look w) (look (record w { items = put_one w.items n lane })) w.datagrams seen
       (λ a b. ap (λ s. view_of (settings w a b) (w.ends a b) (w.files a b) ((w.seats a).current b) s (w.cargoes a b) (w.put a b) (w.steps a b)) (go a b (cases_Bool (nat_eq a n)))) g
     where
       go : (a b : ℕ) → (nat_eq a n ≡ true) ⊎ (nat_eq a n ≡ false) → signs_of (neighbours w a) b (put_one w.items n lane a) ≡ signs_of (neighbours w a) b (w.items a)
@@ -173,29 +178,29 @@ module _ (laws : LinkLaws) (lows : LifeLaws) (w : World) (seen : Seen) where
 
   pub tick_keeps : (c : Choice) → Fine w → Fine (record w { clock = c.clock; ends = λ n k. after_tick (settings w n k) (w.ends n k) (c.now n k) })
   tick_keeps c g =
-      everywhere (look w) (look (record w { clock = c.clock; ends = λ n k. after_tick (settings w n k) (w.ends n k) (c.now n k) })) w.datagrams seen
+      everywhere steps (look w) (look (record w { clock = c.clock; ends = λ n k. after_tick (settings w n k) (w.ends n k) (c.now n k) })) w.datagrams seen
       (λ a b p other h.
       subst (λ v. Rel v p other (from seen a b))
       (sym (look_call laws (settings w a b) (w.ends a b) (w.files a b) ((w.seats a).current b) (signs_of (neighbours w a) b (w.items a)) (w.cargoes a b) (w.cargoes a b) (w.put a b) (w.steps a b) (Ticks (c.now a b)) tt refl))
       (call_stays laws (look w a b) p other (from seen a b) (Ticks (c.now a b)) (look w a b).out (tick_call (look w a b) p other (from seen a b) (c.now a b) h.ledger.all_out)
       (λ l e. ⊎_elim (λ q. q) (λ q. absurd q.1) (laws.binds (settings w a b) (w.ends a b) (Ticks (c.now a b)) tt l e)) h)) g
 
-  pub opening_keeps : (c : Choice) (n k : ℕ) → Fine w → Fine (after_opening w c n k)
+  pub opening_keeps : (c : Choice) (n k : ℕ) → Fine w → FineBy (steps_of_opening n k (drawn_by DrawsNumber (w.files n k))) (after_opening w c n k)
   opening_keeps c n k g = go (one_number (w.files n k))
     where
-      go : (drawn_by DrawsNumber (w.files n k) ≡ []) ⊎ ((x : ℕ) × (drawn_by DrawsNumber (w.files n k) ≡ x ∷ [])) → Fine (after_opening w c n k)
+      go : (drawn_by DrawsNumber (w.files n k) ≡ []) ⊎ ((x : ℕ) × (drawn_by DrawsNumber (w.files n k) ≡ x ∷ [])) → FineBy (steps_of_opening n k (drawn_by DrawsNumber (w.files n k))) (after_opening w c n k)
       go (inl e) =
-          subst (λ xs. Fine (record w { ends = put w.ends n k (open_with (w.ends n k) (c.now n k) xs); files = put w.files n k (after_event DrawsNumber (w.files n k)) })) (sym e)
-          (idle (look w) (look (record w { ends = put w.ends n k (w.ends n k); files = put w.files n k (after_event DrawsNumber (w.files n k)) })) w.datagrams seen n k (look w n k) (record (look w n k) { file = after_event DrawsNumber (w.files n k) })
+          subst (λ xs. FineBy (steps_of_opening n k xs) (record w { ends = put w.ends n k (open_with (w.ends n k) (c.now n k) xs); files = put w.files n k (after_event DrawsNumber (w.files n k)) })) (sym e)
+          (idle steps (look w) (look (record w { ends = put w.ends n k (w.ends n k); files = put w.files n k (after_event DrawsNumber (w.files n k)) })) w.datagrams seen n k (look w n k) (record (look w n k) { file = after_event DrawsNumber (w.files n k) })
           (record {
             was = refl;
             here = ap₂ (λ x f. view_of (settings w n k) x f ((w.seats n).current k) (signs_of (neighbours w n) k (w.items n)) (w.cargoes n k) (w.put n k) (w.steps n k)) (put_at w.ends n k (w.ends n k)) (put_at w.files n k (after_event DrawsNumber (w.files n k)));
             there = λ a b o. ap₂ (λ x f. view_of (settings w a b) x f ((w.seats a).current b) (signs_of (neighbours w a) b (w.items a)) (w.cargoes a b) (w.put a b) (w.steps a b)) (put_off w.ends n k (w.ends n k) a b o) (put_off w.files n k (after_event DrawsNumber (w.files n k)) a b o);
           }) g
-          (λ h. refiles (look w n k) (state g.steps n k) (state g.steps k n).sent (from seen n k) (after_event DrawsNumber (w.files n k)) (λ m f. lows.keep m DrawsNumber (w.files n k) f tt) h))
+          (λ h. refiles (look w n k) (state steps n k) (state steps k n).sent (from seen n k) (after_event DrawsNumber (w.files n k)) (λ m f. lows.keep m DrawsNumber (w.files n k) f tt) h))
       go (inr (x, e)) =
-          subst (λ xs. Fine (record w { ends = put w.ends n k (open_with (w.ends n k) (c.now n k) xs); files = put w.files n k (after_event DrawsNumber (w.files n k)) })) (sym e)
-          (good_opens (look w) (look (record w { ends = put w.ends n k (after_open (w.ends n k) x (c.now n k)); files = put w.files n k (after_event DrawsNumber (w.files n k)) })) w.datagrams seen n k (look w n k) x (c.now n k) (after_event DrawsNumber (w.files n k))
+          subst (λ xs. FineBy (steps_of_opening n k xs) (record w { ends = put w.ends n k (open_with (w.ends n k) (c.now n k) xs); files = put w.files n k (after_event DrawsNumber (w.files n k)) })) (sym e)
+          (good_opens steps (look w) (look (record w { ends = put w.ends n k (after_open (w.ends n k) x (c.now n k)); files = put w.files n k (after_event DrawsNumber (w.files n k)) })) w.datagrams seen n k (look w n k) x (c.now n k) (after_event DrawsNumber (w.files n k))
           (λ m f. lows.draw m x (w.files n k) f e)
           (record {
             was = refl;
@@ -204,67 +209,67 @@ module _ (laws : LinkLaws) (lows : LifeLaws) (w : World) (seen : Seen) where
           }) g)
 
   -- the side of an end
-  side : (n k : ℕ) (g : Fine w) → Rel (look w n k) (state g.steps n k) (state g.steps k n).sent (from seen n k)
+  side : (n k : ℕ) (g : Fine w) → Rel (look w n k) (state steps n k) (state steps k n).sent (from seen n k)
   side n k g = g.sides n k
 
-  pulled : (n k : ℕ) (call : LinkCall) (cargoes : List Cargo) → IsPossible (w.ends n k) call → events_left (w.ends n k) call ≡ (w.ends n k).events → ((l : Life) → HandsInFrameOf (settings w n k) l call → ⊥) → ((l : Life) → seen k n (flip l) 0) →
-      (g : Fine w) → IsCall (look w n k) (state g.steps n k) (state g.steps k n).sent (from seen n k) call (parcels_in cargoes) →
+  pulled : (n k : ℕ) (call : LinkCall) (cargoes : List Cargo) → IsPossible (w.ends n k) call → events_left (w.ends n k) call ≡ (w.ends n k).events → ((l : Life) → HandsInFrameOf (settings w n k) l call → ⊥) →
+      (g : Fine w) → IsCall (look w n k) (state steps n k) (state steps k n).sent (from seen n k) call (parcels_in cargoes) →
       Fine (record w { ends = put w.ends n k (after_call (settings w n k) (w.ends n k) call); cargoes = put w.cargoes n k cargoes })
-  pulled n k call cargoes ok left no_frame nought g is =
+  pulled n k call cargoes ok left no_frame g is =
       let e : EndState = after_call (settings w n k) (w.ends n k) call in
-      good_call (look w) (look (record w { ends = put w.ends n k e; cargoes = put w.cargoes n k cargoes })) w.datagrams seen n k (look w n k) laws call (parcels_in cargoes) nought
+      good_call steps (look w) (look (record w { ends = put w.ends n k e; cargoes = put w.cargoes n k cargoes })) w.datagrams seen n k (look w n k) laws call (parcels_in cargoes)
       (record {
         was = refl;
         here = ap₂ (λ x cs. view_of (settings w n k) x (w.files n k) ((w.seats n).current k) (signs_of (neighbours w n) k (w.items n)) cs (w.put n k) (w.steps n k)) (put_at w.ends n k e) (put_at w.cargoes n k cargoes)
             ∙ look_call laws (settings w n k) (w.ends n k) (w.files n k) ((w.seats n).current k) (signs_of (neighbours w n) k (w.items n)) (w.cargoes n k) cargoes (w.put n k) (w.steps n k) call ok left;
         there = λ a b o. ap₂ (λ x cs. view_of (settings w a b) x (w.files a b) ((w.seats a).current b) (signs_of (neighbours w a) b (w.items a)) cs (w.put a b) (w.steps a b)) (put_off w.ends n k e a b o) (put_off w.cargoes n k cargoes a b o);
-      }) g is (λ l o. absurd (no_frame l o))
+      }) g is no_frame
 
-  pub pull_keeps : (n k : ℕ) → ((l : Life) → seen k n (flip l) 0) → Fine w → (cargoes : List Cargo) → w.cargoes n k ≡ cargoes → Fine (after_pull w n k cargoes)
-  pull_keeps n k nought g [] q = g
-  pull_keeps n k nought g (Gives.Packet l p ∷ cargoes) q =
-      pulled n k (Submits l p) cargoes tt refl (λ j o. o) nought g
-      (submit_call (look w n k) (state g.steps n k) (state g.steps k n).sent (from seen n k) laws (parcel_of l p) (parcels_in cargoes) (ap parcels_in q) (side n k g).ledger.all_out)
-  pull_keeps n k nought g (Gives.Cut l ∷ cargoes) q =
-      pulled n k (Cuts l) cargoes tt refl (λ j o. o) nought g
-      (subst (λ out. IsCall (look w n k) (state g.steps n k) (state g.steps k n).sent (from seen n k) (Cuts l) out) (ap parcels_in q) (cut_call (look w n k) (state g.steps n k) (state g.steps k n).sent (from seen n k) l (side n k g).ledger.all_out))
+  pub pull_keeps : (n k : ℕ) → Fine w → (cargoes : List Cargo) → w.cargoes n k ≡ cargoes → Fine (after_pull w n k cargoes)
+  pull_keeps n k g [] q = g
+  pull_keeps n k g (Gives.Packet l p ∷ cargoes) q =
+      pulled n k (Submits l p) cargoes tt refl (λ j o. o) g
+      (submit_call (look w n k) (state steps n k) (state steps k n).sent (from seen n k) laws (parcel_of l p) (parcels_in cargoes) (ap parcels_in q) (side n k g).ledger.all_out)
+  pull_keeps n k g (Gives.Cut l ∷ cargoes) q =
+      pulled n k (Cuts l) cargoes tt refl (λ j o. o) g
+      (subst (λ out. IsCall (look w n k) (state steps n k) (state steps k n).sent (from seen n k) (Cuts l) out) (ap parcels_in q) (cut_call (look w n k) (state steps n k) (state steps k n).sent (from seen n k) l (side n k g).ledger.all_out))
 
   -- ---- frames go out
 
-  frame_told : (n k now : ℕ) (f : Frame) → frame_due (settings w n k) (w.ends n k) now ≡ Some f → ((l : Life) → (w.ends n k).phase ≡ Bound l → seen n k l (w.ends n k).accepted) → (g : Fine w) → Told (state g.steps) seen f
+  frame_told : (n k now : ℕ) (f : Frame) → frame_due (settings w n k) (w.ends n k) now ≡ Some f → ((l : Life) → (w.ends n k).phase ≡ Bound l → seen n k l (w.ends n k).accepted) → (g : Fine w) → Told (state steps) seen f
   frame_told n k now f e now_seen g = go (w.ends n k).phase refl (laws.frame (settings w n k) (w.ends n k) (Transmits now) f e)
     where
-      go : (ph : Phase) → (w.ends n k).phase ≡ ph → IsFrameSent (settings w n k) (w.ends n k) f → Told (state g.steps) seen f
+      go : (ph : Phase) → (w.ends n k).phase ≡ ph → IsFrameSent (settings w n k) (w.ends n k) f → Told (state steps) seen f
       go Closed q s = absurd (subst (λ x. IsFrameSentIn (settings w n k) (w.ends n k) f x) q s)
       go (Unbound own) q s =
           let is : f ≡ frame_sent (settings w n k) own (w.ends n k).heard Hello = subst (λ x. IsFrameSentIn (settings w n k) (w.ends n k) f x) q s in
-          let i : InWait own (state g.steps n k) = subst (λ x. InPhase x (look w n k) (state g.steps n k) (state g.steps k n).sent (from seen n k)) q (g.sides n k).phase in
+          let i : InWait own (state steps n k) = subst (λ x. InPhase x (look w n k) (state steps n k) (state steps k n).sent (from seen n k)) q (g.sides n k).phase in
           let b : Hello ≡ f.body = sym (ap (λ (x : Frame). x.body) is) in
-          told_by (state g.steps) seen n k own (w.ends n k).heard f w.times (subst (λ x. f ≡ frame_sent (settings w n k) own (w.ends n k).heard x) b is) (last_in own (state g.steps n k).drawn i.last)
-          (subst (λ x. Tells (state g.steps n k).sent (seen n k) (life_of own (w.ends n k).heard) x) b tt)
+          told_by (state steps) seen n k own (w.ends n k).heard f w.times (subst (λ x. f ≡ frame_sent (settings w n k) own (w.ends n k).heard x) b is) (last_in own (state steps n k).drawn i.last)
+          (subst (λ x. Tells (state steps n k).sent (seen n k) (life_of own (w.ends n k).heard) x) b tt)
       go (Bound l) q s =
           let is = subst (λ x. IsFrameSentIn (settings w n k) (w.ends n k) f x) q s in
-          let i : InLife l (w.ends n k) ((w.seats n).current k) (look w n k).coming (look w n k).out (look w n k).sent (look w n k).taken (state g.steps k n).sent (state g.steps n k) (from seen n k) =
-          subst (λ x. InPhase x (look w n k) (state g.steps n k) (state g.steps k n).sent (from seen n k)) q (g.sides n k).phase in
+          let i : InLife l (w.ends n k) ((w.seats n).current k) (look w n k).coming (look w n k).out (look w n k).sent (look w n k).taken (state steps k n).sent (state steps n k) (from seen n k) =
+          subst (λ x. InPhase x (look w n k) (state steps n k) (state steps k n).sent (from seen n k)) q (g.sides n k).phase in
           let b = laws.content (settings w n k) (w.ends n k) f l i.queued.submitted q s i.queued.queue in
-          told_by (state g.steps) seen n k l.own l.peer f w.times is.0 i.drawn
-          (body_told i.queued.submitted (state g.steps n k).sent (w.ends n k).accepted (seen n k) l f.body
+          told_by (state steps) seen n k l.own l.peer f w.times is.0 i.drawn
+          (body_told i.queued.submitted (state steps n k).sent (w.ends n k).accepted (seen n k) l f.body
           (of l (look w n k).out, i.queued.waits ∙ ap (of l) (sym (g.sides n k).ledger.sent_is)) (now_seen l q) b)
 
-  pub transmit_keeps : (n k now : ℕ) → ((l : Life) → seen k n (flip l) 0) → ((l : Life) → (w.ends n k).phase ≡ Bound l → seen n k l (w.ends n k).accepted) → Fine w →
+  pub transmit_keeps : (n k now : ℕ) → ((l : Life) → (w.ends n k).phase ≡ Bound l → seen n k l (w.ends n k).accepted) → Fine w →
       (o : Option Frame) → frame_due (settings w n k) (w.ends n k) now ≡ o → Fine (after_sending w n k (after_transmit (settings w n k) (w.ends n k) now) o)
-  transmit_keeps n k now nought now_seen g None q = g
-  transmit_keeps n k now nought now_seen g (Some f) q = go (w.arms n).sending
+  transmit_keeps n k now now_seen g None q = g
+  transmit_keeps n k now now_seen g (Some f) q = go (w.arms n).sending
     where
-      sends : (fs : List Frame) → Good (look w) fs seen → ((g' : Good (look w) fs seen) → AllOf (state g'.steps n k).bound (look w n k).out) → Good (look (with_end w n k (after_transmit (settings w n k) (w.ends n k) now))) fs seen
+      sends : (fs : List Frame) → Good steps (look w) fs seen → ((g' : Good steps (look w) fs seen) → AllOf (state steps n k).bound (look w n k).out) → Good steps (look (with_end w n k (after_transmit (settings w n k) (w.ends n k) now))) fs seen
       sends fs g' a =
-          good_call (look w) (look (with_end w n k (after_transmit (settings w n k) (w.ends n k) now))) fs seen n k (look w n k) laws (Transmits now) (look w n k).out nought
-          (end_changes n k (Transmits now) tt refl) g' (transmit_call (look w n k) (state g'.steps n k) (state g'.steps k n).sent (from seen n k) now (a g')) (λ l o. absurd o)
+          good_call steps (look w) (look (with_end w n k (after_transmit (settings w n k) (w.ends n k) now))) fs seen n k (look w n k) laws (Transmits now) (look w n k).out
+          (end_changes n k (Transmits now) tt refl) g' (transmit_call (look w n k) (state steps n k) (state steps k n).sent (from seen n k) now (a g')) (λ l o. o)
 
-      go : (x : Sending) → Good (look (with_end w n k (after_transmit (settings w n k) (w.ends n k) now))) (with_datagram x w.datagrams f) seen
-      go Goes = sends (w.datagrams ++ f ∷ []) (frames_more (look w) w.datagrams seen f g (frame_told n k now f q now_seen g)) (λ g'. (g'.sides n k).ledger.all_out)
+      go : (x : Sending) → Good steps (look (with_end w n k (after_transmit (settings w n k) (w.ends n k) now))) (with_datagram x w.datagrams f) seen
+      go Goes = sends (w.datagrams ++ f ∷ []) (frames_more steps (look w) w.datagrams seen f g (frame_told n k now f q now_seen g)) (λ g'. (g'.sides n k).ledger.all_out)
       go IsLost = sends w.datagrams g (λ g'. (g'.sides n k).ledger.all_out)
-      go IsGone = sends (w.datagrams ++ f ∷ []) (frames_more (look w) w.datagrams seen f g (frame_told n k now f q now_seen g)) (λ g'. (g'.sides n k).ledger.all_out)
+      go IsGone = sends (w.datagrams ++ f ∷ []) (frames_more steps (look w) w.datagrams seen f g (frame_told n k now f q now_seen g)) (λ g'. (g'.sides n k).ledger.all_out)
 
   -- ---- frames come
 
@@ -277,17 +282,23 @@ module _ (laws : LinkLaws) (lows : LifeLaws) (w : World) (seen : Seen) where
   datagram_in zero f e = absurd (cc)
   datagram_in (suc i) f e = frame_in w.datagrams i f e
 
-  pub deliver_keeps : (c : Choice) (i : ℕ) → ((n k : ℕ) (l : Life) → seen n k l 0) → Fine w → (o : Option Frame) → datagram w i ≡ o → Fine (after_receiving w c o)
+  pub deliver_keeps : (c : Choice) (i : ℕ) → ((n k : ℕ) (l : Life) → seen n k l 0) → Fine w → (o : Option Frame) → datagram w i ≡ o → FineBy (steps_of_frame w c o) (after_receiving w c o)
   deliver_keeps c i nought g None q = g
   deliver_keeps c i nought g (Some f) q =
-      let n : ℕ = f.header.receiver in
-      let k : ℕ = f.header.sender in
-      let t = Each_at (Told (state g.steps) seen) w.datagrams f g.tells (datagram_in i f q) in
-      cond_both (w.arms f.header.receiver).receive _ _ Fine (λ _. g) (λ _.
-      good_call (look w) (look (with_end w n k (after_frame (settings w n k) (w.ends n k) f (c.now n k)))) w.datagrams seen n k (look w n k) laws (Hears f (c.now n k)) (look w n k).out (λ l. nought k n (flip l))
-      (end_changes n k (Hears f (c.now n k)) tt refl) g
-      (frame_call (look w n k) (state g.steps n k) (state g.steps k n).sent (from seen n k) f (c.now n k) (λ l. nought k n (flip l)) t.1 (side n k g).ledger.all_out)
-      (λ l o. subst (λ x. IsIn x (state g.steps k n).drawn) o.peer t.0))
+      go (w.arms f.header.receiver).receive
+    where
+      go : (b : Bool) → FineBy (if b then [] else steps_of_binding f.header.receiver f.header.sender (bound_life (w.ends f.header.receiver f.header.sender)) (bound_life (after_frame (settings w f.header.receiver f.header.sender) (w.ends f.header.receiver f.header.sender) f (c.now f.header.receiver f.header.sender))))
+          (if b then record w { arms = put_one w.arms f.header.receiver (record (w.arms f.header.receiver) { receive = false }) }
+          else with_end w f.header.receiver f.header.sender (after_frame (settings w f.header.receiver f.header.sender) (w.ends f.header.receiver f.header.sender) f (c.now f.header.receiver f.header.sender)))
+      go true = g
+      go false =
+          let n : ℕ = f.header.receiver in
+          let k : ℕ = f.header.sender in
+          let t = Each_at (Told (state steps) seen) w.datagrams f g.tells (datagram_in i f q) in
+          good_hears steps (look w) (look (with_end w n k (after_frame (settings w n k) (w.ends n k) f (c.now n k)))) w.datagrams seen n k (look w n k) laws (Hears f (c.now n k)) (look w n k).out (λ l. nought k n (flip l))
+          (end_changes n k (Hears f (c.now n k)) tt refl) g
+          (frame_call (look w n k) (state steps n k) (state steps k n).sent (from seen n k) f (c.now n k) (λ l. nought k n (flip l)) t.1 (side n k g).ledger.all_out)
+          (λ l o. subst (λ x. IsIn x (state steps k n).drawn) o.peer t.0)
 
   -- ---- events are put
 
@@ -327,15 +338,15 @@ module _ (laws : LinkLaws) (lows : LifeLaws) (w : World) (seen : Seen) where
   pub pump_keeps : (c : Choice) (n k : ℕ) → is_link w.topology n k ≡ true → Fine w → (events : List LinkEvent) → (w.ends n k).events ≡ events → Fine (after_pump w c n k (slice_get events 0))
   pump_keeps c n k link g [] q = g
   pump_keeps c n k link g (event ∷ events) q =
-      idle (look w) (look (with_item (with_end w n k (after_poll_event (w.ends n k))) n (place_of k (neighbours w n)) c.stamp (what_of event))) w.datagrams seen n k (look w n k) (record (look w n k) { endpoint = after_poll_event (w.ends n k) })
+      idle steps (look w) (look (with_item (with_end w n k (after_poll_event (w.ends n k))) n (place_of k (neighbours w n)) c.stamp (what_of event))) w.datagrams seen n k (look w n k) (record (look w n k) { endpoint = after_poll_event (w.ends n k) })
       (pump_changes n k c.stamp event events link q) g
-      (λ h. polls laws (look w n k) (state g.steps n k) (state g.steps k n).sent (from seen n k) h)
+      (λ h. polls laws (look w n k) (state steps n k) (state steps k n).sent (from seen n k) h)
 
   -- ---- arms and restarts
 
   armed_keeps : (n : ℕ) (call : DiskCall) → Fine w → Fine (with_armed_files w n call)
   armed_keeps n call g =
-      everywhere (look w) (look (with_armed_files w n call)) w.datagrams seen
+      everywhere steps (look w) (look (with_armed_files w n call)) w.datagrams seen
       (λ a b p other h. cond_both (nat_eq a n) (after_event (ArmsDisk call) (w.files a b)) (w.files a b)
       (λ f. Rel (record (look w a b) { file = f }) p other (from seen a b))
       (λ _. refiles (look w a b) p other (from seen a b) (after_event (ArmsDisk call) (w.files a b)) (λ m f. lows.keep m (ArmsDisk call) (w.files a b) f tt) h) (λ _. h)) g
@@ -348,15 +359,18 @@ module _ (laws : LinkLaws) (lows : LifeLaws) (w : World) (seen : Seen) where
   arming_keeps n Fails.Write g = armed_keeps n Disk.Write g
   arming_keeps n Fails.Sync g = armed_keeps n Disk.Sync g
 
-  pub restart_keeps : (n : ℕ) (torn : Option (List ℕ)) → Fine w → Fine (after_restart w n torn)
-  restart_keeps n torn g = everywhere (look w) (look (after_restart w n torn)) w.datagrams seen (λ a b p other h. go a b p other h (cases_Bool (nat_eq a n))) g
+  pub restart_keeps : (n : ℕ) (torn : Option (List ℕ)) → Fine w → FineBy (steps_of_restart n (w.seats n).current (neighbours w n)) (after_restart w n torn)
+  restart_keeps n torn g = good_restarts n (w.seats n).current steps (look w) (look (after_restart w n torn)) w.datagrams seen (neighbours w n) off on g
     where
       shown : Bool → ℕ → ℕ → View
       shown t a b = view_of (settings w a b) (if t then first_end else w.ends a b) (if t then reopened torn (w.files a b) else w.files a b) ((if t then first_seat w.topology n else w.seats a).current b)
           (signs_of (neighbours w a) b (if t then [] else w.items a)) ((if t then (λ k. []) else w.cargoes a) b) (w.put a b) (w.steps a b)
 
-      go : (a b : ℕ) (p : Pair) (other : List Parcel) → Rel (look w a b) p other (from seen a b) → (nat_eq a n ≡ true) ⊎ (nat_eq a n ≡ false) → Rel (look (after_restart w n torn) a b) p other (from seen a b)
-      go a b p other h (inl t) =
-          subst (λ x. Rel (shown x a b) p other (from seen a b)) (sym t)
-          (restarts laws (look w a b) p other (from seen a b) (reopened torn (w.files a b)) (λ m f. lows.keep m (OpensAnew (after_crash torn (state_in (w.files a b)))) (w.files a b) f (lows.crash m torn (w.files a b) f)) h)
-      go a b p other h (inr t) = subst (λ x. Rel (shown x a b) p other (from seen a b)) (sym t) h
+      off : (a b : ℕ) → nat_eq a n ≡ false → look (after_restart w n torn) a b ≡ look w a b
+      off a b f = ap (λ x. shown x a b) f
+
+      on : (a b : ℕ) (p p' : Pair) (other : List Parcel) → nat_eq a n ≡ true → ClosesMore ((w.seats n).current b) p p' → Rel (look w a b) p other (from seen a b) → Rel (look (after_restart w n torn) a b) p' other (from seen a b)
+      on a b p p' other t more h =
+          subst (λ x. Rel (shown x a b) p' other (from seen a b)) (sym t)
+          (restarts laws (look w a b) p p' other (from seen a b) (reopened torn (w.files a b)) (subst (λ m. ClosesMore ((w.seats m).current b) p p') (sym (eqb-true a n t)) more)
+          (λ m f. lows.keep m (OpensAnew (after_crash torn (state_in (w.files a b)))) (w.files a b) f (lows.crash m torn (w.files a b) f)) h)

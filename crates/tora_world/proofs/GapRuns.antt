@@ -23,7 +23,8 @@ use Rattle.tora_world.specs.declared.Call.{Call}
 use Rattle.tora_world.specs.declared.Call.TheVariants as Fails
 use Rattle.tora_world.specs.Topology.{Topology, neighbours_of, new_core, is_link}
 use Rattle.tora_world.specs.Lists.{packets_of as of, parcels_in, Begins}
-use Rattle.tora_world.specs.LinkMachine.{machine_after as state}
+use Rattle.tora_world.specs.LinkMachine.{MachineStep, machine_after as state, made}
+use Rattle.tora_world.specs.MachineRun.{steps_by}
 use Rattle.tora_world.specs.World.{World, Choice, settings, neighbours, datagram, first_seat, first_world, refusal_by, with_end, after_pull, after_sending, after_receiving, after_pump, after_serving, after_turn, after_arming, after_restart, effect_by, world_by, sent_packets}
 use Rattle.tora_world.specs.FreeWorld.{Schedule, after_schedule}
 use Rattle.tora_world.specs.Law.{Sometime, HasAccepted}
@@ -237,14 +238,14 @@ module _ (t : Topology) (n k : ℕ) (apart : has_repeat (neighbours_of t n) ≡ 
       go true = same_parts Was o w w refl refl refl refl h
       go false = effect_at Was o w c event fresh h
 
-  fresh_of : (w : World) (seen : Seen) → w.topology ≡ t → Good (look w) w.datagrams seen → Fresh w
-  fresh_of w seen top g item items q l seat what =
+  fresh_of : (steps : List MachineStep) (w : World) (seen : Seen) → w.topology ≡ t → Good steps (look w) w.datagrams seen → Fresh w
+  fresh_of steps w seen top g item items q l seat what =
       let come : (look w n k).coming ≡ Come l ∷ (signs_of (neighbours w n) k items ++ map sign_of (w.ends n k).events) =
       ap (λ is. signs_of (neighbours w n) k is ++ map sign_of (w.ends n k).events) q
       ∙ ap (λ r. (signs_in k r item.what ++ signs_of (neighbours w n) k items) ++ map sign_of (w.ends n k).events) (ap (λ x. slice_get (neighbours_of x n) item.seat) top ∙ seat)
       ∙ ap (λ (x : What). (signs_in k (Some k) x ++ signs_of (neighbours w n) k items) ++ map sign_of (w.ends n k).events) what
       ∙ ap (λ (b : Bool). ((if b then Come l ∷ [] else []) ++ signs_of (neighbours w n) k items) ++ map sign_of (w.ends n k).events) (eq-eqb k k refl) in
-      comes_new (look w n k) (state g.steps n k) (state g.steps k n).sent (from seen n k) l (signs_of (neighbours w n) k items ++ map sign_of (w.ends n k).events) come (g.sides n k)
+      comes_new (look w n k) (state steps n k) (state steps k n).sent (from seen n k) l (signs_of (neighbours w n) k items ++ map sign_of (w.ends n k).events) come (g.sides n k)
 
   sometime_now : (P : World → Type 0) (es : Schedule) (w : World) → P w → Sometime P es w
   sometime_now P [] w p = p
@@ -267,19 +268,20 @@ module _ (t : Topology) (n k : ℕ) (apart : has_repeat (neighbours_of t n) ≡ 
     };
   }
 
-  run_at : (laws : LinkLaws) (lows : LifeLaws) (es : Schedule) (w : World) (o : Option Life) (Was : Life → Type 0) (seen : Seen) → ((a b : ℕ) (l : Life) → seen a b l 0) → Good (look w) w.datagrams seen → AtWorld Was o w →
+  run_at : (laws : LinkLaws) (lows : LifeLaws) (es : Schedule) (steps : List MachineStep) (w : World) (o : Option Life) (Was : Life → Type 0) (seen : Seen) → ((a b : ℕ) (l : Life) → seen a b l 0) → Good steps (look w) w.datagrams seen → AtWorld Was o w →
       Ended laws lows (λ l. Was l ⊎ Sometime (IsCut n k l) es w) (latest_life n k es w o) (after_schedule es w)
   unfolding after_schedule
-  run_at laws lows [] w o Was seen z g h =
+  run_at laws lows [] steps w o Was seen z g h =
       let h' : AtWorld (λ l. Was l ⊎ IsCut n k l w) o w = at_more Was (λ l. Was l ⊎ IsCut n k l w) o w (λ l x. inl x) h in
-      record { world = h'; next = λ c event. world_at (λ l. Was l ⊎ IsCut n k l w) o w c event (fresh_of w seen h.topology g) h' }
-  run_at laws lows (e ∷ es) w o Was seen z g h =
+      record { world = h'; next = λ c event. world_at (λ l. Was l ⊎ IsCut n k l w) o w c event (fresh_of steps w seen h.topology g) h' }
+  run_at laws lows (e ∷ es) steps w o Was seen z g h =
       let now : Seen = λ a b l c. seen a b l c ⊎ HasAccepted a b l c w in
       let w' : World = world_by e.1 w e.0 in
       let o' : Option Life = life_after e.1 w n k e.0 o in
-      let g' : Good (look w') w'.datagrams now =
-      world_keeps laws lows w now (λ a b l. inl (z a b l)) (λ a b l j. inr (record { bound = j; accepted = omega arith })) e.1 e.0 (sees (look w) w.datagrams seen now (λ a b l c x. inl x) g) in
-      let r = run_at laws lows es w' o' (λ l. Was l ⊎ IsCut n k l w') now (λ a b l. inl (z a b l)) g' (world_at Was o w e.1 e.0 (fresh_of w seen h.topology g) h).world in
+      let steps' : List MachineStep = made (steps_by e.1 w e.0) steps in
+      let g' : Good steps' (look w') w'.datagrams now =
+      world_keeps laws lows steps w now (λ a b l. inl (z a b l)) (λ a b l j. inr (record { bound = j; accepted = omega arith })) e.1 e.0 (sees steps (look w) w.datagrams seen now (λ a b l c x. inl x) g) in
+      let r = run_at laws lows es steps' w' o' (λ l. Was l ⊎ IsCut n k l w') now (λ a b l. inl (z a b l)) g' (world_at Was o w e.1 e.0 (fresh_of steps w seen h.topology g) h).world in
       let more : (l : Life) → (Was l ⊎ IsCut n k l w') ⊎ Sometime (IsCut n k l) es w' → Was l ⊎ Sometime (IsCut n k l) (e ∷ es) w =
       λ l x. ⊎_elim (λ y. ⊎_elim (λ q. inl q) (λ q. inr (inr (sometime_now (IsCut n k l) es w' q))) y) (λ y. inr (inr y)) x in
       ended_more laws lows (λ l. (Was l ⊎ IsCut n k l w') ⊎ Sometime (IsCut n k l) es w') (λ l. Was l ⊎ Sometime (IsCut n k l) (e ∷ es) w) (latest_life n k es w' o') (after_schedule es w') more r
@@ -292,7 +294,7 @@ module _ (t : Topology) (n k : ℕ) (apart : has_repeat (neighbours_of t n) ≡ 
     final = after_schedule es (first_world t times)
 
     ended : Ended laws lows (λ l. ⊥ ⊎ Sometime (IsCut n k l) es (first_world t times)) (latest_life n k es (first_world t times) None) final
-    ended = run_at laws lows es (first_world t times) None (λ l. ⊥) (λ a b l c. c ≡ 0) (λ a b l. refl) (first_good laws lows t times) (first_at times)
+    ended = run_at laws lows es [] (first_world t times) None (λ l. ⊥) (λ a b l c. c ≡ 0) (λ a b l. refl) (first_good laws lows t times) (first_at times)
 
     pub without_gap : IsWithoutGap t (first_world t times) es final n k
     without_gap = record {

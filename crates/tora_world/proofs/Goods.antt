@@ -1,5 +1,6 @@
 -- A change at one end, and the machine's step for it, keep what is said of all ends.
-use Rattle.std.proofs.Common.{◌≡◌, ◌≢◌, ℕ, ◌<◌, ◌≤◌, false, inr, ⊎_elim, List, [], ◌∷◌, ◌++◌, map, Some, refl, sym, ◌∙◌, ap, subst, subst₂, arith}
+use Rattle.std.proofs.Common.{◌≡◌, ◌≢◌, ℕ, ◌<◌, ◌≤◌, true, false, true≢false, ◌⊎◌, inl, inr, ⊎_elim, List, [], ◌∷◌, ◌++◌, map, Option, Some, None, nat_eq, eq-eqb, refl, sym, ◌∙◌, ap, subst, subst₂, arith}
+use Rattle.std.proofs.lemmas.Bool.{cases_Bool}
 use Rattle.tora_packet.specs.declared.Packet.{Packet}
 use Rattle.tora_frame.specs.declared.parts.Body.{Body}
 use Rattle.tora_frame.specs.declared.parts.Body.TheVariants.{Hello, Data, Ack}
@@ -8,19 +9,20 @@ use Rattle.tora_arq.specs.declared.Life.{Life}
 use Rattle.tora_arq.specs.declared.state.Phase.{Phase}
 use Rattle.tora_arq.specs.declared.state.Phase.TheVariants.{Closed, Unbound, Bound}
 use Rattle.tora_arq.specs.Lives.{life_of}
-use Rattle.tora_arq.specs.LinkEnd.{EndState, after_open}
+use Rattle.tora_arq.specs.LinkEnd.{EndState, after_open, life_in}
 use Rattle.tora_arq.specs.LinkFacts.{LinkCall, after_call, HandsInFrameOf}
 use Rattle.tora_life.specs.LifeRun.{LifeDisk, IsFloor}
 use Rattle.tora_seat.specs.Serving.{Parcel}
 use Rattle.tora_world.specs.Lists.{reversed as flip, packets_of as of, Begins, IsIn, Each}
-use Rattle.tora_world.specs.LinkMachine.{put_at as put, MachineEnd as Pair, Machine, MachineStep as Step, MayStep as Allowed, after_machine_step as after, machine_after as state, drawing, binding, sending, taking}
-use Rattle.tora_world.specs.LinkMachine.MachineStep.{Draw, Bind, Send, Take}
+use Rattle.tora_world.specs.LinkMachine.{put_at as put, MachineEnd as Pair, Machine, MachineStep as Step, MayStep as Allowed, after_machine_step as after, machine_after as state, IsMachineRun as Legal, drawing, binding, sending, taking, closing, made}
+use Rattle.tora_world.specs.LinkMachine.MachineStep.{Draw, Bind, Send, Take, Close}
+use Rattle.tora_world.specs.MachineRun.{steps_of_binding, steps_of_end, steps_of_restart}
 use Rattle.tora_world.proofs.Laws.{LinkLaws}
-use Rattle.tora_world.proofs.Basics.{at_pair, put_at, put_off, by_pair, of_push_both, begins_refl, begins_append, at_begins, Each_mono}
+use Rattle.tora_world.proofs.Basics.{at_pair, put_at, put_off, by_pair, of_push_both, begins_refl, begins_append, at_begins, Each_mono, Each_at, Each_from}
 use Rattle.tora_world.proofs.Views.{Sign, View, Rel, Tells, Told, Good, Seen, from, InPhase, InWait, IsOf}
 use Rattle.tora_world.proofs.Views.Sign.{Come, Give}
 use Rattle.tora_world.proofs.MachineLaw.{machine_keeps}
-use Rattle.tora_world.proofs.Moves.{Grows, grows, opens, takes, takes_next, puts, current_bound, IsCall, called, call_stays, call_binds}
+use Rattle.tora_world.proofs.Moves.{Grows, grows, opens, takes, takes_next, puts, closes, ClosesMore, current_bound, current_open, IsCall, called, call_stays, call_binds}
 
 -- the ends are as before, but for one
 pub record Changes (view view' : ℕ → ℕ → View) (n k : ℕ) (v v' : View) : Type 0 where
@@ -63,32 +65,30 @@ told_grows m m' seen seen' o s f h = (
 pub told_all : (m m' : Machine) (seen seen' : Seen) → AllOlder m m' → SeenMore seen seen' → (fs : List Frame) → Each (Told m seen) fs → Each (Told m' seen') fs
 told_all m m' seen seen' o s fs h = Each_mono (Told m seen) (Told m' seen') (λ f. told_grows m m' seen seen' o s f) fs h
 
-module _ (view view' : ℕ → ℕ → View) (frames : List Frame) (seen : Seen) (n k : ℕ) (v v' : View) where
+module _ (steps : List Step) (view view' : ℕ → ℕ → View) (frames : List Frame) (seen : Seen) (n k : ℕ) (v v' : View) where
   -- no step
-  pub idle : Changes view view' n k v v' → (g : Good view frames seen) → (Rel v (state g.steps n k) (state g.steps k n).sent (from seen n k) → Rel v' (state g.steps n k) (state g.steps k n).sent (from seen n k)) → Good view' frames seen
+  pub idle : Changes view view' n k v v' → (g : Good steps view frames seen) → (Rel v (state steps n k) (state steps k n).sent (from seen n k) → Rel v' (state steps n k) (state steps k n).sent (from seen n k)) → Good steps view' frames seen
   idle c g f = record {
-    steps = g.steps;
     legal = g.legal;
-    sides = by_pair (λ a b. Rel (view' a b) (state g.steps a b) (state g.steps b a).sent (from seen a b)) n k
-        (subst (λ w. Rel w (state g.steps n k) (state g.steps k n).sent (from seen n k)) (sym c.here)
-        (f (subst (λ w. Rel w (state g.steps n k) (state g.steps k n).sent (from seen n k)) c.was (g.sides n k))))
-        (λ a b e. subst (λ w. Rel w (state g.steps a b) (state g.steps b a).sent (from seen a b)) (sym (c.there a b e)) (g.sides a b));
+    sides = by_pair (λ a b. Rel (view' a b) (state steps a b) (state steps b a).sent (from seen a b)) n k
+        (subst (λ w. Rel w (state steps n k) (state steps k n).sent (from seen n k)) (sym c.here)
+        (f (subst (λ w. Rel w (state steps n k) (state steps k n).sent (from seen n k)) c.was (g.sides n k))))
+        (λ a b e. subst (λ w. Rel w (state steps a b) (state steps b a).sent (from seen a b)) (sym (c.there a b e)) (g.sides a b));
     tells = g.tells;
   }
 
   -- one step, which changes the pair of this end
   pub steps_on : Changes view view' n k v v' → (s : Step) (change : Pair → Pair) → ((m : Machine) → after m s ≡ put m n k (change (m n k))) →
       ((p : Pair) → Older p (change p)) →
-      (g : Good view frames seen) →
-      (Rel v (state g.steps n k) (state g.steps k n).sent (from seen n k) → Rel v' (change (state g.steps n k)) (state g.steps k n).sent (from seen n k)) →
-      Allowed (state g.steps) s → Good view' frames seen
+      (g : Good steps view frames seen) →
+      (Rel v (state steps n k) (state steps k n).sent (from seen n k) → Rel v' (change (state steps n k)) (state steps k n).sent (from seen n k)) →
+      Allowed (state steps) s → Good (s ∷ steps) view' frames seen
   steps_on c s change is older g f ok =
-      let m : Machine = state g.steps in
+      let m : Machine = state steps in
       let new : Machine = put m n k (change (m n k)) in
       let all : AllOlder m new = older_put m n k (change (m n k)) (older (m n k)) in
       let to : AllOlder m (after m s) = subst (AllOlder m) (sym (is m)) all in
       record {
-        steps = s ∷ g.steps;
         legal = (ok, g.legal);
         sides = subst (λ (x : Machine). (a b : ℕ) → Rel (view' a b) (x a b) (x b a).sent (from seen a b)) (sym (is m))
             (by_pair (λ a b. Rel (view' a b) (new a b) (new b a).sent (from seen a b)) n k
@@ -102,29 +102,26 @@ module _ (view view' : ℕ → ℕ → View) (frames : List Frame) (seen : Seen)
       }
 
 -- more was seen
-pub sees : (view : ℕ → ℕ → View) (frames : List Frame) (seen seen' : Seen) → SeenMore seen seen' → Good view frames seen → Good view frames seen'
-sees view frames seen seen' s g = record {
-  steps = g.steps;
+pub sees : (steps : List Step) (view : ℕ → ℕ → View) (frames : List Frame) (seen seen' : Seen) → SeenMore seen seen' → Good steps view frames seen → Good steps view frames seen'
+sees steps view frames seen seen' s g = record {
   legal = g.legal;
-  sides = λ n k. grows (view n k) (state g.steps n k) (state g.steps k n).sent (state g.steps k n).sent (from seen n k) (from seen' n k) (λ l. begins_refl (of l (state g.steps k n).sent)) (λ l c. s k n (flip l) c) (g.sides n k);
-  tells = told_all (state g.steps) (state g.steps) seen seen' (λ a b. older_refl (state g.steps a b)) s frames g.tells;
+  sides = λ n k. grows (view n k) (state steps n k) (state steps k n).sent (state steps k n).sent (from seen n k) (from seen' n k) (λ l. begins_refl (of l (state steps k n).sent)) (λ l c. s k n (flip l) c) (g.sides n k);
+  tells = told_all (state steps) (state steps) seen seen' (λ a b. older_refl (state steps a b)) s frames g.tells;
 }
 
 -- the ends are looked at in another way
-pub looks : (view view' : ℕ → ℕ → View) (frames : List Frame) (seen : Seen) → ((a b : ℕ) → view' a b ≡ view a b) → Good view frames seen → Good view' frames seen
-looks view view' frames seen e g = record {
-  steps = g.steps;
+pub looks : (steps : List Step) (view view' : ℕ → ℕ → View) (frames : List Frame) (seen : Seen) → ((a b : ℕ) → view' a b ≡ view a b) → Good steps view frames seen → Good steps view' frames seen
+looks steps view view' frames seen e g = record {
   legal = g.legal;
-  sides = λ a b. subst (λ w. Rel w (state g.steps a b) (state g.steps b a).sent (from seen a b)) (sym (e a b)) (g.sides a b);
+  sides = λ a b. subst (λ w. Rel w (state steps a b) (state steps b a).sent (from seen a b)) (sym (e a b)) (g.sides a b);
   tells = g.tells;
 }
 
 -- every end does something that the machine does not see
-pub everywhere : (view view' : ℕ → ℕ → View) (frames : List Frame) (seen : Seen) → ((a b : ℕ) (p : Pair) (other : List Parcel) → Rel (view a b) p other (from seen a b) → Rel (view' a b) p other (from seen a b)) → Good view frames seen → Good view' frames seen
-everywhere view view' frames seen f g = record {
-  steps = g.steps;
+pub everywhere : (steps : List Step) (view view' : ℕ → ℕ → View) (frames : List Frame) (seen : Seen) → ((a b : ℕ) (p : Pair) (other : List Parcel) → Rel (view a b) p other (from seen a b) → Rel (view' a b) p other (from seen a b)) → Good steps view frames seen → Good steps view' frames seen
+everywhere steps view view' frames seen f g = record {
   legal = g.legal;
-  sides = λ a b. f a b (state g.steps a b) (state g.steps b a).sent (g.sides a b);
+  sides = λ a b. f a b (state steps a b) (state steps b a).sent (g.sides a b);
   tells = g.tells;
 }
 
@@ -143,74 +140,178 @@ older_sending x p = record {
   drawn = λ y i. i;
 }
 
-none_in : {A : Type 0} (xs : List A) (x : A) → xs ≡ [] → Each (λ y. y ≢ x) xs
-none_in xs x e = subst (Each (λ y. y ≢ x)) (sym e) tt
+older_closing : (l : Life) (p : Pair) → Older p (closing p l)
+older_closing l p = record { sent = λ l. begins_refl (of l p.sent); drawn = λ y i. i }
 
-module _ (view view' : ℕ → ℕ → View) (frames : List Frame) (seen : Seen) (n k : ℕ) (v : View) where
-  side : {v' : View} → Changes view view' n k v v' → (g : Good view frames seen) → Rel v (state g.steps n k) (state g.steps k n).sent (from seen n k)
-  side c g = subst (λ w. Rel w (state g.steps n k) (state g.steps k n).sent (from seen n k)) c.was (g.sides n k)
+module _ (steps : List Step) (view view' : ℕ → ℕ → View) (frames : List Frame) (seen : Seen) (n k : ℕ) (v : View) where
+  side : {v' : View} → Changes view view' n k v v' → (g : Good steps view frames seen) → Rel v (state steps n k) (state steps k n).sent (from seen n k)
+  side c g = subst (λ w. Rel w (state steps n k) (state steps k n).sent (from seen n k)) c.was (g.sides n k)
 
-  pub good_opens : (x now : ℕ) (file : LifeDisk) → ((m : ℕ) → IsFloor m v.file → (m < x) × IsFloor x file) → Changes view view' n k v (record v { endpoint = after_open v.endpoint x now; file = file }) → Good view frames seen → Good view' frames seen
+  pub good_opens : (x now : ℕ) (file : LifeDisk) → ((m : ℕ) → IsFloor m v.file → (m < x) × IsFloor x file) → Changes view view' n k v (record v { endpoint = after_open v.endpoint x now; file = file }) → Good steps view frames seen → Good (Draw n k x ∷ steps) view' frames seen
   good_opens x now file f c g =
       let r = side c g in
       let above : r.ledger.floor < x = (f r.ledger.floor r.ledger.kept).0 in
-      steps_on view view' frames seen n k v (record v { endpoint = after_open v.endpoint x now; file = file }) c
-      (Draw n k x) (λ p. drawing p x) (λ m. refl) (older_drawing x) g (λ h. opens v (state g.steps n k) (state g.steps k n).sent (from seen n k) x now file f h)
-      (Each_mono (λ y. y ≤ r.ledger.floor) (λ y. y < x) (λ y e. omega (arith, e, above)) (state g.steps n k).drawn r.ledger.drawn)
+      steps_on steps view view' frames seen n k v (record v { endpoint = after_open v.endpoint x now; file = file }) c
+      (Draw n k x) (λ p. drawing p x) (λ m. refl) (older_drawing x) g (λ h. opens v (state steps n k) (state steps k n).sent (from seen n k) x now file f h)
+      (Each_mono (λ y. y ≤ r.ledger.floor) (λ y. y < x) (λ y e. omega (arith, e, above)) (state steps n k).drawn r.ledger.drawn)
 
-  -- a call of the end that does not open it
-  pub good_call : (laws : LinkLaws) (call : LinkCall) (out : List Parcel) → ((l : Life) → seen k n (flip l) 0) → Changes view view' n k v (called v call out) →
-      (g : Good view frames seen) → IsCall v (state g.steps n k) (state g.steps k n).sent (from seen n k) call out → ((l : Life) → HandsInFrameOf v.settings l call → IsIn l.peer (state g.steps k n).drawn) → Good view' frames seen
-  good_call laws call out zero c g ok told = go (after_call v.settings v.endpoint call).phase refl
+  -- a call of the end that neither opens it nor hands in a frame
+  pub good_call : (laws : LinkLaws) (call : LinkCall) (out : List Parcel) → Changes view view' n k v (called v call out) →
+      (g : Good steps view frames seen) → IsCall v (state steps n k) (state steps k n).sent (from seen n k) call out → ((l : Life) → HandsInFrameOf v.settings l call → ⊥) → Good steps view' frames seen
+  good_call laws call out c g ok no_frame =
+      idle steps view view' frames seen n k v (called v call out) c g
+      (λ h. call_stays laws v (state steps n k) (state steps k n).sent (from seen n k) call out ok
+      (λ l e. ⊎_elim (λ b. b) (λ u. absurd (no_frame l u.1)) (laws.binds v.settings v.endpoint call ok.possible l e)) h)
+
+  abbrev Heard : Phase → Phase → Type 0
+  Heard ph ph' = Good (made (steps_of_binding n k (life_in ph) (life_in ph')) steps) view' frames seen
+
+  -- a call that hands in a frame, after which a life may be bound
+  pub good_hears : (laws : LinkLaws) (call : LinkCall) (out : List Parcel) → ((l : Life) → seen k n (flip l) 0) → Changes view view' n k v (called v call out) →
+      (g : Good steps view frames seen) → IsCall v (state steps n k) (state steps k n).sent (from seen n k) call out → ((l : Life) → HandsInFrameOf v.settings l call → IsIn l.peer (state steps k n).drawn) →
+      Good (made (steps_of_binding n k (life_in v.endpoint.phase) (life_in (after_call v.settings v.endpoint call).phase)) steps) view' frames seen
+  good_hears laws call out zero c g ok told = go (after_call v.settings v.endpoint call).phase refl
     where
-      stays : ((l : Life) → (after_call v.settings v.endpoint call).phase ≡ Bound l → v.endpoint.phase ≡ Bound l) → Good view' frames seen
-      stays f = idle view view' frames seen n k v (called v call out) c g (λ h. call_stays laws v (state g.steps n k) (state g.steps k n).sent (from seen n k) call out ok f h)
+      stays : ((l : Life) → (after_call v.settings v.endpoint call).phase ≡ Bound l → v.endpoint.phase ≡ Bound l) → Good steps view' frames seen
+      stays f = idle steps view view' frames seen n k v (called v call out) c g (λ h. call_stays laws v (state steps n k) (state steps k n).sent (from seen n k) call out ok f h)
 
-      bind : (l : Life) → v.endpoint.phase ≡ Unbound l.own → (after_call v.settings v.endpoint call).phase ≡ Bound l → IsIn l.peer (state g.steps k n).drawn → Good view' frames seen
-      bind l e e' i =
-          let w : InWait l.own (state g.steps n k) = subst (λ ph. InPhase ph v (state g.steps n k) (state g.steps k n).sent (from seen n k)) e (side c g).phase in
-          steps_on view view' frames seen n k v (called v call out) c
+      binds : (l : Life) → v.endpoint.phase ≡ Unbound l.own → (after_call v.settings v.endpoint call).phase ≡ Bound l → IsIn l.peer (state steps k n).drawn → Good (Bind n k l.own l.peer ∷ steps) view' frames seen
+      binds l e e' i =
+          let w : InWait l.own (state steps n k) = subst (λ ph. InPhase ph v (state steps n k) (state steps k n).sent (from seen n k)) e (side c g).phase in
+          steps_on steps view view' frames seen n k v (called v call out) c
           (Bind n k l.own l.peer) (λ p. binding p l) (λ m. refl) (older_binding l) g
-          (λ h. call_binds laws v (state g.steps n k) (state g.steps k n).sent (from seen n k) call out ok l e e' (zero l) h)
-          (w.last, Each_mono (λ (j : Life). j.own < l.own) (λ (j : Life). j.own ≢ l.own) (λ j le e. omega (arith, le, e)) (state g.steps n k).bound w.above, i)
+          (λ h. call_binds laws v (state steps n k) (state steps k n).sent (from seen n k) call out ok l e e' (zero l) h)
+          (w.last, Each_mono (λ (j : Life). j.own < l.own) (λ (j : Life). j.own ≢ l.own) (λ j le e. omega (arith, le, e)) (state steps n k).bound w.above, i)
 
-      go : (ph : Phase) → (after_call v.settings v.endpoint call).phase ≡ ph → Good view' frames seen
-      go Closed e = stays (λ l e'. absurd (let y : Closed ≡ Bound l = sym e ∙ e' in cc))
-      go (Unbound own) e = stays (λ l e'. absurd (let y : Unbound own ≡ Bound l = sym e ∙ e' in cc))
+      go : (ph' : Phase) → (after_call v.settings v.endpoint call).phase ≡ ph' → Heard v.endpoint.phase (after_call v.settings v.endpoint call).phase
+      go Closed e = subst (Heard v.endpoint.phase) (sym e) (stays (λ l e'. absurd (let y : Closed ≡ Bound l = sym e ∙ e' in cc)))
+      go (Unbound own) e = subst (Heard v.endpoint.phase) (sym e) (stays (λ l e'. absurd (let y : Unbound own ≡ Bound l = sym e ∙ e' in cc)))
       go (Bound l) e =
-          ⊎_elim
-          (λ b. stays (λ j e'. let y : Bound l ≡ Bound j = sym e ∙ e' in let z : l ≡ j = cc in b ∙ ap Bound z))
-          (λ u. bind l u.0 e (told l u.1))
-          (laws.binds v.settings v.endpoint call ok.possible l e)
+          subst (Heard v.endpoint.phase) (sym e)
+          (⊎_elim
+          (λ b. subst (λ ph. Heard ph (Bound l)) (sym b) (stays (λ j e'. let y : Bound l ≡ Bound j = sym e ∙ e' in let z : l ≡ j = cc in b ∙ ap Bound z)))
+          (λ u. subst (λ ph. Heard ph (Bound l)) (sym u.0) (binds l u.0 e (told l u.1)))
+          (laws.binds v.settings v.endpoint call ok.possible l e))
 
   pub good_takes : (l : Life) (x : Packet) (q : List Sign) → v.coming ≡ Give l x ∷ q → v.current ≡ Some l →
       Changes view view' n k v (record v { coming = q; taken = v.taken ++ record { life = l; packet = x } ∷ [] }) →
-      Good view frames seen → Good view' frames seen
+      Good steps view frames seen → Good (Take n k l x ∷ steps) view' frames seen
   good_takes l x q e on c g =
       let r = side c g in
-      steps_on view view' frames seen n k v (record v { coming = q; taken = v.taken ++ record { life = l; packet = x } ∷ [] }) c
+      steps_on steps view view' frames seen n k v (record v { coming = q; taken = v.taken ++ record { life = l; packet = x } ∷ [] }) c
       (Take n k l x) (λ p. taking p (record { life = l; packet = x })) (λ m. refl) (older_taking (record { life = l; packet = x })) g
-      (λ h. takes v (state g.steps n k) (state g.steps k n).sent (from seen n k) l x q e on h)
-      (current_bound v (state g.steps n k) (state g.steps k n).sent (from seen n k) l on r, none_in (state g.steps n k).closed l r.ledger.none_closed, takes_next v (state g.steps n k) (state g.steps k n).sent (from seen n k) l x q e on r)
+      (λ h. takes v (state steps n k) (state steps k n).sent (from seen n k) l x q e on h)
+      (current_bound v (state steps n k) (state steps k n).sent (from seen n k) l on r, current_open v (state steps n k) (state steps k n).sent (from seen n k) l on r, takes_next v (state steps n k) (state steps k n).sent (from seen n k) l x q e on r)
 
   pub good_puts : (x : Parcel) → v.current ≡ Some x.life →
       Changes view view' n k v (record v { sent = v.sent ++ x ∷ []; out = v.out ++ x ∷ [] }) →
-      Good view frames seen → Good view' frames seen
+      Good steps view frames seen → Good (Send n k x.life x.packet ∷ steps) view' frames seen
   good_puts x on c g =
       let r = side c g in
-      steps_on view view' frames seen n k v (record v { sent = v.sent ++ x ∷ []; out = v.out ++ x ∷ [] }) c
-      (Send n k x.life x.packet) (λ p. sending p x) (λ m. refl) (older_sending x) g (λ h. puts v (state g.steps n k) (state g.steps k n).sent (from seen n k) x on h)
-      (current_bound v (state g.steps n k) (state g.steps k n).sent (from seen n k) x.life on r, none_in (state g.steps n k).closed x.life r.ledger.none_closed)
+      steps_on steps view view' frames seen n k v (record v { sent = v.sent ++ x ∷ []; out = v.out ++ x ∷ [] }) c
+      (Send n k x.life x.packet) (λ p. sending p x) (λ m. refl) (older_sending x) g (λ h. puts v (state steps n k) (state steps k n).sent (from seen n k) x on h)
+      (current_bound v (state steps n k) (state steps k n).sent (from seen n k) x.life on r, current_open v (state steps n k) (state steps k n).sent (from seen n k) x.life on r)
+
+  pub good_closes : (l : Life) → v.current ≡ Some l → Changes view view' n k v (record v { current = None }) → Good steps view frames seen → Good (Close n k l ∷ steps) view' frames seen
+  good_closes l on c g =
+      steps_on steps view view' frames seen n k v (record v { current = None }) c
+      (Close n k l) (λ p. closing p l) (λ m. refl) (older_closing l) g (λ h. closes v (state steps n k) (state steps k n).sent (from seen n k) l on h) tt
 
 -- what it all comes to
-pub good_prefix : (view : ℕ → ℕ → View) (frames : List Frame) (seen : Seen) → Good view frames seen → (n k : ℕ) (l : Life) → Begins (of l (view n k).taken) (of (flip l) (view k n).sent)
-good_prefix view frames seen g n k l =
-    subst₂ (λ t s. Begins (of l t) (of (flip l) s)) (g.sides n k).ledger.taken_is (g.sides k n).ledger.sent_is (machine_keeps g.steps g.legal n k l)
+pub good_prefix : (steps : List Step) (view : ℕ → ℕ → View) (frames : List Frame) (seen : Seen) → Good steps view frames seen → (n k : ℕ) (l : Life) → Begins (of l (view n k).taken) (of (flip l) (view k n).sent)
+good_prefix steps view frames seen g n k l =
+    subst₂ (λ t s. Begins (of l t) (of (flip l) s)) (g.sides n k).ledger.taken_is (g.sides k n).ledger.sent_is (machine_keeps steps g.legal n k l)
 
 -- one more frame
-pub frames_more : (view : ℕ → ℕ → View) (frames : List Frame) (seen : Seen) (f : Frame) → (g : Good view frames seen) → Told (state g.steps) seen f → Good view (frames ++ f ∷ []) seen
-frames_more view frames seen f g t = record { steps = g.steps; legal = g.legal; sides = g.sides; tells = each_push frames g.tells }
+pub frames_more : (steps : List Step) (view : ℕ → ℕ → View) (frames : List Frame) (seen : Seen) (f : Frame) → (g : Good steps view frames seen) → Told (state steps) seen f → Good steps view (frames ++ f ∷ []) seen
+frames_more steps view frames seen f g t = record { legal = g.legal; sides = g.sides; tells = each_push frames g.tells }
   where
-    each_push : (fs : List Frame) → Each (Told (state g.steps) seen) fs → Each (Told (state g.steps) seen) (fs ++ f ∷ [])
+    each_push : (fs : List Frame) → Each (Told (state steps) seen) fs → Each (Told (state steps) seen) (fs ++ f ∷ [])
     each_push [] h = (t, tt)
     each_push (x ∷ fs) h = (h.0, each_push fs h.1)
+
+-- ---- the current lives of one node are closed
+
+closes_none : (current : Option Life) (p : Pair) → ClosesMore current p p
+closes_none current p = record { drawn = refl; bound = refl; sent = refl; taken = refl; closed = Each_from (λ l. (current ≡ Some l) ⊎ IsIn l p.closed) p.closed (λ l i. inr i) }
+
+closes_both : (current : Option Life) (p q r : Pair) → ClosesMore current p q → ClosesMore current q r → ClosesMore current p r
+closes_both current p q r a b = record {
+  drawn = b.drawn ∙ a.drawn;
+  bound = b.bound ∙ a.bound;
+  sent = b.sent ∙ a.sent;
+  taken = b.taken ∙ a.taken;
+  closed = Each_mono (λ l. (current ≡ Some l) ⊎ IsIn l q.closed) (λ l. (current ≡ Some l) ⊎ IsIn l p.closed) (λ l o. ⊎_elim (λ e. inl e) (λ i. Each_at (λ j. (current ≡ Some j) ⊎ IsIn j p.closed) q.closed l a.closed i) o) r.closed b.closed;
+}
+
+closes_one : (current : Option Life) (p : Pair) (l : Life) → current ≡ Some l → ClosesMore current p (closing p l)
+closes_one current p l e = record { drawn = refl; bound = refl; sent = refl; taken = refl; closed = (inl e, Each_from (λ j. (current ≡ Some j) ⊎ IsIn j p.closed) p.closed (λ j i. inr i)) }
+
+older_closes : (current : Option Life) (p q : Pair) → ClosesMore current p q → Older p q
+older_closes current p q c = record {
+  sent = λ l. subst (λ xs. Begins (of l p.sent) (of l xs)) (sym c.sent) (begins_refl (of l p.sent));
+  drawn = λ x i. subst (IsIn x) (sym c.drawn) i;
+}
+
+module _ (n : ℕ) (current : ℕ → Option Life) where
+  -- at other nodes nothing changes
+  record ClosesAt (m m' : Machine) (a b : ℕ) : Type 0 where
+    here : nat_eq a n ≡ true → ClosesMore (current b) (m a b) (m' a b)
+    there : nat_eq a n ≡ false → m' a b ≡ m a b
+
+  abbrev ClosesAll : Machine → Machine → Type 0
+  ClosesAll m m' = (a b : ℕ) → ClosesAt m m' a b
+
+  close_step : (m : Machine) (k : ℕ) (l : Life) → current k ≡ Some l → ClosesAll m (put m n k (closing (m n k) l))
+  close_step m k l e =
+      by_pair (λ a b. ClosesAt m (put m n k (closing (m n k) l)) a b) n k
+      (record {
+        here = λ t. subst (ClosesMore (current k) (m n k)) (sym (put_at m n k (closing (m n k) l))) (closes_one (current k) (m n k) l e);
+        there = λ f. absurd (true≢false (sym (eq-eqb n n refl) ∙ f));
+      })
+      (λ a b o. record {
+        here = λ t. subst (ClosesMore (current b) (m a b)) (sym (put_off m n k (closing (m n k) l) a b o)) (closes_none (current b) (m a b));
+        there = λ f. put_off m n k (closing (m n k) l) a b o;
+      })
+
+  close_both : (m m' m'' : Machine) → ClosesAll m m' → ClosesAll m' m'' → ClosesAll m m''
+  close_both m m' m'' f g a b = record {
+    here = λ t. closes_both (current b) (m a b) (m' a b) (m'' a b) ((f a b).here t) ((g a b).here t);
+    there = λ e. (g a b).there e ∙ (f a b).there e;
+  }
+
+  record AreClosed (steps steps' : List Step) : Type 0 where
+    legal : Legal steps'
+    all : ClosesAll (state steps) (state steps')
+
+  close_all : (ks : List ℕ) (steps : List Step) → Legal steps → AreClosed steps (made (steps_of_restart n current ks) steps)
+  close_all [] steps ok = record { legal = ok; all = λ a b. record { here = λ t. closes_none (current b) (state steps a b); there = λ f. refl } }
+  close_all (k ∷ ks) steps ok = go (current k) refl (λ ss s. close_all ks ss s)
+    where
+      go : (o : Option Life) → current k ≡ o → ((ss : List Step) → Legal ss → AreClosed ss (made (steps_of_restart n current ks) ss)) → AreClosed steps (made (steps_of_end n k o ++ steps_of_restart n current ks) steps)
+      go None e again = again steps ok
+      go (Some l) e again =
+          let c = again (Close n k l ∷ steps) (tt, ok) in record {
+            legal = c.legal;
+            all = close_both (state steps) (state (Close n k l ∷ steps)) (state (made (steps_of_restart n current ks) (Close n k l ∷ steps))) (close_step (state steps) k l e) c.all;
+          }
+
+  pub good_restarts : (steps : List Step) (view view' : ℕ → ℕ → View) (frames : List Frame) (seen : Seen) (ks : List ℕ) →
+      ((a b : ℕ) → nat_eq a n ≡ false → view' a b ≡ view a b) →
+      ((a b : ℕ) (p p' : Pair) (other : List Parcel) → nat_eq a n ≡ true → ClosesMore (current b) p p' → Rel (view a b) p other (from seen a b) → Rel (view' a b) p' other (from seen a b)) →
+      Good steps view frames seen → Good (made (steps_of_restart n current ks) steps) view' frames seen
+  good_restarts steps view view' frames seen ks off on g =
+      let c = close_all ks steps g.legal in
+      let m : Machine = state steps in
+      let m' : Machine = state (made (steps_of_restart n current ks) steps) in
+      let older : AllOlder m m' = λ a b. ⊎_elim (λ t. older_closes (current b) (m a b) (m' a b) ((c.all a b).here t)) (λ f. subst (Older (m a b)) (sym ((c.all a b).there f)) (older_refl (m a b))) (cases_Bool (nat_eq a n)) in
+      let side : (a b : ℕ) → Rel (view' a b) (m' a b) (m b a).sent (from seen a b) =
+      λ a b. ⊎_elim
+      (λ t. on a b (m a b) (m' a b) (m b a).sent t ((c.all a b).here t) (g.sides a b))
+      (λ f. subst (λ v. Rel v (m' a b) (m b a).sent (from seen a b)) (sym (off a b f)) (subst (λ p. Rel (view a b) p (m b a).sent (from seen a b)) (sym ((c.all a b).there f)) (g.sides a b)))
+      (cases_Bool (nat_eq a n)) in
+      record {
+        legal = c.legal;
+        sides = λ a b. grows (view' a b) (m' a b) (m b a).sent (m' b a).sent (from seen a b) (from seen a b) (older b a).sent (λ l x d. d) (side a b);
+        tells = told_all m m' seen seen older (λ a b l x d. d) frames g.tells;
+      }

@@ -16,10 +16,10 @@ use Rattle.tora_arq.specs.LinkFacts.LinkCall.{PollEvent}
 use Rattle.tora_life.specs.LifeRun.{LifeDisk, IsFloor}
 use Rattle.tora_seat.specs.Serving.{Parcel}
 use Rattle.tora_world.specs.Lists.{reversed as flip, packet_where as only, packets_of as of, parcel_of, Begins, IsIn, Each}
-use Rattle.tora_world.specs.LinkMachine.{MachineEnd as Pair, IsLast, drawing, binding, sending, taking}
+use Rattle.tora_world.specs.LinkMachine.{MachineEnd as Pair, IsLast, drawing, binding, sending, taking, closing}
 use Rattle.tora_world.proofs.Laws.{LinkLaws}
 use Rattle.tora_world.proofs.Basics.{same_refl, same_true, same_false, of-push, only_same, only_other, begins_trans, begins_front, begins_more, begins_many, at_begins, at_middle, Each_mono, Each_at}
-use Rattle.tora_world.proofs.Views.{Sign, View, sign_of, is_now, given, awaited, lives, number_of, IsOf, AllOf, Queued, Counted, InLife, InWait, InPhase, Ledger, IsNow, Flow, Rel}
+use Rattle.tora_world.proofs.Views.{Sign, View, sign_of, is_now, given, awaited, lives, number_of, IsOf, AllOf, Queued, Counted, InLife, InWait, InPhase, Ledger, IsNow, IsOver, Flow, Rel}
 use Rattle.tora_world.proofs.Views.Sign.{Come, Give, Rest}
 use Rattle.tora_world.proofs.Signs.{awaited-append, lives-append, lives_off, awaited_off, awaited_new, Rises_weaken, Rises_push, Rises_quiet, Comes-append, Comes_quiet, Comes_more, Quiet, gives_quiet, awaited_gives, lives_gives}
 
@@ -55,6 +55,7 @@ grows v p xs ys done done' g d h = record {
     comes = h.flow.comes;
     rises = h.flow.rises;
     older = h.flow.older;
+    over = h.flow.over;
     chain = λ l. begins_trans _ _ _ (h.flow.chain l) (g (flip l));
   };
   phase = phase_grows v p xs ys done done' g d v.endpoint.phase h.phase;
@@ -112,7 +113,6 @@ refiles v p other done file f h = record {
     bound = h.ledger.bound;
     sent_is = h.ledger.sent_is;
     taken_is = h.ledger.taken_is;
-    none_closed = h.ledger.none_closed;
     all_sent = h.ledger.all_sent;
     all_taken = h.ledger.all_taken;
     all_out = h.ledger.all_out;
@@ -141,7 +141,6 @@ opens v p other done x now file f h =
         bound = Each_mono (λ (l : Life). l.own ≤ h.ledger.floor) (λ (l : Life). l.own ≤ x) (λ l e. omega (arith, e, above)) p.bound h.ledger.bound;
         sent_is = h.ledger.sent_is;
         taken_is = h.ledger.taken_is;
-        none_closed = h.ledger.none_closed;
         all_sent = h.ledger.all_sent;
         all_taken = h.ledger.all_taken;
         all_out = h.ledger.all_out;
@@ -157,25 +156,26 @@ opens v p other done x now file f h =
 -- ---- what comes behind
 
 -- what brings no life up comes
-quiet_flow : (current : Option Life) (q r : List Sign) (sent taken other : List Parcel) (bound : List Life) → Quiet r
+quiet_flow : (current : Option Life) (q r : List Sign) (sent taken other : List Parcel) (bound closed : List Life) → Quiet r
     → ((l : Life) → Begins (of l taken ++ awaited l (is_now l current) q) (of (flip l) other) → Begins (of l taken ++ awaited l (is_now l current) (q ++ r)) (of (flip l) other))
-    → Flow current q sent taken other bound → Flow current (q ++ r) sent taken other bound
-quiet_flow current q r sent taken other bound k c f = record {
+    → Flow current q sent taken other bound closed → Flow current (q ++ r) sent taken other bound closed
+quiet_flow current q r sent taken other bound closed k c f = record {
   latest = f.latest;
   was_bound = f.was_bound;
   now = f.now;
   comes = Comes_quiet bound q r k f.comes;
   rises = Rises_quiet (number_of f.latest) q r k f.rises;
   older = f.older;
+  over = f.over;
   chain = λ l. c l (f.chain l);
 }
 
 same_rest : (l : Life) (b : Bool) (q : List Sign) → awaited l b (q ++ Rest ∷ []) ≡ awaited l b q
 same_rest l b q = awaited-append l b q (Rest ∷ []) ∙ append-nil (awaited l b q)
 
-rest_flow : (current : Option Life) (q : List Sign) (sent taken other : List Parcel) (bound : List Life) → Flow current q sent taken other bound → Flow current (q ++ Rest ∷ []) sent taken other bound
-rest_flow current q sent taken other bound f =
-    quiet_flow current q (Rest ∷ []) sent taken other bound tt
+rest_flow : (current : Option Life) (q : List Sign) (sent taken other : List Parcel) (bound closed : List Life) → Flow current q sent taken other bound closed → Flow current (q ++ Rest ∷ []) sent taken other bound closed
+rest_flow current q sent taken other bound closed f =
+    quiet_flow current q (Rest ∷ []) sent taken other bound closed tt
     (λ l b. subst (λ xs. Begins (of l taken ++ xs) (of (flip l) other)) (sym (same_rest l (is_now l current) q)) b) f
 
 -- the packets that come, behind those awaited
@@ -203,11 +203,11 @@ gives_chain l accepted current q ps taken other c f j b =
         subst (λ x. Begins ((of j taken ++ awaited j (is_now j current) q) ++ (if x then ps else [])) (of (flip j) other)) (sym t)
         (subst (λ zs. Begins zs (of (flip j) other)) (sym (append-nil (of j taken ++ awaited j (is_now j current) q))) b)
 
-gives_flow : (l : Life) (accepted : ℕ) (current : Option Life) (q : List Sign) (ps : List Packet) (sent taken other : List Parcel) (bound : List Life)
+gives_flow : (l : Life) (accepted : ℕ) (current : Option Life) (q : List Sign) (ps : List Packet) (sent taken other : List Parcel) (bound closed : List Life)
     → Counted l accepted current q taken → AreFrom (IsPacketAt (of (flip l) other)) accepted ps
-    → Flow current q sent taken other bound → Flow current (q ++ map (Give l) ps) sent taken other bound
-gives_flow l accepted current q ps sent taken other bound c a f =
-    quiet_flow current q (map (Give l) ps) sent taken other bound (gives_quiet l ps) (gives_chain l accepted current q ps taken other c a) f
+    → Flow current q sent taken other bound closed → Flow current (q ++ map (Give l) ps) sent taken other bound closed
+gives_flow l accepted current q ps sent taken other bound closed c a f =
+    quiet_flow current q (map (Give l) ps) sent taken other bound closed (gives_quiet l ps) (gives_chain l accepted current q ps taken other c a) f
 
 gives_counted : (l : Life) (accepted : ℕ) (current : Option Life) (q : List Sign) (ps : List Packet) (taken : List Parcel)
     → Counted l accepted current q taken → Counted l (accepted + length ps) current (q ++ map (Give l) ps) taken
@@ -260,7 +260,6 @@ module _ (laws : LinkLaws) (v : View) (p : Pair) (other : List Parcel) (done : L
     bound = h.ledger.bound;
     sent_is = h.ledger.sent_is;
     taken_is = h.ledger.taken_is;
-    none_closed = h.ledger.none_closed;
     all_sent = h.ledger.all_sent;
     all_taken = h.ledger.all_taken;
     all_out = ok.all_out;
@@ -271,18 +270,18 @@ module _ (laws : LinkLaws) (v : View) (p : Pair) (other : List Parcel) (done : L
       subst (λ x. AreEventsBetween (life_in x) (life_in ph') events) e
       (subst (λ x. AreEventsBetween (life_in v.endpoint.phase) (life_in x) events) e' (laws.between v.settings v.endpoint call ok.possible))
 
-  same_flow : Rel v p other done → events ≡ [] → Flow v.current (v.coming ++ map sign_of events) v.sent v.taken other p.bound
-  same_flow h e = subst (λ (xs : List LinkEvent). Flow v.current (v.coming ++ map sign_of xs) v.sent v.taken other p.bound) (sym e)
-      (subst (λ q. Flow v.current q v.sent v.taken other p.bound) (sym (append-nil v.coming)) h.flow)
+  same_flow : Rel v p other done → events ≡ [] → Flow v.current (v.coming ++ map sign_of events) v.sent v.taken other p.bound p.closed
+  same_flow h e = subst (λ (xs : List LinkEvent). Flow v.current (v.coming ++ map sign_of xs) v.sent v.taken other p.bound p.closed) (sym e)
+      (subst (λ q. Flow v.current q v.sent v.taken other p.bound p.closed) (sym (append-nil v.coming)) h.flow)
 
-  closed_flow : Rel v p other done → (ph : Phase) → v.endpoint.phase ≡ ph → after.phase ≡ Closed → Flow v.current (v.coming ++ map sign_of events) v.sent v.taken other p.bound
+  closed_flow : Rel v p other done → (ph : Phase) → v.endpoint.phase ≡ ph → after.phase ≡ Closed → Flow v.current (v.coming ++ map sign_of events) v.sent v.taken other p.bound p.closed
   closed_flow h Closed e e' = same_flow h (between Closed Closed e e')
   closed_flow h (Unbound own) e e' = same_flow h (between (Unbound own) Closed e e')
   closed_flow h (Bound l) e e' =
       let b = between (Bound l) Closed e e' in
-      subst (λ (xs : List LinkEvent). Flow v.current (v.coming ++ map sign_of xs) v.sent v.taken other p.bound) (sym b.1) (rest_flow v.current v.coming v.sent v.taken other p.bound h.flow)
+      subst (λ (xs : List LinkEvent). Flow v.current (v.coming ++ map sign_of xs) v.sent v.taken other p.bound p.closed) (sym b.1) (rest_flow v.current v.coming v.sent v.taken other p.bound p.closed h.flow)
 
-  finish : (ph : Phase) → after.phase ≡ ph → Rel v p other done → Flow v.current (v.coming ++ map sign_of events) v.sent v.taken other p.bound → InPhase ph (called v call out) p other done → Rel (called v call out) p other done
+  finish : (ph : Phase) → after.phase ≡ ph → Rel v p other done → Flow v.current (v.coming ++ map sign_of events) v.sent v.taken other p.bound p.closed → InPhase ph (called v call out) p other done → Rel (called v call out) p other done
   finish ph e h f k = record {
     kept = laws.next v.settings v.endpoint call ok.possible h.kept;
     ledger = ledger_kept h;
@@ -303,7 +302,7 @@ module _ (laws : LinkLaws) (v : View) (p : Pair) (other : List Parcel) (done : L
       let signs : v.coming ++ map (Give l) ps ≡ v.coming ++ map sign_of events = ap (λ xs. v.coming ++ xs) (sym (sign_gives l ps) ∙ ap (map sign_of) (sym evs)) in
       let a = laws.counted v.settings v.endpoint call ok.possible l h.kept e e' in
       finish (Bound l) e' h
-      (subst (λ q. Flow v.current q v.sent v.taken other p.bound) signs (gives_flow l v.endpoint.accepted v.current v.coming ps v.sent v.taken other p.bound k.counted d.next h.flow))
+      (subst (λ q. Flow v.current q v.sent v.taken other p.bound p.closed) signs (gives_flow l v.endpoint.accepted v.current v.coming ps v.sent v.taken other p.bound p.closed k.counted d.next h.flow))
       (record {
         bound = k.bound;
         drawn = k.drawn;
@@ -349,13 +348,14 @@ module _ (laws : LinkLaws) (v : View) (p : Pair) (other : List Parcel) (done : L
       let q : List Sign = v.coming ++ Come l ∷ [] in
       let come : (j : Life) → awaited j (is_now j v.current) (v.coming ++ Come l ∷ []) ≡ awaited j (is_now j v.current) v.coming =
       λ j. awaited-append j (is_now j v.current) v.coming (Come l ∷ []) ∙ append-nil (awaited j (is_now j v.current) v.coming) in
-      let up : Flow v.current (v.coming ++ Come l ∷ []) v.sent v.taken other (l ∷ p.bound) = record {
+      let up : Flow v.current (v.coming ++ Come l ∷ []) v.sent v.taken other (l ∷ p.bound) p.closed = record {
         latest = h.flow.latest;
         was_bound = IsOf_more l p.bound h.flow.latest h.flow.was_bound;
         now = h.flow.now;
         comes = Comes-append (l ∷ p.bound) v.coming (Come l ∷ []) (Comes_more l p.bound v.coming h.flow.comes) (inl refl, tt);
         rises = Rises_push (number_of h.flow.latest) p.bound v.coming l (number_below l p.bound h.flow.latest w.some w.above h.flow.was_bound) w.above h.flow.comes h.flow.rises;
         older = h.flow.older;
+        over = h.flow.over;
         chain = λ j. subst (λ xs. Begins (of j v.taken ++ xs) (of (flip j) other)) (sym (come j)) (h.flow.chain j);
       } in
       let count : Counted l 0 v.current (v.coming ++ Come l ∷ []) v.taken =
@@ -386,12 +386,11 @@ module _ (laws : LinkLaws) (v : View) (p : Pair) (other : List Parcel) (done : L
           bound = (last_at (λ x. x ≤ h.ledger.floor) l.own p.drawn w.last h.ledger.drawn, h.ledger.bound);
           sent_is = h.ledger.sent_is;
           taken_is = h.ledger.taken_is;
-          none_closed = h.ledger.none_closed;
           all_sent = All_more l p.bound v.sent h.ledger.all_sent;
           all_taken = All_more l p.bound v.taken h.ledger.all_taken;
           all_out = All_more l p.bound out ok.all_out;
         };
-        flow = subst (λ x. Flow v.current x v.sent v.taken other (l ∷ p.bound)) signs (gives_flow l 0 v.current (v.coming ++ Come l ∷ []) ps v.sent v.taken other (l ∷ p.bound) count next up);
+        flow = subst (λ x. Flow v.current x v.sent v.taken other (l ∷ p.bound) p.closed) signs (gives_flow l 0 v.current (v.coming ++ Come l ∷ []) ps v.sent v.taken other (l ∷ p.bound) p.closed count next up);
         phase = subst (λ x. InPhase x (called v call out) (binding p l) other done) (sym e') k;
       }
 
@@ -437,8 +436,8 @@ phase_counted v p p' other done now q t b d c (Bound l) h = record {
 }
 
 -- the core's seat at the sign that comes next
-coming_is : {v : View} {p : Pair} {other : List Parcel} {done : Life → ℕ → Type 0} {q : List Sign} → v.coming ≡ q → Rel v p other done → Flow v.current q v.sent v.taken other p.bound
-coming_is {v} {p} {other} {done} e h = subst (λ q. Flow v.current q v.sent v.taken other p.bound) e h.flow
+coming_is : {v : View} {p : Pair} {other : List Parcel} {done : Life → ℕ → Type 0} {q : List Sign} → v.coming ≡ q → Rel v p other done → Flow v.current q v.sent v.taken other p.bound p.closed
+coming_is {v} {p} {other} {done} e h = subst (λ q. Flow v.current q v.sent v.taken other p.bound p.closed) e h.flow
 
 counted_is : (v : View) (q : List Sign) → v.coming ≡ q → (l : Life) → Counted l v.endpoint.accepted v.current v.coming v.taken → Counted l v.endpoint.accepted v.current q v.taken
 counted_is v q e l c = subst (λ r. Counted l v.endpoint.accepted v.current r v.taken) e c
@@ -449,7 +448,7 @@ passes v p other done q e h =
     let f = coming_is e h in record {
       kept = h.kept;
       ledger = h.ledger;
-      flow = record { latest = f.latest; was_bound = f.was_bound; now = f.now; comes = f.comes; rises = f.rises; older = f.older; chain = f.chain };
+      flow = record { latest = f.latest; was_bound = f.was_bound; now = f.now; comes = f.comes; rises = f.rises; older = f.older; over = f.over; chain = f.chain };
       phase = phase_counted v p p other done v.current q v.taken refl refl (λ l c. counted_is v (Rest ∷ q) e l c) v.endpoint.phase h.phase;
     }
 
@@ -490,6 +489,7 @@ skips v p other done j x q e n h =
         comes = f.comes;
         rises = f.rises;
         older = f.older;
+        over = f.over;
         chain = λ l. subst (λ ys. Begins (of l v.taken ++ ys) (of (flip l) other)) (none l) (f.chain l);
       };
       phase = phase_counted v p p other done v.current q v.taken refl refl
@@ -509,6 +509,7 @@ ups v p other done l q e h =
         comes = f.comes.1;
         rises = f.rises.1;
         older = Each_mono (λ (x : Parcel). x.life.own ≤ number_of f.latest) (λ (x : Parcel). x.life.own ≤ l.own) (λ x le. omega (arith, le, f.rises.0)) v.sent f.older;
+        over = Each_mono (IsOver f.latest v.current) (IsOver (Some l) (Some l)) (λ j o. (omega (arith, o.0, f.rises.0), λ e. let q : l ≡ j = cc in let n : l.own ≡ j.own = ap (λ (x : Life). x.own) q in absurd (omega (arith, n, o.0, f.rises.0)))) p.closed f.over;
         chain = f.chain;
       };
       phase = phase_counted v p p other done (Some l) q v.taken refl refl (λ j c. counted_is v (Come l ∷ q) e j c) v.endpoint.phase h.phase;
@@ -562,7 +563,6 @@ takes v p other done l x q e on h =
         bound = h.ledger.bound;
         sent_is = h.ledger.sent_is;
         taken_is = ap (λ xs. xs ++ y ∷ []) h.ledger.taken_is;
-        none_closed = h.ledger.none_closed;
         all_sent = h.ledger.all_sent;
         all_taken = all_push p.bound v.taken y h.ledger.all_taken (current_bound v p other done l on h);
         all_out = h.ledger.all_out;
@@ -574,6 +574,7 @@ takes v p other done l x q e on h =
         comes = f.comes;
         rises = f.rises;
         older = f.older;
+        over = f.over;
         chain = λ j. subst (λ ys. Begins ys (of (flip j) other)) (sym (same_all j)) (f.chain j);
       };
       phase = phase_counted v p (taking p y) other done v.current q (v.taken ++ y ∷ []) refl refl
@@ -593,17 +594,35 @@ takes_next v p other done l x q e on h =
     (let z : length (of l v.taken) ≡ length (of l v.taken) + 0 = omega arith in
     subst (λ i. at (of l v.taken ++ (x ∷ awaited l (is_now l (Some l)) q)) i ≡ Some x) (sym z) (at_middle (of l v.taken) (x ∷ awaited l (is_now l (Some l)) q) 0)))
 
--- the core takes no more of the current life
-pub cuts : (v : View) (p : Pair) (other : List Parcel) (done : Life → ℕ → Type 0) → Rel v p other done → Rel (record v { current = None }) p other done
-cuts v p other done h =
+-- a closed life that was not current is not current once there is none
+over_none : (latest current : Option Life) (ls : List Life) → Each (IsOver latest current) ls → Each (IsOver latest None) ls
+over_none latest current ls h = Each_mono (IsOver latest current) (IsOver latest None) (λ l o. (o.0, λ e. cc)) ls h
+
+-- the current life is closed: the core takes no more of it
+pub closes : (v : View) (p : Pair) (other : List Parcel) (done : Life → ℕ → Type 0) (life : Life) → v.current ≡ Some life → Rel v p other done → Rel (record v { current = None }) (closing p life) other done
+closes v p other done life on h =
     let less : (l : Life) → Begins (of l v.taken ++ awaited l false v.coming) (of (flip l) other) = λ l. less_of l (cases_Bool (is_now l v.current)) in
     record {
       kept = h.kept;
-      ledger = h.ledger;
-      flow = record { latest = h.flow.latest; was_bound = h.flow.was_bound; now = tt; comes = h.flow.comes; rises = h.flow.rises; older = h.flow.older; chain = less };
-      phase = phase_counted v p p other done None v.coming v.taken refl refl (λ l c. count_of l c (cases_Bool (is_now l v.current))) v.endpoint.phase h.phase;
+      ledger = record {
+        floor = h.ledger.floor;
+        kept = h.ledger.kept;
+        opened = h.ledger.opened;
+        drawn = h.ledger.drawn;
+        bound = h.ledger.bound;
+        sent_is = h.ledger.sent_is;
+        taken_is = h.ledger.taken_is;
+        all_sent = h.ledger.all_sent;
+        all_taken = h.ledger.all_taken;
+        all_out = h.ledger.all_out;
+      };
+      flow = record { latest = h.flow.latest; was_bound = h.flow.was_bound; now = tt; comes = h.flow.comes; rises = h.flow.rises; older = h.flow.older; over = ((last_own, λ e. cc), over_none h.flow.latest v.current p.closed h.flow.over); chain = less };
+      phase = phase_counted v p (closing p life) other done None v.coming v.taken refl refl (λ l c. count_of l c (cases_Bool (is_now l v.current))) v.endpoint.phase h.phase;
     }
   where
+    last_own : life.own ≤ number_of h.flow.latest
+    last_own = let e : h.flow.latest ≡ Some life = subst (IsNow h.flow.latest) on h.flow.now in let n : number_of h.flow.latest ≡ life.own = ap number_of e in omega (arith, n)
+
     below : (l : Life) → is_now l v.current ≡ true → l.own ≤ number_of h.flow.latest
     below l e = let n = number_now l h.flow.latest v.current e h.flow.now in omega (arith, n)
 
@@ -654,7 +673,6 @@ puts v p other done x e h =
         bound = h.ledger.bound;
         sent_is = ap (λ xs. xs ++ x ∷ []) h.ledger.sent_is;
         taken_is = h.ledger.taken_is;
-        none_closed = h.ledger.none_closed;
         all_sent = all_push p.bound v.sent x h.ledger.all_sent here;
         all_taken = h.ledger.all_taken;
         all_out = all_push p.bound v.out x h.ledger.all_out here;
@@ -666,37 +684,53 @@ puts v p other done x e h =
         comes = h.flow.comes;
         rises = h.flow.rises;
         older = each_push (λ y. y.life.own ≤ number_of h.flow.latest) v.sent x h.flow.older (let n = ap number_of late in omega (arith, n));
+        over = h.flow.over;
         chain = h.flow.chain;
       };
       phase = phase_puts v p other done x v.endpoint.phase h.phase;
     }
 
--- the node begins anew
-pub restarts : (laws : LinkLaws) (v : View) (p : Pair) (other : List Parcel) (done : Life → ℕ → Type 0) (file : LifeDisk) → ((n : ℕ) → IsFloor n v.file → IsFloor n file) → Rel v p other done →
-    Rel (record v { endpoint = first_end; file = file; current = None; coming = []; out = [] }) p other done
-restarts laws v p other done file f h = record {
+-- nothing but closed lives is more, and these were closed or current before
+pub record ClosesMore (current : Option Life) (p p' : Pair) : Type 0 where
+  pub drawn : p'.drawn ≡ p.drawn
+  pub bound : p'.bound ≡ p.bound
+  pub sent : p'.sent ≡ p.sent
+  pub taken : p'.taken ≡ p.taken
+  pub closed : Each (λ l. (current ≡ Some l) ⊎ IsIn l p.closed) p'.closed
+
+-- the node begins anew, and the current life is lost
+pub restarts : (laws : LinkLaws) (v : View) (p p' : Pair) (other : List Parcel) (done : Life → ℕ → Type 0) (file : LifeDisk) → ClosesMore v.current p p' → ((n : ℕ) → IsFloor n v.file → IsFloor n file) → Rel v p other done →
+    Rel (record v { endpoint = first_end; file = file; current = None; coming = []; out = [] }) p' other done
+restarts laws v p p' other done file more f h = record {
   kept = laws.first v.settings;
   ledger = record {
     floor = h.ledger.floor;
     kept = f h.ledger.floor h.ledger.kept;
     opened = omega arith;
-    drawn = h.ledger.drawn;
-    bound = h.ledger.bound;
-    sent_is = h.ledger.sent_is;
-    taken_is = h.ledger.taken_is;
-    none_closed = h.ledger.none_closed;
-    all_sent = h.ledger.all_sent;
-    all_taken = h.ledger.all_taken;
+    drawn = subst (Each (λ x. x ≤ h.ledger.floor)) (sym more.drawn) h.ledger.drawn;
+    bound = subst (Each (λ (l : Life). l.own ≤ h.ledger.floor)) (sym more.bound) h.ledger.bound;
+    sent_is = more.sent ∙ h.ledger.sent_is;
+    taken_is = more.taken ∙ h.ledger.taken_is;
+    all_sent = subst (λ ls. AllOf ls v.sent) (sym more.bound) h.ledger.all_sent;
+    all_taken = subst (λ ls. AllOf ls v.taken) (sym more.bound) h.ledger.all_taken;
     all_out = tt;
   };
   flow = record {
     latest = h.flow.latest;
-    was_bound = h.flow.was_bound;
+    was_bound = subst (λ ls. IsOf ls h.flow.latest) (sym more.bound) h.flow.was_bound;
     now = tt;
     comes = tt;
     rises = tt;
     older = h.flow.older;
+    over = Each_mono (λ l. (v.current ≡ Some l) ⊎ IsIn l p.closed) (IsOver h.flow.latest None) (λ l o. (⊎_elim (current_own l) (λ i. (Each_at (IsOver h.flow.latest v.current) p.closed l h.flow.over i).0) o, λ e. cc)) p'.closed more.closed;
     chain = λ j. subst (λ ys. Begins ys (of (flip j) other)) (sym (append-nil (of j v.taken))) (begins_front (of j v.taken) (awaited j (is_now j v.current) v.coming) (of (flip j) other) (h.flow.chain j));
   };
   phase = tt;
 }
+  where
+    current_own : (l : Life) → v.current ≡ Some l → l.own ≤ number_of h.flow.latest
+    current_own l on = let e : h.flow.latest ≡ Some l = subst (IsNow h.flow.latest) on h.flow.now in let n : number_of h.flow.latest ≡ l.own = ap number_of e in omega (arith, n)
+
+-- a life that is current is not closed
+pub current_open : (v : View) (p : Pair) (other : List Parcel) (done : Life → ℕ → Type 0) (l : Life) → v.current ≡ Some l → Rel v p other done → Each (λ c. c ≢ l) p.closed
+current_open v p other done l on h = Each_mono (IsOver h.flow.latest v.current) (λ c. c ≢ l) (λ c o e. o.1 (on ∙ ap Some (sym e))) p.closed h.flow.over

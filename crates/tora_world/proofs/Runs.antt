@@ -13,7 +13,8 @@ use Rattle.tora_world.specs.declared.Event.TheVariants.{Need, Tick, Open, Pull, 
 use Rattle.tora_world.specs.declared.SimError.TheVariants as Refused
 use Rattle.tora_world.specs.Topology.{Topology, is_link}
 use Rattle.tora_world.specs.Lists.{reversed as flip, packets_of as of}
-use Rattle.tora_world.specs.LinkMachine.{machine_after as state}
+use Rattle.tora_world.specs.LinkMachine.{MachineStep, machine_after as state, made}
+use Rattle.tora_world.specs.MachineRun.{steps_of_effect, steps_by, machine_steps}
 use Rattle.tora_world.specs.World.{World, Choice, settings, datagram, first_world, is_empty, has_room, unless_possible, refusal_by, effect_by, world_by, world_after, world_after_all}
 use Rattle.tora_world.specs.FreeWorld.{Schedule, after_schedule, own_schedule}
 use Rattle.tora_world.specs.Law.{TakenBeginsSent, IsOfMachine, Sometime, HasAccepted, AcknowledgedIsAccepted}
@@ -30,29 +31,32 @@ linked true possible e = refl
 linked false possible e = absurd (true≢false e)
 
 module _ (laws : LinkLaws) (lows : LifeLaws) where
-  effect_keeps : (w : World) (seen : Seen) → ((n k : ℕ) (l : Life) → seen n k l 0) → ((n k : ℕ) (l : Life) → (w.ends n k).phase ≡ Bound l → seen n k l (w.ends n k).accepted) → (c : Choice) (event : Event) →
-      is_some (refusal_by c w event) ≡ false → Good (look w) w.datagrams seen → Good (look (effect_by c w event)) (effect_by c w event).datagrams seen
+  effect_keeps : (steps : List MachineStep) (w : World) (seen : Seen) → ((n k : ℕ) (l : Life) → seen n k l 0) → ((n k : ℕ) (l : Life) → (w.ends n k).phase ≡ Bound l → seen n k l (w.ends n k).accepted) → (c : Choice) (event : Event) →
+      is_some (refusal_by c w event) ≡ false → Good steps (look w) w.datagrams seen → Good (made (steps_of_effect c w event) steps) (look (effect_by c w event)) (effect_by c w event).datagrams seen
   unfolding effect_by
-  effect_keeps w seen z now c (Need n d) e g = need_keeps laws lows w seen n c.stamp (Tells.Need d) g
-  effect_keeps w seen z now c Tick e g = tick_keeps laws lows w seen c g
-  effect_keeps w seen z now c (Open n k) e g = opening_keeps laws lows w seen c n k g
-  effect_keeps w seen z now c (Pull n k) e g = pull_keeps laws lows w seen n k (λ l. z k n (flip l)) g (w.cargoes n k) refl
-  effect_keeps w seen z now c (Transmit n k) e g =
-      transmit_keeps laws lows w seen n k (c.now n k) (λ l. z k n (flip l)) (λ l. now n k l) g (frame_due (settings w n k) (w.ends n k) (c.now n k)) refl
-  effect_keeps w seen z now c (Deliver i) e g = deliver_keeps laws lows w seen c i z g (datagram w i) refl
-  effect_keeps w seen z now c (Pump n k) e g = pump_keeps laws lows w seen c n k (linked (is_link w.topology n k) (not (is_empty (w.ends n k).events) && has_room w n) e) g (w.ends n k).events refl
-  effect_keeps w seen z now c (CoreTurn n) e g = turn_keeps w seen n c g (w.items n) refl
-  effect_keeps w seen z now c (Arm n call) e g = arming_keeps laws lows w seen n call g
-  effect_keeps w seen z now c (Restart n torn) e g = restart_keeps laws lows w seen n torn g
+  effect_keeps steps w seen z now c (Need n d) e g = need_keeps laws lows steps w seen n c.stamp (Tells.Need d) g
+  effect_keeps steps w seen z now c Tick e g = tick_keeps laws lows steps w seen c g
+  effect_keeps steps w seen z now c (Open n k) e g = opening_keeps laws lows steps w seen c n k g
+  effect_keeps steps w seen z now c (Pull n k) e g = pull_keeps laws lows steps w seen n k g (w.cargoes n k) refl
+  effect_keeps steps w seen z now c (Transmit n k) e g =
+      transmit_keeps laws lows steps w seen n k (c.now n k) (λ l. now n k l) g (frame_due (settings w n k) (w.ends n k) (c.now n k)) refl
+  effect_keeps steps w seen z now c (Deliver i) e g = deliver_keeps laws lows steps w seen c i z g (datagram w i) refl
+  effect_keeps steps w seen z now c (Pump n k) e g = pump_keeps laws lows steps w seen c n k (linked (is_link w.topology n k) (not (is_empty (w.ends n k).events) && has_room w n) e) g (w.ends n k).events refl
+  effect_keeps steps w seen z now c (CoreTurn n) e g = turn_keeps w seen n steps c g (w.items n) refl
+  effect_keeps steps w seen z now c (Arm n call) e g = arming_keeps laws lows steps w seen n call g
+  effect_keeps steps w seen z now c (Restart n torn) e g = restart_keeps laws lows steps w seen n torn g
 
-  pub world_keeps : (w : World) (seen : Seen) → ((n k : ℕ) (l : Life) → seen n k l 0) → ((n k : ℕ) (l : Life) → (w.ends n k).phase ≡ Bound l → seen n k l (w.ends n k).accepted) → (c : Choice) (event : Event) →
-      Good (look w) w.datagrams seen → Good (look (world_by c w event)) (world_by c w event).datagrams seen
+  pub world_keeps : (steps : List MachineStep) (w : World) (seen : Seen) → ((n k : ℕ) (l : Life) → seen n k l 0) → ((n k : ℕ) (l : Life) → (w.ends n k).phase ≡ Bound l → seen n k l (w.ends n k).accepted) → (c : Choice) (event : Event) →
+      Good steps (look w) w.datagrams seen → Good (made (steps_by c w event) steps) (look (world_by c w event)) (world_by c w event).datagrams seen
   unfolding world_by
-  world_keeps w seen z now c event g = cond_both (is_some (refusal_by c w event)) _ _ (λ (x : World). Good (look x) x.datagrams seen) (λ _. g) (λ e. effect_keeps w seen z now c event e g)
+  world_keeps steps w seen z now c event g = go (is_some (refusal_by c w event)) refl
+    where
+      go : (b : Bool) → is_some (refusal_by c w event) ≡ b → Good (made (if b then [] else steps_of_effect c w event) steps) (look (if b then w else effect_by c w event)) (if b then w else effect_by c w event).datagrams seen
+      go true e = g
+      go false e = effect_keeps steps w seen z now c event e g
 
-  pub first_good : (t : Topology) (times : Times) → Good (look (first_world t times)) [] (λ n k l c. c ≡ 0)
+  pub first_good : (t : Topology) (times : Times) → Good [] (look (first_world t times)) [] (λ n k l c. c ≡ 0)
   first_good t times = record {
-    steps = [];
     legal = tt;
     sides = λ n k. record {
       kept = laws.first (settings (first_world t times) n k);
@@ -64,12 +68,11 @@ module _ (laws : LinkLaws) (lows : LifeLaws) where
         bound = tt;
         sent_is = refl;
         taken_is = refl;
-        none_closed = refl;
         all_sent = tt;
         all_taken = tt;
         all_out = tt;
       };
-      flow = record { latest = None; was_bound = tt; now = tt; comes = tt; rises = tt; older = tt; chain = λ l. begins_nil [] };
+      flow = record { latest = None; was_bound = tt; now = tt; comes = tt; rises = tt; older = tt; over = tt; chain = λ l. begins_nil [] };
       phase = tt;
     };
     tells = tt;
@@ -79,39 +82,49 @@ module _ (laws : LinkLaws) (lows : LifeLaws) where
   abbrev By : Seen → Schedule → World → Seen
   By seen es w n k l c = seen n k l c ⊎ Sometime (HasAccepted n k l c) es w
 
-  run_good : (es : Schedule) (w : World) (seen : Seen) → ((n k : ℕ) (l : Life) → seen n k l 0) → Good (look w) w.datagrams seen → Good (look (after_schedule es w)) (after_schedule es w).datagrams (By seen es w)
+  run_good : (es : Schedule) (steps : List MachineStep) (w : World) (seen : Seen) → ((n k : ℕ) (l : Life) → seen n k l 0) → Good steps (look w) w.datagrams seen →
+      Good (machine_steps es w steps) (look (after_schedule es w)) (after_schedule es w).datagrams (By seen es w)
   unfolding after_schedule
-  run_good [] w seen z g = sees (look w) w.datagrams seen (By seen [] w) (λ n k l c h. inl h) g
-  run_good (e ∷ es) w seen z g =
+  run_good [] steps w seen z g = sees steps (look w) w.datagrams seen (By seen [] w) (λ n k l c h. inl h) g
+  run_good (e ∷ es) steps w seen z g =
       let now : Seen = λ n k l c. seen n k l c ⊎ HasAccepted n k l c w in
       let w' : World = world_by e.1 w e.0 in
-      let g' : Good (look w') w'.datagrams now =
-      world_keeps w now (λ n k l. inl (z n k l)) (λ n k l j. inr (record { bound = j; accepted = omega arith })) e.1 e.0 (sees (look w) w.datagrams seen now (λ n k l c h. inl h) g) in
-      sees (look (after_schedule es w')) (after_schedule es w').datagrams (By now es w') (By seen (e ∷ es) w)
+      let steps' : List MachineStep = made (steps_by e.1 w e.0) steps in
+      let g' : Good steps' (look w') w'.datagrams now =
+      world_keeps steps w now (λ n k l. inl (z n k l)) (λ n k l j. inr (record { bound = j; accepted = omega arith })) e.1 e.0 (sees steps (look w) w.datagrams seen now (λ n k l c h. inl h) g) in
+      sees (machine_steps es w' steps') (look (after_schedule es w')) (after_schedule es w').datagrams (By now es w') (By seen (e ∷ es) w)
       (λ n k l c h. ⊎_elim (λ x. ⊎_elim (λ y. inl y) (λ y. inr (inl y)) x) (λ x. inr (inr x)) h)
-      (run_good es w' now (λ n k l. inl (z n k l)) g')
+      (run_good es steps' w' now (λ n k l. inl (z n k l)) g')
 
-  pub all_good : (t : Topology) (times : Times) (es : Schedule) → Good (look (after_schedule es (first_world t times))) (after_schedule es (first_world t times)).datagrams (By (λ n k l c. c ≡ 0) es (first_world t times))
-  all_good t times es = run_good es (first_world t times) (λ n k l c. c ≡ 0) (λ n k l. refl) (first_good t times)
+  module _ (t : Topology) (times : Times) (es : Schedule) where
+    abbrev first : World
+    first = first_world t times
 
-  pub prefix : (t : Topology) (times : Times) (es : Schedule) → TakenBeginsSent (after_schedule es (first_world t times))
-  prefix t times es a b l =
-      good_prefix (look (after_schedule es (first_world t times))) (after_schedule es (first_world t times)).datagrams (By (λ n k l c. c ≡ 0) es (first_world t times)) (all_good t times es) b a (flip l)
+    abbrev last : World
+    last = after_schedule es (first_world t times)
 
-  pub of_machine : (t : Topology) (times : Times) (es : Schedule) → IsOfMachine (after_schedule es (first_world t times))
-  of_machine t times es =
-      let g = all_good t times es in record {
-        steps = g.steps;
-        is_run = g.legal;
-        sent = λ n k l. ap (of l) (g.sides n k).ledger.sent_is;
-        taken = λ n k l. ap (of l) (g.sides n k).ledger.taken_is;
-      }
+    abbrev all_steps : List MachineStep
+    all_steps = machine_steps es (first_world t times) []
 
-  pub acknowledged : (t : Topology) (times : Times) (es : Schedule) → AcknowledgedIsAccepted (first_world t times) es (after_schedule es (first_world t times))
-  acknowledged t times es a b l j =
-      let w : World = after_schedule es (first_world t times) in
-      let g = all_good t times es in
-      (subst (λ ph. InPhase ph (look (after_schedule es (first_world t times)) a b) (state g.steps a b) (state g.steps b a).sent (from (By (λ n k l c. c ≡ 0) es (first_world t times)) a b)) j (g.sides a b).phase).told
+    abbrev all_seen : Seen
+    all_seen = By (λ n k l c. c ≡ 0) es (first_world t times)
+
+    pub all_good : Good all_steps (look last) last.datagrams all_seen
+    all_good = run_good es [] first (λ n k l c. c ≡ 0) (λ n k l. refl) (first_good t times)
+
+    pub prefix : TakenBeginsSent last
+    prefix a b l = good_prefix all_steps (look last) last.datagrams all_seen all_good b a (flip l)
+
+    pub of_machine : IsOfMachine all_steps last
+    of_machine = record {
+      is_run = all_good.legal;
+      sent = λ n k. (all_good.sides n k).ledger.sent_is;
+      taken = λ n k. (all_good.sides n k).ledger.taken_is;
+    }
+
+    pub acknowledged : AcknowledgedIsAccepted first es last
+    acknowledged a b l j =
+        (subst (λ ph. InPhase ph (look last a b) (state all_steps a b) (state all_steps b a).sent (from all_seen a b)) j (all_good.sides a b).phase).told
 
 -- the simulator's own run is one of these
 pub own_run : (events : List Event) (w : World) → world_after_all w events ≡ after_schedule (own_schedule events w) w

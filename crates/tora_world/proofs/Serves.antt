@@ -17,13 +17,15 @@ use Rattle.tora_seat.specs.declared.Cargo.{Cargo}
 use Rattle.tora_seat.specs.declared.Cargo.TheVariants as Gives
 use Rattle.tora_seat.specs.Serving.{SeatState, Offer, Parcel, Step, Serving, Answers, put_one, offered, with_current, with_pending, after_cut_tried, after_cuts_tried, after_sent, after_broadcast, after_broadcasts, accepting, after_answer, after_step, first_cut, after_settling, after_input, is_current, after_down, after_old_down, after_up, after_packet, after_link_item, after_other_item, after_item_of, begin_serving, serving_of, put_to, stepped_from}
 use Rattle.tora_world.specs.Lists.{parcels_in, parcel_of}
-use Rattle.tora_world.specs.LinkMachine.{machine_after as state}
+use Rattle.tora_world.specs.LinkMachine.{MachineStep, machine_after as state, made}
+use Rattle.tora_world.specs.LinkMachine.MachineStep.{Take, Close}
+use Rattle.tora_world.specs.MachineRun.{steps_of_end, steps_of_link_item, steps_of_item, steps_of_cargo, steps_of_offers, steps_of_turn}
 use Rattle.tora_world.specs.World.{World, Choice, settings, neighbours, after_serving, after_turn}
 use Rattle.tora_world.proofs.Basics.{at_pair, same_true, same_refl}
 use Rattle.tora_world.proofs.Views.{Sign, View, sign_of, Good, Seen, from}
 use Rattle.tora_world.proofs.Views.Sign.{Come, Give, Rest}
-use Rattle.tora_world.proofs.Moves.{passes, skips, ups, cuts}
-use Rattle.tora_world.proofs.Goods.{Changes, idle, looks, good_takes, good_puts}
+use Rattle.tora_world.proofs.Moves.{passes, skips, ups}
+use Rattle.tora_world.proofs.Goods.{Changes, idle, looks, good_takes, good_puts, good_closes}
 use Rattle.tora_world.proofs.Looks.{sign_in, signs_in, signs_of, view_of, look, parcels-append}
 use Rattle.tora_world.proofs.Events.{turned, put_one_at, put_one_off}
 
@@ -67,13 +69,26 @@ no_back k to cargo = go (nat_eq to k)
     go true = refl
     go false = refl
 
+-- ---- the machine's steps
+
+made-append : (xs ys before : List MachineStep) → made (xs ++ ys) before ≡ made ys (made xs before)
+made-append [] ys before = refl
+made-append (x ∷ xs) ys before = made-append xs ys (x ∷ before)
+
+-- a cargo more is offered
+steps-push : (n : ℕ) (offers : List Offer) (o : Offer) (before : List MachineStep) → made (steps_of_offers n (offers ++ o ∷ [])) before ≡ made (steps_of_cargo n o.to o.cargo o.put) (made (steps_of_offers n offers) before)
+steps-push n [] o before = ap (λ xs. made xs before) (append-nil (steps_of_cargo n o.to o.cargo o.put))
+steps-push n (x ∷ offers) o before =
+    made-append (steps_of_cargo n x.to x.cargo x.put) (steps_of_offers n (offers ++ o ∷ [])) before ∙ steps-push n offers o (made (steps_of_cargo n x.to x.cargo x.put) before)
+    ∙ ap (made (steps_of_cargo n o.to o.cargo o.put)) (sym (made-append (steps_of_cargo n x.to x.cargo x.put) (steps_of_offers n offers) before))
+
 module _ (w : World) (seen : Seen) (n : ℕ) where
   abbrev ks : List ℕ
   ks = neighbours w n
 
-  -- the world while an item is served
-  abbrev pub Served : List Item → Serving → Type 0
-  Served lane v = Good (look (after_serving w n lane v)) w.datagrams seen
+  -- the world while an item is served, after steps of the machine and those of the cargoes offered
+  abbrev pub Served : List MachineStep → List Item → Serving → Type 0
+  Served before lane v = Good (made (steps_of_offers n v.offers) before) (look (after_serving w n lane v)) w.datagrams seen
 
   abbrev pub seen_at : ℕ → Serving → List Sign → View
   seen_at k v signs = view_of (settings w n k) (w.ends n k) (w.files n k) (v.seat.current k) signs (w.cargoes n k ++ put_to k v.offers) (w.put n k ++ put_to k v.offers) (w.steps n k ++ stepped_from k v.steps)
@@ -104,8 +119,9 @@ module _ (w : World) (seen : Seen) (n : ℕ) where
       there a b o (inr e) = look_off lane' v' a b e ∙ sym (look_off lane v a b e)
 
   -- the law sees the same
-  served_same : (lane lane' : List Item) (v v' : Serving) → ((b : ℕ) → seen_at b v' (signs_of ks b lane') ≡ seen_at b v (signs_of ks b lane)) → Served lane v → Served lane' v'
-  served_same lane lane' v v' e g = looks (look (after_serving w n lane v)) (look (after_serving w n lane' v')) w.datagrams seen (λ a b. there a b (cases_Bool (nat_eq a n))) g
+  served_same : (steps : List MachineStep) (lane lane' : List Item) (v v' : Serving) → ((b : ℕ) → seen_at b v' (signs_of ks b lane') ≡ seen_at b v (signs_of ks b lane)) →
+      Good steps (look (after_serving w n lane v)) w.datagrams seen → Good steps (look (after_serving w n lane' v')) w.datagrams seen
+  served_same steps lane lane' v v' e g = looks steps (look (after_serving w n lane v)) (look (after_serving w n lane' v')) w.datagrams seen (λ a b. there a b (cases_Bool (nat_eq a n))) g
     where
       there : (a b : ℕ) → (nat_eq a n ≡ true) ⊎ (nat_eq a n ≡ false) → look (after_serving w n lane' v') a b ≡ look (after_serving w n lane v) a b
       there a b (inl t) =
@@ -113,103 +129,128 @@ module _ (w : World) (seen : Seen) (n : ℕ) where
           (look_at lane' v' b ∙ e b ∙ sym (look_at lane v b))
       there a b (inr t) = look_off lane' v' a b t ∙ sym (look_off lane v a b t)
 
-  -- a cargo without a packet, or one that is handed back
-  offer_nothing : (lane : List Item) (v : Serving) (k : ℕ) (cargo : Cargo) (put : Bool) → ((b : ℕ) → parcels_in (cargo_where b (record { to = k; cargo = cargo; put = put })) ≡ []) → Served lane v → Served lane (offered v k cargo put)
-  offer_nothing lane v k cargo put e g =
-      served_same lane lane v (offered v k cargo put)
-      (λ b. ap₂ (λ xs ys. record (seen_at b v (signs_of ks b lane)) { out = xs; sent = ys })
-      (nothing_more b (w.cargoes n b) v.offers (record { to = k; cargo = cargo; put = put }) (e b)) (nothing_more b (w.put n b) v.offers (record { to = k; cargo = cargo; put = put }) (e b))) g
-
-  -- a packet of the current life is put
-  offer_packet : (lane : List Item) (v : Serving) (k : ℕ) (life : Life) (packet : Packet) → v.seat.current k ≡ Some life → Served lane v → Served lane (offered v k (Gives.Packet life packet) true)
-  offer_packet lane v k life packet on g =
-      let x : Parcel = parcel_of life packet in
-      let o : Offer = record { to = k; cargo = Gives.Packet life packet; put = true } in
+  -- a life is no longer the current one, and is closed
+  life_closed : (steps : List MachineStep) (lane : List Item) (v v' : Serving) (k : ℕ) (life : Life) → v.seat.current k ≡ Some life →
+      ((b : ℕ) → seen_at b v' (signs_of ks b lane) ≡ seen_at b (with_current v k None) (signs_of ks b lane)) →
+      Good steps (look (after_serving w n lane v)) w.datagrams seen → Good (Close n k life ∷ steps) (look (after_serving w n lane v')) w.datagrams seen
+  life_closed steps lane v v' k life on same g =
       let u : View = seen_at k v (signs_of ks k lane) in
-      good_puts (look (after_serving w n lane v)) (look (after_serving w n lane (offered v k (Gives.Packet life packet) true))) w.datagrams seen n k u x on
-      (serve_changed lane lane v (offered v k (Gives.Packet life packet) true) k (record u { sent = u.sent ++ x ∷ []; out = u.out ++ x ∷ [] })
-      (λ b e. ap₂ (λ xs ys. record (seen_at b v (signs_of ks b lane)) { out = xs; sent = ys }) (nothing_more b (w.cargoes n b) v.offers o (none b e)) (nothing_more b (w.put n b) v.offers o (none b e)))
-      (ap₂ (λ xs ys. record u { sent = ys; out = xs }) (more (w.cargoes n k)) (more (w.put n k)))) g
-    where
-      none : (b : ℕ) → nat_eq b k ≡ false → parcels_in (cargo_where b (record { to = k; cargo = Gives.Packet life packet; put = true })) ≡ []
-      none b e = ap (λ (t : Bool). parcels_in (if t && true then Gives.Packet life packet ∷ [] else [])) (turned b k e)
+      good_closes steps (look (after_serving w n lane v)) (look (after_serving w n lane v')) w.datagrams seen n k u life on
+      (serve_changed lane lane v v' k (record u { current = None })
+      (λ b e. same b ∙ ap (λ x. record (seen_at b v (signs_of ks b lane)) { current = x }) (put_one_off v.seat.current k None b e))
+      (same k ∙ ap (λ x. record u { current = x }) (put_one_at v.seat.current k None))) g
 
-      more : (cs : List Cargo) → parcels_in (cs ++ put_to k (v.offers ++ record { to = k; cargo = Gives.Packet life packet; put = true } ∷ [])) ≡ parcels_in (cs ++ put_to k v.offers) ++ parcel_of life packet ∷ []
-      more cs = offer_parcels k cs v.offers (record { to = k; cargo = Gives.Packet life packet; put = true })
-          ∙ ap (λ (t : Bool). parcels_in (cs ++ put_to k v.offers) ++ parcels_in (if t && true then Gives.Packet life packet ∷ [] else [])) (eq-eqb k k refl)
+  module _ (before : List MachineStep) where
+    -- a cut is offered
+    offer_cut : (lane : List Item) (v : Serving) (k : ℕ) (life : Life) (put : Bool) → Served before lane v → Served before lane (offered v k (Gives.Cut life) put)
+    offer_cut lane v k life put g =
+        let o : Offer = record { to = k; cargo = Gives.Cut life; put = put } in
+        subst (λ ss. Good ss (look (after_serving w n lane (offered v k (Gives.Cut life) put))) w.datagrams seen) (sym (steps-push n v.offers o before))
+        (served_same (made (steps_of_offers n v.offers) before) lane lane v (offered v k (Gives.Cut life) put)
+        (λ b. ap₂ (λ xs ys. record (seen_at b v (signs_of ks b lane)) { out = xs; sent = ys })
+        (nothing_more b (w.cargoes n b) v.offers o (no_cut b k life put)) (nothing_more b (w.put n b) v.offers o (no_cut b k life put))) g)
 
-  -- a life is no longer the current one
-  current_cut : (lane : List Item) (v : Serving) (k : ℕ) → Served lane v → Served lane (with_current v k None)
-  current_cut lane v k g =
-      let u : View = seen_at k v (signs_of ks k lane) in
-      idle (look (after_serving w n lane v)) (look (after_serving w n lane (with_current v k None))) w.datagrams seen n k u (record u { current = None })
-      (serve_changed lane lane v (with_current v k None) k (record u { current = None })
-      (λ b e. ap (λ x. record (seen_at b v (signs_of ks b lane)) { current = x }) (put_one_off v.seat.current k None b e))
-      (ap (λ x. record u { current = x }) (put_one_at v.seat.current k None))) g
-      (λ h. cuts u (state g.steps n k) (state g.steps k n).sent (from seen n k) h)
+    -- a packet of the current life is handed back
+    hand_back : (lane : List Item) (v : Serving) (k : ℕ) (life : Life) (packet : Packet) → v.seat.current k ≡ Some life → Served before lane v → Served before lane (with_current (offered v k (Gives.Packet life packet) false) k None)
+    hand_back lane v k life packet on g =
+        let o : Offer = record { to = k; cargo = Gives.Packet life packet; put = false } in
+        subst (λ ss. Good ss (look (after_serving w n lane (with_current (offered v k (Gives.Packet life packet) false) k None))) w.datagrams seen) (sym (steps-push n v.offers o before))
+        (life_closed (made (steps_of_offers n v.offers) before) lane v (with_current (offered v k (Gives.Packet life packet) false) k None) k life on
+        (λ b. ap₂ (λ xs ys. record (seen_at b (with_current v k None) (signs_of ks b lane)) { out = xs; sent = ys })
+        (nothing_more b (w.cargoes n b) v.offers o (no_back b k (Gives.Packet life packet))) (nothing_more b (w.put n b) v.offers o (no_back b k (Gives.Packet life packet)))) g)
 
-  pending_quiet : (lane : List Item) (v : Serving) (k : ℕ) (life : Option Life) → Served lane v → Served lane (with_pending v k life)
-  pending_quiet lane v k life g = served_same lane lane v (with_pending v k life) (λ b. refl) g
+    -- a packet of the current life is put
+    offer_packet : (lane : List Item) (v : Serving) (k : ℕ) (life : Life) (packet : Packet) → v.seat.current k ≡ Some life → Served before lane v → Served before lane (offered v k (Gives.Packet life packet) true)
+    offer_packet lane v k life packet on g =
+        let x : Parcel = parcel_of life packet in
+        let o : Offer = record { to = k; cargo = Gives.Packet life packet; put = true } in
+        let u : View = seen_at k v (signs_of ks k lane) in
+        subst (λ ss. Good ss (look (after_serving w n lane (offered v k (Gives.Packet life packet) true))) w.datagrams seen) (sym (steps-push n v.offers o before))
+        (good_puts (made (steps_of_offers n v.offers) before) (look (after_serving w n lane v)) (look (after_serving w n lane (offered v k (Gives.Packet life packet) true))) w.datagrams seen n k u x on
+        (serve_changed lane lane v (offered v k (Gives.Packet life packet) true) k (record u { sent = u.sent ++ x ∷ []; out = u.out ++ x ∷ [] })
+        (λ b e. ap₂ (λ xs ys. record (seen_at b v (signs_of ks b lane)) { out = xs; sent = ys }) (nothing_more b (w.cargoes n b) v.offers o (none b e)) (nothing_more b (w.put n b) v.offers o (none b e)))
+        (ap₂ (λ xs ys. record u { sent = ys; out = xs }) (more (w.cargoes n k)) (more (w.put n k)))) g)
+      where
+        none : (b : ℕ) → nat_eq b k ≡ false → parcels_in (cargo_where b (record { to = k; cargo = Gives.Packet life packet; put = true })) ≡ []
+        none b e = ap (λ (t : Bool). parcels_in (if t && true then Gives.Packet life packet ∷ [] else [])) (turned b k e)
 
-  module _ (answers : Answers) (lane : List Item) where
-    cut_tried_keeps : (v : Serving) (k : ℕ) (o : Option Life) → Served lane v → Served lane (after_cut_tried answers v k o)
+        more : (cs : List Cargo) → parcels_in (cs ++ put_to k (v.offers ++ record { to = k; cargo = Gives.Packet life packet; put = true } ∷ [])) ≡ parcels_in (cs ++ put_to k v.offers) ++ parcel_of life packet ∷ []
+        more cs = offer_parcels k cs v.offers (record { to = k; cargo = Gives.Packet life packet; put = true })
+            ∙ ap (λ (t : Bool). parcels_in (cs ++ put_to k v.offers) ++ parcels_in (if t && true then Gives.Packet life packet ∷ [] else [])) (eq-eqb k k refl)
+
+    pending_quiet : (lane : List Item) (v : Serving) (k : ℕ) (life : Option Life) → Served before lane v → Served before lane (with_pending v k life)
+    pending_quiet lane v k life g = served_same (made (steps_of_offers n v.offers) before) lane lane v (with_pending v k life) (λ b. refl) g
+
+  module _ (before : List MachineStep) (answers : Answers) (lane : List Item) where
+    cut_tried_keeps : (v : Serving) (k : ℕ) (o : Option Life) → Served before lane v → Served before lane (after_cut_tried answers v k o)
     cut_tried_keeps v k None g = g
     cut_tried_keeps v k (Some life) g =
-        cond_both (answers v.offers k) _ _ (Served lane)
-        (λ _. pending_quiet lane (offered v k (Gives.Cut life) true) k None (offer_nothing lane v k (Gives.Cut life) true (λ b. no_cut b k life true) g))
-        (λ _. offer_nothing lane v k (Gives.Cut life) false (λ b. no_cut b k life false) g)
+        cond_both (answers v.offers k) _ _ (Served before lane)
+        (λ _. pending_quiet before lane (offered v k (Gives.Cut life) true) k None (offer_cut before lane v k life true g))
+        (λ _. offer_cut before lane v k life false g)
 
-    pub cuts_tried_keep : (js : List ℕ) (v : Serving) → Served lane v → Served lane (after_cuts_tried answers js v)
+    pub cuts_tried_keep : (js : List ℕ) (v : Serving) → Served before lane v → Served before lane (after_cuts_tried answers js v)
     unfolding after_cuts_tried
     cuts_tried_keep [] v g = g
     cuts_tried_keep (k ∷ js) v g = cuts_tried_keep js (after_cut_tried answers v k (v.seat.pending k)) (cut_tried_keeps v k (v.seat.pending k) g)
 
-    sent_keeps : (packet : Packet) (v : Serving) (k : ℕ) (o : Option Life) → v.seat.current k ≡ o → Served lane v → Served lane (after_sent answers packet v k o)
+    sent_keeps : (packet : Packet) (v : Serving) (k : ℕ) (o : Option Life) → v.seat.current k ≡ o → Served before lane v → Served before lane (after_sent answers packet v k o)
     sent_keeps packet v k None e g = g
     sent_keeps packet v k (Some life) e g =
-        cond_both (answers v.offers k) _ _ (Served lane)
-        (λ _. offer_packet lane v k life packet e g)
-        (λ _. pending_quiet lane (with_current (offered v k (Gives.Packet life packet) false) k None) k (Some life)
-        (current_cut lane (offered v k (Gives.Packet life packet) false) k (offer_nothing lane v k (Gives.Packet life packet) false (λ b. no_back b k (Gives.Packet life packet)) g)))
+        cond_both (answers v.offers k) _ _ (Served before lane)
+        (λ _. offer_packet before lane v k life packet e g)
+        (λ _. pending_quiet before lane (with_current (offered v k (Gives.Packet life packet) false) k None) k (Some life) (hand_back before lane v k life packet e g))
 
-    broadcast_keeps : (packet : Packet) (js : List ℕ) (v : Serving) → Served lane v → Served lane (after_broadcast answers packet js v)
+    broadcast_keeps : (packet : Packet) (js : List ℕ) (v : Serving) → Served before lane v → Served before lane (after_broadcast answers packet js v)
     unfolding after_broadcast
     broadcast_keeps packet [] v g = g
     broadcast_keeps packet (k ∷ js) v g = broadcast_keeps packet js (after_sent answers packet v k (v.seat.current k)) (sent_keeps packet v k (v.seat.current k) refl g)
 
-    broadcasts_keep : (js : List ℕ) (packets : List Packet) (v : Serving) → Served lane v → Served lane (after_broadcasts answers js packets v)
+    broadcasts_keep : (js : List ℕ) (packets : List Packet) (v : Serving) → Served before lane v → Served before lane (after_broadcasts answers js packets v)
     unfolding after_broadcasts
     broadcasts_keep js [] v g = g
     broadcasts_keep js (packet ∷ packets) v g = broadcasts_keep js packets (after_broadcast answers packet js v) (broadcast_keeps packet js v g)
 
-    step_keeps : (js : List ℕ) (input : Input) (now : ℕ) (v : Serving) → Served lane v → Served lane (after_step answers js input now v)
+    step_keeps : (js : List ℕ) (input : Input) (now : ℕ) (v : Serving) → Served before lane v → Served before lane (after_step answers js input now v)
     unfolding after_step
     step_keeps js input now v g = go (refusal_of v.seat.core input)
       where
-        go : (o : Option StepError) → Served lane (after_answer answers js input now v o)
-        go None = broadcasts_keep js (sends_of v.seat.core input now) (accepting v input now) (served_same lane lane v (accepting v input now) (λ b. refl) g)
+        go : (o : Option StepError) → Served before lane (after_answer answers js input now v o)
+        go None = broadcasts_keep js (sends_of v.seat.core input now) (accepting v input now) (served_same (made (steps_of_offers n v.offers) before) lane lane v (accepting v input now) (λ b. refl) g)
         go (Some error) = g
 
-    settling_keeps : (most : ℕ) (js : List ℕ) (now : ℕ) (v : Serving) → Served lane v → Served lane (after_settling most answers js now v)
+    settling_keeps : (most : ℕ) (js : List ℕ) (now : ℕ) (v : Serving) → Served before lane v → Served before lane (after_settling most answers js now v)
     unfolding after_settling
     settling_keeps zero js now v g = g
     settling_keeps (suc most) js now v g = go (first_cut v.seat js) (λ k. settling_keeps most js now (after_step answers js (In.LinkDown k) now v) (step_keeps js (In.LinkDown k) now v g))
       where
-        go : (o : Option ℕ) → ((k : ℕ) → Served lane (after_settling most answers js now (after_step answers js (In.LinkDown k) now v))) →
-            Served lane (elim o [ None ↦ v | Some k ↦ after_settling most answers js now (after_step answers js (In.LinkDown k) now v) ])
+        go : (o : Option ℕ) → ((k : ℕ) → Served before lane (after_settling most answers js now (after_step answers js (In.LinkDown k) now v))) →
+            Served before lane (elim o [ None ↦ v | Some k ↦ after_settling most answers js now (after_step answers js (In.LinkDown k) now v) ])
         go None f = g
         go (Some k) f = f k
 
-    pub input_keeps : (js : List ℕ) (input : Input) (now : ℕ) (v : Serving) → Served lane v → Served lane (after_input answers js input now v)
+    pub input_keeps : (js : List ℕ) (input : Input) (now : ℕ) (v : Serving) → Served before lane v → Served before lane (after_input answers js input now v)
     unfolding after_input
     input_keeps js input now v g = settling_keeps (length js) js now (after_step answers js input now v) (step_keeps js input now v g)
 
-    pub down_keeps : (js : List ℕ) (k now : ℕ) (v : Serving) → Served lane v → Served lane (after_down answers js k now v)
-    down_keeps js k now v g = input_keeps js (In.LinkDown k) now (with_current v k None) (current_cut lane v k g)
+  -- no packet was offered yet
+  abbrev pub Quiet : Serving → Type 0
+  Quiet v = steps_of_offers n v.offers ≡ []
 
-    pub old_down_keeps : (js : List ℕ) (k now : ℕ) (v : Serving) (o : Option Life) → Served lane v → Served lane (after_old_down answers js k now v o)
-    old_down_keeps js k now v None g = g
-    old_down_keeps js k now v (Some life) g = down_keeps js k now v g
+  -- the steps of what an item itself does come before those of its cargoes
+  quiet_steps : (before : List MachineStep) (v : Serving) → Quiet v → made (steps_of_offers n v.offers) before ≡ before
+  quiet_steps before v q = ap (λ ss. made ss before) q
+
+  pub down_keeps : (before : List MachineStep) (answers : Answers) (lane : List Item) (js : List ℕ) (k now : ℕ) (v : Serving) (life : Life) → Quiet v → v.seat.current k ≡ Some life → Served before lane v → Served (Close n k life ∷ before) lane (after_down answers js k now v)
+  down_keeps before answers lane js k now v life q on g =
+      input_keeps (Close n k life ∷ before) answers lane js (In.LinkDown k) now (with_current v k None)
+      (subst (λ ss. Good ss (look (after_serving w n lane (with_current v k None))) w.datagrams seen) (sym (quiet_steps (Close n k life ∷ before) v q))
+      (life_closed before lane v (with_current v k None) k life on (λ b. refl)
+      (subst (λ ss. Good ss (look (after_serving w n lane v)) w.datagrams seen) (quiet_steps before v q) g)))
+
+  pub old_down_keeps : (before : List MachineStep) (answers : Answers) (lane : List Item) (js : List ℕ) (k now : ℕ) (v : Serving) (o : Option Life) → Quiet v → v.seat.current k ≡ o → Served before lane v → Served (made (steps_of_end n k o) before) lane (after_old_down answers js k now v o)
+  old_down_keeps before answers lane js k now v None q e g = g
+  old_down_keeps before answers lane js k now v (Some life) q e g = down_keeps before answers lane js k now v life q e g
 
   is_current_true : (l : Life) (o : Option Life) → is_current l o ≡ true → o ≡ Some l
   is_current_true l None e = absurd (true≢false (sym e))
@@ -219,7 +260,7 @@ module _ (w : World) (seen : Seen) (n : ℕ) where
   is_current_false l o e q = true≢false (sym (subst (λ x. is_current l x ≡ true) (sym q) (same_refl l)) ∙ e)
 
   -- an item of the link to k, at the front of the lane
-  module _ (lane lane' : List Item) (k : ℕ) (what : What) (front : (b : ℕ) → signs_of ks b lane ≡ signs_in b (Some k) what ++ signs_of ks b lane') where
+  module _ (before : List MachineStep) (lane lane' : List Item) (k : ℕ) (what : What) (front : (b : ℕ) → signs_of ks b lane ≡ signs_in b (Some k) what ++ signs_of ks b lane') where
     front_here : signs_of ks k lane ≡ sign_in what ∷ signs_of ks k lane'
     front_here = front k ∙ ap (λ (t : Bool). (if t then sign_in what ∷ [] else []) ++ signs_of ks k lane') (eq-eqb k k refl)
 
@@ -235,38 +276,40 @@ module _ (w : World) (seen : Seen) (n : ℕ) where
     off_same : (v : Serving) (b : ℕ) → nat_eq b k ≡ false → seen_at b v (signs_of ks b lane') ≡ seen_at b v (signs_of ks b lane)
     off_same v b e = ap (λ s. seen_at b v s) (front_off b e)
 
-    pub pass_keeps : (v : Serving) → sign_in what ≡ Rest → Served lane v → Served lane' v
+    pub pass_keeps : (v : Serving) → sign_in what ≡ Rest → Served before lane v → Served before lane' v
     pass_keeps v e g =
         let u : View = seen_at k v (signs_of ks k lane) in
-        idle (look (after_serving w n lane v)) (look (after_serving w n lane' v)) w.datagrams seen n k u (record u { coming = rest_of })
+        idle (made (steps_of_offers n v.offers) before) (look (after_serving w n lane v)) (look (after_serving w n lane' v)) w.datagrams seen n k u (record u { coming = rest_of })
         (serve_changed lane lane' v v k (record u { coming = rest_of }) (off_same v) refl) g
-        (λ h. passes u (state g.steps n k) (state g.steps k n).sent (from seen n k) rest_of (coming_here v Rest e) h)
+        (λ h. passes u (state (made (steps_of_offers n v.offers) before) n k) (state (made (steps_of_offers n v.offers) before) k n).sent (from seen n k) rest_of (coming_here v Rest e) h)
 
-    pub skip_keeps : (v : Serving) (l : Life) (p : Packet) → sign_in what ≡ Give l p → v.seat.current k ≢ Some l → Served lane v → Served lane' v
+    pub skip_keeps : (v : Serving) (l : Life) (p : Packet) → sign_in what ≡ Give l p → v.seat.current k ≢ Some l → Served before lane v → Served before lane' v
     skip_keeps v l p e o g =
         let u : View = seen_at k v (signs_of ks k lane) in
-        idle (look (after_serving w n lane v)) (look (after_serving w n lane' v)) w.datagrams seen n k u (record u { coming = rest_of })
+        idle (made (steps_of_offers n v.offers) before) (look (after_serving w n lane v)) (look (after_serving w n lane' v)) w.datagrams seen n k u (record u { coming = rest_of })
         (serve_changed lane lane' v v k (record u { coming = rest_of }) (off_same v) refl) g
-        (λ h. skips u (state g.steps n k) (state g.steps k n).sent (from seen n k) l p rest_of (coming_here v (Give l p) e) o h)
+        (λ h. skips u (state (made (steps_of_offers n v.offers) before) n k) (state (made (steps_of_offers n v.offers) before) k n).sent (from seen n k) l p rest_of (coming_here v (Give l p) e) o h)
 
-    pub up_keeps : (v : Serving) (l : Life) → sign_in what ≡ Come l → Served lane v → Served lane' (with_current v k (Some l))
+    pub up_keeps : (v : Serving) (l : Life) → sign_in what ≡ Come l → Served before lane v → Served before lane' (with_current v k (Some l))
     up_keeps v l e g =
         let u : View = seen_at k v (signs_of ks k lane) in
-        idle (look (after_serving w n lane v)) (look (after_serving w n lane' (with_current v k (Some l)))) w.datagrams seen n k u (record u { coming = rest_of; current = Some l })
+        idle (made (steps_of_offers n v.offers) before) (look (after_serving w n lane v)) (look (after_serving w n lane' (with_current v k (Some l)))) w.datagrams seen n k u (record u { coming = rest_of; current = Some l })
         (serve_changed lane lane' v (with_current v k (Some l)) k (record u { coming = rest_of; current = Some l })
         (λ b o. ap (λ x. record (seen_at b v (signs_of ks b lane')) { current = x }) (put_one_off v.seat.current k (Some l) b o) ∙ off_same v b o)
         (ap (λ x. record u { coming = rest_of; current = x }) (put_one_at v.seat.current k (Some l)))) g
-        (λ h. ups u (state g.steps n k) (state g.steps k n).sent (from seen n k) l rest_of (coming_here v (Come l) e) h)
+        (λ h. ups u (state (made (steps_of_offers n v.offers) before) n k) (state (made (steps_of_offers n v.offers) before) k n).sent (from seen n k) l rest_of (coming_here v (Come l) e) h)
 
-    pub take_keeps : (v : Serving) (l : Life) (p : Packet) → sign_in what ≡ Give l p → v.seat.current k ≡ Some l → Served lane v → Served lane' (record v { steps = v.steps ++ record { from = k; parcel = parcel_of l p } ∷ [] })
-    take_keeps v l p e on g =
+    pub take_keeps : (v : Serving) (l : Life) (p : Packet) → Quiet v → sign_in what ≡ Give l p → v.seat.current k ≡ Some l → Served before lane v → Served (Take n k l p ∷ before) lane' (record v { steps = v.steps ++ record { from = k; parcel = parcel_of l p } ∷ [] })
+    take_keeps v l p quiet e on g =
         let u : View = seen_at k v (signs_of ks k lane) in
         let s : Step = record { from = k; parcel = parcel_of l p } in
         let v' : Serving = record v { steps = v.steps ++ s ∷ [] } in
-        good_takes (look (after_serving w n lane v)) (look (after_serving w n lane' v')) w.datagrams seen n k u l p rest_of (coming_here v (Give l p) e) on
+        subst (λ ss. Good ss (look (after_serving w n lane' v')) w.datagrams seen) (sym (quiet_steps (Take n k l p ∷ before) v quiet))
+        (good_takes before (look (after_serving w n lane v)) (look (after_serving w n lane' v')) w.datagrams seen n k u l p rest_of (coming_here v (Give l p) e) on
         (serve_changed lane lane' v v' k (record u { coming = rest_of; taken = u.taken ++ parcel_of l p ∷ [] })
         (λ b o. ap (λ t. record (seen_at b v (signs_of ks b lane')) { taken = t }) (taken_off v s b o) ∙ off_same v b o)
-        (ap (λ t. record u { coming = rest_of; taken = t }) (taken_on v s))) g
+        (ap (λ t. record u { coming = rest_of; taken = t }) (taken_on v s)))
+        (subst (λ ss. Good ss (look (after_serving w n lane v)) w.datagrams seen) (quiet_steps before v quiet) g))
       where
         taken_off : (v : Serving) (s : Step) (b : ℕ) → nat_eq b k ≡ false → w.steps n b ++ stepped_from b (v.steps ++ record { from = k; parcel = parcel_of l p } ∷ []) ≡ w.steps n b ++ stepped_from b v.steps
         taken_off v s b o =
@@ -278,51 +321,94 @@ module _ (w : World) (seen : Seen) (n : ℕ) where
             ap (λ ys. w.steps n k ++ ys) (stepped-push k v.steps (record { from = k; parcel = parcel_of l p }) ∙ ap (λ (t : Bool). stepped_from k v.steps ++ (if t then parcel_of l p ∷ [] else [])) (eq-eqb k k refl))
             ∙ sym (append_assoc (w.steps n k) (stepped_from k v.steps) (parcel_of l p ∷ []))
 
-  link_item_keeps : (answers : Answers) (lane lane' : List Item) (k now : ℕ) (what : What) → ((b : ℕ) → signs_of ks b lane ≡ signs_in b (Some k) what ++ signs_of ks b lane') →
-      (v : Serving) → Served lane v → Served lane' (after_link_item answers ks k now what v)
+  link_item_keeps : (before : List MachineStep) (answers : Answers) (lane lane' : List Item) (k now : ℕ) (what : What) → ((b : ℕ) → signs_of ks b lane ≡ signs_in b (Some k) what ++ signs_of ks b lane') →
+      (v : Serving) → Quiet v → Served before lane v → Served (made (steps_of_link_item n k (v.seat.current k) what) before) lane' (after_link_item answers ks k now what v)
   unfolding after_link_item
-  link_item_keeps answers lane lane' k now (Tells.Up l) front v g =
+  link_item_keeps before answers lane lane' k now (Tells.Up l) front v q g =
       let v' : Serving = after_old_down answers ks k now v (v.seat.current k) in
-      input_keeps answers lane' ks (In.LinkUp k) now (with_current v' k (Some l)) (up_keeps lane lane' k (Tells.Up l) front v' l refl (old_down_keeps answers lane ks k now v (v.seat.current k) g))
-  link_item_keeps answers lane lane' k now (Tells.Packet l p) front v g =
-      cond_both (is_current l (v.seat.current k)) _ _ (Served lane')
-      (λ t. input_keeps answers lane' ks (In.Packet k p) now (record v { steps = v.steps ++ record { from = k; parcel = parcel_of l p } ∷ [] })
-      (take_keeps lane lane' k (Tells.Packet l p) front v l p refl (is_current_true l (v.seat.current k) t) g))
-      (λ t. skip_keeps lane lane' k (Tells.Packet l p) front v l p refl (is_current_false l (v.seat.current k) t) g)
-  link_item_keeps answers lane lane' k now (Tells.Down l r) front v g =
-      let g' : Served lane' v = pass_keeps lane lane' k (Tells.Down l r) front v refl g in
-      cond_both (is_current l (v.seat.current k)) _ _ (Served lane')
-      (λ _. down_keeps answers lane' ks k now v g')
-      (λ _. cond_both (is_current l (v.seat.pending k)) _ _ (Served lane') (λ _. pending_quiet lane' v k None g') (λ _. g'))
-  link_item_keeps answers lane lane' k now (Tells.Need m) front v g = input_keeps answers lane' ks (In.Need m) now v (pass_keeps lane lane' k (Tells.Need m) front v refl g)
-  link_item_keeps answers lane lane' k now Tells.Beat front v g = pass_keeps lane lane' k Tells.Beat front v refl g
-  link_item_keeps answers lane lane' k now Tells.Show front v g = pass_keeps lane lane' k Tells.Show front v refl g
-  link_item_keeps answers lane lane' k now Tells.Quit front v g = pass_keeps lane lane' k Tells.Quit front v refl g
-
-  other_item_keeps : (answers : Answers) (lane lane' : List Item) (now : ℕ) (what : What) → ((b : ℕ) → signs_of ks b lane' ≡ signs_of ks b lane) →
-      (v : Serving) → Served lane v → Served lane' (after_other_item answers ks now what v)
-  unfolding after_other_item
-  other_item_keeps answers lane lane' now (Tells.Need m) e v g = input_keeps answers lane' ks (In.Need m) now v (served_same lane lane' v v (λ b. ap (λ s. seen_at b v s) (e b)) g)
-  other_item_keeps answers lane lane' now (Tells.Up l) e v g = served_same lane lane' v v (λ b. ap (λ s. seen_at b v s) (e b)) g
-  other_item_keeps answers lane lane' now (Tells.Packet l p) e v g = served_same lane lane' v v (λ b. ap (λ s. seen_at b v s) (e b)) g
-  other_item_keeps answers lane lane' now (Tells.Down l r) e v g = served_same lane lane' v v (λ b. ap (λ s. seen_at b v s) (e b)) g
-  other_item_keeps answers lane lane' now Tells.Beat e v g = served_same lane lane' v v (λ b. ap (λ s. seen_at b v s) (e b)) g
-  other_item_keeps answers lane lane' now Tells.Show e v g = served_same lane lane' v (record v { answer = Says.Show }) (λ b. ap (λ s. seen_at b v s) (e b)) g
-  other_item_keeps answers lane lane' now Tells.Quit e v g = served_same lane lane' v (record v { answer = Says.Quit }) (λ b. ap (λ s. seen_at b v s) (e b)) g
-
-  pub serving_keeps : (answers : Answers) (item : Item) (items : List Item) → Served (item ∷ items) (begin_serving (w.seats n)) → Served items (serving_of answers ks (w.seats n) item)
-  unfolding serving_of
-  serving_keeps answers item items g = go (slice_get ks item.seat) refl
+      let past : List MachineStep = made (steps_of_end n k (v.seat.current k)) before in
+      input_keeps past answers lane' ks (In.LinkUp k) now (with_current v' k (Some l))
+      (up_keeps past lane lane' k (Tells.Up l) front v' l refl (old_down_keeps before answers lane ks k now v (v.seat.current k) q refl g))
+  link_item_keeps before answers lane lane' k now (Tells.Packet l p) front v q g = go (is_current l (v.seat.current k)) refl
     where
-      go : (o : Option ℕ) → slice_get ks item.seat ≡ o → Served items (after_item_of answers ks o item.now item.what (after_cuts_tried answers ks (begin_serving (w.seats n))))
-      go (Some k) e = link_item_keeps answers (item ∷ items) items k item.now item.what (λ b. ap (λ s. signs_in b s item.what ++ signs_of ks b items) e) (after_cuts_tried answers ks (begin_serving (w.seats n)))
-          (cuts_tried_keep answers (item ∷ items) ks (begin_serving (w.seats n)) g)
-      go None e = other_item_keeps answers (item ∷ items) items item.now item.what (λ b. sym (ap (λ s. signs_in b s item.what ++ signs_of ks b items) e)) (after_cuts_tried answers ks (begin_serving (w.seats n)))
-          (cuts_tried_keep answers (item ∷ items) ks (begin_serving (w.seats n)) g)
+      go : (b : Bool) → is_current l (v.seat.current k) ≡ b → Served (made (if b then Take n k l p ∷ [] else []) before) lane' (if b then after_packet answers ks k l p now v else v)
+      go true t =
+          input_keeps (Take n k l p ∷ before) answers lane' ks (In.Packet k p) now (record v { steps = v.steps ++ record { from = k; parcel = parcel_of l p } ∷ [] })
+          (take_keeps before lane lane' k (Tells.Packet l p) front v l p q refl (is_current_true l (v.seat.current k) t) g)
+      go false t = skip_keeps before lane lane' k (Tells.Packet l p) front v l p refl (is_current_false l (v.seat.current k) t) g
+  link_item_keeps before answers lane lane' k now (Tells.Down l r) front v q g = go (is_current l (v.seat.current k)) refl
+    where
+      passed : Served before lane' v
+      passed = pass_keeps before lane lane' k (Tells.Down l r) front v refl g
+
+      go : (b : Bool) → is_current l (v.seat.current k) ≡ b → Served (made (if b then Close n k l ∷ [] else []) before) lane' (if b then after_down answers ks k now v else if is_current l (v.seat.pending k) then with_pending v k None else v)
+      go true t = down_keeps before answers lane' ks k now v l q (is_current_true l (v.seat.current k) t) passed
+      go false t = cond_both (is_current l (v.seat.pending k)) _ _ (Served before lane') (λ _. pending_quiet before lane' v k None passed) (λ _. passed)
+  link_item_keeps before answers lane lane' k now (Tells.Need m) front v q g = input_keeps before answers lane' ks (In.Need m) now v (pass_keeps before lane lane' k (Tells.Need m) front v refl g)
+  link_item_keeps before answers lane lane' k now Tells.Beat front v q g = pass_keeps before lane lane' k Tells.Beat front v refl g
+  link_item_keeps before answers lane lane' k now Tells.Show front v q g = pass_keeps before lane lane' k Tells.Show front v refl g
+  link_item_keeps before answers lane lane' k now Tells.Quit front v q g = pass_keeps before lane lane' k Tells.Quit front v refl g
+
+  other_item_keeps : (before : List MachineStep) (answers : Answers) (lane lane' : List Item) (now : ℕ) (what : What) → ((b : ℕ) → signs_of ks b lane' ≡ signs_of ks b lane) →
+      (v : Serving) → Served before lane v → Served before lane' (after_other_item answers ks now what v)
+  unfolding after_other_item
+  other_item_keeps before answers lane lane' now what e v g = go what
+    where
+      past : Served before lane' v
+      past = served_same (made (steps_of_offers n v.offers) before) lane lane' v v (λ b. ap (λ s. seen_at b v s) (e b)) g
+
+      go : (x : What) → Served before lane' (after_other_item answers ks now x v)
+      go (Tells.Need m) = input_keeps before answers lane' ks (In.Need m) now v past
+      go (Tells.Up l) = past
+      go (Tells.Packet l p) = past
+      go (Tells.Down l r) = past
+      go Tells.Beat = past
+      go Tells.Show = past
+      go Tells.Quit = past
+
+  -- the cuts that are tried first change no current life, and are no steps
+  cut_quiet : (answers : Answers) (v : Serving) (j : ℕ) (o : Option Life) → Quiet v → Quiet (after_cut_tried answers v j o) × ((after_cut_tried answers v j o).seat.current ≡ v.seat.current)
+  cut_quiet answers v j None q = (q, refl)
+  cut_quiet answers v j (Some l) q =
+      cond_both (answers v.offers j) _ _ (λ (x : Serving). Quiet x × (x.seat.current ≡ v.seat.current))
+      (λ _. (offers_quiet v.offers (record { to = j; cargo = Gives.Cut l; put = true }) q refl, refl)) (λ _. (offers_quiet v.offers (record { to = j; cargo = Gives.Cut l; put = false }) q refl, refl))
+    where
+      offers_quiet : (offers : List Offer) (o : Offer) → steps_of_offers n offers ≡ [] → steps_of_cargo n o.to o.cargo o.put ≡ [] → steps_of_offers n (offers ++ o ∷ []) ≡ []
+      offers_quiet [] o q e = append-nil (steps_of_cargo n o.to o.cargo o.put) ∙ e
+      offers_quiet (x ∷ offers) o q e = go (steps_of_cargo n x.to x.cargo x.put) q (offers_quiet offers o)
+        where
+          go : (xs : List MachineStep) → xs ++ steps_of_offers n offers ≡ [] → (steps_of_offers n offers ≡ [] → steps_of_cargo n o.to o.cargo o.put ≡ [] → steps_of_offers n (offers ++ o ∷ []) ≡ []) → xs ++ steps_of_offers n (offers ++ o ∷ []) ≡ []
+          go [] q again = again q e
+          go (y ∷ ys) q again = absurd (cc)
+
+  cuts_quiet : (answers : Answers) (js : List ℕ) (v : Serving) → Quiet v → Quiet (after_cuts_tried answers js v) × ((after_cuts_tried answers js v).seat.current ≡ v.seat.current)
+  unfolding after_cuts_tried
+  cuts_quiet answers [] v q = (q, refl)
+  cuts_quiet answers (j ∷ js) v q =
+      let a = cut_quiet answers v j (v.seat.pending j) q in
+      let b = cuts_quiet answers js (after_cut_tried answers v j (v.seat.pending j)) a.0 in
+      (b.0, b.1 ∙ a.1)
+
+  pub serving_keeps : (before : List MachineStep) (answers : Answers) (item : Item) (items : List Item) → Served before (item ∷ items) (begin_serving (w.seats n)) →
+      Served (made (steps_of_item n (slice_get ks item.seat) (w.seats n).current item.what) before) items (serving_of answers ks (w.seats n) item)
+  unfolding serving_of
+  serving_keeps before answers item items g = go (slice_get ks item.seat) refl
+    where
+      v : Serving
+      v = after_cuts_tried answers ks (begin_serving (w.seats n))
+
+      go : (o : Option ℕ) → slice_get ks item.seat ≡ o → Served (made (steps_of_item n o (w.seats n).current item.what) before) items (after_item_of answers ks o item.now item.what (after_cuts_tried answers ks (begin_serving (w.seats n))))
+      go (Some k) e =
+          let q = cuts_quiet answers ks (begin_serving (w.seats n)) refl in
+          subst (λ (f : ℕ → Option Life). Served (made (steps_of_link_item n k (f k) item.what) before) items (after_link_item answers ks k item.now item.what (after_cuts_tried answers ks (begin_serving (w.seats n))))) q.1
+          (link_item_keeps before answers (item ∷ items) items k item.now item.what (λ b. ap (λ s. signs_in b s item.what ++ signs_of ks b items) e) (after_cuts_tried answers ks (begin_serving (w.seats n))) q.0
+          (cuts_tried_keep before answers (item ∷ items) ks (begin_serving (w.seats n)) g))
+      go None e = other_item_keeps before answers (item ∷ items) items item.now item.what (λ b. sym (ap (λ s. signs_in b s item.what ++ signs_of ks b items) e)) (after_cuts_tried answers ks (begin_serving (w.seats n)))
+          (cuts_tried_keep before answers (item ∷ items) ks (begin_serving (w.seats n)) g)
 
   -- the world before the item is taken
-  begins : (items : List Item) → w.items n ≡ items → Good (look w) w.datagrams seen → Served items (begin_serving (w.seats n))
-  begins items q g = looks (look w) (look (after_serving w n items (begin_serving (w.seats n)))) w.datagrams seen (λ a b. there a b (cases_Bool (nat_eq a n))) g
+  begins : (steps : List MachineStep) (items : List Item) → w.items n ≡ items → Good steps (look w) w.datagrams seen → Served steps items (begin_serving (w.seats n))
+  begins steps items q g = looks steps (look w) (look (after_serving w n items (begin_serving (w.seats n)))) w.datagrams seen (λ a b. there a b (cases_Bool (nat_eq a n))) g
     where
       here : (b : ℕ) → seen_at b (begin_serving (w.seats n)) (signs_of ks b items) ≡ look w n b
       here b =
@@ -334,6 +420,10 @@ module _ (w : World) (seen : Seen) (n : ℕ) where
       there a b (inl t) = subst (λ x. look (after_serving w n items (begin_serving (w.seats n))) x b ≡ look w x b) (sym (eqb-true a n t)) (look_at items (begin_serving (w.seats n)) b ∙ here b)
       there a b (inr t) = look_off items (begin_serving (w.seats n)) a b t
 
-  pub turn_keeps : (c : Choice) → Good (look w) w.datagrams seen → (items : List Item) → w.items n ≡ items → Good (look (after_turn w c n items)) (after_turn w c n items).datagrams seen
-  turn_keeps c g [] q = g
-  turn_keeps c g (item ∷ items) q = serving_keeps c.answers item items (begins (item ∷ items) q g)
+  pub turn_keeps : (steps : List MachineStep) (c : Choice) → Good steps (look w) w.datagrams seen → (items : List Item) → w.items n ≡ items →
+      Good (made (steps_of_turn w c n items) steps) (look (after_turn w c n items)) (after_turn w c n items).datagrams seen
+  turn_keeps steps c g [] q = g
+  turn_keeps steps c g (item ∷ items) q =
+      subst (λ ss. Good ss (look (after_turn w c n (item ∷ items))) w.datagrams seen)
+      (sym (made-append (steps_of_item n (slice_get ks item.seat) (w.seats n).current item.what) (steps_of_offers n (serving_of c.answers ks (w.seats n) item).offers) steps))
+      (serving_keeps steps c.answers item items (begins steps (item ∷ items) q g))

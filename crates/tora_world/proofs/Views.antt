@@ -1,5 +1,5 @@
 -- What the law needs of one end of a link with its lanes and its core's seat, and how that follows the machine.
-use Rattle.std.proofs.Common.{◌≡◌, ℕ, suc, ◌+◌, ◌<◌, ◌≤◌, Bool, true, false, ◌&&◌, List, [], ◌∷◌, ◌++◌, length, drop, Option, Some, None, if◌then◌else◌}
+use Rattle.std.proofs.Common.{◌≡◌, ◌≢◌, ℕ, suc, ◌+◌, ◌<◌, ◌≤◌, Bool, true, false, ◌&&◌, List, [], ◌∷◌, ◌++◌, length, drop, Option, Some, None, if◌then◌else◌}
 use Rattle.tora_packet.specs.declared.Packet.{Packet}
 use Rattle.tora_frame.specs.declared.parts.Body.{Body}
 use Rattle.tora_frame.specs.declared.parts.Body.TheVariants.{Hello, Data, Ack}
@@ -121,7 +121,6 @@ pub record Ledger (file : LifeDisk) (last : ℕ) (out sent taken : List Parcel) 
   pub bound : Each (λ l. l.own ≤ floor) p.bound
   pub sent_is : p.sent ≡ sent
   pub taken_is : p.taken ≡ taken
-  pub none_closed : p.closed ≡ []
   pub all_sent : AllOf p.bound sent
   pub all_taken : AllOf p.bound taken
   pub all_out : AllOf p.bound out
@@ -131,20 +130,25 @@ abbrev pub IsNow : Option Life → Option Life → Type 0
 IsNow latest None = Unit {0}
 IsNow latest (Some l) = latest ≡ Some l
 
-pub record Flow (current : Option Life) (coming : List Sign) (sent taken other : List Parcel) (bound : List Life) : Type 0 where
+-- a life that is closed came up no later than the last one, and is not current
+abbrev pub IsOver : Option Life → Option Life → Life → Type 0
+IsOver latest current l = (l.own ≤ number_of latest) × (current ≢ Some l)
+
+pub record Flow (current : Option Life) (coming : List Sign) (sent taken other : List Parcel) (bound closed : List Life) : Type 0 where
   pub latest : Option Life  -- the life that came up last at the core
   pub was_bound : IsOf bound latest
   pub now : IsNow latest current
   pub comes : ComesOf bound coming
   pub rises : Rises (number_of latest) coming
   pub older : Each (λ x. x.life.own ≤ number_of latest) sent
+  pub over : Each (IsOver latest current) closed
   pub chain : (l : Life) → Begins (of l taken ++ awaited l (is_now l current) coming) (of (flip l) other)
 
 -- one end, what the machine has of it, what the other end has sent to it, and how much of each life it was seen to have accepted
 pub record Rel (v : View) (p : Pair) (other : List Parcel) (done : Life → ℕ → Type 0) : Type 0 where
   pub kept : IsEnd v.settings v.endpoint
   pub ledger : Ledger v.file v.endpoint.last_life v.out v.sent v.taken p
-  pub flow : Flow v.current v.coming v.sent v.taken other p.bound
+  pub flow : Flow v.current v.coming v.sent v.taken other p.bound p.closed
   pub phase : InPhase v.endpoint.phase v p other done
 
 -- a frame tells what its sender has sent, and no more than it has accepted
@@ -166,8 +170,8 @@ Told m seen f =
 abbrev pub from : Seen → ℕ → ℕ → Life → ℕ → Type 0
 from seen n k l c = seen k n (flip l) c
 
-pub record Good (view : ℕ → ℕ → View) (frames : List FrameParts) (seen : Seen) : Type 0 where
-  pub steps : List Step
+-- all ends, after these steps of the machine
+pub record Good (steps : List Step) (view : ℕ → ℕ → View) (frames : List FrameParts) (seen : Seen) : Type 0 where
   pub legal : Legal steps
   pub sides : (n k : ℕ) → Rel (view n k) (state steps n k) (state steps k n).sent (from seen n k)
   pub tells : Each (Told (state steps) seen) frames

@@ -2,12 +2,13 @@
 #![tactic(auto)]
 
 ghost use Rattle.tora_world.specs.Law.{EveryRun, TakenBeginsSent, IsOfMachine, AcknowledgedIsAccepted, BindsOnce, CoresFollow};
-ghost use Rattle.std.specs.Prelude.{◌≡◌, List};
+ghost use Rattle.std.specs.Prelude.{◌≡◌, List, []};
 ghost use Rattle.tora_arq.specs.declared.Times.{Times};
 ghost use Rattle.tora_world.specs.declared.Event.{Event};
 ghost use Rattle.tora_world.specs.Topology.{Topology};
 ghost use Rattle.tora_world.specs.World.{World, first_world, world_after_all};
 ghost use Rattle.tora_world.specs.FreeWorld.{after_schedule, own_schedule};
+ghost use Rattle.tora_world.specs.MachineRun.{machine_steps};
 ghost use Rattle.tora_world.specs.Gaps.{EveryEnd, IsWithoutGap, SendsInLatest};
 
 mod files;
@@ -23,7 +24,7 @@ pub fn prefix_law()
     // The packets that a core has taken in a life are a prefix of those that its neighbour's core sent in it.
     ensures prefix { EveryRun (λ first es w. TakenBeginsSent w) }
     // The run is one of the link machine.
-    ensures machine { EveryRun (λ first es w. IsOfMachine w) }
+    ensures machine { EveryRun (λ first es w. IsOfMachine (machine_steps es first []) w) }
     // Each core is what its stepped inputs make of it.
     ensures cores { EveryRun (λ first es w. CoresFollow first.topology w) }
     // Each end binds each pair of numbers at most once.
