@@ -35,7 +35,7 @@ use Rattle.tora_world.specs.declared.Call.TheVariants as Fails
 use Rattle.tora_world.specs.Topology.{is_link}
 use Rattle.tora_world.specs.Lists.{reversed as flip, packet_where as only, packets_of as of, parcels_in, parcel_of, Begins, IsIn, Each}
 use Rattle.tora_world.specs.LinkMachine.{put_at as put, MachineEnd as Pair, Machine, MachineStep as Step, machine_after as state, made, IsLast}
-use Rattle.tora_world.specs.World.{World, Choice, Sending, settings, neighbours, place_of, datagram, first_seat, with_end, with_item, open_with, after_opening, after_cargo, after_pull, with_datagram, after_sending, after_receiving, what_of, after_pump, with_armed_files, after_arming, reopened, after_restart}
+use Rattle.tora_world.specs.World.{World, Choice, Sending, settings, neighbours, place_of, datagram, first_seat, with_end, with_item, open_with, after_opening, after_cargo, after_pull, with_datagram, after_sending, after_receiving, what_of, after_pump, is_file_of, with_armed_files, after_arming, reopened, after_restart}
 use Rattle.tora_world.specs.World.Sending.{Goes, IsLost, IsGone}
 use Rattle.tora_world.specs.MachineRun.{steps_of_opening, steps_of_binding, steps_of_frame, steps_of_restart}
 use Rattle.tora_world.proofs.Laws.{LinkLaws, LifeLaws}
@@ -347,7 +347,7 @@ module _ (laws : LinkLaws) (lows : LifeLaws) (steps : List Step) (w : World) (se
   armed_keeps : (n : ℕ) (call : DiskCall) → Fine w → Fine (with_armed_files w n call)
   armed_keeps n call g =
       everywhere steps (look w) (look (with_armed_files w n call)) w.datagrams seen
-      (λ a b p other h. cond_both (nat_eq a n) (after_event (ArmsDisk call) (w.files a b)) (w.files a b)
+      (λ a b p other h. cond_both (is_file_of w n a b) (after_event (ArmsDisk call) (w.files a b)) (w.files a b)
       (λ f. Rel (record (look w a b) { file = f }) p other (from seen a b))
       (λ _. refiles (look w a b) p other (from seen a b) (after_event (ArmsDisk call) (w.files a b)) (λ m f. lows.keep m (ArmsDisk call) (w.files a b) f tt) h) (λ _. h)) g
 
@@ -363,7 +363,7 @@ module _ (laws : LinkLaws) (lows : LifeLaws) (steps : List Step) (w : World) (se
   restart_keeps n torn g = good_restarts n (w.seats n).current steps (look w) (look (after_restart w n torn)) w.datagrams seen (neighbours w n) off on g
     where
       shown : Bool → ℕ → ℕ → View
-      shown t a b = view_of (settings w a b) (if t then first_end else w.ends a b) (if t then reopened torn (w.files a b) else w.files a b) ((if t then first_seat w.topology n else w.seats a).current b)
+      shown t a b = view_of (settings w a b) (if t then first_end else w.ends a b) (if t && is_link w.topology a b then reopened torn (w.files a b) else w.files a b) ((if t then first_seat w.topology n else w.seats a).current b)
           (signs_of (neighbours w a) b (if t then [] else w.items a)) ((if t then (λ k. []) else w.cargoes a) b) (w.put a b) (w.steps a b)
 
       off : (a b : ℕ) → nat_eq a n ≡ false → look (after_restart w n torn) a b ≡ look w a b
@@ -372,5 +372,5 @@ module _ (laws : LinkLaws) (lows : LifeLaws) (steps : List Step) (w : World) (se
       on : (a b : ℕ) (p p' : Pair) (other : List Parcel) → nat_eq a n ≡ true → ClosesMore ((w.seats n).current b) p p' → Rel (look w a b) p other (from seen a b) → Rel (look (after_restart w n torn) a b) p' other (from seen a b)
       on a b p p' other t more h =
           subst (λ x. Rel (shown x a b) p' other (from seen a b)) (sym t)
-          (restarts laws (look w a b) p p' other (from seen a b) (reopened torn (w.files a b)) (subst (λ m. ClosesMore ((w.seats m).current b) p p') (sym (eqb-true a n t)) more)
-          (λ m f. lows.keep m (OpensAnew (after_crash torn (state_in (w.files a b)))) (w.files a b) f (lows.crash m torn (w.files a b) f)) h)
+          (restarts laws (look w a b) p p' other (from seen a b) (if is_link w.topology a b then reopened torn (w.files a b) else w.files a b) (subst (λ m. ClosesMore ((w.seats m).current b) p p') (sym (eqb-true a n t)) more)
+          (λ m f. cond_both (is_link w.topology a b) (reopened torn (w.files a b)) (w.files a b) (IsFloor m) (λ _. lows.keep m (OpensAnew (after_crash torn (state_in (w.files a b)))) (w.files a b) f (lows.crash m torn (w.files a b) f)) (λ _. f)) h)

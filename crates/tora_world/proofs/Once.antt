@@ -29,7 +29,7 @@ use Rattle.tora_world.specs.declared.Call.{Call}
 use Rattle.tora_world.specs.declared.Call.TheVariants as Fails
 use Rattle.tora_world.specs.Topology.{Topology}
 use Rattle.tora_world.specs.LinkMachine.{put_at as put}
-use Rattle.tora_world.specs.World.{World, Choice, settings, datagram, with_end, first_world, refusal_by, open_with, after_opening, after_cargo, after_pull, after_sending, after_receiving, after_pump, after_turn, with_armed_files, after_arming, reopened, effect_by, world_by}
+use Rattle.tora_world.specs.World.{World, Choice, settings, datagram, with_end, first_world, refusal_by, open_with, after_opening, after_cargo, after_pull, after_sending, after_receiving, after_pump, after_turn, is_file_of, with_armed_files, after_arming, reopened, effect_by, world_by}
 use Rattle.tora_world.specs.FreeWorld.{Schedule}
 use Rattle.tora_world.specs.Law.{is_bound_to, times_bound, BindsOnce}
 use Rattle.tora_world.proofs.Laws.{LinkLaws, LifeLaws}
@@ -105,7 +105,7 @@ module _ (laws : LinkLaws) (lows : LifeLaws) where
 
     armed_between : (n : ℕ) (call : DiskCall) → Between w (with_armed_files w n call) a b
     armed_between n call = record {
-      floors = λ m f. cond_both (nat_eq a n) (after_event (ArmsDisk call) (w.files a b)) (w.files a b) (IsFloor m) (λ _. lows.keep m (ArmsDisk call) (w.files a b) f tt) (λ _. f);
+      floors = λ m f. cond_both (is_file_of w n a b) (after_event (ArmsDisk call) (w.files a b)) (w.files a b) (IsFloor m) (λ _. lows.keep m (ArmsDisk call) (w.files a b) f tt) (λ _. f);
       phase = inl (inl refl);
     }
 
@@ -153,7 +153,7 @@ module _ (laws : LinkLaws) (lows : LifeLaws) where
         go Fails.Write = armed_between n Disk.Write
         go Fails.Sync = armed_between n Disk.Sync
     onward c (Restart n torn) = record {
-      floors = λ m f. cond_both (nat_eq a n) (reopened torn (w.files a b)) (w.files a b) (IsFloor m) (λ _. lows.keep m (OpensAnew (after_crash torn (state_in (w.files a b)))) (w.files a b) f (lows.crash m torn (w.files a b) f)) (λ _. f);
+      floors = λ m f. cond_both (is_file_of w n a b) (reopened torn (w.files a b)) (w.files a b) (IsFloor m) (λ _. lows.keep m (OpensAnew (after_crash torn (state_in (w.files a b)))) (w.files a b) f (lows.crash m torn (w.files a b) f)) (λ _. f);
       phase = inl (cond_both (nat_eq a n) first_end (w.ends a b) (λ (e : EndState). To (w.ends a b).phase e.phase) (λ _. inr (inl refl)) (λ _. inl refl));
     }
 

@@ -243,9 +243,13 @@ abbrev pub after_turn : World → Choice → ℕ → List Item → World
 after_turn w c n [] = w
 after_turn w c n (item ∷ items) = after_serving w n items (serving_of c.answers (neighbours w n) (w.seats n) item)
 
+-- there is a life file of this node for the link
+abbrev pub is_file_of : World → ℕ → ℕ → ℕ → Bool
+is_file_of w n a k = (a == n) && is_link w.topology a k
+
 -- the next such call of each life file of a node fails
 abbrev pub with_armed_files : World → ℕ → DiskCall → World
-with_armed_files w n call = record w { files = λ a k. if a == n then after_event (ArmsDisk call) (w.files a k) else w.files a k }
+with_armed_files w n call = record w { files = λ a k. if is_file_of w n a k then after_event (ArmsDisk call) (w.files a k) else w.files a k }
 
 abbrev pub after_arming : World → ℕ → Call → World
 after_arming w n Fails.SendLost = record w { arms = put_one w.arms n (record (w.arms n) { sending = IsLost }) }
@@ -264,7 +268,7 @@ abbrev pub after_restart : World → ℕ → Option (List ℕ) → World
 after_restart w n torn = record w {
   seats = put_one w.seats n (first_seat w.topology n);
   ends = λ a k. if a == n then first_end else w.ends a k;
-  files = λ a k. if a == n then reopened torn (w.files a k) else w.files a k;
+  files = λ a k. if is_file_of w n a k then reopened torn (w.files a k) else w.files a k;
   items = put_one w.items n [];
   counts = put_one w.counts n (λ seat. 0);
   cargoes = put_one w.cargoes n (λ k. []);
