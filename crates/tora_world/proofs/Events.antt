@@ -38,7 +38,7 @@ use Rattle.tora_world.specs.LinkMachine.{put_at as put, MachineEnd as Pair, Mach
 use Rattle.tora_world.specs.World.{World, Choice, Sending, settings, neighbours, place_of, datagram, first_seat, with_end, with_item, open_with, after_opening, after_cargo, after_pull, with_datagram, after_sending, after_receiving, what_of, after_pump, is_file_of, with_armed_files, after_arming, reopened, after_restart}
 use Rattle.tora_world.specs.World.Sending.{Goes, IsLost, IsGone}
 use Rattle.tora_world.specs.MachineRun.{steps_of_opening, steps_of_binding, steps_of_frame, steps_of_restart}
-use Rattle.tora_world.proofs.Laws.{LinkLaws, LifeLaws}
+use Rattle.tora_world.specs.Layers.{LinkLaws, LifeLaws}
 use Rattle.tora_world.proofs.Basics.{at_pair, put_at, put_off, by_pair, same_true, same_refl, at_begins, Each_at}
 use Rattle.tora_world.proofs.Views.{Sign, View, sign_of, AllOf, InPhase, InLife, InWait, Rel, Tells, Told, Good, Seen, from}
 use Rattle.tora_world.proofs.Views.Sign.{Rest}

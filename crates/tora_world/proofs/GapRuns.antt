@@ -29,7 +29,7 @@ use Rattle.tora_world.specs.World.{World, Choice, settings, neighbours, datagram
 use Rattle.tora_world.specs.FreeWorld.{Schedule, after_schedule}
 use Rattle.tora_world.specs.Law.{Sometime, HasAccepted}
 use Rattle.tora_world.specs.Gaps.{broadcast_from, broadcast_packets, life_told, life_taken, life_by, life_after, latest_life, IsCut, HasNoGap, IsWithoutGap, SendsInLatest}
-use Rattle.tora_world.proofs.Laws.{LinkLaws, LifeLaws}
+use Rattle.tora_world.specs.Layers.{LinkLaws, LifeLaws}
 use Rattle.tora_world.proofs.Basics.{begins_refl}
 use Rattle.tora_world.proofs.Views.{View, sign_of, Good, Seen, from}
 use Rattle.tora_world.proofs.Views.Sign.{Come}

@@ -17,7 +17,7 @@ use Rattle.tora_world.specs.Lists.{reversed as flip, packets_of as of, Begins, I
 use Rattle.tora_world.specs.LinkMachine.{put_at as put, MachineEnd as Pair, Machine, MachineStep as Step, MayStep as Allowed, after_machine_step as after, machine_after as state, IsMachineRun as Legal, drawing, binding, sending, taking, closing, made}
 use Rattle.tora_world.specs.LinkMachine.MachineStep.{Draw, Bind, Send, Take, Close}
 use Rattle.tora_world.specs.MachineRun.{steps_of_binding, steps_of_end, steps_of_restart}
-use Rattle.tora_world.proofs.Laws.{LinkLaws}
+use Rattle.tora_world.specs.Layers.{LinkLaws}
 use Rattle.tora_world.proofs.Basics.{at_pair, put_at, put_off, by_pair, of_push_both, begins_refl, begins_append, at_begins, Each_mono, Each_at, Each_from}
 use Rattle.tora_world.proofs.Views.{Sign, View, Rel, Tells, Told, Good, Seen, from, InPhase, InWait, IsOf}
 use Rattle.tora_world.proofs.Views.Sign.{Come, Give}

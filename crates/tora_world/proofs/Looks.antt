@@ -17,7 +17,7 @@ use Rattle.tora_seat.specs.declared.Cargo.TheVariants as Gives
 use Rattle.tora_seat.specs.Serving.{Parcel}
 use Rattle.tora_world.specs.Lists.{parcels_in, parcel_of}
 use Rattle.tora_world.specs.World.{World, settings, neighbours, place_of, what_of}
-use Rattle.tora_world.proofs.Laws.{LinkLaws}
+use Rattle.tora_world.specs.Layers.{LinkLaws}
 use Rattle.tora_world.proofs.Views.{Sign, View, sign_of}
 use Rattle.tora_world.proofs.Views.Sign.{Come, Give, Rest}
 use Rattle.tora_world.proofs.Moves.{called}

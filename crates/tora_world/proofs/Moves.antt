@@ -17,7 +17,7 @@ use Rattle.tora_life.specs.LifeRun.{LifeDisk, IsFloor}
 use Rattle.tora_seat.specs.Serving.{Parcel}
 use Rattle.tora_world.specs.Lists.{reversed as flip, packet_where as only, packets_of as of, parcel_of, Begins, IsIn, Each}
 use Rattle.tora_world.specs.LinkMachine.{MachineEnd as Pair, IsLast, drawing, binding, sending, taking, closing}
-use Rattle.tora_world.proofs.Laws.{LinkLaws}
+use Rattle.tora_world.specs.Layers.{LinkLaws}
 use Rattle.tora_world.proofs.Basics.{same_refl, same_true, same_false, of-push, only_same, only_other, begins_trans, begins_front, begins_more, begins_many, at_begins, at_middle, Each_mono, Each_at}
 use Rattle.tora_world.proofs.Views.{Sign, View, sign_of, is_now, given, awaited, lives, number_of, IsOf, AllOf, Queued, Counted, InLife, InWait, InPhase, Ledger, IsNow, IsOver, Flow, Rel}
 use Rattle.tora_world.proofs.Views.Sign.{Come, Give, Rest}

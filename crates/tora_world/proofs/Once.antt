@@ -32,7 +32,7 @@ use Rattle.tora_world.specs.LinkMachine.{put_at as put}
 use Rattle.tora_world.specs.World.{World, Choice, settings, datagram, with_end, first_world, refusal_by, open_with, after_opening, after_cargo, after_pull, after_sending, after_receiving, after_pump, after_turn, is_file_of, with_armed_files, after_arming, reopened, effect_by, world_by}
 use Rattle.tora_world.specs.FreeWorld.{Schedule}
 use Rattle.tora_world.specs.Law.{is_bound_to, times_bound, BindsOnce}
-use Rattle.tora_world.proofs.Laws.{LinkLaws, LifeLaws}
+use Rattle.tora_world.specs.Layers.{LinkLaws, LifeLaws}
 use Rattle.tora_world.proofs.Basics.{put_at, put_off, by_pair, same_true, same_refl}
 use Rattle.tora_world.proofs.Events.{one_number}
 

@@ -18,7 +18,7 @@ use Rattle.tora_world.specs.MachineRun.{steps_of_effect, steps_by, machine_steps
 use Rattle.tora_world.specs.World.{World, Choice, settings, datagram, first_world, is_empty, has_room, unless_possible, refusal_by, effect_by, world_by, world_after, world_after_all}
 use Rattle.tora_world.specs.FreeWorld.{Schedule, after_schedule, own_schedule}
 use Rattle.tora_world.specs.Law.{TakenBeginsSent, IsOfMachine, Sometime, HasAccepted, AcknowledgedIsAccepted}
-use Rattle.tora_world.proofs.Laws.{LinkLaws, LifeLaws}
+use Rattle.tora_world.specs.Layers.{LinkLaws, LifeLaws}
 use Rattle.tora_world.proofs.Basics.{begins_nil}
 use Rattle.tora_world.proofs.Views.{InPhase, Good, Seen, from}
 use Rattle.tora_world.proofs.Goods.{sees, good_prefix}

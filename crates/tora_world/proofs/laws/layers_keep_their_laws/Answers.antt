@@ -1,10 +1,7 @@
-use Rattle.tora_world.proofs.Laws.{LinkLaws, LifeLaws}
-use Rattle.tora_world.proofs.Apart.{neighbours_apart}
-use Rattle.tora_world.proofs.GapRuns.{without_gap, sends_in_latest}
-use Rattle.tora_world.proofs.no_gap_law.Goals as goal
+use Rattle.tora_world.proofs.laws.layers_keep_their_laws.Goals as goal
 
-link_laws : goal.After-drawn_life_numbers_rise → LinkLaws
-link_laws c = record {
+pub returns-clause-links : goal.returns-clause-links
+returns-clause-links c = record {
   first = c.calls_keep_an_end.ensures.first;
   next = c.calls_keep_an_end.ensures.next;
   fixed = c.lives_are_bound_once.ensures.fixed;
@@ -25,16 +22,10 @@ link_laws c = record {
   counted = c.acknowledged_counts_come_from_the_peer.ensures.next;
 }
 
-life_laws : goal.After-drawn_life_numbers_rise → LifeLaws
-life_laws c = record {
+pub returns-clause-files : goal.returns-clause-files
+returns-clause-files c = record {
   first = c.drawn_life_numbers_rise.ensures.first;
   draw = c.drawn_life_numbers_rise.ensures.draw;
   keep = c.drawn_life_numbers_rise.ensures.keep;
   crash = c.drawn_life_numbers_rise.ensures.crash;
 }
-
-pub returns-clause-gapless : goal.returns-clause-gapless
-returns-clause-gapless c = λ t times es n k apart inside. without_gap t n k (neighbours_apart t n apart) inside (link_laws c) (life_laws c) times es
-
-pub returns-clause-latest : goal.returns-clause-latest
-returns-clause-latest c = λ t times es n k apart inside. sends_in_latest t n k (neighbours_apart t n apart) inside (link_laws c) (life_laws c) times es
