@@ -1,15 +1,17 @@
 // The laws of all schedules. Each stands over the definitions alone: a function without parameters that does nothing.
-ghost use Rattle.std.specs.Prelude.{◌≡◌, List, []};
+ghost use Rattle.std.specs.Prelude.{◌≡◌, List, [], ◌∷◌, Some, None};
 ghost use Rattle.tora_arq.specs.declared.Times.{Times};
 ghost use Rattle.tora_world.specs.declared.Event.{Event};
 ghost use Rattle.tora_world.specs.Layers.{LinkLaws, LifeLaws};
 ghost use Rattle.tora_world.specs.Topology.{Topology};
-ghost use Rattle.tora_world.specs.World.{first_world, world_after_all};
+ghost use Rattle.tora_world.specs.World.{first_world, world_after_all, sent_packets, taken_packets};
 ghost use Rattle.tora_world.specs.FreeWorld.{after_schedule, own_schedule};
 ghost use Rattle.tora_world.specs.MachineRun.{machine_steps};
 ghost use Rattle.tora_world.specs.Law.{EveryRun, TakenBeginsSent, IsOfMachine, CoresFollow, BindsOnce, AcknowledgedIsAccepted};
 ghost use Rattle.tora_world.specs.Refusals.{OnlyNeedsAreRefused, SteppedAreAccepted};
-ghost use Rattle.tora_world.specs.Gaps.{EveryEnd, IsWithoutGap, SendsInLatest};
+ghost use Rattle.tora_world.specs.Gaps.{EveryEnd, IsWithoutGap, SendsInLatest, broadcast_packets};
+ghost use Rattle.tora_world.specs.LinkMachine.MachineStep.{Send, Take, Close};
+ghost use Rattle.tora_world.specs.Worked.{pair, start, life, update, meeting, met, bound_steps, restart, refusal, handed_back};
 
 use tora_arq::{
     acknowledged_counts_come_from_the_peer, calls_keep_an_end, data_frames_are_what_was_submitted,
@@ -89,5 +91,30 @@ pub fn simulator_runs_are_free_runs()
         (t : Topology) (times : Times) (events : List Event)
             → world_after_all (first_world t times) events ≡ after_schedule (own_schedule events (first_world t times)) (first_world t times)
     }
+{
+}
+
+/// Two nodes and some twenty events, computed: neither law is empty.
+pub fn worked_schedules_hold()
+    // The core of node 1 broadcasts one update and sends it in the life of its link; the core of node 2 takes it.
+    ensures broadcast { broadcast_packets pair met 1 2 ≡ update ∷ [] }
+    ensures sent { sent_packets met 1 2 life ≡ update ∷ [] }
+    ensures taken { taken_packets met 2 1 life ≡ update ∷ [] }
+    // The run is these steps of the link machine, the last standing first: a second delivery of the datagram is none.
+    ensures steps {
+        machine_steps (own_schedule meeting start) start [] ≡ Take 2 1 life update ∷ Send 1 2 life update ∷ bound_steps
+    }
+    // A restart of node 1 closes the life there.
+    ensures restart {
+        machine_steps restart start [] ≡ Close 1 2 life ∷ Take 2 1 life update ∷ Send 1 2 life update ∷ bound_steps
+    }
+    // Where the lane hands the update back, it was broadcast and not sent: the life is no longer current, its cut is
+    // pending, its link is down at the core, and the machine has closed it.
+    ensures broadcast_all_the_same { broadcast_packets pair handed_back 1 2 ≡ update ∷ [] }
+    ensures none_sent { sent_packets handed_back 1 2 life ≡ [] }
+    ensures not_current { (handed_back.seats 1).current 2 ≡ None }
+    ensures cut { (handed_back.seats 1).pending 2 ≡ Some life }
+    ensures down { (handed_back.seats 1).core.up ≡ [] }
+    ensures closed { machine_steps refusal start [] ≡ Close 1 2 life ∷ bound_steps }
 {
 }
