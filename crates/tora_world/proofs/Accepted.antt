@@ -1,29 +1,28 @@
 -- Serving an item is refused nothing but a need.
-use Rattle.std.proofs.Common.{◌≡◌, ℕ, zero, suc, ◌<◌, ◌≤◌, Bool, true, false, true≢false, ◌&&◌, ◌||◌, ◌⊎◌, inl, inr, ⊎_elim, List, [], ◌∷◌, ◌++◌, map, length, Option, Some, None, nat_eq, if◌then◌else◌, refl, sym, ap, ap₂, ◌∙◌, subst, append_assoc, append-nil, eqb-true, eq-eqb, arith}
+use Rattle.std.proofs.Common.{◌≡◌, ℕ, zero, suc, ◌<◌, ◌≤◌, Bool, true, false, true≢false, ◌&&◌, ◌||◌, ◌⊎◌, inl, inr, ⊎_elim, List, [], ◌∷◌, ◌++◌, length, Option, Some, None, nat_eq, if◌then◌else◌, refl, sym, ap, ◌∙◌, subst, append_assoc, append-nil, eqb-true, eq-eqb, arith}
 use Rattle.std.proofs.lemmas.Bool.{cond_both, cases_Bool}
 use Rattle.std.specs.Prelude.{slice_get, is_none, not}
 use Rattle.tora_packet.specs.declared.Packet.{Packet}
 use Rattle.tora_arq.specs.declared.Life.{Life}
-use Rattle.tora_arq.specs.Lives.{is_same_life as same}
 use Rattle.tora_core.specs.declared.Input.{Input}
 use Rattle.tora_core.specs.declared.Input.TheVariants as In
 use Rattle.tora_core.specs.declared.errors.StepError.{StepError}
 use Rattle.tora_core.specs.declared.errors.StepError.TheVariants as Fault
 use Rattle.tora_core.specs.Numbers.{has_number, without_number}
-use Rattle.tora_core.specs.CoreRun.{CoreView, is_from, refusal_of, up_after, core_after, sends_of}
+use Rattle.tora_core.specs.CoreRun.{CoreView, is_from, refusal_of, up_after, sends_of}
 use Rattle.tora_seat.specs.declared.What.{What}
 use Rattle.tora_seat.specs.declared.What.TheVariants as Tells
 use Rattle.tora_seat.specs.declared.Answer.TheVariants as Says
 use Rattle.tora_seat.specs.declared.Item.{Item}
 use Rattle.tora_seat.specs.declared.Cargo.{Cargo}
 use Rattle.tora_seat.specs.declared.Cargo.TheVariants as Gives
-use Rattle.tora_seat.specs.Serving.{SeatState, Offer, Parcel, Step, Serving, Answers, put_one, offered, with_current, with_pending, after_cut_tried, after_cuts_tried, after_sent, after_broadcast, after_broadcasts, accepting, after_answer, after_step, first_cut, after_settling, after_input, is_current, after_down, after_old_down, after_up, after_packet, after_link_item, after_other_item, after_item_of, begin_serving, serving_of, put_to, stepped_from}
+use Rattle.tora_seat.specs.Serving.{SeatState, Offer, Parcel, Step, Serving, Answers, put_one, with_current, with_pending, after_cut_tried, after_cuts_tried, after_sent, after_broadcast, after_broadcasts, accepting, after_answer, after_step, first_cut, after_settling, after_input, is_current, after_down, after_old_down, after_up, after_packet, after_link_item, after_other_item, after_item_of, begin_serving, serving_of, put_to, stepped_from}
 use Rattle.tora_world.specs.Lists.{parcel_of, Each}
 use Rattle.tora_world.specs.Refusals.{packet_in, packets_accepted, packets_in}
-use Rattle.tora_world.proofs.Basics.{same_true, Each_mono}
-use Rattle.tora_world.proofs.Events.{put_one_at, put_one_off, turned}
-use Rattle.tora_world.proofs.Looks.{map-append}
-use Rattle.tora_world.proofs.Numbers.{up_same, up_come, up_gone, is_link_down, core_accepted, same_neighbours, up_accepted, down_accepted, count_up, count_most, count_drops, first_cut_is, first_cut_none, settled_at, has-gone, has-with, has-other}
+use Rattle.tora_world.proofs.PacketLists.{same_true}
+use Rattle.tora_world.proofs.Events.{put_one_here, put_one_there}
+use Rattle.tora_world.proofs.EndViews.{map-append}
+use Rattle.tora_world.proofs.LinksUp.{core_accepted, same_neighbours, up_accepted, down_accepted, count_up, count_most, count_drops, first_cut_is, first_cut_none, settled_at, has-gone, has-with, has-other}
 use Rattle.tora_world.proofs.OwnHeights.{IsOwnView, IsSentBy, views_own, sends_own}
 
 accepted-push : (k : ℕ) (is : List (Input × ℕ)) (input : Input) (now : ℕ) → packets_accepted k (is ++ (input, now) ∷ []) ≡ packets_accepted k is ++ packet_in k input
@@ -286,7 +285,7 @@ module _ (n : ℕ) (ks : List ℕ) (answers : Answers) (Excuse : Type 0) where
   -- the current life of a neighbour is over
   down_step : (v : Serving) (k now : ℕ) (l : Life) → has_number k ks ≡ true → v.seat.current k ≡ Some l → Sound v → Sound (after_step answers ks (In.LinkDown k) now (with_current v k None))
   down_step v k now l m on h =
-      down_sound (with_current v k None) k now m (h.up k l m on) (put_one_at v.seat.current k None)
+      down_sound (with_current v k None) k now m (h.up k l m on) (put_one_here v.seat.current k None)
       (record { near = h.near; up = λ j i x e. h.up j i x (fewer_current v.seat.current k j i e); silent = h.silent; agreed = h.agreed; own = h.own; sends = h.sends })
 
   down_done : (v : Serving) (k now : ℕ) (l : Life) → has_number k ks ≡ true → v.seat.current k ≡ Some l → Sound v → Done (after_down answers ks k now v)
@@ -319,7 +318,7 @@ module _ (n : ℕ) (ks : List ℕ) (answers : Answers) (Excuse : Type 0) where
 
       ups : (j : ℕ) (l : Life) → has_number j ks ≡ true → put_one v.seat.current k (Some life) j ≡ Some l → (nat_eq j k ≡ true) ⊎ (nat_eq j k ≡ false) → (nat_eq k j || has_number j v.seat.core.up) ≡ true
       ups j l i e (inl t) = ap (λ b. b || has_number j v.seat.core.up) (eq-eqb k j (sym (eqb-true j k t)))
-      ups j l i e (inr t) = ap (λ b. nat_eq k j || b) (h.up j l i (sym (put_one_off v.seat.current k (Some life) j t) ∙ e)) ∙ or_right (nat_eq k j)
+      ups j l i e (inr t) = ap (λ b. nat_eq k j || b) (h.up j l i (sym (put_one_there v.seat.current k (Some life) j t) ∙ e)) ∙ or_right (nat_eq k j)
 
   packet_done : (v : Serving) (k now : ℕ) (life : Life) (packet : Packet) → has_number k ks ≡ true → v.seat.current k ≡ Some life → is_from k packet ≡ true → Sound v → Done (after_packet answers ks k life packet now v)
   packet_done v k now life packet m on from h =

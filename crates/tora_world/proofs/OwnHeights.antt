@@ -1,6 +1,6 @@
 -- An update that a core sends tells the height of its own node.
-use Rattle.std.proofs.Common.{◌≡◌, ℕ, Bool, true, false, List, [], ◌∷◌, ◌++◌, map, Option, Some, None, refl, sym, ap, ◌∙◌, subst, eq-eqb, eqb-true}
-use Rattle.std.proofs.lemmas.Bool.{cond_both, cases_Bool}
+use Rattle.std.proofs.Common.{◌≡◌, ℕ, Bool, true, false, List, [], ◌∷◌, map, Option, Some, None, refl, sym, subst, eq-eqb, eqb-true}
+use Rattle.std.proofs.lemmas.Bool.{cond_both}
 use Rattle.std.specs.Prelude.{is_some, is_none, not, ◌&&◌, ◌==◌, filter_map, option_map, ℤ, pos, if◌then◌else◌}
 use Rattle.std.specs.List.{list_all, cons_option}
 use Rattle.tora_height.specs.declared.HeightError.{HeightError}
@@ -10,12 +10,11 @@ use Rattle.tora_packet.specs.declared.Packet.{Packet}
 use Rattle.tora_packet.specs.declared.Packet.TheVariants.{Qry, Upd, Clr}
 use Rattle.tora_core.specs.declared.Input.{Input}
 use Rattle.tora_core.specs.declared.Input.TheVariants as In
-use Rattle.tora_core.specs.declared.rows.Row.{Row}
 use Rattle.tora_core.specs.declared.destination.Broadcast.{Broadcast}
 use Rattle.tora_core.specs.declared.destination.Broadcast.TheVariants as Tell
 use Rattle.tora_core.specs.View.{View, first_view, known_heights, are_null, has_downstream, lacks_downstream, least_height, greatest_level, least_delta, is_at, is_told, is_entry_at, with_row, without_row, with_entry, all_cleared}
 use Rattle.tora_core.specs.Heights.{fresh_time, fitted_by, fitted_height}
-use Rattle.tora_core.specs.Rules.{Outcome, silent, query_broadcast, update_broadcast_of, update_broadcast, joined_above, joined_height, after_join, new_level_at, new_level, after_erase, below_delta, propagated_level, reflected_level, after_link_loss, after_update_loss_at, after_update_loss, on_need, on_link_up, on_link_down, on_query, on_update, on_clear, link_row, cleared_level, on_packet, outcome_elsewhere, outcome_at_destination, outcome_of, packet_of, packet_sent, view_after}
+use Rattle.tora_core.specs.Rules.{Outcome, silent, query_broadcast, update_broadcast_of, update_broadcast, joined_above, joined_height, after_join, new_level_at, new_level, after_erase, below_delta, after_link_loss, after_update_loss_at, after_update_loss, on_link_up, on_link_down, link_row, cleared_level, on_packet, outcome_elsewhere, outcome_at_destination, outcome_of, packet_of, packet_sent, view_after}
 use Rattle.tora_core.specs.CoreRun.{CoreView, is_from, refusal_of, concerns, next_view, next_packet, core_after, core_taking, sends_of}
 use Rattle.tora_world.specs.Lists.{Each}
 

@@ -1,20 +1,18 @@
 -- In no run is anything but a need refused.
 use Rattle.std.proofs.Common.{◌≡◌, ℕ, zero, suc, ◌≤◌, Bool, true, false, ◌⊎◌, inl, inr, List, [], ◌∷◌, ◌++◌, map, length, Option, Some, None, nat_eq, if◌then◌else◌, refl, sym, ap, ap₂, ◌∙◌, subst, append_assoc, append-nil, eqb-true, eq-eqb, arith}
 use Rattle.std.proofs.lemmas.Bool.{cond_both, cases_Bool}
-use Rattle.std.specs.Prelude.{slice_get as at, is_some}
+use Rattle.std.specs.Prelude.{slice_get, is_some}
 use Rattle.tora_packet.specs.declared.Packet.{Packet}
-use Rattle.tora_frame.specs.FrameParts.{FrameParts as Frame}
+use Rattle.tora_frame.specs.FrameParts.{FrameParts}
 use Rattle.tora_arq.specs.declared.Life.{Life}
 use Rattle.tora_arq.specs.declared.Times.{Times}
 use Rattle.tora_arq.specs.declared.LinkEvent.{LinkEvent}
-use Rattle.tora_arq.specs.LinkEnd.{EndState, frame_due, after_frame, after_transmit, first_event}
+use Rattle.tora_arq.specs.LinkEnd.{frame_due, after_frame, after_transmit, first_event}
 use Rattle.tora_core.specs.declared.Input.{Input}
-use Rattle.tora_core.specs.declared.errors.StepError.{StepError}
 use Rattle.tora_core.specs.Numbers.{has_number, ascending}
 use Rattle.tora_core.specs.CoreRun.{is_from}
 use Rattle.tora_seat.specs.declared.What.{What}
 use Rattle.tora_seat.specs.declared.What.TheVariants as Tells
-use Rattle.tora_seat.specs.declared.Answer.TheVariants as Says
 use Rattle.tora_seat.specs.declared.Item.{Item}
 use Rattle.tora_seat.specs.declared.Cargo.{Cargo}
 use Rattle.tora_seat.specs.declared.Cargo.TheVariants as Gives
@@ -24,23 +22,23 @@ use Rattle.tora_world.specs.declared.Event.TheVariants.{Need, Tick, Open, Pull, 
 use Rattle.tora_world.specs.declared.Call.{Call}
 use Rattle.tora_world.specs.declared.Call.TheVariants as Fails
 use Rattle.tora_world.specs.Topology.{Topology, neighbours_of}
-use Rattle.tora_world.specs.Lists.{reversed as flip, packets_of as of, packet_where as only, parcels_in, Each}
-use Rattle.tora_world.specs.LinkMachine.{MachineStep, machine_after as state, made}
+use Rattle.tora_world.specs.Lists.{reversed, packets_of, parcels_in, Each}
+use Rattle.tora_world.specs.LinkMachine.{MachineStep, machine_after, made}
 use Rattle.tora_world.specs.MachineRun.{steps_by}
 use Rattle.tora_world.specs.World.{World, Choice, settings, neighbours, datagram, first_seat, first_world, refusal_by, with_end, after_pull, after_sending, after_receiving, after_pump, after_serving, after_turn, after_arming, after_restart, effect_by, world_by}
 use Rattle.tora_world.specs.FreeWorld.{Schedule, after_schedule}
 use Rattle.tora_world.specs.Law.{HasAccepted}
 use Rattle.tora_world.specs.Refusals.{OnlyNeedsAreRefused, packets_accepted, packets_in, SteppedAreAccepted}
 use Rattle.tora_world.specs.Layers.{LinkLaws, LifeLaws}
-use Rattle.tora_world.proofs.Views.{sign_of, Good, Seen, from}
-use Rattle.tora_world.proofs.Views.Sign.{Give}
+use Rattle.tora_world.proofs.Invariant.{arrival_of, AllEndsFollow, Seen, seen_at_other}
+use Rattle.tora_world.proofs.Invariant.Arrival.{PacketComes}
 use Rattle.tora_world.proofs.Moves.{takes_next}
-use Rattle.tora_world.proofs.Goods.{sees}
-use Rattle.tora_world.proofs.Looks.{signs_in, signs_of, look, map-append}
-use Rattle.tora_world.proofs.Runs.{world_keeps, first_good}
-use Rattle.tora_world.proofs.Numbers.{has-ascending, count_up, first_cut_none}
+use Rattle.tora_world.proofs.AllEnds.{more_seen}
+use Rattle.tora_world.proofs.EndViews.{arrivals_in, arrivals_of, end_views, map-append}
+use Rattle.tora_world.proofs.AllRuns.{world_follows, first_follows}
+use Rattle.tora_world.proofs.LinksUp.{has-ascending, count_up, first_cut_none}
 use Rattle.tora_world.proofs.OwnHeights.{IsOwnView, IsSentBy, first_own}
-use Rattle.tora_world.proofs.Accepted.{IsCargoOf, put_of, accepted-append, Sound, Done, serving_done}
+use Rattle.tora_world.proofs.Accepted.{IsCargoOf, put_of, accepted-append, Done, serving_done}
 
 -- ---- one node
 
@@ -81,35 +79,35 @@ each_both P [] ys a b = b
 each_both P (x ∷ xs) ys a b = (a.0, each_both P xs ys a.1 b)
 
 -- a packet that was put is of its node
-sent_from : (n : ℕ) (l : Life) (cargoes : List Cargo) (i : ℕ) (p : Packet) → Each (IsCargoOf n) cargoes → at (of l (parcels_in cargoes)) i ≡ Some p → IsSentBy n p
-sent_from n l cargoes i p h e = go (of l (parcels_in cargoes)) (all_of cargoes h) i e
+sent_from : (n : ℕ) (l : Life) (cargoes : List Cargo) (i : ℕ) (p : Packet) → Each (IsCargoOf n) cargoes → slice_get (packets_of l (parcels_in cargoes)) i ≡ Some p → IsSentBy n p
+sent_from n l cargoes i p h e = go (packets_of l (parcels_in cargoes)) (all_of cargoes h) i e
   where
     one : (b : Bool) (x : Packet) (xs : List Packet) → IsSentBy n x → Each (IsSentBy n) xs → Each (IsSentBy n) ((if b then x ∷ [] else []) ++ xs)
     one true x xs a r = (a, r)
     one false x xs a r = r
 
-    all_of : (cs : List Cargo) → Each (IsCargoOf n) cs → Each (IsSentBy n) (of l (parcels_in cs))
+    all_of : (cs : List Cargo) → Each (IsCargoOf n) cs → Each (IsSentBy n) (packets_of l (parcels_in cs))
     all_of [] h = tt
-    all_of (Gives.Packet life packet ∷ cs) h = one _ packet (of l (parcels_in cs)) h.0 (all_of cs h.1)
+    all_of (Gives.Packet life packet ∷ cs) h = one _ packet (packets_of l (parcels_in cs)) h.0 (all_of cs h.1)
     all_of (Gives.Cut life ∷ cs) h = all_of cs h.1
 
-    go : (ps : List Packet) → Each (IsSentBy n) ps → (i : ℕ) → at ps i ≡ Some p → IsSentBy n p
+    go : (ps : List Packet) → Each (IsSentBy n) ps → (i : ℕ) → slice_get ps i ≡ Some p → IsSentBy n p
     go [] h i e = absurd (cc)
     go (x ∷ ps) h zero e = let q : x ≡ p = cc in subst (IsSentBy n) q h.0
     go (x ∷ ps) h (suc i) e = go ps h.1 i e
 
 -- a packet that is to be taken was sent by the neighbour
-taken_from : (steps : List MachineStep) (w : World) (seen : Seen) → Good steps (look w) w.datagrams seen → AreNodes w → (n : ℕ) (item : Item) (items : List Item) → w.items n ≡ item ∷ items →
-    (k : ℕ) (l : Life) (p : Packet) → at (neighbours w n) item.seat ≡ Some k → item.what ≡ Tells.Packet l p → (w.seats n).current k ≡ Some l → is_from k p ≡ true
+taken_from : (steps : List MachineStep) (w : World) (seen : Seen) → AllEndsFollow steps (end_views w) w.datagrams seen → AreNodes w → (n : ℕ) (item : Item) (items : List Item) → w.items n ≡ item ∷ items →
+    (k : ℕ) (l : Life) (p : Packet) → slice_get (neighbours w n) item.seat ≡ Some k → item.what ≡ Tells.Packet l p → (w.seats n).current k ≡ Some l → is_from k p ≡ true
 taken_from steps w seen g a n item items q k l p seat what on =
-    let come : (look w n k).coming ≡ Give l p ∷ (signs_of (neighbours w n) k items ++ map sign_of (w.ends n k).events) =
-    ap (λ is. signs_of (neighbours w n) k is ++ map sign_of (w.ends n k).events) q
-    ∙ ap (λ r. (signs_in k r item.what ++ signs_of (neighbours w n) k items) ++ map sign_of (w.ends n k).events) seat
-    ∙ ap (λ (x : What). (signs_in k (Some k) x ++ signs_of (neighbours w n) k items) ++ map sign_of (w.ends n k).events) what
-    ∙ ap (λ (b : Bool). ((if b then Give l p ∷ [] else []) ++ signs_of (neighbours w n) k items) ++ map sign_of (w.ends n k).events) (eq-eqb k k refl) in
-    let next : at (of (flip l) (state steps k n).sent) (length (of l (state steps n k).taken)) ≡ Some p =
-    takes_next (look w n k) (state steps n k) (state steps k n).sent (from seen n k) l p (signs_of (neighbours w n) k items ++ map sign_of (w.ends n k).events) come on (g.sides n k) in
-    sent_from k (flip l) (w.put k n) (length (of l (state steps n k).taken)) p (a.put k n) (subst (λ xs. at (of (flip l) xs) (length (of l (state steps n k).taken)) ≡ Some p) (g.sides k n).ledger.sent_is next)
+    let come : (end_views w n k).coming ≡ PacketComes l p ∷ (arrivals_of (neighbours w n) k items ++ map arrival_of (w.ends n k).events) =
+    ap (λ is. arrivals_of (neighbours w n) k is ++ map arrival_of (w.ends n k).events) q
+    ∙ ap (λ r. (arrivals_in k r item.what ++ arrivals_of (neighbours w n) k items) ++ map arrival_of (w.ends n k).events) seat
+    ∙ ap (λ (x : What). (arrivals_in k (Some k) x ++ arrivals_of (neighbours w n) k items) ++ map arrival_of (w.ends n k).events) what
+    ∙ ap (λ (b : Bool). ((if b then PacketComes l p ∷ [] else []) ++ arrivals_of (neighbours w n) k items) ++ map arrival_of (w.ends n k).events) (eq-eqb k k refl) in
+    let next : slice_get (packets_of (reversed l) (machine_after steps k n).sent) (length (packets_of l (machine_after steps n k).taken)) ≡ Some p =
+    takes_next (end_views w n k) (machine_after steps n k) (machine_after steps k n).sent (seen_at_other seen n k) l p (arrivals_of (neighbours w n) k items ++ map arrival_of (w.ends n k).events) come on (g.sides n k) in
+    sent_from k (reversed l) (w.put k n) (length (packets_of l (machine_after steps n k).taken)) p (a.put k n) (subst (λ xs. slice_get (packets_of (reversed l) xs) (length (packets_of l (machine_after steps n k).taken)) ≡ Some p) (g.sides k n).histories.sent_is next)
 
 -- nothing of this changes
 same_nodes : (w w' : World) → w'.topology ≡ w.topology → w'.seats ≡ w.seats → w'.put ≡ w.put → w'.inputs ≡ w.inputs → w'.steps ≡ w.steps → AreNodes w → AreNodes w'
@@ -119,7 +117,7 @@ same_nodes w w' a b c d e h = record {
   agreed = λ n k. ((h.agreed n k).0, ap (λ (f : ℕ → List (Input × ℕ)). (h.agreed n k).0 ++ packets_accepted k (f n)) d ∙ (h.agreed n k).1 ∙ ap (λ (f : ℕ → ℕ → List Parcel). packets_in (f n k)) (sym e));
 }
 
-module _ (steps : List MachineStep) (w : World) (seen : Seen) (g : Good steps (look w) w.datagrams seen) (h : AreNodes w) where
+module _ (steps : List MachineStep) (w : World) (seen : Seen) (g : AllEndsFollow steps (end_views w) w.datagrams seen) (h : AreNodes w) where
   -- an item is served
   served : (n : ℕ) (answers : Answers) (Excuse : Type 0) (item : Item) (items : List Item) → w.items n ≡ item ∷ items → ((d : ℕ) → item.what ≡ Tells.Need d → Excuse) →
       Done n (neighbours w n) answers Excuse (serving_of answers (neighbours w n) (w.seats n) item)
@@ -132,7 +130,7 @@ module _ (steps : List MachineStep) (w : World) (seen : Seen) (g : Good steps (l
   serving_nodes : (n : ℕ) (answers : Answers) (items : List Item) (v : Serving) → Done n (neighbours w n) answers (Unit {0}) v → AreNodes (after_serving w n items v)
   serving_nodes n answers items v d = record {
     seats = λ a. seat_at a (cases_Bool (nat_eq a n));
-    put = λ a k. put_at a k (cases_Bool (nat_eq a n));
+    put = λ a k. cargoes_at a k (cases_Bool (nat_eq a n));
     agreed = λ a k. agreed_at a k (cases_Bool (nat_eq a n));
   }
     where
@@ -142,18 +140,19 @@ module _ (steps : List MachineStep) (w : World) (seen : Seen) (g : Good steps (l
           (subst (λ m. IsSeat m (neighbours w m) v.seat) (sym (eqb-true a n t)) (record { near = d.sound.near; up = d.sound.up; own = d.sound.own; settled = d.settled }))
       seat_at a (inr t) = subst (λ x. IsSeat a (neighbours w a) (if x then v.seat else w.seats a)) (sym t) (h.seats a)
 
-      put_at : (a k : ℕ) → (nat_eq a n ≡ true) ⊎ (nat_eq a n ≡ false) → Each (IsCargoOf a) ((if nat_eq a n then (λ k. w.put n k ++ put_to k v.offers) else w.put a) k)
-      put_at a k (inl t) =
+      cargoes_at : (a k : ℕ) → (nat_eq a n ≡ true) ⊎ (nat_eq a n ≡ false) → Each (IsCargoOf a) ((if nat_eq a n then (λ k. w.put n k ++ put_to k v.offers) else w.put a) k)
+      cargoes_at a k (inl t) =
           subst (λ x. Each (IsCargoOf a) ((if x then (λ k. w.put n k ++ put_to k v.offers) else w.put a) k)) (sym t)
           (subst (λ m. Each (IsCargoOf m) (w.put n k ++ put_to k v.offers)) (sym (eqb-true a n t)) (each_both (IsCargoOf n) (w.put n k) (put_to k v.offers) (h.put n k) (put_of n k v.offers d.sound.sends)))
-      put_at a k (inr t) = subst (λ x. Each (IsCargoOf a) ((if x then (λ k. w.put n k ++ put_to k v.offers) else w.put a) k)) (sym t) (h.put a k)
+      cargoes_at a k (inr t) = subst (λ x. Each (IsCargoOf a) ((if x then (λ k. w.put n k ++ put_to k v.offers) else w.put a) k)) (sym t) (h.put a k)
 
       more : (k : ℕ) → (earlier : List Packet) × (earlier ++ packets_accepted k (w.inputs n ++ v.inputs) ≡ packets_in (w.steps n k ++ stepped_from k v.steps))
       more k =
-          let x = h.agreed n k in
-          (x.0,
-          ap (λ xs. x.0 ++ xs) (accepted-append k (w.inputs n) v.inputs) ∙ sym (append_assoc x.0 (packets_accepted k (w.inputs n)) (packets_accepted k v.inputs))
-          ∙ ap₂ (λ xs ys. xs ++ ys) x.1 (d.sound.agreed k) ∙ sym (map-append (λ (y : Parcel). y.packet) (w.steps n k) (stepped_from k v.steps)))
+          let x = h.agreed n k in (
+            x.0,
+            ap (λ xs. x.0 ++ xs) (accepted-append k (w.inputs n) v.inputs) ∙ sym (append_assoc x.0 (packets_accepted k (w.inputs n)) (packets_accepted k v.inputs))
+                ∙ ap₂ (λ xs ys. xs ++ ys) x.1 (d.sound.agreed k) ∙ sym (map-append (λ (y : Parcel). y.packet) (w.steps n k) (stepped_from k v.steps)),
+          )
 
       agreed_at : (a k : ℕ) → (nat_eq a n ≡ true) ⊎ (nat_eq a n ≡ false) →
           (earlier : List Packet) × (earlier ++ packets_accepted k (if nat_eq a n then w.inputs n ++ v.inputs else w.inputs a) ≡ packets_in ((if nat_eq a n then (λ k. w.steps n k ++ stepped_from k v.steps) else w.steps a) k))
@@ -195,12 +194,12 @@ module _ (steps : List MachineStep) (w : World) (seen : Seen) (g : Good steps (l
       go (x ∷ cs) = same_nodes w (after_pull w m j (x ∷ cs)) refl refl refl refl refl h
   effect_nodes c (Transmit m j) = go (frame_due (settings w m j) (w.ends m j) (c.now m j))
     where
-      go : (r : Option Frame) → AreNodes (after_sending w m j (after_transmit (settings w m j) (w.ends m j) (c.now m j)) r)
+      go : (r : Option FrameParts) → AreNodes (after_sending w m j (after_transmit (settings w m j) (w.ends m j) (c.now m j)) r)
       go None = h
       go (Some f) = same_nodes w (after_sending w m j (after_transmit (settings w m j) (w.ends m j) (c.now m j)) (Some f)) refl refl refl refl refl h
   effect_nodes c (Deliver i) = go (datagram w i)
     where
-      go : (r : Option Frame) → AreNodes (after_receiving w c r)
+      go : (r : Option FrameParts) → AreNodes (after_receiving w c r)
       go None = h
       go (Some f) = cond_both (w.arms f.header.receiver).receive _ _ AreNodes
           (λ _. same_nodes w (record w { arms = put_one w.arms f.header.receiver (record (w.arms f.header.receiver) { receive = false }) }) refl refl refl refl refl h)
@@ -233,22 +232,22 @@ record Ended (w : World) : Type 0 where
   agreed : SteppedAreAccepted w
 
 module _ (laws : LinkLaws) (lows : LifeLaws) where
-  run_ends : (es : Schedule) (steps : List MachineStep) (w : World) (seen : Seen) → ((a b : ℕ) (l : Life) → seen a b l 0) → Good steps (look w) w.datagrams seen → AreNodes w → Ended (after_schedule es w)
+  run_ends : (es : Schedule) (steps : List MachineStep) (w : World) (seen : Seen) → ((a b : ℕ) (l : Life) → seen a b l 0) → AllEndsFollow steps (end_views w) w.datagrams seen → AreNodes w → Ended (after_schedule es w)
   unfolding after_schedule
   run_ends [] steps w seen z g h = record { refused = only_needs steps w seen g h; agreed = h.agreed }
   run_ends (e ∷ es) steps w seen z g h =
       let now : Seen = λ a b l c. seen a b l c ⊎ HasAccepted a b l c w in
       let w' : World = world_by e.1 w e.0 in
       let steps' : List MachineStep = made (steps_by e.1 w e.0) steps in
-      let g' : Good steps' (look w') w'.datagrams now =
-      world_keeps laws lows steps w now (λ a b l. inl (z a b l)) (λ a b l j. inr (record { bound = j; accepted = omega arith })) e.1 e.0 (sees steps (look w) w.datagrams seen now (λ a b l c x. inl x) g) in
+      let g' : AllEndsFollow steps' (end_views w') w'.datagrams now =
+      world_follows laws lows steps w now (λ a b l. inl (z a b l)) (λ a b l j. inr (record { bound = j; accepted = omega arith })) e.1 e.0 (more_seen steps (end_views w) w.datagrams seen now (λ a b l c x. inl x) g) in
       run_ends es steps' w' now (λ a b l. inl (z a b l)) g' (world_nodes steps w seen g h e.1 e.0)
 
   first_nodes : (t : Topology) (times : Times) → AreNodes (first_world t times)
   first_nodes t times = record { seats = λ n. first_is t n; put = λ n k. tt; agreed = λ n k. ([], refl) }
 
   ends : (t : Topology) (times : Times) (es : Schedule) → Ended (after_schedule es (first_world t times))
-  ends t times es = run_ends es [] (first_world t times) (λ a b l c. c ≡ 0) (λ a b l. refl) (first_good laws lows t times) (first_nodes t times)
+  ends t times es = run_ends es [] (first_world t times) (λ a b l c. c ≡ 0) (λ a b l. refl) (first_follows laws lows t times) (first_nodes t times)
 
   pub refused_in_run : (t : Topology) (times : Times) (es : Schedule) → OnlyNeedsAreRefused (after_schedule es (first_world t times))
   refused_in_run t times es = (ends t times es).refused

@@ -2,7 +2,7 @@
 use Rattle.std.specs.Prelude.{ℕ, Bool, is_some, if◌then◌else◌, List, [], ◌∷◌, ◌++◌, slice_get, Option, Some, None}
 use Rattle.tora_frame.specs.FrameParts.{FrameParts}
 use Rattle.tora_arq.specs.declared.Life.{Life}
-use Rattle.tora_arq.specs.LinkEnd.{EndState, bound_life, after_frame}
+use Rattle.tora_arq.specs.LinkEnd.{bound_life, after_frame}
 use Rattle.tora_life.specs.LifeRun.{drawn_by}
 use Rattle.tora_life.specs.LifeRun.LifeEvent.{Draw as DrawsNumber}
 use Rattle.tora_seat.specs.declared.What.{What}
@@ -33,7 +33,7 @@ steps_of_frame w c None = []
 steps_of_frame w c (Some f) =
     if (w.arms f.header.receiver).receive then []
     else steps_of_binding f.header.receiver f.header.sender (bound_life (w.ends f.header.receiver f.header.sender))
-        (bound_life (after_frame (settings w f.header.receiver f.header.sender) (w.ends f.header.receiver f.header.sender) f (c.now f.header.receiver f.header.sender)))
+    (bound_life (after_frame (settings w f.header.receiver f.header.sender) (w.ends f.header.receiver f.header.sender) f (c.now f.header.receiver f.header.sender)))
 
 -- a current life that ends here: Close
 abbrev pub steps_of_end : ℕ → ℕ → Option Life → List MachineStep

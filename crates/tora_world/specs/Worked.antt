@@ -1,5 +1,5 @@
 -- Two nodes whose link comes up, computed event by event: what the laws say of a run is not empty.
-use Rattle.std.specs.Prelude.{ℕ, ◌++◌, false, List, [], ◌∷◌, pos, None}
+use Rattle.std.specs.Prelude.{◌++◌, false, List, [], ◌∷◌, pos, None}
 use Rattle.tora_packet.specs.declared.Packet.{Packet}
 use Rattle.tora_packet.specs.declared.Packet.TheVariants.{Upd}
 use Rattle.tora_arq.specs.declared.Life.{Life}
@@ -8,7 +8,7 @@ use Rattle.tora_world.specs.declared.Event.{Event}
 use Rattle.tora_world.specs.declared.Event.TheVariants.{Need, Open, Pull, Transmit, Deliver, Pump, CoreTurn, Restart}
 use Rattle.tora_world.specs.Topology.{Topology}
 use Rattle.tora_world.specs.LinkMachine.{MachineStep}
-use Rattle.tora_world.specs.LinkMachine.MachineStep.{Draw, Bind, Send, Take, Close}
+use Rattle.tora_world.specs.LinkMachine.MachineStep.{Draw, Bind}
 use Rattle.tora_world.specs.World.{World, Choice, first_world}
 use Rattle.tora_world.specs.FreeWorld.{Schedule, after_schedule, own_schedule}
 

@@ -87,12 +87,9 @@ pub fn only_needs_are_refused()
 /// The simulator's own run of any events, with its clock and with lanes of 256 cargoes, is one of the runs that the
 /// laws speak of.
 pub fn simulator_runs_are_free_runs()
-    ensures {
-        (t : Topology) (times : Times) (events : List Event)
-            → world_after_all (first_world t times) events ≡ after_schedule (own_schedule events (first_world t times)) (first_world t times)
-    }
-{
-}
+    ensures { (t : Topology) (times : Times) (events : List Event)
+        → world_after_all (first_world t times) events ≡ after_schedule (own_schedule events (first_world t times)) (first_world t times) }
+{}
 
 /// Two nodes and some twenty events, computed: neither law is empty.
 pub fn worked_schedules_hold()
@@ -101,13 +98,9 @@ pub fn worked_schedules_hold()
     ensures sent { sent_packets met 1 2 life ≡ update ∷ [] }
     ensures taken { taken_packets met 2 1 life ≡ update ∷ [] }
     // The run is these steps of the link machine, the last standing first: a second delivery of the datagram is none.
-    ensures steps {
-        machine_steps (own_schedule meeting start) start [] ≡ Take 2 1 life update ∷ Send 1 2 life update ∷ bound_steps
-    }
+    ensures steps { machine_steps (own_schedule meeting start) start [] ≡ Take 2 1 life update ∷ Send 1 2 life update ∷ bound_steps }
     // A restart of node 1 closes the life there.
-    ensures restart {
-        machine_steps restart start [] ≡ Close 1 2 life ∷ Take 2 1 life update ∷ Send 1 2 life update ∷ bound_steps
-    }
+    ensures restart { machine_steps restart start [] ≡ Close 1 2 life ∷ Take 2 1 life update ∷ Send 1 2 life update ∷ bound_steps }
     // Where the lane hands the update back, it was broadcast and not sent: the life is no longer current, its cut is
     // pending, its link is down at the core, and the machine has closed it.
     ensures broadcast_all_the_same { broadcast_packets pair handed_back 1 2 ≡ update ∷ [] }
@@ -116,5 +109,4 @@ pub fn worked_schedules_hold()
     ensures cut { (handed_back.seats 1).pending 2 ≡ Some life }
     ensures down { (handed_back.seats 1).core.up ≡ [] }
     ensures closed { machine_steps refusal start [] ≡ Close 1 2 life ∷ bound_steps }
-{
-}
+{}

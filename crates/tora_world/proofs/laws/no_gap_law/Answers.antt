@@ -1,5 +1,5 @@
-use Rattle.tora_world.proofs.Apart.{neighbours_apart}
-use Rattle.tora_world.proofs.GapRuns.{without_gap, sends_in_latest}
+use Rattle.tora_world.proofs.NeighboursApart.{neighbours_apart}
+use Rattle.tora_world.proofs.RunsWithoutGap.{without_gap, sends_in_latest}
 use Rattle.tora_world.proofs.laws.no_gap_law.Goals as goal
 
 pub returns-clause-gapless : goal.returns-clause-gapless

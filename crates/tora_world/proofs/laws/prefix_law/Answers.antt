@@ -1,6 +1,6 @@
-use Rattle.tora_world.proofs.Runs.{prefix, of_machine, acknowledged}
+use Rattle.tora_world.proofs.AllRuns.{prefix, of_machine, acknowledged}
 use Rattle.tora_world.proofs.Cores.{cores_follow}
-use Rattle.tora_world.proofs.Once.{binds_once}
+use Rattle.tora_world.proofs.BoundOnce.{binds_once}
 use Rattle.tora_world.proofs.laws.prefix_law.Goals as goal
 
 pub returns-clause-prefix : goal.returns-clause-prefix

@@ -1,4 +1,4 @@
-use Rattle.tora_world.proofs.Runs.{own_run}
+use Rattle.tora_world.proofs.AllRuns.{own_run}
 use Rattle.tora_world.specs.World.{first_world}
 use Rattle.tora_world.proofs.laws.simulator_runs_are_free_runs.Goals as goal
 

@@ -1,17 +1,16 @@
 -- No run leaves a gap.
-use Rattle.std.proofs.Common.{◌≡◌, ◌≢◌, ℕ, zero, suc, ◌≤◌, Bool, true, false, true≢false, ◌&&◌, ◌⊎◌, inl, inr, ⊎_elim, List, [], ◌∷◌, ◌++◌, map, length, Option, Some, None, nat_eq, if◌then◌else◌, refl, sym, ap, ap₂, ◌∙◌, subst, append-nil, eqb-true, eq-eqb, arith}
+use Rattle.std.proofs.Common.{◌≡◌, ℕ, ◌≤◌, Bool, true, false, ◌⊎◌, inl, inr, ⊎_elim, List, [], ◌∷◌, ◌++◌, map, Option, Some, None, nat_eq, if◌then◌else◌, refl, sym, ap, ◌∙◌, subst, append-nil, eqb-true, eq-eqb, arith}
 use Rattle.std.proofs.lemmas.Bool.{cond_both, cases_Bool}
 use Rattle.std.specs.Prelude.{slice_get, is_some}
 use Rattle.tora_packet.specs.declared.Packet.{Packet}
-use Rattle.tora_frame.specs.FrameParts.{FrameParts as Frame}
+use Rattle.tora_frame.specs.FrameParts.{FrameParts}
 use Rattle.tora_arq.specs.declared.Life.{Life}
 use Rattle.tora_arq.specs.declared.Times.{Times}
 use Rattle.tora_arq.specs.declared.LinkEvent.{LinkEvent}
-use Rattle.tora_arq.specs.declared.state.Phase.TheVariants.{Bound}
-use Rattle.tora_arq.specs.LinkEnd.{EndState, frame_due, after_transmit, after_frame, first_event}
+use Rattle.tora_arq.specs.LinkEnd.{frame_due, after_transmit, after_frame, first_event}
 use Rattle.tora_core.specs.declared.Input.{Input}
 use Rattle.tora_core.specs.Numbers.{has_number, has_repeat}
-use Rattle.tora_core.specs.CoreRun.{CoreView, core_after_all}
+use Rattle.tora_core.specs.CoreRun.{core_after_all}
 use Rattle.tora_seat.specs.declared.What.{What}
 use Rattle.tora_seat.specs.declared.What.TheVariants as Tells
 use Rattle.tora_seat.specs.declared.Item.{Item}
@@ -22,23 +21,23 @@ use Rattle.tora_world.specs.declared.Event.TheVariants.{Need, Tick, Open, Pull, 
 use Rattle.tora_world.specs.declared.Call.{Call}
 use Rattle.tora_world.specs.declared.Call.TheVariants as Fails
 use Rattle.tora_world.specs.Topology.{Topology, neighbours_of, new_core, is_link}
-use Rattle.tora_world.specs.Lists.{packets_of as of, parcels_in, Begins}
-use Rattle.tora_world.specs.LinkMachine.{MachineStep, machine_after as state, made}
+use Rattle.tora_world.specs.Lists.{packets_of, parcels_in, Begins}
+use Rattle.tora_world.specs.LinkMachine.{MachineStep, machine_after, made}
 use Rattle.tora_world.specs.MachineRun.{steps_by}
 use Rattle.tora_world.specs.World.{World, Choice, settings, neighbours, datagram, first_seat, first_world, refusal_by, with_end, after_pull, after_sending, after_receiving, after_pump, after_serving, after_turn, after_arming, after_restart, effect_by, world_by, sent_packets}
 use Rattle.tora_world.specs.FreeWorld.{Schedule, after_schedule}
 use Rattle.tora_world.specs.Law.{Sometime, HasAccepted}
 use Rattle.tora_world.specs.Gaps.{broadcast_from, broadcast_packets, life_told, life_taken, life_by, life_after, latest_life, IsCut, HasNoGap, IsWithoutGap, SendsInLatest}
 use Rattle.tora_world.specs.Layers.{LinkLaws, LifeLaws}
-use Rattle.tora_world.proofs.Basics.{begins_refl}
-use Rattle.tora_world.proofs.Views.{View, sign_of, Good, Seen, from}
-use Rattle.tora_world.proofs.Views.Sign.{Come}
+use Rattle.tora_world.proofs.PacketLists.{begins_refl}
+use Rattle.tora_world.proofs.Invariant.{arrival_of, AllEndsFollow, Seen, seen_at_other}
+use Rattle.tora_world.proofs.Invariant.Arrival.{LifeComes}
 use Rattle.tora_world.proofs.Moves.{comes_new}
-use Rattle.tora_world.proofs.Goods.{sees}
-use Rattle.tora_world.proofs.Looks.{sign_in, signs_in, signs_of, look}
-use Rattle.tora_world.proofs.Runs.{world_keeps, first_good}
-use Rattle.tora_world.proofs.Numbers.{has-ascending, count_up, first_cut_none}
-use Rattle.tora_world.proofs.Gapless.{Now, Fits, Whole, Done, Inv, serving_done}
+use Rattle.tora_world.proofs.AllEnds.{more_seen}
+use Rattle.tora_world.proofs.EndViews.{arrivals_in, arrivals_of, end_views}
+use Rattle.tora_world.proofs.AllRuns.{world_follows, first_follows}
+use Rattle.tora_world.proofs.LinksUp.{has-ascending, count_up, first_cut_none}
+use Rattle.tora_world.proofs.ServedWithoutGap.{Now, Fits, Done, serving_done}
 
 module _ (t : Topology) (n k : ℕ) (apart : has_repeat (neighbours_of t n) ≡ false) (inside : is_link t n k ≡ true) where
   abbrev ks : List ℕ
@@ -73,7 +72,7 @@ module _ (t : Topology) (n k : ℕ) (apart : has_repeat (neighbours_of t n) ≡ 
   -- what an event leaves
   record Left (Was : Life → Type 0) (o : Option Life) (w w' : World) : Type 0 where
     world : AtWorld (λ l. Was l ⊎ IsCut n k l w') o w'
-    others : (j : Life) → (o ≡ Some j → ⊥) → of j (parcels_in (w'.put n k)) ≡ of j (parcels_in (w.put n k))
+    others : (j : Life) → (o ≡ Some j → ⊥) → packets_of j (parcels_in (w'.put n k)) ≡ packets_of j (parcels_in (w.put n k))
 
   -- nothing of this node and neighbour changes
   same_parts : (Was : Life → Type 0) (o : Option Life) (w w' : World) → w'.topology ≡ w.topology → w'.seats ≡ w.seats → w'.inputs ≡ w.inputs → w'.put ≡ w.put → AtWorld Was o w → Left Was o w w'
@@ -85,11 +84,11 @@ module _ (t : Topology) (n k : ℕ) (apart : has_repeat (neighbours_of t n) ≡ 
           (subst (λ (f : ℕ → List (Input × ℕ)). AtParts Was o (w.seats n) (f n) (w'.put n k)) (sym c)
           (subst (λ (f : ℕ → ℕ → List Cargo). AtParts Was o (w.seats n) (w.inputs n) (f n k)) (sym d) h.parts)));
     };
-    others = λ j no. ap (λ (f : ℕ → ℕ → List Cargo). of j (parcels_in (f n k))) d;
+    others = λ j no. ap (λ (f : ℕ → ℕ → List Cargo). packets_of j (parcels_in (f n k))) d;
   }
 
   -- an item is served at this node
-  served : (Was : Life → Type 0) (o : Option Life) (w : World) (c : Choice) (item : Item) (items : List Item) → ((l : Life) → slice_get ks item.seat ≡ Some k → item.what ≡ Tells.Up l → of l (parcels_in (w.put n k)) ≡ []) → AtWorld Was o w →
+  served : (Was : Life → Type 0) (o : Option Life) (w : World) (c : Choice) (item : Item) (items : List Item) → ((l : Life) → slice_get ks item.seat ≡ Some k → item.what ≡ Tells.Up l → packets_of l (parcels_in (w.put n k)) ≡ []) → AtWorld Was o w →
       Left Was (life_told k (slice_get (neighbours w n) item.seat) item.what o) w (after_serving w n items (serving_of c.answers (neighbours w n) (w.seats n) item))
   served Was o w c item items fresh h =
       subst (λ js. Left Was (life_told k (slice_get js item.seat) item.what o) w (after_serving w n items (serving_of c.answers js (w.seats n) item))) (sym (ap (λ x. neighbours_of x n) h.topology)) here
@@ -114,7 +113,7 @@ module _ (t : Topology) (n k : ℕ) (apart : has_repeat (neighbours_of t n) ≡ 
               parts = subst (λ (b : Bool). AtParts (λ l. Was l ⊎ ((if b then v.seat else w.seats n).pending k ≡ Some l)) o' (if b then v.seat else w.seats n) (if b then w.inputs n ++ v.inputs else w.inputs n) ((if b then (λ j. w.put n j ++ put_to j v.offers) else w.put n) k))
                   (sym (eq-eqb n n refl)) after;
             };
-            others = λ j no. ap (λ (b : Bool). of j (parcels_in ((if b then (λ i. w.put n i ++ put_to i v.offers) else w.put n) k))) (eq-eqb n n refl) ∙ d.inv.fits.others j no;
+            others = λ j no. ap (λ (b : Bool). packets_of j (parcels_in ((if b then (λ i. w.put n i ++ put_to i v.offers) else w.put n) k))) (eq-eqb n n refl) ∙ d.inv.fits.others j no;
           }
 
       here : Left Was (life_told k (slice_get ks item.seat) item.what o) w (after_serving w n items (serving_of c.answers ks (w.seats n) item))
@@ -131,12 +130,12 @@ module _ (t : Topology) (n k : ℕ) (apart : has_repeat (neighbours_of t n) ≡ 
       parts = subst (λ (b : Bool). AtParts (λ l. Was l ⊎ ((if b then v.seat else w.seats n).pending k ≡ Some l)) o (if b then v.seat else w.seats n) (if b then w.inputs m ++ v.inputs else w.inputs n) ((if b then (λ j. w.put m j ++ put_to j v.offers) else w.put n) k))
           (sym off) (parts_more Was (λ l. Was l ⊎ ((w.seats n).pending k ≡ Some l)) o (w.seats n) (w.inputs n) (w.put n k) (λ l x. inl x) h.parts);
     };
-    others = λ j no. ap (λ (b : Bool). of j (parcels_in ((if b then (λ i. w.put m i ++ put_to i v.offers) else w.put n) k))) off;
+    others = λ j no. ap (λ (b : Bool). packets_of j (parcels_in ((if b then (λ i. w.put m i ++ put_to i v.offers) else w.put n) k))) off;
   }
 
   -- the front item is that of a life that comes up
   abbrev Fresh : World → Type 0
-  Fresh w = (item : Item) (items : List Item) → w.items n ≡ item ∷ items → (l : Life) → slice_get ks item.seat ≡ Some k → item.what ≡ Tells.Up l → of l (parcels_in (w.put n k)) ≡ []
+  Fresh w = (item : Item) (items : List Item) → w.items n ≡ item ∷ items → (l : Life) → slice_get ks item.seat ≡ Some k → item.what ≡ Tells.Up l → packets_of l (parcels_in (w.put n k)) ≡ []
 
   turn_at : (Was : Life → Type 0) (o : Option Life) (w : World) (c : Choice) (m : ℕ) → Fresh w → AtWorld Was o w → Left Was (if nat_eq n m then life_taken (neighbours w n) k (w.items n) o else o) w (after_turn w c m (w.items m))
   turn_at Was o w c m fresh h = go (cases_Bool (nat_eq n m))
@@ -203,12 +202,12 @@ module _ (t : Topology) (n k : ℕ) (apart : has_repeat (neighbours_of t n) ≡ 
       go (x ∷ cs) = same_parts Was o w (after_pull w m j (x ∷ cs)) refl refl refl refl h
   effect_at Was o w c (Transmit m j) fresh h = go (frame_due (settings w m j) (w.ends m j) (c.now m j))
     where
-      go : (r : Option Frame) → Left Was o w (after_sending w m j (after_transmit (settings w m j) (w.ends m j) (c.now m j)) r)
+      go : (r : Option FrameParts) → Left Was o w (after_sending w m j (after_transmit (settings w m j) (w.ends m j) (c.now m j)) r)
       go None = same_parts Was o w w refl refl refl refl h
       go (Some f) = same_parts Was o w (after_sending w m j (after_transmit (settings w m j) (w.ends m j) (c.now m j)) (Some f)) refl refl refl refl h
   effect_at Was o w c (Deliver i) fresh h = go (datagram w i)
     where
-      go : (r : Option Frame) → Left Was o w (after_receiving w c r)
+      go : (r : Option FrameParts) → Left Was o w (after_receiving w c r)
       go None = same_parts Was o w w refl refl refl refl h
       go (Some f) = cond_both (w.arms f.header.receiver).receive _ _ (Left Was o w)
           (λ _. same_parts Was o w (record w { arms = put_one w.arms f.header.receiver (record (w.arms f.header.receiver) { receive = false }) }) refl refl refl refl h)
@@ -238,14 +237,14 @@ module _ (t : Topology) (n k : ℕ) (apart : has_repeat (neighbours_of t n) ≡ 
       go true = same_parts Was o w w refl refl refl refl h
       go false = effect_at Was o w c event fresh h
 
-  fresh_of : (steps : List MachineStep) (w : World) (seen : Seen) → w.topology ≡ t → Good steps (look w) w.datagrams seen → Fresh w
+  fresh_of : (steps : List MachineStep) (w : World) (seen : Seen) → w.topology ≡ t → AllEndsFollow steps (end_views w) w.datagrams seen → Fresh w
   fresh_of steps w seen top g item items q l seat what =
-      let come : (look w n k).coming ≡ Come l ∷ (signs_of (neighbours w n) k items ++ map sign_of (w.ends n k).events) =
-      ap (λ is. signs_of (neighbours w n) k is ++ map sign_of (w.ends n k).events) q
-      ∙ ap (λ r. (signs_in k r item.what ++ signs_of (neighbours w n) k items) ++ map sign_of (w.ends n k).events) (ap (λ x. slice_get (neighbours_of x n) item.seat) top ∙ seat)
-      ∙ ap (λ (x : What). (signs_in k (Some k) x ++ signs_of (neighbours w n) k items) ++ map sign_of (w.ends n k).events) what
-      ∙ ap (λ (b : Bool). ((if b then Come l ∷ [] else []) ++ signs_of (neighbours w n) k items) ++ map sign_of (w.ends n k).events) (eq-eqb k k refl) in
-      comes_new (look w n k) (state steps n k) (state steps k n).sent (from seen n k) l (signs_of (neighbours w n) k items ++ map sign_of (w.ends n k).events) come (g.sides n k)
+      let come : (end_views w n k).coming ≡ LifeComes l ∷ (arrivals_of (neighbours w n) k items ++ map arrival_of (w.ends n k).events) =
+      ap (λ is. arrivals_of (neighbours w n) k is ++ map arrival_of (w.ends n k).events) q
+      ∙ ap (λ r. (arrivals_in k r item.what ++ arrivals_of (neighbours w n) k items) ++ map arrival_of (w.ends n k).events) (ap (λ x. slice_get (neighbours_of x n) item.seat) top ∙ seat)
+      ∙ ap (λ (x : What). (arrivals_in k (Some k) x ++ arrivals_of (neighbours w n) k items) ++ map arrival_of (w.ends n k).events) what
+      ∙ ap (λ (b : Bool). ((if b then LifeComes l ∷ [] else []) ++ arrivals_of (neighbours w n) k items) ++ map arrival_of (w.ends n k).events) (eq-eqb k k refl) in
+      comes_new (end_views w n k) (machine_after steps n k) (machine_after steps k n).sent (seen_at_other seen n k) l (arrivals_of (neighbours w n) k items ++ map arrival_of (w.ends n k).events) come (g.sides n k)
 
   sometime_now : (P : World → Type 0) (es : Schedule) (w : World) → P w → Sometime P es w
   sometime_now P [] w p = p
@@ -268,7 +267,7 @@ module _ (t : Topology) (n k : ℕ) (apart : has_repeat (neighbours_of t n) ≡ 
     };
   }
 
-  run_at : (laws : LinkLaws) (lows : LifeLaws) (es : Schedule) (steps : List MachineStep) (w : World) (o : Option Life) (Was : Life → Type 0) (seen : Seen) → ((a b : ℕ) (l : Life) → seen a b l 0) → Good steps (look w) w.datagrams seen → AtWorld Was o w →
+  run_at : (laws : LinkLaws) (lows : LifeLaws) (es : Schedule) (steps : List MachineStep) (w : World) (o : Option Life) (Was : Life → Type 0) (seen : Seen) → ((a b : ℕ) (l : Life) → seen a b l 0) → AllEndsFollow steps (end_views w) w.datagrams seen → AtWorld Was o w →
       Ended laws lows (λ l. Was l ⊎ Sometime (IsCut n k l) es w) (latest_life n k es w o) (after_schedule es w)
   unfolding after_schedule
   run_at laws lows [] steps w o Was seen z g h =
@@ -279,8 +278,8 @@ module _ (t : Topology) (n k : ℕ) (apart : has_repeat (neighbours_of t n) ≡ 
       let w' : World = world_by e.1 w e.0 in
       let o' : Option Life = life_after e.1 w n k e.0 o in
       let steps' : List MachineStep = made (steps_by e.1 w e.0) steps in
-      let g' : Good steps' (look w') w'.datagrams now =
-      world_keeps laws lows steps w now (λ a b l. inl (z a b l)) (λ a b l j. inr (record { bound = j; accepted = omega arith })) e.1 e.0 (sees steps (look w) w.datagrams seen now (λ a b l c x. inl x) g) in
+      let g' : AllEndsFollow steps' (end_views w') w'.datagrams now =
+      world_follows laws lows steps w now (λ a b l. inl (z a b l)) (λ a b l j. inr (record { bound = j; accepted = omega arith })) e.1 e.0 (more_seen steps (end_views w) w.datagrams seen now (λ a b l c x. inl x) g) in
       let r = run_at laws lows es steps' w' o' (λ l. Was l ⊎ IsCut n k l w') now (λ a b l. inl (z a b l)) g' (world_at Was o w e.1 e.0 (fresh_of steps w seen h.topology g) h).world in
       let more : (l : Life) → (Was l ⊎ IsCut n k l w') ⊎ Sometime (IsCut n k l) es w' → Was l ⊎ Sometime (IsCut n k l) (e ∷ es) w =
       λ l x. ⊎_elim (λ y. ⊎_elim (λ q. inl q) (λ q. inr (inr (sometime_now (IsCut n k l) es w' q))) y) (λ y. inr (inr y)) x in
@@ -294,7 +293,7 @@ module _ (t : Topology) (n k : ℕ) (apart : has_repeat (neighbours_of t n) ≡ 
     final = after_schedule es (first_world t times)
 
     ended : Ended laws lows (λ l. ⊥ ⊎ Sometime (IsCut n k l) es (first_world t times)) (latest_life n k es (first_world t times) None) final
-    ended = run_at laws lows es [] (first_world t times) None (λ l. ⊥) (λ a b l c. c ≡ 0) (λ a b l. refl) (first_good laws lows t times) (first_at times)
+    ended = run_at laws lows es [] (first_world t times) None (λ l. ⊥) (λ a b l c. c ≡ 0) (λ a b l. refl) (first_follows laws lows t times) (first_at times)
 
     pub without_gap : IsWithoutGap t (first_world t times) es final n k
     without_gap = record {
@@ -317,7 +316,7 @@ module _ (t : Topology) (n k : ℕ) (apart : has_repeat (neighbours_of t n) ≡ 
             let x = as_now (Some j) e in
             let y : Some j ≡ Some l = sym x.0 ∙ q in
             let same_life : j ≡ l = cc in
-            let all : sent_packets final n k l ≡ broadcast_packets t final n k = subst (λ i. of i (parcels_in (final.put n k)) ≡ broadcast_packets t final n k) same_life (sym (append-nil (sent_packets final n k j)) ∙ x.1) in
+            let all : sent_packets final n k l ≡ broadcast_packets t final n k = subst (λ i. packets_of i (parcels_in (final.put n k)) ≡ broadcast_packets t final n k) same_life (sym (append-nil (sent_packets final n k j)) ∙ x.1) in
             record { begins = subst (Begins (sent_packets final n k l)) all (begins_refl (sent_packets final n k l)); whole = inl all }
 
     pub sends_in_latest : SendsInLatest (first_world t times) es final n k

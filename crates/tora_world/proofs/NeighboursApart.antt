@@ -2,11 +2,11 @@
 use Rattle.std.proofs.Common.{◌≡◌, ℕ, Bool, true, false, true≢false, ◌&&◌, ◌||◌, ◌⊎◌, inl, inr, ⊎_elim, List, [], ◌∷◌, Some, None, nat_eq, nat_lt, if◌then◌else◌, refl, sym, ap, ap₂, ◌∙◌, subst, eqb-true, eq-eqb}
 use Rattle.std.proofs.lemmas.Bool.{cond_both, cases_Bool, and_from, false_from_ne_true}
 use Rattle.std.specs.Prelude.{fold}
-use Rattle.tora_core.specs.Numbers.{has_number, with_number, ascending, has_repeat}
+use Rattle.tora_core.specs.Numbers.{has_number, with_number, has_repeat}
 use Rattle.tora_core.specs.declared.errors.CoreError.TheVariants as Fault
 use Rattle.tora_world.specs.Topology.{Link, Topology, other_ends, neighbours_of, is_same_link, has_link, has_repeated_link, has_too_many, has_own_link, topology_fault}
 use Rattle.tora_world.proofs.Events.{turned}
-use Rattle.tora_world.proofs.Numbers.{or_left, or_none, has-with}
+use Rattle.tora_world.proofs.LinksUp.{or_left, or_none, has-with}
 
 both_false : (a b : Bool) → a ≡ false → b ≡ false → (a || b) ≡ false
 both_false a b e f = ap₂ (λ x y. x || y) e f

@@ -1,10 +1,9 @@
 -- Serving an item leaves no gap: what a core broadcasts while a life is current is sent in it, or the life is cut.
-use Rattle.std.proofs.Common.{◌≡◌, ◌≢◌, ℕ, zero, suc, ◌<◌, ◌≤◌, Bool, true, false, true≢false, ◌&&◌, ◌||◌, ◌⊎◌, inl, inr, ⊎_elim, List, [], ◌∷◌, ◌++◌, length, Option, Some, None, nat_eq, if◌then◌else◌, refl, sym, ap, ap₂, ◌∙◌, subst, append_assoc, append-nil, eqb-true, eq-eqb, arith}
+use Rattle.std.proofs.Common.{◌≡◌, ℕ, zero, suc, ◌<◌, ◌≤◌, Bool, true, false, true≢false, ◌&&◌, ◌||◌, ◌⊎◌, inl, inr, ⊎_elim, List, [], ◌∷◌, ◌++◌, length, Option, Some, None, nat_eq, if◌then◌else◌, refl, sym, ap, ◌∙◌, subst, append_assoc, append-nil, eqb-true, eq-eqb, arith}
 use Rattle.std.proofs.lemmas.Bool.{cond_both, cases_Bool}
 use Rattle.std.specs.Prelude.{slice_get, is_none}
 use Rattle.tora_packet.specs.declared.Packet.{Packet}
 use Rattle.tora_arq.specs.declared.Life.{Life}
-use Rattle.tora_arq.specs.Lives.{is_same_life as same}
 use Rattle.tora_core.specs.declared.Input.{Input}
 use Rattle.tora_core.specs.declared.Input.TheVariants as In
 use Rattle.tora_core.specs.declared.errors.StepError.{StepError}
@@ -16,23 +15,23 @@ use Rattle.tora_seat.specs.declared.Answer.TheVariants as Says
 use Rattle.tora_seat.specs.declared.Item.{Item}
 use Rattle.tora_seat.specs.declared.Cargo.{Cargo}
 use Rattle.tora_seat.specs.declared.Cargo.TheVariants as Gives
-use Rattle.tora_seat.specs.Serving.{SeatState, Offer, Parcel, Serving, Answers, put_one, offered, with_current, with_pending, after_cut_tried, after_cuts_tried, after_sent, after_broadcast, after_broadcasts, accepting, after_answer, after_step, first_cut, after_settling, after_input, is_current, after_down, after_old_down, after_up, after_link_item, after_other_item, after_item_of, begin_serving, serving_of, put_to}
-use Rattle.tora_world.specs.Lists.{packet_where as only, packets_of as of, parcels_in, parcel_of, Begins}
+use Rattle.tora_seat.specs.Serving.{SeatState, Parcel, Serving, Answers, put_one, offered, with_current, with_pending, after_cut_tried, after_cuts_tried, after_sent, after_broadcast, after_broadcasts, accepting, after_answer, after_step, first_cut, after_settling, after_input, is_current, after_down, after_old_down, after_up, after_link_item, after_other_item, after_item_of, begin_serving, serving_of, put_to}
+use Rattle.tora_world.specs.Lists.{packets_of, parcels_in, parcel_of, Begins}
 use Rattle.tora_world.specs.Gaps.{is_link_up, with_sends, broadcast_from, life_told}
-use Rattle.tora_world.proofs.Basics.{same_true, same_refl, of-push, only_same, only_other, begins_refl, begins_trans, begins_append}
-use Rattle.tora_world.proofs.Events.{put_one_at, put_one_off, turned}
+use Rattle.tora_world.proofs.PacketLists.{same_true, of-push, only_same, only_other, begins_refl, begins_trans, begins_append}
+use Rattle.tora_world.proofs.Events.{put_one_here, put_one_there, turned}
 use Rattle.tora_world.proofs.Cores.{core_after-push}
-use Rattle.tora_world.proofs.Serves.{cargo_where, offer_parcels, nothing_more, no_cut, no_back}
-use Rattle.tora_world.proofs.Numbers.{or_left, or_none, is_link_down, up_same, up_come, up_gone, not_both, core_accepted, same_neighbours, up_accepted, down_accepted, count_up, count_most, count_drops, first_cut_is, first_cut_none, settled_at}
+use Rattle.tora_world.proofs.Serving.{offer_parcels, nothing_more, no_cut, no_back}
+use Rattle.tora_world.proofs.LinksUp.{or_none, is_link_down, up_same, up_come, up_gone, core_accepted, same_neighbours, up_accepted, down_accepted, count_up, count_most, count_drops, first_cut_is, first_cut_none, settled_at}
 
 -- by the life that is current: what is still to be sent of it, or what was sent of the life that came up last
 abbrev pub Now : (Life → Type 0) → Option Life → List Packet → List Packet → Bool → Option Life → List Parcel → Option Life → Type 0
-Now Was o ps all up pending xs None = (o ≡ None → up ≡ false) × ((l : Life) → o ≡ Some l → Begins (of l xs) all × (((of l xs ≡ all) × (up ≡ false)) ⊎ (Was l ⊎ (pending ≡ Some l))))
-Now Was o ps all up pending xs (Some l) = (o ≡ Some l) × (of l xs ++ ps ≡ all) × (up ≡ true)
+Now Was o ps all up pending xs None = (o ≡ None → up ≡ false) × ((l : Life) → o ≡ Some l → Begins (packets_of l xs) all × (((packets_of l xs ≡ all) × (up ≡ false)) ⊎ (Was l ⊎ (pending ≡ Some l))))
+Now Was o ps all up pending xs (Some l) = (o ≡ Some l) × (packets_of l xs ++ ps ≡ all) × (up ≡ true)
 
 pub record Fits (Was : Life → Type 0) (o : Option Life) (old : List Parcel) (ps all : List Packet) (up : Bool) (current pending : Option Life) (xs : List Parcel) : Type 0 where
   pub now : Now Was o ps all up pending xs current
-  pub others : (j : Life) → (o ≡ Some j → ⊥) → of j xs ≡ of j old
+  pub others : (j : Life) → (o ≡ Some j → ⊥) → packets_of j xs ≡ packets_of j old
 
 broadcast-push : (k : ℕ) (c : CoreView) (is : List (Input × ℕ)) (input : Input) (now : ℕ) (ps : List Packet) →
     broadcast_from k c (is ++ (input, now) ∷ []) ps ≡ with_sends k (core_after_all c is) input now (broadcast_from k c is ps)
@@ -70,7 +69,7 @@ module _ (answers : Answers) (ks : List ℕ) (k : ℕ) (first : CoreView) (befor
       (λ _. fits_same o old ps all v (offered v j (Gives.Packet life p) true) refl refl refl
       (nothing_more k base v.offers (record { to = j; cargo = Gives.Packet life p; put = true }) (ap (λ (t : Bool). parcels_in (if t && true then Gives.Packet life p ∷ [] else [])) off)) h)
       (λ _. fits_same o old ps all v (with_pending (with_current (offered v j (Gives.Packet life p) false) j None) j (Some life)) refl
-      (put_one_off v.seat.current j None k (turned j k off)) (put_one_off v.seat.pending j (Some life) k (turned j k off))
+      (put_one_there v.seat.current j None k (turned j k off)) (put_one_there v.seat.pending j (Some life) k (turned j k off))
       (nothing_more k base v.offers (record { to = j; cargo = Gives.Packet life p; put = false }) (no_back k j (Gives.Packet life p))) h)
 
   -- a packet for this neighbour
@@ -84,16 +83,16 @@ module _ (answers : Answers) (ks : List ℕ) (k : ℕ) (first : CoreView) (befor
       (λ _. subst (λ x. Fits Was o old ps all (has_number k v.seat.core.up) (v.seat.current k) (v.seat.pending k) x) (sym more)
       (record {
         now = subst (λ c. Now Was o ps all (has_number k v.seat.core.up) (v.seat.pending k) (xs_of v ++ parcel_of l p ∷ []) c) (sym e)
-            (n.0, ap (λ ys. ys ++ ps) (of-push l (xs_of v) (parcel_of l p) ∙ ap (λ ys. of l (xs_of v) ++ ys) (only_same l p)) ∙ append_assoc (of l (xs_of v)) (p ∷ []) ps ∙ n.1, n.2);
-        others = λ j no. of-push j (xs_of v) (parcel_of l p) ∙ ap (λ ys. of j (xs_of v) ++ ys) (only_other j (parcel_of l p) (λ q. no (n.0 ∙ ap Some (sym q)))) ∙ append-nil (of j (xs_of v)) ∙ h.others j no;
+            (n.0, ap (λ ys. ys ++ ps) (of-push l (xs_of v) (parcel_of l p) ∙ ap (λ ys. packets_of l (xs_of v) ++ ys) (only_same l p)) ∙ append_assoc (packets_of l (xs_of v)) (p ∷ []) ps ∙ n.1, n.2);
+        others = λ j no. of-push j (xs_of v) (parcel_of l p) ∙ ap (λ ys. packets_of j (xs_of v) ++ ys) (only_other j (parcel_of l p) (λ q. no (n.0 ∙ ap Some (sym q)))) ∙ append-nil (packets_of j (xs_of v)) ∙ h.others j no;
       }))
-      (λ _. subst (λ c. Fits Was o old ps all (has_number k v.seat.core.up) c (put_one v.seat.pending k (Some l) k) (xs_of (offered v k (Gives.Packet l p) false))) (sym (put_one_at v.seat.current k None))
+      (λ _. subst (λ c. Fits Was o old ps all (has_number k v.seat.core.up) c (put_one v.seat.pending k (Some l) k) (xs_of (offered v k (Gives.Packet l p) false))) (sym (put_one_here v.seat.current k None))
       (subst (λ x. Fits Was o old ps all (has_number k v.seat.core.up) None (put_one v.seat.pending k (Some l) k) x) (sym (nothing_more k base v.offers (record { to = k; cargo = Gives.Packet l p; put = false }) (no_back k k (Gives.Packet l p))))
       (record {
         now = (
           λ z. absurd (let y : None ≡ Some l = sym z ∙ n.0 in cc),
           λ l' q. let y : Some l ≡ Some l' = sym n.0 ∙ q in let same_life : l ≡ l' = cc in
-              (subst (λ i. Begins (of i (xs_of v)) all) same_life (p ∷ ps, n.1), inr (inr (put_one_at v.seat.pending k (Some l) ∙ ap Some same_life))),
+              (subst (λ i. Begins (packets_of i (xs_of v)) all) same_life (p ∷ ps, n.1), inr (inr (put_one_here v.seat.pending k (Some l) ∙ ap Some same_life))),
         );
         others = h.others;
       })))
@@ -205,15 +204,16 @@ module _ (answers : Answers) (ks : List ℕ) (k : ℕ) (first : CoreView) (befor
       at_none true e was off n = (
         λ z. absurd (true≢false (sym (was refl) ∙ n.0 z)),
         λ l q. let d = n.1 l q in
-            let all : with_sends k v.seat.core input now (all_of v) ≡ all_of v ++ sends_of v.seat.core input now = with_sends_is k v.seat.core input now (all_of v) true not_up e in
-            (subst (Begins (of l (xs_of v))) (sym all) (begins_trans (of l (xs_of v)) (all_of v) (all_of v ++ sends_of v.seat.core input now) d.0 (begins_append (all_of v) (sends_of v.seat.core input now))),
-            ⊎_elim (λ x. absurd (true≢false (sym (was refl) ∙ x.1))) (λ x. inr x) d.1),
+            let all : with_sends k v.seat.core input now (all_of v) ≡ all_of v ++ sends_of v.seat.core input now = with_sends_is k v.seat.core input now (all_of v) true not_up e in (
+              subst (Begins (packets_of l (xs_of v))) (sym all) (begins_trans (packets_of l (xs_of v)) (all_of v) (all_of v ++ sends_of v.seat.core input now) d.0 (begins_append (all_of v) (sends_of v.seat.core input now))),
+              ⊎_elim (λ x. absurd (true≢false (sym (was refl) ∙ x.1))) (λ x. inr x) d.1,
+            ),
       )
       at_none false e was off n = (
         λ z. e,
         λ l q. let d = n.1 l q in
             let all : with_sends k v.seat.core input now (all_of v) ≡ all_of v = with_sends_is k v.seat.core input now (all_of v) false not_up e in
-            (subst (Begins (of l (xs_of v))) (sym all) d.0, ⊎_elim (λ x. inl (x.0 ∙ sym all, e)) (λ x. inr x) d.1),
+            (subst (Begins (packets_of l (xs_of v))) (sym all) d.0, ⊎_elim (λ x. inl (x.0 ∙ sym all, e)) (λ x. inr x) d.1),
       )
 
       build : (cur : Option Life) → v.seat.current k ≡ cur → Now Was o (sends_of v.seat.core input now) (with_sends k v.seat.core input now (all_of v)) (has_number k (core_after v.seat.core input now).up) (v.seat.pending k) (xs_of v) cur →
@@ -234,7 +234,7 @@ module _ (answers : Answers) (ks : List ℕ) (k : ℕ) (first : CoreView) (befor
           let u : has_number k (core_after v.seat.core input now).up ≡ has_number k v.seat.core.up = taken ∙ up_same k v.seat.core.up input not_up d in
           let n = was (Some l) e in
           build (Some l) e
-          (n.0, ap (λ ys. ys ++ sends_of v.seat.core input now) (sym (append-nil (of l (xs_of v))) ∙ n.1) ∙ sym (with_sends_is k v.seat.core input now (all_of v) true not_up (u ∙ n.2)), u ∙ n.2)
+          (n.0, ap (λ ys. ys ++ sends_of v.seat.core input now) (sym (append-nil (packets_of l (xs_of v))) ∙ n.1) ∙ sym (with_sends_is k v.seat.core input now (all_of v) true not_up (u ∙ n.2)), u ∙ n.2)
 
       go : (is_link_down k input ≡ true) ⊎ (is_link_down k input ≡ false) → FitsIn o old (sends_of v.seat.core input now) (with_sends k v.seat.core input now (all_of v)) (accepting v input now)
       go (inl d) = build None (down d) (at_none false (taken ∙ up_gone k v.seat.core.up input d) (λ q. absurd (true≢false (sym q))) (λ q. refl) (was None (down d)))
@@ -254,7 +254,7 @@ module _ (answers : Answers) (ks : List ℕ) (k : ℕ) (first : CoreView) (befor
   step_is v input now e = ap (after_answer answers ks input now v) e
 
   -- the current life of this neighbour is over, and its link goes down at the core
-  down_step : (o o' : Option Life) (old old' : List Parcel) (v : Serving) (now : ℕ) (l : Life) → v.seat.current k ≡ Some l → ((j : Life) → o' ≡ Some j → o ≡ Some j) → ((j : Life) → (o' ≡ Some j → ⊥) → of j (xs_of v) ≡ of j old') →
+  down_step : (o o' : Option Life) (old old' : List Parcel) (v : Serving) (now : ℕ) (l : Life) → v.seat.current k ≡ Some l → ((j : Life) → o' ≡ Some j → o ≡ Some j) → ((j : Life) → (o' ≡ Some j → ⊥) → packets_of j (xs_of v) ≡ packets_of j old') →
       Inv o old v → Inv o' old' (after_step answers ks (In.LinkDown k) now (with_current v k None)) × (has_number k (after_step answers ks (In.LinkDown k) now (with_current v k None)).seat.core.up ≡ false)
   down_step o o' old old' v now l e sub others h =
       let v' : Serving = with_current v k None in
@@ -265,21 +265,21 @@ module _ (answers : Answers) (ks : List ℕ) (k : ℕ) (first : CoreView) (befor
       let is : after_step answers ks (In.LinkDown k) now v' ≡ after_broadcasts answers ks (sends_of v.seat.core (In.LinkDown k) now) (accepting v' (In.LinkDown k) now) = step_is v' (In.LinkDown k) now ok in
       let fit : FitsIn o' old' (sends_of v.seat.core (In.LinkDown k) now) (with_sends k v.seat.core (In.LinkDown k) now (all_of v)) (accepting v' (In.LinkDown k) now) =
       record {
-        now = subst (λ c. Now Was o' (sends_of v.seat.core (In.LinkDown k) now) (with_sends k v.seat.core (In.LinkDown k) now (all_of v)) (has_number k (core_after v.seat.core (In.LinkDown k) now).up) (v.seat.pending k) (xs_of v) c) (sym (put_one_at v.seat.current k None))
-            (
-              λ z. gone,
-              λ j q. let y : Some l ≡ Some j = sym n.0 ∙ sub j q in let same_life : l ≡ j = cc in
-                  let whole : of j (xs_of v) ≡ with_sends k v.seat.core (In.LinkDown k) now (all_of v) = subst (λ i. of i (xs_of v) ≡ all_of v) same_life (sym (append-nil (of l (xs_of v))) ∙ n.1) ∙ sym all in
-                  (subst (Begins (of j (xs_of v))) whole (begins_refl (of j (xs_of v))), inl (whole, gone)),
-            );
+        now = subst (λ c. Now Was o' (sends_of v.seat.core (In.LinkDown k) now) (with_sends k v.seat.core (In.LinkDown k) now (all_of v)) (has_number k (core_after v.seat.core (In.LinkDown k) now).up) (v.seat.pending k) (xs_of v) c) (sym (put_one_here v.seat.current k None)) (
+          λ z. gone,
+          λ j q. let y : Some l ≡ Some j = sym n.0 ∙ sub j q in let same_life : l ≡ j = cc in
+              let whole : packets_of j (xs_of v) ≡ with_sends k v.seat.core (In.LinkDown k) now (all_of v) = subst (λ i. packets_of i (xs_of v) ≡ all_of v) same_life (sym (append-nil (packets_of l (xs_of v))) ∙ n.1) ∙ sym all in
+              (subst (Begins (packets_of j (xs_of v))) whole (begins_refl (packets_of j (xs_of v))), inl (whole, gone)),
+        );
         others = others;
       } in
-      let inv : Inv o' old' (after_broadcasts answers ks (sends_of v.seat.core (In.LinkDown k) now) (accepting v' (In.LinkDown k) now)) = accepts o' old' v' (In.LinkDown k) now h.follows h.near fit in
-      (subst (Inv o' old') (sym is) inv,
-      ap (λ (x : Serving). has_number k x.seat.core.up) is ∙ ap (λ (c : CoreView). has_number k c.up) (calm_broadcasts (sends_of v.seat.core (In.LinkDown k) now) (accepting v' (In.LinkDown k) now)).core ∙ gone)
+      let inv : Inv o' old' (after_broadcasts answers ks (sends_of v.seat.core (In.LinkDown k) now) (accepting v' (In.LinkDown k) now)) = accepts o' old' v' (In.LinkDown k) now h.follows h.near fit in (
+        subst (Inv o' old') (sym is) inv,
+        ap (λ (x : Serving). has_number k x.seat.core.up) is ∙ ap (λ (c : CoreView). has_number k c.up) (calm_broadcasts (sends_of v.seat.core (In.LinkDown k) now) (accepting v' (In.LinkDown k) now)).core ∙ gone,
+      )
 
   -- a life comes up of which nothing was sent
-  up_step : (o : Option Life) (old : List Parcel) (v : Serving) (now : ℕ) (l : Life) → has_number k v.seat.core.up ≡ false → of l (xs_of v) ≡ [] → Inv None old v →
+  up_step : (o : Option Life) (old : List Parcel) (v : Serving) (now : ℕ) (l : Life) → has_number k v.seat.core.up ≡ false → packets_of l (xs_of v) ≡ [] → Inv None old v →
       Inv (Some l) old (after_step answers ks (In.LinkUp k) now (with_current v k (Some l)))
   up_step o old v now l off none h =
       let v' : Serving = with_current v k (Some l) in
@@ -290,7 +290,7 @@ module _ (answers : Answers) (ks : List ℕ) (k : ℕ) (first : CoreView) (befor
       let is : after_step answers ks (In.LinkUp k) now v' ≡ after_broadcasts answers ks (sends_of v.seat.core (In.LinkUp k) now) (accepting v' (In.LinkUp k) now) = step_is v' (In.LinkUp k) now ok in
       let fit : FitsIn (Some l) old (sends_of v.seat.core (In.LinkUp k) now) (with_sends k v.seat.core (In.LinkUp k) now (all_of v)) (accepting v' (In.LinkUp k) now) =
       record {
-        now = subst (λ c. Now Was (Some l) (sends_of v.seat.core (In.LinkUp k) now) (with_sends k v.seat.core (In.LinkUp k) now (all_of v)) (has_number k (core_after v.seat.core (In.LinkUp k) now).up) (v.seat.pending k) (xs_of v) c) (sym (put_one_at v.seat.current k (Some l)))
+        now = subst (λ c. Now Was (Some l) (sends_of v.seat.core (In.LinkUp k) now) (with_sends k v.seat.core (In.LinkUp k) now (all_of v)) (has_number k (core_after v.seat.core (In.LinkUp k) now).up) (v.seat.pending k) (xs_of v) c) (sym (put_one_here v.seat.current k (Some l)))
             (refl, ap (λ ys. ys ++ sends_of v.seat.core (In.LinkUp k) now) none ∙ sym all, come);
         others = λ j no. h.fits.others j (λ q. cc);
       } in
@@ -372,7 +372,7 @@ module _ (answers : Answers) (ks : List ℕ) (k : ℕ) (first : CoreView) (befor
   unfolding after_input
   input_done o old v input now a b h = settle o old now (after_step answers ks input now v) (step_keeps o old v input now a b h)
 
-  down_done : (o o' : Option Life) (old old' : List Parcel) (v : Serving) (now : ℕ) (l : Life) → v.seat.current k ≡ Some l → ((j : Life) → o' ≡ Some j → o ≡ Some j) → ((j : Life) → (o' ≡ Some j → ⊥) → of j (xs_of v) ≡ of j old') →
+  down_done : (o o' : Option Life) (old old' : List Parcel) (v : Serving) (now : ℕ) (l : Life) → v.seat.current k ≡ Some l → ((j : Life) → o' ≡ Some j → o ≡ Some j) → ((j : Life) → (o' ≡ Some j → ⊥) → packets_of j (xs_of v) ≡ packets_of j old') →
       Inv o old v → Done o' old' (after_down answers ks k now v) × (has_number k (after_down answers ks k now v).seat.core.up ≡ false)
   unfolding after_input
   down_done o o' old old' v now l e sub others h =
@@ -380,7 +380,7 @@ module _ (answers : Answers) (ks : List ℕ) (k : ℕ) (first : CoreView) (befor
       let v' : Serving = after_step answers ks (In.LinkDown k) now (with_current v k None) in
       (settle o' old' now v' d.0, stays_down (length ks) now v' d.1)
 
-  up_done : (o : Option Life) (old : List Parcel) (v : Serving) (now : ℕ) (l : Life) → has_number k v.seat.core.up ≡ false → of l (xs_of v) ≡ [] → Inv None old v → Done (Some l) old (after_up answers ks k l now v)
+  up_done : (o : Option Life) (old : List Parcel) (v : Serving) (now : ℕ) (l : Life) → has_number k v.seat.core.up ≡ false → packets_of l (xs_of v) ≡ [] → Inv None old v → Done (Some l) old (after_up answers ks k l now v)
   unfolding after_input
   up_done o old v now l off none h = settle (Some l) old now (after_step answers ks (In.LinkUp k) now (with_current v k (Some l))) (up_step o old v now l off none h)
 
@@ -457,7 +457,7 @@ module _ (answers : Answers) (ks : List ℕ) (k : ℕ) (first : CoreView) (befor
   -- a change of the current life of another neighbour
   other_current : (o : Option Life) (old : List Parcel) (v : Serving) (j : ℕ) (x : Option Life) → nat_eq j k ≡ false → Inv o old v → Inv o old (with_current v j x)
   other_current o old v j x off h = record {
-    fits = fits_same o old [] (all_of v) v (with_current v j x) refl (put_one_off v.seat.current j x k (turned j k off)) refl refl h.fits;
+    fits = fits_same o old [] (all_of v) v (with_current v j x) refl (put_one_there v.seat.current j x k (turned j k off)) refl refl h.fits;
     follows = h.follows;
     near = h.near;
   }
@@ -472,21 +472,23 @@ module _ (answers : Answers) (ks : List ℕ) (k : ℕ) (first : CoreView) (befor
       Inv None (parcels_in base) (after_old_down answers ks k now v cur) × (has_number k (after_old_down answers ks k now v cur).seat.core.up ≡ false)
   own_old_down o seat v now s w None e =
       let h = inv_start o seat v s w in
-      let off : has_number k v.seat.core.up ≡ false = settled_at v.seat ks k (sym (settled_start seat v s ks) ∙ w.settled) inside e in
-      (record {
-        fits = record {
-          now = subst (λ c. Now Was None [] (all_of v) (has_number k v.seat.core.up) (v.seat.pending k) (xs_of v) c) (sym e) (λ z. off, λ l q. absurd (cc));
-          others = λ j no. ap (of j) s.xs;
-        };
-        follows = h.follows;
-        near = h.near;
-      }, off)
+      let off : has_number k v.seat.core.up ≡ false = settled_at v.seat ks k (sym (settled_start seat v s ks) ∙ w.settled) inside e in (
+        record {
+          fits = record {
+            now = subst (λ c. Now Was None [] (all_of v) (has_number k v.seat.core.up) (v.seat.pending k) (xs_of v) c) (sym e) (λ z. off, λ l q. absurd (cc));
+            others = λ j no. ap (packets_of j) s.xs;
+          };
+          follows = h.follows;
+          near = h.near;
+        },
+        off,
+      )
   own_old_down o seat v now s w (Some l) e =
-      let d = down_done o None (parcels_in base) (parcels_in base) v now l e (λ j q. absurd (cc)) (λ j no. ap (of j) s.xs) (inv_start o seat v s w) in
+      let d = down_done o None (parcels_in base) (parcels_in base) v now l e (λ j q. absurd (cc)) (λ j no. ap (packets_of j) s.xs) (inv_start o seat v s w) in
       (d.0.inv, d.1)
 
   -- an item of a link
-  link_item_done : (o : Option Life) (seat : SeatState) (v : Serving) → Started seat v → Whole o seat → (j now : ℕ) (what : What) → ((l : Life) → nat_eq j k ≡ true → what ≡ Tells.Up l → of l (parcels_in base) ≡ []) →
+  link_item_done : (o : Option Life) (seat : SeatState) (v : Serving) → Started seat v → Whole o seat → (j now : ℕ) (what : What) → ((l : Life) → nat_eq j k ≡ true → what ≡ Tells.Up l → packets_of l (parcels_in base) ≡ []) →
       Done (life_told k (Some j) what o) (parcels_in base) (after_link_item answers ks j now what v)
   unfolding after_link_item
   link_item_done o seat v s w j now (Tells.Up l) fresh = go (cases_Bool (nat_eq j k))
@@ -496,7 +498,7 @@ module _ (answers : Answers) (ks : List ℕ) (k : ℕ) (first : CoreView) (befor
           let q : j ≡ k = eqb-true j k e in
           let d = own_old_down o seat v now s w (v.seat.current k) refl in
           let v' : Serving = after_old_down answers ks k now v (v.seat.current k) in
-          let none : of l (xs_of v') ≡ [] = d.0.fits.others l (λ x. cc) ∙ fresh l e refl in
+          let none : packets_of l (xs_of v') ≡ [] = d.0.fits.others l (λ x. cc) ∙ fresh l e refl in
           subst (λ b. Done (if b then Some l else o) (parcels_in base) (after_up answers ks j l now (after_old_down answers ks j now v (v.seat.current j)))) (sym e)
           (subst (λ x. Done (Some l) (parcels_in base) (after_up answers ks x l now (after_old_down answers ks x now v (v.seat.current x)))) (sym q)
           (up_done o (parcels_in base) v' now l d.1 none d.0))
@@ -523,7 +525,7 @@ module _ (answers : Answers) (ks : List ℕ) (k : ℕ) (first : CoreView) (befor
           let q : j ≡ k = eqb-true j k e in
           let on : v.seat.current k ≡ Some l = subst (λ x. v.seat.current x ≡ Some l) q (current_life l (v.seat.current j) t) in
           subst (λ x. Done o (parcels_in base) (after_down answers ks x now v)) (sym q)
-          (down_done o o (parcels_in base) (parcels_in base) v now l on (λ i z. z) (λ i no. ap (of i) s.xs) (inv_start o seat v s w)).0
+          (down_done o o (parcels_in base) (parcels_in base) v now l on (λ i z. z) (λ i no. ap (packets_of i) s.xs) (inv_start o seat v s w)).0
       down t (inr e) =
           input_done o (parcels_in base) (with_current v j None) (In.LinkDown j) now refl (λ d. absurd (true≢false (sym d ∙ e))) (other_current o (parcels_in base) v j None e (inv_start o seat v s w))
   link_item_done o seat v s w j now (Tells.Need d) fresh = input_done o (parcels_in base) v (In.Need d) now refl (λ x. absurd (true≢false (sym x))) (inv_start o seat v s w)
@@ -541,7 +543,7 @@ module _ (answers : Answers) (ks : List ℕ) (k : ℕ) (first : CoreView) (befor
   other_item_done o seat v s w now Tells.Show = done_start o seat (record v { answer = Says.Show }) (record { core = s.core; current = s.current; inputs = s.inputs; xs = s.xs }) w
   other_item_done o seat v s w now Tells.Quit = done_start o seat (record v { answer = Says.Quit }) (record { core = s.core; current = s.current; inputs = s.inputs; xs = s.xs }) w
 
-  pub serving_done : (o : Option Life) (seat : SeatState) (item : Item) → Whole o seat → ((l : Life) → slice_get ks item.seat ≡ Some k → item.what ≡ Tells.Up l → of l (parcels_in base) ≡ []) →
+  pub serving_done : (o : Option Life) (seat : SeatState) (item : Item) → Whole o seat → ((l : Life) → slice_get ks item.seat ≡ Some k → item.what ≡ Tells.Up l → packets_of l (parcels_in base) ≡ []) →
       Done (life_told k (slice_get ks item.seat) item.what o) (parcels_in base) (serving_of answers ks seat item)
   unfolding serving_of
   serving_done o seat item w fresh = go (slice_get ks item.seat) refl

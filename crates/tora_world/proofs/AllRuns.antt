@@ -1,6 +1,5 @@
 -- Every run keeps what is said of all ends.
-use Rattle.std.proofs.Common.{◌≡◌, ℕ, List, Bool, true, false, true≢false, ◌⊎◌, inl, inr, ⊎_elim, [], ◌∷◌, Some, None, if◌then◌else◌, refl, sym, ap, ◌∙◌, subst, arith}
-use Rattle.std.proofs.lemmas.Bool.{cond_both}
+use Rattle.std.proofs.Common.{◌≡◌, ℕ, List, Bool, true, false, true≢false, ◌⊎◌, inl, inr, ⊎_elim, [], ◌∷◌, Some, None, if◌then◌else◌, refl, subst, arith}
 use Rattle.std.specs.Prelude.{is_some, not, ◌&&◌}
 use Rattle.tora_arq.specs.declared.Life.{Life}
 use Rattle.tora_arq.specs.declared.Times.{Times}
@@ -12,19 +11,19 @@ use Rattle.tora_world.specs.declared.Event.{Event}
 use Rattle.tora_world.specs.declared.Event.TheVariants.{Need, Tick, Open, Pull, Transmit, Deliver, Pump, CoreTurn, Arm, Restart}
 use Rattle.tora_world.specs.declared.SimError.TheVariants as Refused
 use Rattle.tora_world.specs.Topology.{Topology, is_link}
-use Rattle.tora_world.specs.Lists.{reversed as flip, packets_of as of}
-use Rattle.tora_world.specs.LinkMachine.{MachineStep, machine_after as state, made}
+use Rattle.tora_world.specs.Lists.{reversed}
+use Rattle.tora_world.specs.LinkMachine.{MachineStep, machine_after, made}
 use Rattle.tora_world.specs.MachineRun.{steps_of_effect, steps_by, machine_steps}
 use Rattle.tora_world.specs.World.{World, Choice, settings, datagram, first_world, is_empty, has_room, unless_possible, refusal_by, effect_by, world_by, world_after, world_after_all}
 use Rattle.tora_world.specs.FreeWorld.{Schedule, after_schedule, own_schedule}
 use Rattle.tora_world.specs.Law.{TakenBeginsSent, IsOfMachine, Sometime, HasAccepted, AcknowledgedIsAccepted}
 use Rattle.tora_world.specs.Layers.{LinkLaws, LifeLaws}
-use Rattle.tora_world.proofs.Basics.{begins_nil}
-use Rattle.tora_world.proofs.Views.{InPhase, Good, Seen, from}
-use Rattle.tora_world.proofs.Goods.{sees, good_prefix}
-use Rattle.tora_world.proofs.Looks.{look}
-use Rattle.tora_world.proofs.Events.{Fine, need_keeps, tick_keeps, opening_keeps, pull_keeps, transmit_keeps, deliver_keeps, pump_keeps, arming_keeps, restart_keeps}
-use Rattle.tora_world.proofs.Serves.{turn_keeps}
+use Rattle.tora_world.proofs.PacketLists.{begins_nil}
+use Rattle.tora_world.proofs.Invariant.{InPhase, AllEndsFollow, Seen, seen_at_other}
+use Rattle.tora_world.proofs.AllEnds.{more_seen, prefix_follows}
+use Rattle.tora_world.proofs.EndViews.{end_views}
+use Rattle.tora_world.proofs.Events.{need_keeps, tick_keeps, opening_keeps, pull_keeps, transmit_keeps, deliver_keeps, pump_keeps, arming_keeps, restart_keeps}
+use Rattle.tora_world.proofs.Serving.{turn_keeps}
 
 linked : (b possible : Bool) → is_some (if b then unless_possible possible else Some Refused.NoNode) ≡ false → b ≡ true
 linked true possible e = refl
@@ -32,7 +31,7 @@ linked false possible e = absurd (true≢false e)
 
 module _ (laws : LinkLaws) (lows : LifeLaws) where
   effect_keeps : (steps : List MachineStep) (w : World) (seen : Seen) → ((n k : ℕ) (l : Life) → seen n k l 0) → ((n k : ℕ) (l : Life) → (w.ends n k).phase ≡ Bound l → seen n k l (w.ends n k).accepted) → (c : Choice) (event : Event) →
-      is_some (refusal_by c w event) ≡ false → Good steps (look w) w.datagrams seen → Good (made (steps_of_effect c w event) steps) (look (effect_by c w event)) (effect_by c w event).datagrams seen
+      is_some (refusal_by c w event) ≡ false → AllEndsFollow steps (end_views w) w.datagrams seen → AllEndsFollow (made (steps_of_effect c w event) steps) (end_views (effect_by c w event)) (effect_by c w event).datagrams seen
   unfolding effect_by
   effect_keeps steps w seen z now c (Need n d) e g = need_keeps laws lows steps w seen n c.stamp (Tells.Need d) g
   effect_keeps steps w seen z now c Tick e g = tick_keeps laws lows steps w seen c g
@@ -46,21 +45,21 @@ module _ (laws : LinkLaws) (lows : LifeLaws) where
   effect_keeps steps w seen z now c (Arm n call) e g = arming_keeps laws lows steps w seen n call g
   effect_keeps steps w seen z now c (Restart n torn) e g = restart_keeps laws lows steps w seen n torn g
 
-  pub world_keeps : (steps : List MachineStep) (w : World) (seen : Seen) → ((n k : ℕ) (l : Life) → seen n k l 0) → ((n k : ℕ) (l : Life) → (w.ends n k).phase ≡ Bound l → seen n k l (w.ends n k).accepted) → (c : Choice) (event : Event) →
-      Good steps (look w) w.datagrams seen → Good (made (steps_by c w event) steps) (look (world_by c w event)) (world_by c w event).datagrams seen
+  pub world_follows : (steps : List MachineStep) (w : World) (seen : Seen) → ((n k : ℕ) (l : Life) → seen n k l 0) → ((n k : ℕ) (l : Life) → (w.ends n k).phase ≡ Bound l → seen n k l (w.ends n k).accepted) → (c : Choice) (event : Event) →
+      AllEndsFollow steps (end_views w) w.datagrams seen → AllEndsFollow (made (steps_by c w event) steps) (end_views (world_by c w event)) (world_by c w event).datagrams seen
   unfolding world_by
-  world_keeps steps w seen z now c event g = go (is_some (refusal_by c w event)) refl
+  world_follows steps w seen z now c event g = go (is_some (refusal_by c w event)) refl
     where
-      go : (b : Bool) → is_some (refusal_by c w event) ≡ b → Good (made (if b then [] else steps_of_effect c w event) steps) (look (if b then w else effect_by c w event)) (if b then w else effect_by c w event).datagrams seen
+      go : (b : Bool) → is_some (refusal_by c w event) ≡ b → AllEndsFollow (made (if b then [] else steps_of_effect c w event) steps) (end_views (if b then w else effect_by c w event)) (if b then w else effect_by c w event).datagrams seen
       go true e = g
       go false e = effect_keeps steps w seen z now c event e g
 
-  pub first_good : (t : Topology) (times : Times) → Good [] (look (first_world t times)) [] (λ n k l c. c ≡ 0)
-  first_good t times = record {
+  pub first_follows : (t : Topology) (times : Times) → AllEndsFollow [] (end_views (first_world t times)) [] (λ n k l c. c ≡ 0)
+  first_follows t times = record {
     legal = tt;
     sides = λ n k. record {
       kept = laws.first (settings (first_world t times) n k);
-      ledger = record {
+      histories = record {
         floor = file_value [];
         kept = lows.first [] (omega arith);
         opened = omega arith;
@@ -72,7 +71,7 @@ module _ (laws : LinkLaws) (lows : LifeLaws) where
         all_taken = tt;
         all_out = tt;
       };
-      flow = record { latest = None; was_bound = tt; now = tt; comes = tt; rises = tt; older = tt; over = tt; chain = λ l. begins_nil [] };
+      arriving = record { latest = None; was_bound = tt; now = tt; comes = tt; rises = tt; older = tt; over = tt; chain = λ l. begins_nil [] };
       phase = tt;
     };
     tells = tt;
@@ -82,19 +81,19 @@ module _ (laws : LinkLaws) (lows : LifeLaws) where
   abbrev By : Seen → Schedule → World → Seen
   By seen es w n k l c = seen n k l c ⊎ Sometime (HasAccepted n k l c) es w
 
-  run_good : (es : Schedule) (steps : List MachineStep) (w : World) (seen : Seen) → ((n k : ℕ) (l : Life) → seen n k l 0) → Good steps (look w) w.datagrams seen →
-      Good (machine_steps es w steps) (look (after_schedule es w)) (after_schedule es w).datagrams (By seen es w)
+  run_follows : (es : Schedule) (steps : List MachineStep) (w : World) (seen : Seen) → ((n k : ℕ) (l : Life) → seen n k l 0) → AllEndsFollow steps (end_views w) w.datagrams seen →
+      AllEndsFollow (machine_steps es w steps) (end_views (after_schedule es w)) (after_schedule es w).datagrams (By seen es w)
   unfolding after_schedule
-  run_good [] steps w seen z g = sees steps (look w) w.datagrams seen (By seen [] w) (λ n k l c h. inl h) g
-  run_good (e ∷ es) steps w seen z g =
+  run_follows [] steps w seen z g = more_seen steps (end_views w) w.datagrams seen (By seen [] w) (λ n k l c h. inl h) g
+  run_follows (e ∷ es) steps w seen z g =
       let now : Seen = λ n k l c. seen n k l c ⊎ HasAccepted n k l c w in
       let w' : World = world_by e.1 w e.0 in
       let steps' : List MachineStep = made (steps_by e.1 w e.0) steps in
-      let g' : Good steps' (look w') w'.datagrams now =
-      world_keeps steps w now (λ n k l. inl (z n k l)) (λ n k l j. inr (record { bound = j; accepted = omega arith })) e.1 e.0 (sees steps (look w) w.datagrams seen now (λ n k l c h. inl h) g) in
-      sees (machine_steps es w' steps') (look (after_schedule es w')) (after_schedule es w').datagrams (By now es w') (By seen (e ∷ es) w)
+      let g' : AllEndsFollow steps' (end_views w') w'.datagrams now =
+      world_follows steps w now (λ n k l. inl (z n k l)) (λ n k l j. inr (record { bound = j; accepted = omega arith })) e.1 e.0 (more_seen steps (end_views w) w.datagrams seen now (λ n k l c h. inl h) g) in
+      more_seen (machine_steps es w' steps') (end_views (after_schedule es w')) (after_schedule es w').datagrams (By now es w') (By seen (e ∷ es) w)
       (λ n k l c h. ⊎_elim (λ x. ⊎_elim (λ y. inl y) (λ y. inr (inl y)) x) (λ x. inr (inr x)) h)
-      (run_good es steps' w' now (λ n k l. inl (z n k l)) g')
+      (run_follows es steps' w' now (λ n k l. inl (z n k l)) g')
 
   module _ (t : Topology) (times : Times) (es : Schedule) where
     abbrev first : World
@@ -109,22 +108,22 @@ module _ (laws : LinkLaws) (lows : LifeLaws) where
     abbrev all_seen : Seen
     all_seen = By (λ n k l c. c ≡ 0) es (first_world t times)
 
-    pub all_good : Good all_steps (look last) last.datagrams all_seen
-    all_good = run_good es [] first (λ n k l c. c ≡ 0) (λ n k l. refl) (first_good t times)
+    pub all_follow : AllEndsFollow all_steps (end_views last) last.datagrams all_seen
+    all_follow = run_follows es [] first (λ n k l c. c ≡ 0) (λ n k l. refl) (first_follows t times)
 
     pub prefix : TakenBeginsSent last
-    prefix a b l = good_prefix all_steps (look last) last.datagrams all_seen all_good b a (flip l)
+    prefix a b l = prefix_follows all_steps (end_views last) last.datagrams all_seen all_follow b a (reversed l)
 
     pub of_machine : IsOfMachine all_steps last
     of_machine = record {
-      is_run = all_good.legal;
-      sent = λ n k. (all_good.sides n k).ledger.sent_is;
-      taken = λ n k. (all_good.sides n k).ledger.taken_is;
+      is_run = all_follow.legal;
+      sent = λ n k. (all_follow.sides n k).histories.sent_is;
+      taken = λ n k. (all_follow.sides n k).histories.taken_is;
     }
 
     pub acknowledged : AcknowledgedIsAccepted first es last
     acknowledged a b l j =
-        (subst (λ ph. InPhase ph (look last a b) (state all_steps a b) (state all_steps b a).sent (from all_seen a b)) j (all_good.sides a b).phase).told
+        (subst (λ ph. InPhase ph (end_views last a b) (machine_after all_steps a b) (machine_after all_steps b a).sent (seen_at_other all_seen a b)) j (all_follow.sides a b).phase).told
 
 -- the simulator's own run is one of these
 pub own_run : (events : List Event) (w : World) → world_after_all w events ≡ after_schedule (own_schedule events w) w

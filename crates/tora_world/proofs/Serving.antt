@@ -1,33 +1,31 @@
--- What serving an item keeps.
-use Rattle.std.proofs.Common.{◌≡◌, ◌≢◌, ℕ, zero, suc, Bool, true, false, true≢false, ◌&&◌, ◌⊎◌, inl, inr, List, [], ◌∷◌, ◌++◌, length, map, Option, Some, None, nat_eq, if◌then◌else◌, refl, sym, ap, ap₂, ◌∙◌, subst, append_assoc, append-nil, eqb-true, eq-eqb, ne_eqb}
-use Rattle.std.proofs.lemmas.Bool.{cond_both, cases_Bool, eqb-false}
+-- A turn of the core keeps what is said of all ends, and makes the steps of the machine that are stated for it.
+use Rattle.std.proofs.Common.{◌≡◌, ◌≢◌, ℕ, zero, suc, Bool, true, false, true≢false, ◌&&◌, ◌⊎◌, inl, inr, List, [], ◌∷◌, ◌++◌, length, map, Option, Some, None, nat_eq, if◌then◌else◌, refl, sym, ap, ap₂, ◌∙◌, subst, append_assoc, append-nil, eqb-true, eq-eqb}
+use Rattle.std.proofs.lemmas.Bool.{cond_both, cases_Bool}
 use Rattle.std.specs.Prelude.{slice_get}
 use Rattle.tora_packet.specs.declared.Packet.{Packet}
 use Rattle.tora_arq.specs.declared.Life.{Life}
-use Rattle.tora_arq.specs.Lives.{is_same_life as same}
 use Rattle.tora_core.specs.declared.Input.{Input}
 use Rattle.tora_core.specs.declared.Input.TheVariants as In
 use Rattle.tora_core.specs.declared.errors.StepError.{StepError}
 use Rattle.tora_core.specs.CoreRun.{refusal_of, sends_of}
 use Rattle.tora_seat.specs.declared.What.{What}
 use Rattle.tora_seat.specs.declared.What.TheVariants as Tells
-use Rattle.tora_seat.specs.declared.Answer.TheVariants as Says
 use Rattle.tora_seat.specs.declared.Item.{Item}
 use Rattle.tora_seat.specs.declared.Cargo.{Cargo}
 use Rattle.tora_seat.specs.declared.Cargo.TheVariants as Gives
-use Rattle.tora_seat.specs.Serving.{SeatState, Offer, Parcel, Step, Serving, Answers, put_one, offered, with_current, with_pending, after_cut_tried, after_cuts_tried, after_sent, after_broadcast, after_broadcasts, accepting, after_answer, after_step, first_cut, after_settling, after_input, is_current, after_down, after_old_down, after_up, after_packet, after_link_item, after_other_item, after_item_of, begin_serving, serving_of, put_to, stepped_from}
+use Rattle.tora_seat.specs.Serving.{Offer, Parcel, Step, Serving, Answers, offered, with_current, with_pending, after_cut_tried, after_cuts_tried, after_sent, after_broadcast, after_broadcasts, accepting, after_answer, after_step, first_cut, after_settling, after_input, is_current, after_down, after_old_down, after_packet, after_link_item, after_other_item, after_item_of, begin_serving, serving_of, put_to, stepped_from}
 use Rattle.tora_world.specs.Lists.{parcels_in, parcel_of}
-use Rattle.tora_world.specs.LinkMachine.{MachineStep, machine_after as state, made}
+use Rattle.tora_world.specs.LinkMachine.{MachineStep, machine_after, made}
 use Rattle.tora_world.specs.LinkMachine.MachineStep.{Take, Close}
 use Rattle.tora_world.specs.MachineRun.{steps_of_end, steps_of_link_item, steps_of_item, steps_of_cargo, steps_of_offers, steps_of_turn}
 use Rattle.tora_world.specs.World.{World, Choice, settings, neighbours, after_serving, after_turn}
-use Rattle.tora_world.proofs.Basics.{at_pair, same_true, same_refl}
-use Rattle.tora_world.proofs.Views.{Sign, View, sign_of, Good, Seen, from}
-use Rattle.tora_world.proofs.Views.Sign.{Come, Give, Rest}
+use Rattle.tora_world.proofs.PacketLists.{at_pair, same_true, same_refl}
+use Rattle.tora_world.proofs.Invariant.{Arrival, EndView, arrival_of, AllEndsFollow, Seen, seen_at_other}
+use Rattle.tora_world.proofs.Invariant.Arrival.{LifeComes, PacketComes, OtherComes}
 use Rattle.tora_world.proofs.Moves.{passes, skips, ups}
-use Rattle.tora_world.proofs.Goods.{Changes, idle, looks, good_takes, good_puts, good_closes}
-use Rattle.tora_world.proofs.Looks.{sign_in, signs_in, signs_of, view_of, look, parcels-append}
-use Rattle.tora_world.proofs.Events.{turned, put_one_at, put_one_off}
+use Rattle.tora_world.proofs.AllEnds.{Changes, no_step, same_views, taking_follows, putting_follows, closing_follows}
+use Rattle.tora_world.proofs.EndViews.{arrival_in, arrivals_in, arrivals_of, view_of, end_views, parcels-append}
+use Rattle.tora_world.proofs.Events.{turned, put_one_here, put_one_there}
 
 -- ---- lists that grow
 
@@ -88,75 +86,75 @@ module _ (w : World) (seen : Seen) (n : ℕ) where
 
   -- the world while an item is served, after steps of the machine and those of the cargoes offered
   abbrev pub Served : List MachineStep → List Item → Serving → Type 0
-  Served before lane v = Good (made (steps_of_offers n v.offers) before) (look (after_serving w n lane v)) w.datagrams seen
+  Served before lane v = AllEndsFollow (made (steps_of_offers n v.offers) before) (end_views (after_serving w n lane v)) w.datagrams seen
 
-  abbrev pub seen_at : ℕ → Serving → List Sign → View
-  seen_at k v signs = view_of (settings w n k) (w.ends n k) (w.files n k) (v.seat.current k) signs (w.cargoes n k ++ put_to k v.offers) (w.put n k ++ put_to k v.offers) (w.steps n k ++ stepped_from k v.steps)
+  abbrev pub seen_at : ℕ → Serving → List Arrival → EndView
+  seen_at k v arrivals = view_of (settings w n k) (w.ends n k) (w.files n k) (v.seat.current k) arrivals (w.cargoes n k ++ put_to k v.offers) (w.put n k ++ put_to k v.offers) (w.steps n k ++ stepped_from k v.steps)
 
-  abbrev split : Bool → List Item → Serving → ℕ → ℕ → View
-  split t lane v a b = view_of (settings w a b) (w.ends a b) (w.files a b) ((if t then v.seat else w.seats a).current b) (signs_of (neighbours w a) b (if t then lane else w.items a))
+  abbrev split : Bool → List Item → Serving → ℕ → ℕ → EndView
+  split t lane v a b = view_of (settings w a b) (w.ends a b) (w.files a b) ((if t then v.seat else w.seats a).current b) (arrivals_of (neighbours w a) b (if t then lane else w.items a))
       ((if t then (λ k. w.cargoes n k ++ put_to k v.offers) else w.cargoes a) b) ((if t then (λ k. w.put n k ++ put_to k v.offers) else w.put a) b) ((if t then (λ k. w.steps n k ++ stepped_from k v.steps) else w.steps a) b)
 
-  look_at : (lane : List Item) (v : Serving) (k : ℕ) → look (after_serving w n lane v) n k ≡ seen_at k v (signs_of ks k lane)
+  look_at : (lane : List Item) (v : Serving) (k : ℕ) → end_views (after_serving w n lane v) n k ≡ seen_at k v (arrivals_of ks k lane)
   look_at lane v k = ap (λ t. split t lane v n k) (eq-eqb n n refl)
 
-  look_off : (lane : List Item) (v : Serving) (a b : ℕ) → nat_eq a n ≡ false → look (after_serving w n lane v) a b ≡ look w a b
+  look_off : (lane : List Item) (v : Serving) (a b : ℕ) → nat_eq a n ≡ false → end_views (after_serving w n lane v) a b ≡ end_views w a b
   look_off lane v a b e = ap (λ t. split t lane v a b) e
 
-  serve_changed : (lane lane' : List Item) (v v' : Serving) (k : ℕ) (u : View) → ((b : ℕ) → nat_eq b k ≡ false → seen_at b v' (signs_of ks b lane') ≡ seen_at b v (signs_of ks b lane)) →
-      seen_at k v' (signs_of ks k lane') ≡ u → Changes (look (after_serving w n lane v)) (look (after_serving w n lane' v')) n k (seen_at k v (signs_of ks k lane)) u
+  serve_changed : (lane lane' : List Item) (v v' : Serving) (k : ℕ) (u : EndView) → ((b : ℕ) → nat_eq b k ≡ false → seen_at b v' (arrivals_of ks b lane') ≡ seen_at b v (arrivals_of ks b lane)) →
+      seen_at k v' (arrivals_of ks k lane') ≡ u → Changes (end_views (after_serving w n lane v)) (end_views (after_serving w n lane' v')) n k (seen_at k v (arrivals_of ks k lane)) u
   serve_changed lane lane' v v' k u off q = record {
     was = look_at lane v k;
     here = look_at lane' v' k ∙ q;
     there = λ a b o. there a b o (cases_Bool (nat_eq a n));
   }
     where
-      there : (a b : ℕ) → at_pair n k a b ≡ false → (nat_eq a n ≡ true) ⊎ (nat_eq a n ≡ false) → look (after_serving w n lane' v') a b ≡ look (after_serving w n lane v) a b
+      there : (a b : ℕ) → at_pair n k a b ≡ false → (nat_eq a n ≡ true) ⊎ (nat_eq a n ≡ false) → end_views (after_serving w n lane' v') a b ≡ end_views (after_serving w n lane v) a b
       there a b o (inl e) =
           let o' : nat_eq b k ≡ false = subst (λ t. (t && nat_eq b k) ≡ false) e o in
-          subst (λ x. look (after_serving w n lane' v') x b ≡ look (after_serving w n lane v) x b) (sym (eqb-true a n e))
+          subst (λ x. end_views (after_serving w n lane' v') x b ≡ end_views (after_serving w n lane v) x b) (sym (eqb-true a n e))
           (look_at lane' v' b ∙ off b o' ∙ sym (look_at lane v b))
       there a b o (inr e) = look_off lane' v' a b e ∙ sym (look_off lane v a b e)
 
   -- the law sees the same
-  served_same : (steps : List MachineStep) (lane lane' : List Item) (v v' : Serving) → ((b : ℕ) → seen_at b v' (signs_of ks b lane') ≡ seen_at b v (signs_of ks b lane)) →
-      Good steps (look (after_serving w n lane v)) w.datagrams seen → Good steps (look (after_serving w n lane' v')) w.datagrams seen
-  served_same steps lane lane' v v' e g = looks steps (look (after_serving w n lane v)) (look (after_serving w n lane' v')) w.datagrams seen (λ a b. there a b (cases_Bool (nat_eq a n))) g
+  served_same : (steps : List MachineStep) (lane lane' : List Item) (v v' : Serving) → ((b : ℕ) → seen_at b v' (arrivals_of ks b lane') ≡ seen_at b v (arrivals_of ks b lane)) →
+      AllEndsFollow steps (end_views (after_serving w n lane v)) w.datagrams seen → AllEndsFollow steps (end_views (after_serving w n lane' v')) w.datagrams seen
+  served_same steps lane lane' v v' e g = same_views steps (end_views (after_serving w n lane v)) (end_views (after_serving w n lane' v')) w.datagrams seen (λ a b. there a b (cases_Bool (nat_eq a n))) g
     where
-      there : (a b : ℕ) → (nat_eq a n ≡ true) ⊎ (nat_eq a n ≡ false) → look (after_serving w n lane' v') a b ≡ look (after_serving w n lane v) a b
+      there : (a b : ℕ) → (nat_eq a n ≡ true) ⊎ (nat_eq a n ≡ false) → end_views (after_serving w n lane' v') a b ≡ end_views (after_serving w n lane v) a b
       there a b (inl t) =
-          subst (λ x. look (after_serving w n lane' v') x b ≡ look (after_serving w n lane v) x b) (sym (eqb-true a n t))
+          subst (λ x. end_views (after_serving w n lane' v') x b ≡ end_views (after_serving w n lane v) x b) (sym (eqb-true a n t))
           (look_at lane' v' b ∙ e b ∙ sym (look_at lane v b))
       there a b (inr t) = look_off lane' v' a b t ∙ sym (look_off lane v a b t)
 
   -- a life is no longer the current one, and is closed
   life_closed : (steps : List MachineStep) (lane : List Item) (v v' : Serving) (k : ℕ) (life : Life) → v.seat.current k ≡ Some life →
-      ((b : ℕ) → seen_at b v' (signs_of ks b lane) ≡ seen_at b (with_current v k None) (signs_of ks b lane)) →
-      Good steps (look (after_serving w n lane v)) w.datagrams seen → Good (Close n k life ∷ steps) (look (after_serving w n lane v')) w.datagrams seen
-  life_closed steps lane v v' k life on same g =
-      let u : View = seen_at k v (signs_of ks k lane) in
-      good_closes steps (look (after_serving w n lane v)) (look (after_serving w n lane v')) w.datagrams seen n k u life on
+      ((b : ℕ) → seen_at b v' (arrivals_of ks b lane) ≡ seen_at b (with_current v k None) (arrivals_of ks b lane)) →
+      AllEndsFollow steps (end_views (after_serving w n lane v)) w.datagrams seen → AllEndsFollow (Close n k life ∷ steps) (end_views (after_serving w n lane v')) w.datagrams seen
+  life_closed steps lane v v' k life on alike g =
+      let u : EndView = seen_at k v (arrivals_of ks k lane) in
+      closing_follows steps (end_views (after_serving w n lane v)) (end_views (after_serving w n lane v')) w.datagrams seen n k u life on
       (serve_changed lane lane v v' k (record u { current = None })
-      (λ b e. same b ∙ ap (λ x. record (seen_at b v (signs_of ks b lane)) { current = x }) (put_one_off v.seat.current k None b e))
-      (same k ∙ ap (λ x. record u { current = x }) (put_one_at v.seat.current k None))) g
+      (λ b e. alike b ∙ ap (λ x. record (seen_at b v (arrivals_of ks b lane)) { current = x }) (put_one_there v.seat.current k None b e))
+      (alike k ∙ ap (λ x. record u { current = x }) (put_one_here v.seat.current k None))) g
 
   module _ (before : List MachineStep) where
     -- a cut is offered
     offer_cut : (lane : List Item) (v : Serving) (k : ℕ) (life : Life) (put : Bool) → Served before lane v → Served before lane (offered v k (Gives.Cut life) put)
     offer_cut lane v k life put g =
         let o : Offer = record { to = k; cargo = Gives.Cut life; put = put } in
-        subst (λ ss. Good ss (look (after_serving w n lane (offered v k (Gives.Cut life) put))) w.datagrams seen) (sym (steps-push n v.offers o before))
+        subst (λ ss. AllEndsFollow ss (end_views (after_serving w n lane (offered v k (Gives.Cut life) put))) w.datagrams seen) (sym (steps-push n v.offers o before))
         (served_same (made (steps_of_offers n v.offers) before) lane lane v (offered v k (Gives.Cut life) put)
-        (λ b. ap₂ (λ xs ys. record (seen_at b v (signs_of ks b lane)) { out = xs; sent = ys })
+        (λ b. ap₂ (λ xs ys. record (seen_at b v (arrivals_of ks b lane)) { out = xs; sent = ys })
         (nothing_more b (w.cargoes n b) v.offers o (no_cut b k life put)) (nothing_more b (w.put n b) v.offers o (no_cut b k life put))) g)
 
     -- a packet of the current life is handed back
     hand_back : (lane : List Item) (v : Serving) (k : ℕ) (life : Life) (packet : Packet) → v.seat.current k ≡ Some life → Served before lane v → Served before lane (with_current (offered v k (Gives.Packet life packet) false) k None)
     hand_back lane v k life packet on g =
         let o : Offer = record { to = k; cargo = Gives.Packet life packet; put = false } in
-        subst (λ ss. Good ss (look (after_serving w n lane (with_current (offered v k (Gives.Packet life packet) false) k None))) w.datagrams seen) (sym (steps-push n v.offers o before))
+        subst (λ ss. AllEndsFollow ss (end_views (after_serving w n lane (with_current (offered v k (Gives.Packet life packet) false) k None))) w.datagrams seen) (sym (steps-push n v.offers o before))
         (life_closed (made (steps_of_offers n v.offers) before) lane v (with_current (offered v k (Gives.Packet life packet) false) k None) k life on
-        (λ b. ap₂ (λ xs ys. record (seen_at b (with_current v k None) (signs_of ks b lane)) { out = xs; sent = ys })
+        (λ b. ap₂ (λ xs ys. record (seen_at b (with_current v k None) (arrivals_of ks b lane)) { out = xs; sent = ys })
         (nothing_more b (w.cargoes n b) v.offers o (no_back b k (Gives.Packet life packet))) (nothing_more b (w.put n b) v.offers o (no_back b k (Gives.Packet life packet)))) g)
 
     -- a packet of the current life is put
@@ -164,11 +162,11 @@ module _ (w : World) (seen : Seen) (n : ℕ) where
     offer_packet lane v k life packet on g =
         let x : Parcel = parcel_of life packet in
         let o : Offer = record { to = k; cargo = Gives.Packet life packet; put = true } in
-        let u : View = seen_at k v (signs_of ks k lane) in
-        subst (λ ss. Good ss (look (after_serving w n lane (offered v k (Gives.Packet life packet) true))) w.datagrams seen) (sym (steps-push n v.offers o before))
-        (good_puts (made (steps_of_offers n v.offers) before) (look (after_serving w n lane v)) (look (after_serving w n lane (offered v k (Gives.Packet life packet) true))) w.datagrams seen n k u x on
+        let u : EndView = seen_at k v (arrivals_of ks k lane) in
+        subst (λ ss. AllEndsFollow ss (end_views (after_serving w n lane (offered v k (Gives.Packet life packet) true))) w.datagrams seen) (sym (steps-push n v.offers o before))
+        (putting_follows (made (steps_of_offers n v.offers) before) (end_views (after_serving w n lane v)) (end_views (after_serving w n lane (offered v k (Gives.Packet life packet) true))) w.datagrams seen n k u x on
         (serve_changed lane lane v (offered v k (Gives.Packet life packet) true) k (record u { sent = u.sent ++ x ∷ []; out = u.out ++ x ∷ [] })
-        (λ b e. ap₂ (λ xs ys. record (seen_at b v (signs_of ks b lane)) { out = xs; sent = ys }) (nothing_more b (w.cargoes n b) v.offers o (none b e)) (nothing_more b (w.put n b) v.offers o (none b e)))
+        (λ b e. ap₂ (λ xs ys. record (seen_at b v (arrivals_of ks b lane)) { out = xs; sent = ys }) (nothing_more b (w.cargoes n b) v.offers o (none b e)) (nothing_more b (w.put n b) v.offers o (none b e)))
         (ap₂ (λ xs ys. record u { sent = ys; out = xs }) (more (w.cargoes n k)) (more (w.put n k)))) g)
       where
         none : (b : ℕ) → nat_eq b k ≡ false → parcels_in (cargo_where b (record { to = k; cargo = Gives.Packet life packet; put = true })) ≡ []
@@ -234,21 +232,21 @@ module _ (w : World) (seen : Seen) (n : ℕ) where
     input_keeps js input now v g = settling_keeps (length js) js now (after_step answers js input now v) (step_keeps js input now v g)
 
   -- no packet was offered yet
-  abbrev pub Quiet : Serving → Type 0
-  Quiet v = steps_of_offers n v.offers ≡ []
+  abbrev pub SendsNothingYet : Serving → Type 0
+  SendsNothingYet v = steps_of_offers n v.offers ≡ []
 
   -- the steps of what an item itself does come before those of its cargoes
-  quiet_steps : (before : List MachineStep) (v : Serving) → Quiet v → made (steps_of_offers n v.offers) before ≡ before
+  quiet_steps : (before : List MachineStep) (v : Serving) → SendsNothingYet v → made (steps_of_offers n v.offers) before ≡ before
   quiet_steps before v q = ap (λ ss. made ss before) q
 
-  pub down_keeps : (before : List MachineStep) (answers : Answers) (lane : List Item) (js : List ℕ) (k now : ℕ) (v : Serving) (life : Life) → Quiet v → v.seat.current k ≡ Some life → Served before lane v → Served (Close n k life ∷ before) lane (after_down answers js k now v)
+  pub down_keeps : (before : List MachineStep) (answers : Answers) (lane : List Item) (js : List ℕ) (k now : ℕ) (v : Serving) (life : Life) → SendsNothingYet v → v.seat.current k ≡ Some life → Served before lane v → Served (Close n k life ∷ before) lane (after_down answers js k now v)
   down_keeps before answers lane js k now v life q on g =
       input_keeps (Close n k life ∷ before) answers lane js (In.LinkDown k) now (with_current v k None)
-      (subst (λ ss. Good ss (look (after_serving w n lane (with_current v k None))) w.datagrams seen) (sym (quiet_steps (Close n k life ∷ before) v q))
+      (subst (λ ss. AllEndsFollow ss (end_views (after_serving w n lane (with_current v k None))) w.datagrams seen) (sym (quiet_steps (Close n k life ∷ before) v q))
       (life_closed before lane v (with_current v k None) k life on (λ b. refl)
-      (subst (λ ss. Good ss (look (after_serving w n lane v)) w.datagrams seen) (quiet_steps before v q) g)))
+      (subst (λ ss. AllEndsFollow ss (end_views (after_serving w n lane v)) w.datagrams seen) (quiet_steps before v q) g)))
 
-  pub old_down_keeps : (before : List MachineStep) (answers : Answers) (lane : List Item) (js : List ℕ) (k now : ℕ) (v : Serving) (o : Option Life) → Quiet v → v.seat.current k ≡ o → Served before lane v → Served (made (steps_of_end n k o) before) lane (after_old_down answers js k now v o)
+  pub old_down_keeps : (before : List MachineStep) (answers : Answers) (lane : List Item) (js : List ℕ) (k now : ℕ) (v : Serving) (o : Option Life) → SendsNothingYet v → v.seat.current k ≡ o → Served before lane v → Served (made (steps_of_end n k o) before) lane (after_old_down answers js k now v o)
   old_down_keeps before answers lane js k now v None q e g = g
   old_down_keeps before answers lane js k now v (Some life) q e g = down_keeps before answers lane js k now v life q e g
 
@@ -260,56 +258,56 @@ module _ (w : World) (seen : Seen) (n : ℕ) where
   is_current_false l o e q = true≢false (sym (subst (λ x. is_current l x ≡ true) (sym q) (same_refl l)) ∙ e)
 
   -- an item of the link to k, at the front of the lane
-  module _ (before : List MachineStep) (lane lane' : List Item) (k : ℕ) (what : What) (front : (b : ℕ) → signs_of ks b lane ≡ signs_in b (Some k) what ++ signs_of ks b lane') where
-    front_here : signs_of ks k lane ≡ sign_in what ∷ signs_of ks k lane'
-    front_here = front k ∙ ap (λ (t : Bool). (if t then sign_in what ∷ [] else []) ++ signs_of ks k lane') (eq-eqb k k refl)
+  module _ (before : List MachineStep) (lane lane' : List Item) (k : ℕ) (what : What) (front : (b : ℕ) → arrivals_of ks b lane ≡ arrivals_in b (Some k) what ++ arrivals_of ks b lane') where
+    front_here : arrivals_of ks k lane ≡ arrival_in what ∷ arrivals_of ks k lane'
+    front_here = front k ∙ ap (λ (t : Bool). (if t then arrival_in what ∷ [] else []) ++ arrivals_of ks k lane') (eq-eqb k k refl)
 
-    front_off : (b : ℕ) → nat_eq b k ≡ false → signs_of ks b lane' ≡ signs_of ks b lane
-    front_off b e = sym (front b ∙ ap (λ (t : Bool). (if t then sign_in what ∷ [] else []) ++ signs_of ks b lane') (turned b k e))
+    front_off : (b : ℕ) → nat_eq b k ≡ false → arrivals_of ks b lane' ≡ arrivals_of ks b lane
+    front_off b e = sym (front b ∙ ap (λ (t : Bool). (if t then arrival_in what ∷ [] else []) ++ arrivals_of ks b lane') (turned b k e))
 
-    abbrev rest_of : List Sign
-    rest_of = signs_of ks k lane' ++ map sign_of (w.ends n k).events
+    abbrev rest_of : List Arrival
+    rest_of = arrivals_of ks k lane' ++ map arrival_of (w.ends n k).events
 
-    coming_here : (v : Serving) (x : Sign) → sign_in what ≡ x → (seen_at k v (signs_of ks k lane)).coming ≡ x ∷ rest_of
-    coming_here v x e = ap (λ s. s ++ map sign_of (w.ends n k).events) (front_here ∙ ap (λ y. y ∷ signs_of ks k lane') e)
+    coming_here : (v : Serving) (x : Arrival) → arrival_in what ≡ x → (seen_at k v (arrivals_of ks k lane)).coming ≡ x ∷ rest_of
+    coming_here v x e = ap (λ s. s ++ map arrival_of (w.ends n k).events) (front_here ∙ ap (λ y. y ∷ arrivals_of ks k lane') e)
 
-    off_same : (v : Serving) (b : ℕ) → nat_eq b k ≡ false → seen_at b v (signs_of ks b lane') ≡ seen_at b v (signs_of ks b lane)
+    off_same : (v : Serving) (b : ℕ) → nat_eq b k ≡ false → seen_at b v (arrivals_of ks b lane') ≡ seen_at b v (arrivals_of ks b lane)
     off_same v b e = ap (λ s. seen_at b v s) (front_off b e)
 
-    pub pass_keeps : (v : Serving) → sign_in what ≡ Rest → Served before lane v → Served before lane' v
+    pub pass_keeps : (v : Serving) → arrival_in what ≡ OtherComes → Served before lane v → Served before lane' v
     pass_keeps v e g =
-        let u : View = seen_at k v (signs_of ks k lane) in
-        idle (made (steps_of_offers n v.offers) before) (look (after_serving w n lane v)) (look (after_serving w n lane' v)) w.datagrams seen n k u (record u { coming = rest_of })
+        let u : EndView = seen_at k v (arrivals_of ks k lane) in
+        no_step (made (steps_of_offers n v.offers) before) (end_views (after_serving w n lane v)) (end_views (after_serving w n lane' v)) w.datagrams seen n k u (record u { coming = rest_of })
         (serve_changed lane lane' v v k (record u { coming = rest_of }) (off_same v) refl) g
-        (λ h. passes u (state (made (steps_of_offers n v.offers) before) n k) (state (made (steps_of_offers n v.offers) before) k n).sent (from seen n k) rest_of (coming_here v Rest e) h)
+        (λ h. passes u (machine_after (made (steps_of_offers n v.offers) before) n k) (machine_after (made (steps_of_offers n v.offers) before) k n).sent (seen_at_other seen n k) rest_of (coming_here v OtherComes e) h)
 
-    pub skip_keeps : (v : Serving) (l : Life) (p : Packet) → sign_in what ≡ Give l p → v.seat.current k ≢ Some l → Served before lane v → Served before lane' v
+    pub skip_keeps : (v : Serving) (l : Life) (p : Packet) → arrival_in what ≡ PacketComes l p → v.seat.current k ≢ Some l → Served before lane v → Served before lane' v
     skip_keeps v l p e o g =
-        let u : View = seen_at k v (signs_of ks k lane) in
-        idle (made (steps_of_offers n v.offers) before) (look (after_serving w n lane v)) (look (after_serving w n lane' v)) w.datagrams seen n k u (record u { coming = rest_of })
+        let u : EndView = seen_at k v (arrivals_of ks k lane) in
+        no_step (made (steps_of_offers n v.offers) before) (end_views (after_serving w n lane v)) (end_views (after_serving w n lane' v)) w.datagrams seen n k u (record u { coming = rest_of })
         (serve_changed lane lane' v v k (record u { coming = rest_of }) (off_same v) refl) g
-        (λ h. skips u (state (made (steps_of_offers n v.offers) before) n k) (state (made (steps_of_offers n v.offers) before) k n).sent (from seen n k) l p rest_of (coming_here v (Give l p) e) o h)
+        (λ h. skips u (machine_after (made (steps_of_offers n v.offers) before) n k) (machine_after (made (steps_of_offers n v.offers) before) k n).sent (seen_at_other seen n k) l p rest_of (coming_here v (PacketComes l p) e) o h)
 
-    pub up_keeps : (v : Serving) (l : Life) → sign_in what ≡ Come l → Served before lane v → Served before lane' (with_current v k (Some l))
+    pub up_keeps : (v : Serving) (l : Life) → arrival_in what ≡ LifeComes l → Served before lane v → Served before lane' (with_current v k (Some l))
     up_keeps v l e g =
-        let u : View = seen_at k v (signs_of ks k lane) in
-        idle (made (steps_of_offers n v.offers) before) (look (after_serving w n lane v)) (look (after_serving w n lane' (with_current v k (Some l)))) w.datagrams seen n k u (record u { coming = rest_of; current = Some l })
+        let u : EndView = seen_at k v (arrivals_of ks k lane) in
+        no_step (made (steps_of_offers n v.offers) before) (end_views (after_serving w n lane v)) (end_views (after_serving w n lane' (with_current v k (Some l)))) w.datagrams seen n k u (record u { coming = rest_of; current = Some l })
         (serve_changed lane lane' v (with_current v k (Some l)) k (record u { coming = rest_of; current = Some l })
-        (λ b o. ap (λ x. record (seen_at b v (signs_of ks b lane')) { current = x }) (put_one_off v.seat.current k (Some l) b o) ∙ off_same v b o)
-        (ap (λ x. record u { coming = rest_of; current = x }) (put_one_at v.seat.current k (Some l)))) g
-        (λ h. ups u (state (made (steps_of_offers n v.offers) before) n k) (state (made (steps_of_offers n v.offers) before) k n).sent (from seen n k) l rest_of (coming_here v (Come l) e) h)
+        (λ b o. ap (λ x. record (seen_at b v (arrivals_of ks b lane')) { current = x }) (put_one_there v.seat.current k (Some l) b o) ∙ off_same v b o)
+        (ap (λ x. record u { coming = rest_of; current = x }) (put_one_here v.seat.current k (Some l)))) g
+        (λ h. ups u (machine_after (made (steps_of_offers n v.offers) before) n k) (machine_after (made (steps_of_offers n v.offers) before) k n).sent (seen_at_other seen n k) l rest_of (coming_here v (LifeComes l) e) h)
 
-    pub take_keeps : (v : Serving) (l : Life) (p : Packet) → Quiet v → sign_in what ≡ Give l p → v.seat.current k ≡ Some l → Served before lane v → Served (Take n k l p ∷ before) lane' (record v { steps = v.steps ++ record { from = k; parcel = parcel_of l p } ∷ [] })
+    pub take_keeps : (v : Serving) (l : Life) (p : Packet) → SendsNothingYet v → arrival_in what ≡ PacketComes l p → v.seat.current k ≡ Some l → Served before lane v → Served (Take n k l p ∷ before) lane' (record v { steps = v.steps ++ record { from = k; parcel = parcel_of l p } ∷ [] })
     take_keeps v l p quiet e on g =
-        let u : View = seen_at k v (signs_of ks k lane) in
+        let u : EndView = seen_at k v (arrivals_of ks k lane) in
         let s : Step = record { from = k; parcel = parcel_of l p } in
         let v' : Serving = record v { steps = v.steps ++ s ∷ [] } in
-        subst (λ ss. Good ss (look (after_serving w n lane' v')) w.datagrams seen) (sym (quiet_steps (Take n k l p ∷ before) v quiet))
-        (good_takes before (look (after_serving w n lane v)) (look (after_serving w n lane' v')) w.datagrams seen n k u l p rest_of (coming_here v (Give l p) e) on
+        subst (λ ss. AllEndsFollow ss (end_views (after_serving w n lane' v')) w.datagrams seen) (sym (quiet_steps (Take n k l p ∷ before) v quiet))
+        (taking_follows before (end_views (after_serving w n lane v)) (end_views (after_serving w n lane' v')) w.datagrams seen n k u l p rest_of (coming_here v (PacketComes l p) e) on
         (serve_changed lane lane' v v' k (record u { coming = rest_of; taken = u.taken ++ parcel_of l p ∷ [] })
-        (λ b o. ap (λ t. record (seen_at b v (signs_of ks b lane')) { taken = t }) (taken_off v s b o) ∙ off_same v b o)
+        (λ b o. ap (λ t. record (seen_at b v (arrivals_of ks b lane')) { taken = t }) (taken_off v s b o) ∙ off_same v b o)
         (ap (λ t. record u { coming = rest_of; taken = t }) (taken_on v s)))
-        (subst (λ ss. Good ss (look (after_serving w n lane v)) w.datagrams seen) (quiet_steps before v quiet) g))
+        (subst (λ ss. AllEndsFollow ss (end_views (after_serving w n lane v)) w.datagrams seen) (quiet_steps before v quiet) g))
       where
         taken_off : (v : Serving) (s : Step) (b : ℕ) → nat_eq b k ≡ false → w.steps n b ++ stepped_from b (v.steps ++ record { from = k; parcel = parcel_of l p } ∷ []) ≡ w.steps n b ++ stepped_from b v.steps
         taken_off v s b o =
@@ -321,8 +319,8 @@ module _ (w : World) (seen : Seen) (n : ℕ) where
             ap (λ ys. w.steps n k ++ ys) (stepped-push k v.steps (record { from = k; parcel = parcel_of l p }) ∙ ap (λ (t : Bool). stepped_from k v.steps ++ (if t then parcel_of l p ∷ [] else [])) (eq-eqb k k refl))
             ∙ sym (append_assoc (w.steps n k) (stepped_from k v.steps) (parcel_of l p ∷ []))
 
-  link_item_keeps : (before : List MachineStep) (answers : Answers) (lane lane' : List Item) (k now : ℕ) (what : What) → ((b : ℕ) → signs_of ks b lane ≡ signs_in b (Some k) what ++ signs_of ks b lane') →
-      (v : Serving) → Quiet v → Served before lane v → Served (made (steps_of_link_item n k (v.seat.current k) what) before) lane' (after_link_item answers ks k now what v)
+  link_item_keeps : (before : List MachineStep) (answers : Answers) (lane lane' : List Item) (k now : ℕ) (what : What) → ((b : ℕ) → arrivals_of ks b lane ≡ arrivals_in b (Some k) what ++ arrivals_of ks b lane') →
+      (v : Serving) → SendsNothingYet v → Served before lane v → Served (made (steps_of_link_item n k (v.seat.current k) what) before) lane' (after_link_item answers ks k now what v)
   unfolding after_link_item
   link_item_keeps before answers lane lane' k now (Tells.Up l) front v q g =
       let v' : Serving = after_old_down answers ks k now v (v.seat.current k) in
@@ -349,7 +347,7 @@ module _ (w : World) (seen : Seen) (n : ℕ) where
   link_item_keeps before answers lane lane' k now Tells.Show front v q g = pass_keeps before lane lane' k Tells.Show front v refl g
   link_item_keeps before answers lane lane' k now Tells.Quit front v q g = pass_keeps before lane lane' k Tells.Quit front v refl g
 
-  other_item_keeps : (before : List MachineStep) (answers : Answers) (lane lane' : List Item) (now : ℕ) (what : What) → ((b : ℕ) → signs_of ks b lane' ≡ signs_of ks b lane) →
+  other_item_keeps : (before : List MachineStep) (answers : Answers) (lane lane' : List Item) (now : ℕ) (what : What) → ((b : ℕ) → arrivals_of ks b lane' ≡ arrivals_of ks b lane) →
       (v : Serving) → Served before lane v → Served before lane' (after_other_item answers ks now what v)
   unfolding after_other_item
   other_item_keeps before answers lane lane' now what e v g = go what
@@ -367,10 +365,10 @@ module _ (w : World) (seen : Seen) (n : ℕ) where
       go Tells.Quit = past
 
   -- the cuts that are tried first change no current life, and are no steps
-  cut_quiet : (answers : Answers) (v : Serving) (j : ℕ) (o : Option Life) → Quiet v → Quiet (after_cut_tried answers v j o) × ((after_cut_tried answers v j o).seat.current ≡ v.seat.current)
+  cut_quiet : (answers : Answers) (v : Serving) (j : ℕ) (o : Option Life) → SendsNothingYet v → SendsNothingYet (after_cut_tried answers v j o) × ((after_cut_tried answers v j o).seat.current ≡ v.seat.current)
   cut_quiet answers v j None q = (q, refl)
   cut_quiet answers v j (Some l) q =
-      cond_both (answers v.offers j) _ _ (λ (x : Serving). Quiet x × (x.seat.current ≡ v.seat.current))
+      cond_both (answers v.offers j) _ _ (λ (x : Serving). SendsNothingYet x × (x.seat.current ≡ v.seat.current))
       (λ _. (offers_quiet v.offers (record { to = j; cargo = Gives.Cut l; put = true }) q refl, refl)) (λ _. (offers_quiet v.offers (record { to = j; cargo = Gives.Cut l; put = false }) q refl, refl))
     where
       offers_quiet : (offers : List Offer) (o : Offer) → steps_of_offers n offers ≡ [] → steps_of_cargo n o.to o.cargo o.put ≡ [] → steps_of_offers n (offers ++ o ∷ []) ≡ []
@@ -381,7 +379,7 @@ module _ (w : World) (seen : Seen) (n : ℕ) where
           go [] q again = again q e
           go (y ∷ ys) q again = absurd (cc)
 
-  cuts_quiet : (answers : Answers) (js : List ℕ) (v : Serving) → Quiet v → Quiet (after_cuts_tried answers js v) × ((after_cuts_tried answers js v).seat.current ≡ v.seat.current)
+  cuts_quiet : (answers : Answers) (js : List ℕ) (v : Serving) → SendsNothingYet v → SendsNothingYet (after_cuts_tried answers js v) × ((after_cuts_tried answers js v).seat.current ≡ v.seat.current)
   unfolding after_cuts_tried
   cuts_quiet answers [] v q = (q, refl)
   cuts_quiet answers (j ∷ js) v q =
@@ -401,29 +399,29 @@ module _ (w : World) (seen : Seen) (n : ℕ) where
       go (Some k) e =
           let q = cuts_quiet answers ks (begin_serving (w.seats n)) refl in
           subst (λ (f : ℕ → Option Life). Served (made (steps_of_link_item n k (f k) item.what) before) items (after_link_item answers ks k item.now item.what (after_cuts_tried answers ks (begin_serving (w.seats n))))) q.1
-          (link_item_keeps before answers (item ∷ items) items k item.now item.what (λ b. ap (λ s. signs_in b s item.what ++ signs_of ks b items) e) (after_cuts_tried answers ks (begin_serving (w.seats n))) q.0
+          (link_item_keeps before answers (item ∷ items) items k item.now item.what (λ b. ap (λ s. arrivals_in b s item.what ++ arrivals_of ks b items) e) (after_cuts_tried answers ks (begin_serving (w.seats n))) q.0
           (cuts_tried_keep before answers (item ∷ items) ks (begin_serving (w.seats n)) g))
-      go None e = other_item_keeps before answers (item ∷ items) items item.now item.what (λ b. sym (ap (λ s. signs_in b s item.what ++ signs_of ks b items) e)) (after_cuts_tried answers ks (begin_serving (w.seats n)))
+      go None e = other_item_keeps before answers (item ∷ items) items item.now item.what (λ b. sym (ap (λ s. arrivals_in b s item.what ++ arrivals_of ks b items) e)) (after_cuts_tried answers ks (begin_serving (w.seats n)))
           (cuts_tried_keep before answers (item ∷ items) ks (begin_serving (w.seats n)) g)
 
   -- the world before the item is taken
-  begins : (steps : List MachineStep) (items : List Item) → w.items n ≡ items → Good steps (look w) w.datagrams seen → Served steps items (begin_serving (w.seats n))
-  begins steps items q g = looks steps (look w) (look (after_serving w n items (begin_serving (w.seats n)))) w.datagrams seen (λ a b. there a b (cases_Bool (nat_eq a n))) g
+  begins : (steps : List MachineStep) (items : List Item) → w.items n ≡ items → AllEndsFollow steps (end_views w) w.datagrams seen → Served steps items (begin_serving (w.seats n))
+  begins steps items q g = same_views steps (end_views w) (end_views (after_serving w n items (begin_serving (w.seats n)))) w.datagrams seen (λ a b. there a b (cases_Bool (nat_eq a n))) g
     where
-      here : (b : ℕ) → seen_at b (begin_serving (w.seats n)) (signs_of ks b items) ≡ look w n b
+      here : (b : ℕ) → seen_at b (begin_serving (w.seats n)) (arrivals_of ks b items) ≡ end_views w n b
       here b =
-          ap (λ is. seen_at b (begin_serving (w.seats n)) (signs_of ks b is)) (sym q)
-          ∙ ap (λ xs. view_of (settings w n b) (w.ends n b) (w.files n b) ((w.seats n).current b) (signs_of ks b (w.items n)) xs (w.put n b ++ []) (w.steps n b ++ [])) (append-nil (w.cargoes n b))
-          ∙ ap₂ (λ xs ys. view_of (settings w n b) (w.ends n b) (w.files n b) ((w.seats n).current b) (signs_of ks b (w.items n)) (w.cargoes n b) xs ys) (append-nil (w.put n b)) (append-nil (w.steps n b))
+          ap (λ is. seen_at b (begin_serving (w.seats n)) (arrivals_of ks b is)) (sym q)
+          ∙ ap (λ xs. view_of (settings w n b) (w.ends n b) (w.files n b) ((w.seats n).current b) (arrivals_of ks b (w.items n)) xs (w.put n b ++ []) (w.steps n b ++ [])) (append-nil (w.cargoes n b))
+          ∙ ap₂ (λ xs ys. view_of (settings w n b) (w.ends n b) (w.files n b) ((w.seats n).current b) (arrivals_of ks b (w.items n)) (w.cargoes n b) xs ys) (append-nil (w.put n b)) (append-nil (w.steps n b))
 
-      there : (a b : ℕ) → (nat_eq a n ≡ true) ⊎ (nat_eq a n ≡ false) → look (after_serving w n items (begin_serving (w.seats n))) a b ≡ look w a b
-      there a b (inl t) = subst (λ x. look (after_serving w n items (begin_serving (w.seats n))) x b ≡ look w x b) (sym (eqb-true a n t)) (look_at items (begin_serving (w.seats n)) b ∙ here b)
+      there : (a b : ℕ) → (nat_eq a n ≡ true) ⊎ (nat_eq a n ≡ false) → end_views (after_serving w n items (begin_serving (w.seats n))) a b ≡ end_views w a b
+      there a b (inl t) = subst (λ x. end_views (after_serving w n items (begin_serving (w.seats n))) x b ≡ end_views w x b) (sym (eqb-true a n t)) (look_at items (begin_serving (w.seats n)) b ∙ here b)
       there a b (inr t) = look_off items (begin_serving (w.seats n)) a b t
 
-  pub turn_keeps : (steps : List MachineStep) (c : Choice) → Good steps (look w) w.datagrams seen → (items : List Item) → w.items n ≡ items →
-      Good (made (steps_of_turn w c n items) steps) (look (after_turn w c n items)) (after_turn w c n items).datagrams seen
+  pub turn_keeps : (steps : List MachineStep) (c : Choice) → AllEndsFollow steps (end_views w) w.datagrams seen → (items : List Item) → w.items n ≡ items →
+      AllEndsFollow (made (steps_of_turn w c n items) steps) (end_views (after_turn w c n items)) (after_turn w c n items).datagrams seen
   turn_keeps steps c g [] q = g
   turn_keeps steps c g (item ∷ items) q =
-      subst (λ ss. Good ss (look (after_turn w c n (item ∷ items))) w.datagrams seen)
+      subst (λ ss. AllEndsFollow ss (end_views (after_turn w c n (item ∷ items))) w.datagrams seen)
       (sym (made-append (steps_of_item n (slice_get ks item.seat) (w.seats n).current item.what) (steps_of_offers n (serving_of c.answers ks (w.seats n) item).offers) steps))
       (serving_keeps steps c.answers item items (begins steps (item ∷ items) q g))

@@ -1,18 +1,18 @@
 -- Each end binds each pair of numbers at most once.
-use Rattle.std.proofs.Common.{◌≡◌, ◌≢◌, ℕ, zero, suc, ◌+◌, ◌<◌, ◌≤◌, Bool, true, false, true≢false, not, ◌&&◌, ◌⊎◌, inl, inr, ⊎_elim, List, [], ◌∷◌, Option, Some, None, nat_eq, if◌then◌else◌, refl, sym, ap, ap₂, ◌∙◌, subst, arith}
+use Rattle.std.proofs.Common.{◌≡◌, ◌≢◌, ℕ, ◌+◌, ◌<◌, ◌≤◌, Bool, true, false, true≢false, not, ◌&&◌, ◌⊎◌, inl, inr, ⊎_elim, List, [], ◌∷◌, Option, Some, None, nat_eq, if◌then◌else◌, refl, sym, ap, ◌∙◌, subst, arith}
 use Rattle.std.proofs.lemmas.Bool.{cond_both, cases_Bool, and_parts}
 use Rattle.std.specs.Prelude.{is_some}
-use Rattle.tora_frame.specs.FrameParts.{FrameParts as Frame}
+use Rattle.tora_frame.specs.FrameParts.{FrameParts}
 use Rattle.tora_arq.specs.declared.Life.{Life}
 use Rattle.tora_arq.specs.declared.Times.{Times}
 use Rattle.tora_arq.specs.declared.LinkEvent.{LinkEvent}
 use Rattle.tora_arq.specs.declared.state.Phase.{Phase}
 use Rattle.tora_arq.specs.declared.state.Phase.TheVariants.{Closed, Unbound, Bound}
-use Rattle.tora_arq.specs.Lives.{is_same_life as same}
+use Rattle.tora_arq.specs.Lives.{is_same_life}
 use Rattle.tora_arq.specs.Settings.{Settings}
-use Rattle.tora_arq.specs.LinkEnd.{EndState, first_end, after_open, after_tick, after_frame, after_transmit, frame_due, first_event, after_poll_event}
+use Rattle.tora_arq.specs.LinkEnd.{EndState, first_end, after_frame, after_transmit, frame_due, first_event, after_poll_event}
 use Rattle.tora_arq.specs.LinkFacts.{LinkCall, IsPossible, after_call, OpensWith}
-use Rattle.tora_arq.specs.LinkFacts.LinkCall.{Frame as Hears, Tick as Ticks, Submit as Submits, Transmit as Transmits, Cut as Cuts, PollEvent as Polls}
+use Rattle.tora_arq.specs.LinkFacts.LinkCall.{Frame as Hears, Tick as Ticks, Submit as Submits, Transmit as Transmits, Cut as Cuts}
 use Rattle.tora_life.specs.declared.state.DiskCall.{DiskCall}
 use Rattle.tora_life.specs.declared.state.DiskCall.TheVariants as Disk
 use Rattle.tora_life.specs.State.{after_crash}
@@ -28,12 +28,12 @@ use Rattle.tora_world.specs.declared.Event.TheVariants.{Need, Tick, Open, Pull, 
 use Rattle.tora_world.specs.declared.Call.{Call}
 use Rattle.tora_world.specs.declared.Call.TheVariants as Fails
 use Rattle.tora_world.specs.Topology.{Topology}
-use Rattle.tora_world.specs.LinkMachine.{put_at as put}
+use Rattle.tora_world.specs.LinkMachine.{put_at}
 use Rattle.tora_world.specs.World.{World, Choice, settings, datagram, with_end, first_world, refusal_by, open_with, after_opening, after_cargo, after_pull, after_sending, after_receiving, after_pump, after_turn, is_file_of, with_armed_files, after_arming, reopened, effect_by, world_by}
 use Rattle.tora_world.specs.FreeWorld.{Schedule}
 use Rattle.tora_world.specs.Law.{is_bound_to, times_bound, BindsOnce}
 use Rattle.tora_world.specs.Layers.{LinkLaws, LifeLaws}
-use Rattle.tora_world.proofs.Basics.{put_at, put_off, by_pair, same_true, same_refl}
+use Rattle.tora_world.proofs.PacketLists.{put_here, put_there, by_pair, same_true, same_refl}
 use Rattle.tora_world.proofs.Events.{one_number}
 
 -- what one call makes of the phase
@@ -68,13 +68,13 @@ module _ (laws : LinkLaws) (lows : LifeLaws) where
     still : Between w w a b
     still = record { floors = λ m f. f; phase = inl (inl refl) }
 
-    one_end : (n k : ℕ) (e : EndState) (w' : World) → w'.ends ≡ put w.ends n k e → w'.files ≡ w.files → To (w.ends n k).phase e.phase → Between w w' a b
+    one_end : (n k : ℕ) (e : EndState) (w' : World) → w'.ends ≡ put_at w.ends n k e → w'.files ≡ w.files → To (w.ends n k).phase e.phase → Between w w' a b
     one_end n k e w' q r t = record {
       floors = λ m f. subst (λ fs. IsFloor m (fs a b)) (sym r) f;
       phase = inl (subst (λ es. To (w.ends a b).phase (es a b).phase) (sym q)
-          (by_pair (λ x y. To (w.ends x y).phase (put w.ends n k e x y).phase) n k
-          (subst (λ (z : EndState). To (w.ends n k).phase z.phase) (sym (put_at w.ends n k e)) t)
-          (λ x y o. subst (λ (z : EndState). To (w.ends x y).phase z.phase) (sym (put_off w.ends n k e x y o)) (inl refl)) a b));
+          (by_pair (λ x y. To (w.ends x y).phase (put_at w.ends n k e x y).phase) n k
+          (subst (λ (z : EndState). To (w.ends n k).phase z.phase) (sym (put_here w.ends n k e)) t)
+          (λ x y o. subst (λ (z : EndState). To (w.ends x y).phase z.phase) (sym (put_there w.ends n k e x y o)) (inl refl)) a b));
     }
 
     same_ends : (w' : World) → w'.ends ≡ w.ends → w'.files ≡ w.files → Between w w' a b
@@ -82,9 +82,9 @@ module _ (laws : LinkLaws) (lows : LifeLaws) where
 
     opening_between : (c : Choice) (n k : ℕ) → Between w (after_opening w c n k) a b
     opening_between c n k =
-        by_pair (λ x y. Onward (w.ends x y) (put w.ends n k (open_with (w.ends n k) (c.now n k) (drawn_by DrawsNumber (w.files n k))) x y) (w.files x y) (put w.files n k (after_event DrawsNumber (w.files n k)) x y)) n k
-        (both (sym (put_at w.ends n k (open_with (w.ends n k) (c.now n k) (drawn_by DrawsNumber (w.files n k))))) (sym (put_at w.files n k (after_event DrawsNumber (w.files n k)))) (here (one_number (w.files n k))))
-        (λ x y o. both' x y (sym (put_off w.ends n k (open_with (w.ends n k) (c.now n k) (drawn_by DrawsNumber (w.files n k))) x y o)) (sym (put_off w.files n k (after_event DrawsNumber (w.files n k)) x y o)) (record { floors = λ m f. f; phase = inl (inl refl) }))
+        by_pair (λ x y. Onward (w.ends x y) (put_at w.ends n k (open_with (w.ends n k) (c.now n k) (drawn_by DrawsNumber (w.files n k))) x y) (w.files x y) (put_at w.files n k (after_event DrawsNumber (w.files n k)) x y)) n k
+        (both (sym (put_here w.ends n k (open_with (w.ends n k) (c.now n k) (drawn_by DrawsNumber (w.files n k))))) (sym (put_here w.files n k (after_event DrawsNumber (w.files n k)))) (here (one_number (w.files n k))))
+        (λ x y o. both' x y (sym (put_there w.ends n k (open_with (w.ends n k) (c.now n k) (drawn_by DrawsNumber (w.files n k))) x y o)) (sym (put_there w.files n k (after_event DrawsNumber (w.files n k)) x y o)) (record { floors = λ m f. f; phase = inl (inl refl) }))
         a b
       where
         both : {e e' : EndState} {f f' : LifeDisk} → e ≡ e' → f ≡ f' → Onward (w.ends n k) e (w.files n k) f → Onward (w.ends n k) e' (w.files n k) f'
@@ -121,13 +121,13 @@ module _ (laws : LinkLaws) (lows : LifeLaws) where
         go (x ∷ cs) = one_end n k (after_cargo (w.ends n k) x) (after_pull w n k (x ∷ cs)) refl refl (cargo_phase (settings w n k) (w.ends n k) x)
     onward c (Transmit n k) = go (frame_due (settings w n k) (w.ends n k) (c.now n k))
       where
-        go : (o : Option Frame) → Between w (after_sending w n k (after_transmit (settings w n k) (w.ends n k) (c.now n k)) o) a b
+        go : (o : Option FrameParts) → Between w (after_sending w n k (after_transmit (settings w n k) (w.ends n k) (c.now n k)) o) a b
         go None = still
         go (Some f) = one_end n k (after_transmit (settings w n k) (w.ends n k) (c.now n k)) (after_sending w n k (after_transmit (settings w n k) (w.ends n k) (c.now n k)) (Some f)) refl refl
             (call_phase (settings w n k) (w.ends n k) (Transmits (c.now n k)) tt (λ x o. o))
     onward c (Deliver i) = go (datagram w i)
       where
-        go : (o : Option Frame) → Between w (after_receiving w c o) a b
+        go : (o : Option FrameParts) → Between w (after_receiving w c o) a b
         go None = still
         go (Some f) = cond_both (w.arms f.header.receiver).receive _ _ (λ (x : World). Between w x a b)
             (λ _. same_ends (record w { arms = put_one w.arms f.header.receiver (record (w.arms f.header.receiver) { receive = false }) }) refl refl)
@@ -190,7 +190,7 @@ bound_to l (Bound j) e = ap Bound (sym (same_true l j e))
 not_bound_to : (l : Life) (ph : Phase) → ph ≢ Bound l → is_bound_to l ph ≡ false
 not_bound_to l Closed n = refl
 not_bound_to l (Unbound own) n = refl
-not_bound_to l (Bound j) n = ⊎_elim (λ e. absurd (n (bound_to l (Bound j) e))) (λ e. e) (cases_Bool (same l j))
+not_bound_to l (Bound j) n = ⊎_elim (λ e. absurd (n (bound_to l (Bound j) e))) (λ e. e) (cases_Bool (is_same_life l j))
 
 -- a life that is over
 record Past (l : Life) (e : EndState) (file : LifeDisk) : Type 0 where
