@@ -12,7 +12,7 @@ use Rattle.tora_seat.specs.declared.What.TheVariants as Tells
 use Rattle.tora_seat.specs.declared.Item.{Item}
 use Rattle.tora_world.specs.declared.Event.{Event}
 use Rattle.tora_world.specs.declared.Event.TheVariants.{Need, Tick, Open, Pull, Transmit, Deliver, Pump, CoreTurn, Arm, Restart}
-use Rattle.tora_world.specs.Topology.{Topology, has_repeated_link, new_core, is_link}
+use Rattle.tora_world.specs.Topology.{Topology, topology_fault, new_core, is_link}
 use Rattle.tora_world.specs.Lists.{Begins}
 use Rattle.tora_world.specs.World.{World, Choice, first_world, neighbours, refusal_by, world_by, sent_packets}
 use Rattle.tora_world.specs.FreeWorld.{Schedule, after_schedule}
@@ -96,8 +96,8 @@ abbrev pub SendsInLatest : World → Schedule → World → ℕ → ℕ → Type
 SendsInLatest first es w n k =
     (event : Event) (c : Choice) (life : Life) → (life_after c w n k event (latest_life n k es first None) ≡ Some life → ⊥) → sent_packets (world_by c w event) n k life ≡ sent_packets w n k life
 
--- this holds of every link end of every run, where no link is named twice
+-- this holds of every link end of every run over a topology that is not refused
 abbrev pub EveryEnd : (Topology → World → Schedule → World → ℕ → ℕ → Type 0) → Type 0
 EveryEnd Holds =
-    (t : Topology) (times : Times) (es : Schedule) (n k : ℕ) → has_repeated_link t.links ≡ false → is_link t n k ≡ true
+    (t : Topology) (times : Times) (es : Schedule) (n k : ℕ) → topology_fault t ≡ None → is_link t n k ≡ true
     → Holds t (first_world t times) es (after_schedule es (first_world t times)) n k
