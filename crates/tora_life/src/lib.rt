@@ -14,23 +14,24 @@
 #![tactic(auto)]
 
 mod disk;
-mod file;
+mod life_file;
 mod file_disk;
-mod memory;
+mod mem_disk;
 mod numbers;
-mod record;
-mod replacing;
-mod rising;
+mod call_record;
+mod slot_writing;
+mod laws;
 mod slots;
 mod state;
 mod tearing;
+mod whole_read;
 
 pub use disk::{Disk, DiskError};
-pub use file::{LifeFile, OpenFault};
+pub use life_file::{LifeFile, OpenFault};
 pub use file_disk::FileDisk;
-pub use memory::MemDisk;
+pub use mem_disk::MemDisk;
 pub use numbers::LifeError;
-pub use rising::drawn_life_numbers_rise;
+pub use laws::drawn_life_numbers_rise;
 pub use state::DiskCall;
 
 #[cfg(test)]
