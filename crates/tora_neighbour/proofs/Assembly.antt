@@ -1,83 +1,85 @@
 -- A turn out of its stages.
-use Rattle.std.proofs.Common.{◌≡◌, ℕ, ◌≤◌, Bool, false, List, [], ◌∷◌, ◌++◌, length, Option, Some, None, Result, Ok, Err, refl, sym, ap, ◌∙◌, subst, IsTrue}
+use Rattle.std.proofs.Common.{◌≡◌, ℕ, ◌≤◌, Bool, false, List, [], ◌∷◌, ◌++◌, length, Option, None, Ok, Err, refl, sym, ap, ◌∙◌, subst, IsTrue}
 use Rattle.std.proofs.lemmas.List.{append-nil}
 use Rattle.std.specs.Prelude.{map}
 use Rattle.tora_frame.specs.FrameParts.{FrameParts}
 use Rattle.tora_frame.specs.FrameGrammar.{frame_spelling}
 use Rattle.tora_arq.specs.declared.LinkEvent.{LinkEvent}
-use Rattle.tora_arq.specs.Settings.{Settings}
-use Rattle.tora_arq.specs.LinkEnd.{EndState, is_closed, bound_life, after_tick}
+use Rattle.tora_arq.specs.LinkEnd.{EndState, bound_life, after_tick}
 use Rattle.tora_arq.specs.LinkFacts.{list_of}
 use Rattle.tora_arq.specs.EndRange.{LinkEndView, link_end_of}
 use Rattle.tora_seat.specs.declared.Cargo.{Cargo}
 use Rattle.tora_neighbour.specs.declared.ending.BrokenAt.{BrokenAt}
 use Rattle.tora_neighbour.specs.declared.ending.BrokenAt.TheVariants.{Send, Receive}
-use Rattle.tora_neighbour.specs.declared.hub.Put.{Put}
-use Rattle.tora_neighbour.specs.Turns.{Turn, IsTurn, IsLastTurn, IsOpening, Tells, EndsWithNoNumber, idle_turn, after_opening, after_cargoes, after_cut_of_bound}
-use Rattle.tora_neighbour.specs.declared.ending.Ending.TheVariants.{NoNumber, Broken, Refused}
+use Rattle.tora_neighbour.specs.declared.intake.Intake.{Intake}
+use Rattle.tora_neighbour.specs.Intake.{Reading}
+use Rattle.tora_neighbour.specs.Turns.{Turn, IsTurn, IsLastTurn, IsOpening, Tells, after_opening, after_cargoes, after_cut_of_bound}
+use Rattle.tora_neighbour.specs.declared.ending.Ending.TheVariants.{Broken, Refused}
 use Rattle.tora_neighbour.specs.Traffic.{Outside, Traffic, Came, AreDrawn, entries_of}
 use Rattle.tora_neighbour.specs.Causes.{IsExchange}
 
-abbrev pub turn_of : ℕ → Option ℕ → List Cargo → List FrameParts → Option FrameParts → List LinkEvent → Option LinkEvent → Bool → Turn
-turn_of now opened cargoes sent came told refused beat =
-    record { now = now; opened = opened; cargoes = cargoes; sent = sent; came = came; told = told; refused = refused; beat = beat }
+abbrev pub turn_of : ℕ → Option ℕ → List Cargo → List FrameParts → Option Reading → Option Intake → List LinkEvent → Option LinkEvent → Bool → Turn
+turn_of now opened cargoes sent came intake told refused beat =
+    record { now = now; opened = opened; cargoes = cargoes; sent = sent; came = came; intake = intake; told = told; refused = refused; beat = beat }
 
 -- the traffic of one turn
-pub traffic_of : (size : ℕ) (o n : Outside) (t : Turn)
+pub traffic_of : (o n : Outside) (t : Turn)
     → AreDrawn o.drawn (list_of t.opened) n.drawn
     → n.puts ≡ o.puts ++ entries_of t
     → n.takes ≡ o.takes ++ t.cargoes
     → (IsTrue n.tells → IsTrue o.tells)
     → (IsTrue n.tells → n.tries ≡ o.tries ++ map frame_spelling t.sent)
-    → (IsTrue n.tells → Came size o.coming (list_of t.came) n.coming)
-    → Traffic size o (t ∷ []) n
-traffic_of size o n t drawn puts takes tells tries came = record {
+    → (IsTrue n.tells → Came o.coming (list_of t.came) n.coming)
+    → Traffic o (t ∷ []) n
+traffic_of o n t drawn puts takes tells tries came = record {
   drawn = subst (λ (ns : List ℕ). AreDrawn o.drawn ns n.drawn) (sym (append-nil (list_of t.opened))) drawn;
   puts = puts ∙ ap (λ xs. o.puts ++ xs) (sym (append-nil (entries_of t)));
   takes = takes ∙ ap (λ xs. o.takes ++ xs) (sym (append-nil t.cargoes));
   tells = tells;
   tries = λ yes. tries yes ∙ ap (λ xs. o.tries ++ map frame_spelling xs) (sym (append-nil t.sent));
-  came = λ yes. subst (λ (fs : List FrameParts). Came size o.coming fs n.coming) (sym (append-nil (list_of t.came))) (came yes);
+  came = λ yes. subst (λ (fs : List Reading). Came o.coming fs n.coming) (sym (append-nil (list_of t.came))) (came yes);
 }
 
 module _ (v one : LinkEndView) (now : ℕ) (opened : Option ℕ) (cargoes : List Cargo) (opening : IsOpening v.state opened) (most : length cargoes ≤ 256)
     (begun : one ≡ link_end_of v.settings (after_cargoes (after_tick v.settings (after_opening v.state opened now) now) cargoes)) where
-  pub whole_turn : (frames : List FrameParts) (came : Option FrameParts) (two after : EndState) (told : List LinkEvent) (beat : Bool)
-      → IsExchange one.settings one.state now frames came (Ok tt) two
+  pub whole_turn : (frames : List FrameParts) (came : Option Reading) (intake : Option Intake) (two after : EndState) (told : List LinkEvent) (beat : Bool)
+      → IsExchange one.settings one.state now frames came intake (Ok tt) two
       → Tells two told None after
-      → IsTurn v.settings v.state (turn_of now opened cargoes frames came told None beat) after
-  whole_turn frames came two after told beat exchanged tells =
-      let x = subst (λ (u : LinkEndView). IsExchange u.settings u.state now frames came (Ok tt) two) begun exchanged in record {
+      → IsTurn v.settings v.state (turn_of now opened cargoes frames came intake told None beat) after
+  whole_turn frames came intake two after told beat exchanged tells =
+      let x = subst (λ (u : LinkEndView). IsExchange u.settings u.state now frames came intake (Ok tt) two) begun exchanged in record {
         begins = record { opening = opening; most = most; due = x.0 };
         none_due = x.1;
-        tells = subst (λ (e : EndState). Tells e told None after) x.2 tells;
+        heard = x.2;
+        tells = subst (λ (e : EndState). Tells e told None after) x.3 tells;
         accepted = refl;
       }
 
-  pub refused_turn : (frames : List FrameParts) (came : Option FrameParts) (two after : EndState) (told : List LinkEvent) (refused : Option LinkEvent)
-      → IsExchange one.settings one.state now frames came (Ok tt) two
+  pub refused_turn : (frames : List FrameParts) (came : Option Reading) (intake : Option Intake) (two after : EndState) (told : List LinkEvent) (refused : Option LinkEvent)
+      → IsExchange one.settings one.state now frames came intake (Ok tt) two
       → Tells two told refused after
-      → IsLastTurn v.settings v.state (turn_of now opened cargoes frames came told refused false) Refused after
-  refused_turn frames came two after told refused exchanged tells =
-      let x = subst (λ (u : LinkEndView). IsExchange u.settings u.state now frames came (Ok tt) two) begun exchanged in record {
+      → IsLastTurn v.settings v.state (turn_of now opened cargoes frames came intake told refused false) Refused after
+  refused_turn frames came intake two after told refused exchanged tells =
+      let x = subst (λ (u : LinkEndView). IsExchange u.settings u.state now frames came intake (Ok tt) two) begun exchanged in record {
         begins = record { opening = opening; most = most; due = x.0 };
         none_due = x.1;
-        tells = subst (λ (e : EndState). Tells e told refused after) x.2 tells;
+        heard = x.2;
+        tells = subst (λ (e : EndState). Tells e told refused after) x.3 tells;
         no_beat = refl;
       }
 
-  pub broken_turn : (at : BrokenAt) (frames : List FrameParts) (came : Option FrameParts) (two after : EndState) (told : List LinkEvent) (refused : Option LinkEvent)
-      → IsExchange one.settings one.state now frames came (Err at) two
+  pub broken_turn : (at : BrokenAt) (frames : List FrameParts) (came : Option Reading) (intake : Option Intake) (two after : EndState) (told : List LinkEvent) (refused : Option LinkEvent)
+      → IsExchange one.settings one.state now frames came intake (Err at) two
       → Tells (after_cut_of_bound two (bound_life two)) told refused after
-      → IsLastTurn v.settings v.state (turn_of now opened cargoes frames came told refused false) (Broken at) after
-  broken_turn Send frames came two after told refused exchanged tells =
-      let x = subst (λ (u : LinkEndView). IsExchange u.settings u.state now frames came (Err Send) two) begun exchanged in record {
+      → IsLastTurn v.settings v.state (turn_of now opened cargoes frames came intake told refused false) (Broken at) after
+  broken_turn Send frames came intake two after told refused exchanged tells =
+      let x = subst (λ (u : LinkEndView). IsExchange u.settings u.state now frames came intake (Err Send) two) begun exchanged in record {
         begins = record { opening = opening; most = most; due = x.0 };
-        broken = record { nothing_came = x.1; tells = subst (λ (e : EndState). Tells (after_cut_of_bound e (bound_life e)) told refused after) x.2 tells; no_beat = refl };
+        broken = record { nothing_came = x.1; nothing_heard = x.2; tells = subst (λ (e : EndState). Tells (after_cut_of_bound e (bound_life e)) told refused after) x.3 tells; no_beat = refl };
       }
-  broken_turn Receive frames came two after told refused exchanged tells =
-      let x = subst (λ (u : LinkEndView). IsExchange u.settings u.state now frames came (Err Receive) two) begun exchanged in record {
+  broken_turn Receive frames came intake two after told refused exchanged tells =
+      let x = subst (λ (u : LinkEndView). IsExchange u.settings u.state now frames came intake (Err Receive) two) begun exchanged in record {
         begins = record { opening = opening; most = most; due = x.0 };
         none_due = x.1;
-        broken = record { nothing_came = x.2; tells = subst (λ (e : EndState). Tells (after_cut_of_bound e (bound_life e)) told refused after) x.3 tells; no_beat = refl };
+        broken = record { nothing_came = x.2; nothing_heard = x.3; tells = subst (λ (e : EndState). Tells (after_cut_of_bound e (bound_life e)) told refused after) x.4 tells; no_beat = refl };
       }

@@ -1,5 +1,5 @@
 -- Why a thread has ended, out of why its last turn was the last one.
-use Rattle.std.proofs.Common.{◌≡◌, ℕ, Bool, true, sym, ap, ◌∙◌, subst}
+use Rattle.std.proofs.Common.{◌≡◌, ℕ, Bool, sym, ◌∙◌, subst}
 use Rattle.tora_life.specs.declared.numbers.Numbers.{Numbers}
 use Rattle.tora_life.specs.declared.numbers.LifeError.TheVariants as Fault
 use Rattle.tora_life.specs.Disk.{HasCause}

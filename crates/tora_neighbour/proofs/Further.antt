@@ -1,5 +1,5 @@
 -- The parts of a turn, one step further.
-use Rattle.std.proofs.Common.{◌≡◌, ◌⊎◌, ℕ, suc, ◌+◌, ◌≤◌, List, [], ◌∷◌, ◌++◌, length, take, drop, Bool, IsTrue, Option, Some, None, refl, sym, ap, ◌∙◌, subst, append_assoc, arith, length-append}
+use Rattle.std.proofs.Common.{◌≡◌, ℕ, ◌≤◌, List, [], ◌∷◌, ◌++◌, take, drop, Bool, IsTrue, Some, None, refl, sym, ap, ◌∙◌, subst, append_assoc}
 use Rattle.std.proofs.lemmas.List.{append-nil, map-append}
 use Rattle.std.specs.Prelude.{map, slice_get}
 use Rattle.std.specs.Prelude.{Result, Ok, Err, OnErr}
@@ -8,13 +8,13 @@ use Rattle.tora_frame.specs.FrameGrammar.{frame_spelling, frame_reading}
 use Rattle.tora_arq.specs.declared.LinkEvent.{LinkEvent}
 use Rattle.tora_arq.specs.Settings.{Settings}
 use Rattle.tora_arq.specs.LinkEnd.{EndState, frame_due, after_transmit}
-use Rattle.tora_arq.specs.LinkFacts.{list_of}
 use Rattle.tora_arq.specs.EndRange.{LinkEndView, link_end_of}
 use Rattle.tora_neighbour.specs.Datagrams.{IsReceived}
 use Rattle.tora_seat.specs.declared.Cargo.{Cargo}
 use Rattle.tora_neighbour.specs.declared.hub.Put.{Put}
 use Rattle.tora_neighbour.specs.Turns.{after_cargo, after_cargoes, after_frames, AreDue, Tells}
-use Rattle.tora_neighbour.specs.Traffic.{entry_of, frame_in, Came}
+use Rattle.tora_neighbour.specs.Traffic.{entry_of, Came}
+use Rattle.tora_neighbour.proofs.Readings.{reading_of_cut}
 
 pub cargoes_more : (e : EndState) (cargoes : List Cargo) (cargo : Cargo) → after_cargoes e (cargoes ++ cargo ∷ []) ≡ after_cargo (after_cargoes e cargoes) cargo
 cargoes_more e [] cargo = refl
@@ -116,15 +116,15 @@ pub sent_more : (v : LinkEndView) (now : ℕ) (here there : LinkEndView) (tells 
 sent_more v now here there tells more before mid after frames frame bytes due is tries next then still tried spelt = (
   due_more v.settings v.state now frames frame due (subst (λ (x : LinkEndView). frame_due x.settings x.state now ≡ Some frame) is (sym next)),
   then
-  ∙ ap (λ (x : LinkEndView). link_end_of x.settings (after_transmit x.settings x.state now)) is
-  ∙ ap (link_end_of v.settings) (sym (frames_more v.settings v.state now frames frame)),
+      ∙ ap (λ (x : LinkEndView). link_end_of x.settings (after_transmit x.settings x.state now)) is
+      ∙ ap (link_end_of v.settings) (sym (frames_more v.settings v.state now frames frame)),
   λ yes. tries_more before mid after frames frame bytes (tries (still yes)) (tried yes) spelt,
 )
 
 -- a datagram is received
-pub came_one : (size : ℕ) (coming rest : List (List ℕ)) (count : ℕ) (buffer : List ℕ) → IsReceived coming size (Ok (Some count)) buffer rest → Came size coming (list_of (frame_in (frame_reading (take count buffer)))) rest
-came_one size coming rest count buffer h = record {
+pub came_one : (size : ℕ) (coming rest : List (List ℕ)) (count : ℕ) (buffer : List ℕ) → 77 ≤ size → IsReceived coming size (Ok (Some count)) buffer rest → Came coming (frame_reading (take count buffer) ∷ []) rest
+came_one size coming rest count buffer room h = record {
   given = h.0 ∷ [];
   coming_is = h.1;
-  frames_are = ap (λ bytes. list_of (frame_in (frame_reading bytes))) h.2.bytes ∙ sym (append-nil (list_of (frame_in (frame_reading (take size h.0)))));
+  readings_are = ap (λ reading. reading ∷ []) (ap frame_reading h.2.bytes ∙ reading_of_cut size h.0 room);
 }

@@ -1,5 +1,5 @@
 -- Only an open changes the last life of an end.
-use Rattle.std.proofs.Common.{◌≡◌, ◌⊎◌, ℕ, ◌<◌, List, [], ◌∷◌, Option, Some, None, refl, ◌∙◌, ⊎_elim}
+use Rattle.std.proofs.Common.{◌≡◌, ◌⊎◌, ℕ, ◌<◌, List, [], ◌∷◌, Option, Some, None, Ok, Err, refl, ◌∙◌, ⊎_elim}
 use Rattle.tora_frame.specs.FrameParts.{FrameParts}
 use Rattle.tora_arq.specs.Settings.{Settings}
 use Rattle.tora_arq.specs.LinkEnd.{EndState, after_tick, after_transmit}
@@ -7,7 +7,8 @@ use Rattle.tora_arq.specs.LinkFacts.{LinkCall, EveryCall, OpensWith, IsPossible,
 use Rattle.tora_arq.specs.LinkFacts.LinkCall.{Tick, Submit, Cut, Transmit, Frame}
 use Rattle.tora_seat.specs.declared.Cargo.{Cargo}
 use Rattle.tora_seat.specs.declared.Cargo.TheVariants as Goods
-use Rattle.tora_neighbour.specs.Turns.{after_cargo, after_cargoes, after_frames, after_came}
+use Rattle.tora_neighbour.specs.Intake.{Reading, after_came}
+use Rattle.tora_neighbour.specs.Turns.{after_cargo, after_cargoes, after_frames}
 
 -- what the crate of link ends says of every call
 abbrev pub NumberLaw : Type 0
@@ -35,6 +36,7 @@ module _ (law : NumberLaw) (s : Settings) where
   kept_frames e now [] = refl
   kept_frames e now (frame ∷ frames) = kept_frames (after_transmit s e now) now frames ∙ kept_transmit e now
 
-  pub kept_came : (e : EndState) (now : ℕ) (came : Option FrameParts) → (after_came s e now came).last_life ≡ e.last_life
+  pub kept_came : (e : EndState) (now : ℕ) (came : Option Reading) → (after_came s e now came).last_life ≡ e.last_life
   kept_came e now None = refl
-  kept_came e now (Some frame) = kept_by e (Frame frame now) tt (λ n no. no)
+  kept_came e now (Some (Ok frame)) = kept_by e (Frame frame now) tt (λ n no. no)
+  kept_came e now (Some (Err error)) = refl

@@ -1,5 +1,5 @@
 -- The calls of its hub and its wire that a neighbour's thread makes in whole turns, in their order.
-use Rattle.std.specs.Prelude.{◌≡◌, ◌⊎◌, ℕ, Bool, MatchBool, List, [], ◌∷◌, length, Option, Some, None, Result, Ok, Err}
+use Rattle.std.specs.Prelude.{◌≡◌, ◌⊎◌, ℕ, Bool, MatchBool, List, [], ◌∷◌, length, Option, Some, None, Result, Ok}
 use Rattle.tora_frame.specs.FrameParts.{FrameParts}
 use Rattle.tora_frame.specs.FrameGrammar.{frame_spelling}
 use Rattle.tora_arq.specs.declared.LinkEvent.{LinkEvent}

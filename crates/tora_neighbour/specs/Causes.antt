@@ -1,30 +1,27 @@
 -- Why a neighbour's thread ends, and what it needs of its file.
-use Rattle.std.specs.Prelude.{◌≡◌, ℕ, ◌^◌, ◌<◌, ◌≤◌, Bool, true, List, Option, Some, None, Result, Ok, Err, IsTrue}
+use Rattle.std.specs.Prelude.{◌≡◌, ℕ, ◌≤◌, Bool, true, List, Option, Some, None, Result, Ok, Err, IsTrue}
 use Rattle.tora_frame.specs.FrameParts.{FrameParts}
 use Rattle.tora_arq.specs.Settings.{Settings}
 use Rattle.tora_life.specs.declared.numbers.LifeError.{LifeError}
 use Rattle.tora_life.specs.declared.numbers.LifeError.TheVariants as Fault
 use Rattle.tora_life.specs.Disk.{HasCause}
 use Rattle.tora_life.specs.declared.numbers.Numbers.{Numbers}
-use Rattle.tora_life.specs.Numbers.{value_of, IsSpent}
+use Rattle.tora_life.specs.Numbers.{IsSpent}
 use Rattle.tora_arq.specs.LinkEnd.{EndState, frame_due, after_transmit}
 use Rattle.tora_neighbour.specs.declared.ending.BrokenAt.{BrokenAt}
 use Rattle.tora_neighbour.specs.declared.ending.BrokenAt.TheVariants.{Send, Receive}
-use Rattle.tora_neighbour.specs.declared.link.NodeError.{NodeError}
-use Rattle.tora_neighbour.specs.declared.link.NodeError.TheVariants.{Memory, Lane, Life, Wire, Output}
+use Rattle.tora_neighbour.specs.declared.fault.NodeError.{NodeError}
+use Rattle.tora_neighbour.specs.declared.fault.NodeError.TheVariants.{Memory, Lane, Life, Wire, Output}
 use Rattle.tora_neighbour.specs.declared.ending.Ending.{Ending}
 use Rattle.tora_neighbour.specs.declared.ending.Ending.TheVariants as Because
 use Rattle.tora_neighbour.specs.Datagrams.{RoseBy}
-use Rattle.tora_neighbour.specs.Turns.{AreDue, after_frames, after_came}
-
--- numbers that are left to draw are at most 2^62
-abbrev pub IsInReach : Numbers → Type 0
-IsInReach numbers = numbers.drawn < value_of numbers → value_of numbers ≤ 2 ^ 62
+use Rattle.tora_neighbour.specs.declared.intake.Intake.{Intake}
+use Rattle.tora_neighbour.specs.Intake.{Reading, intake_in, after_came}
+use Rattle.tora_neighbour.specs.Turns.{AreDue, after_frames}
 
 -- the next number is above the last life of the end
-pub record IsReady (e : EndState) (numbers : Numbers) : Type 0 where
-  pub reach : IsInReach numbers
-  pub above : e.last_life ≤ numbers.drawn
+abbrev pub IsReady : EndState → Numbers → Type 0
+IsReady e numbers = e.last_life ≤ numbers.drawn
 
 -- why a file draws no number: the disk has failed in between, an earlier draw had failed, or the numbers are used up
 abbrev pub IsLifeCause : LifeError → Numbers → Numbers → ℕ → ℕ → Type 0
@@ -33,17 +30,19 @@ IsLifeCause Fault.Failed before after failed now = IsTrue before.failed
 IsLifeCause Fault.Spent before after failed now = IsSpent after
 IsLifeCause Fault.Damaged before after failed now = ⊥
 
--- these frames were sent and this one came, if one did; and the end after it
-abbrev pub IsExchange : Settings → EndState → ℕ → List FrameParts → Option FrameParts → Result (Unit {0}) BrokenAt → EndState → Type 0
-IsExchange s e now frames came (Ok done) after =
+-- these frames were sent, this came, if a datagram did, and this was made of it; and the end after it
+abbrev pub IsExchange : Settings → EndState → ℕ → List FrameParts → Option Reading → Option Intake → Result (Unit {0}) BrokenAt → EndState → Type 0
+IsExchange s e now frames came intake (Ok done) after =
     AreDue s e now frames
     × (frame_due s (after_frames s e now frames) now ≡ None)
+    × (intake ≡ intake_in s (after_transmit s (after_frames s e now frames) now) now came)
     × (after ≡ after_came s (after_transmit s (after_frames s e now frames) now) now came)
-IsExchange s e now frames came (Err Send) after = AreDue s e now frames × (came ≡ None) × (after ≡ after_frames s e now frames)
-IsExchange s e now frames came (Err Receive) after =
+IsExchange s e now frames came intake (Err Send) after = AreDue s e now frames × (came ≡ None) × (intake ≡ None) × (after ≡ after_frames s e now frames)
+IsExchange s e now frames came intake (Err Receive) after =
     AreDue s e now frames
     × (frame_due s (after_frames s e now frames) now ≡ None)
     × (came ≡ None)
+    × (intake ≡ None)
     × (after ≡ after_transmit s (after_frames s e now frames) now)
 
 -- why a turn is the last one: the file draws no number, a hundred calls of the wire in a row have failed, or the hub has answered Gone

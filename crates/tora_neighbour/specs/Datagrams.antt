@@ -1,5 +1,5 @@
 -- Datagrams, and the failures of a wire.
-use Rattle.std.specs.Prelude.{◌≡◌, ℕ, ◌+◌, ◌-◌, ◌^◌, ◌≤◌, min, List, [], ◌∷◌, length, take, Option, Some, None, Result, Ok, Err, is_err, if◌then◌else◌}
+use Rattle.std.specs.Prelude.{◌≡◌, ℕ, ◌+◌, ◌-◌, ◌^◌, ◌≤◌, min, List, ◌∷◌, length, take, Option, Some, None, Result, Ok, Err, is_err, if◌then◌else◌}
 use Rattle.tora_neighbour.specs.declared.wire.WireError.{WireError}
 
 -- one more where the call failed; the greatest number stays

@@ -1,7 +1,10 @@
--- What contracts see of a hub over lists.
-use Rattle.std.specs.Prelude.{ℕ, Bool, List}
+-- What contracts see of a hub over lists, and what its calls make of it.
+use Rattle.std.specs.Prelude.{◌≡◌, ◌⊎◌, ℕ, ◌<◌, ◌≤◌, Bool, true, false, List, [], ◌∷◌, ◌++◌, length, Option, Some, None, Result, Ok, Err}
 use Rattle.tora_seat.specs.declared.Cargo.{Cargo}
+use Rattle.tora_seat.specs.declared.What.{What}
+use Rattle.tora_lane.specs.declared.ports.Gone.{Gone}
 use Rattle.tora_neighbour.specs.declared.hub.Put.{Put}
+use Rattle.tora_neighbour.specs.Puts.{put_of}
 
 pub record ListHubView : Type 0 where
   pub puts : List Put
@@ -9,3 +12,13 @@ pub record ListHubView : Type 0 where
   pub takes : List Cargo
   pub cargoes : List Cargo  -- those still to be taken
   pub gone : Bool
+
+-- it is put where there is room, and `Gone` was not answered yet
+abbrev pub PutsInList : ListHubView → ℕ → What → Result (Unit {0}) Gone → ListHubView → Type 0
+PutsInList h now what (Ok done) after = (h.gone ≡ false) × (length h.puts < h.room) × (after ≡ record h { puts = h.puts ++ put_of now what ∷ [] })
+PutsInList h now what (Err gone) after = ((h.gone ≡ true) ⊎ (h.room ≤ length h.puts)) × (after ≡ record h { gone = true })
+
+-- the first cargo is taken, and none only where all were taken
+abbrev pub TakesFromList : ListHubView → Option Cargo → ListHubView → Type 0
+TakesFromList h (Some cargo) after = (h.cargoes ≡ cargo ∷ after.cargoes) × (after ≡ record h { takes = h.takes ++ cargo ∷ []; cargoes = after.cargoes })
+TakesFromList h None after = (h.cargoes ≡ []) × (after ≡ h)

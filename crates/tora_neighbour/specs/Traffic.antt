@@ -1,7 +1,6 @@
 -- What goes between a neighbour's thread and its file, its hub and its wire in the turns of a run.
-use Rattle.std.specs.Prelude.{◌≡◌, ℕ, suc, Bool, List, [], ◌∷◌, ◌++◌, map, take, Option, Some, None, Result, Ok, Err, IsTrue, if◌then◌else◌}
+use Rattle.std.specs.Prelude.{◌≡◌, ℕ, suc, Bool, List, [], ◌∷◌, ◌++◌, map, IsTrue, if◌then◌else◌}
 use Rattle.std.specs.List.{flat_map}
-use Rattle.tora_frame.specs.declared.FrameError.{FrameError}
 use Rattle.tora_frame.specs.FrameParts.{FrameParts}
 use Rattle.tora_frame.specs.FrameGrammar.{frame_spelling, frame_reading}
 use Rattle.tora_arq.specs.declared.LinkEvent.{LinkEvent}
@@ -13,6 +12,7 @@ use Rattle.tora_seat.specs.declared.What.TheVariants as Put
 use Rattle.tora_neighbour.specs.declared.hub.Put.{Put as Entry}
 use Rattle.tora_neighbour.specs.declared.link.Link.{Link}
 use Rattle.tora_neighbour.specs.Puts.{put_of}
+use Rattle.tora_neighbour.specs.Intake.{Reading}
 use Rattle.tora_neighbour.specs.Turns.{Turn}
 
 -- what the file, the hub and the wire tell of themselves
@@ -59,8 +59,9 @@ cargoes_taken turns = flat_map (λ t. t.cargoes) turns
 abbrev pub frames_sent : List Turn → List FrameParts
 frames_sent turns = flat_map (λ t. t.sent) turns
 
-abbrev pub frames_come : List Turn → List FrameParts
-frames_come turns = flat_map (λ t. list_of t.came) turns
+-- what the datagrams that came spell
+abbrev pub readings_come : List Turn → List Reading
+readings_come turns = flat_map (λ t. list_of t.came) turns
 
 -- ---- what they have to do with what is told
 
@@ -69,28 +70,16 @@ abbrev pub AreDrawn : ℕ → List ℕ → ℕ → Type 0
 AreDrawn drawn [] after = after ≡ drawn
 AreDrawn drawn (n ∷ numbers) after = (n ≡ suc drawn) × AreDrawn n numbers after
 
--- the frame, where there is one
-abbrev pub frame_in : Result FrameParts FrameError → Option FrameParts
-frame_in (Ok frame) = Some frame
-frame_in (Err error) = None
-
--- the frame that a datagram spells, cut to a buffer of this size
-abbrev pub frame_spelt : ℕ → List ℕ → Option FrameParts
-frame_spelt size datagram = frame_in (frame_reading (take size datagram))
-
-abbrev pub frames_spelt : ℕ → List (List ℕ) → List FrameParts
-frames_spelt size datagrams = flat_map (λ datagram. list_of (frame_spelt size datagram)) datagrams
-
--- the frames that came are those that the datagrams given spell
-pub record Came (size : ℕ) (coming : List (List ℕ)) (frames : List FrameParts) (rest : List (List ℕ)) : Type 0 where
+-- what came is what the datagrams given spell
+pub record Came (coming : List (List ℕ)) (readings : List Reading) (rest : List (List ℕ)) : Type 0 where
   pub given : List (List ℕ)
   pub coming_is : coming ≡ given ++ rest
-  pub frames_are : frames ≡ frames_spelt size given
+  pub readings_are : readings ≡ map frame_reading given
 
-pub record Traffic (size : ℕ) (old : Outside) (turns : List Turn) (new : Outside) : Type 0 where
+pub record Traffic (old : Outside) (turns : List Turn) (new : Outside) : Type 0 where
   pub drawn : AreDrawn old.drawn (numbers_opened turns) new.drawn
   pub puts : new.puts ≡ old.puts ++ entries_put turns
   pub takes : new.takes ≡ old.takes ++ cargoes_taken turns
   pub tells : IsTrue new.tells → IsTrue old.tells
   pub tries : IsTrue new.tells → new.tries ≡ old.tries ++ map frame_spelling (frames_sent turns)
-  pub came : IsTrue new.tells → Came size old.coming (frames_come turns) new.coming
+  pub came : IsTrue new.tells → Came old.coming (readings_come turns) new.coming

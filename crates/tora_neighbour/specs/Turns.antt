@@ -3,9 +3,13 @@ use Rattle.std.specs.Prelude.{◌≡◌, ℕ, ◌<◌, ◌≤◌, Bool, true, fa
 use Rattle.tora_frame.specs.FrameParts.{FrameParts}
 use Rattle.tora_arq.specs.declared.LinkEvent.{LinkEvent}
 use Rattle.tora_arq.specs.Settings.{Settings, ticks_passed}
-use Rattle.tora_arq.specs.LinkEnd.{EndState, is_closed, bound_life, after_open, after_frame, after_tick, after_submit, after_cut, frame_due, after_transmit}
+use Rattle.tora_arq.specs.LinkEnd.{EndState, is_closed, bound_life, after_open, after_tick, after_submit, after_cut, frame_due, after_transmit}
 use Rattle.tora_arq.specs.LinkFacts.{list_of}
 use Rattle.tora_arq.specs.declared.Life.{Life}
+use Rattle.tora_neighbour.specs.declared.intake.Intake.{Intake}
+use Rattle.tora_neighbour.specs.declared.tally.Tally.{Tally}
+use Rattle.tora_neighbour.specs.Intake.{Reading, intake_in, after_came}
+use Rattle.tora_neighbour.specs.Tally.{counted_in}
 use Rattle.tora_neighbour.specs.declared.ending.Ending.{Ending}
 use Rattle.tora_neighbour.specs.declared.ending.Ending.TheVariants.{NoNumber, Broken, Refused}
 use Rattle.tora_neighbour.specs.declared.ending.BrokenAt.TheVariants.{Send, Receive}
@@ -18,7 +22,8 @@ pub record Turn : Type 0 where
   pub opened : Option ℕ  -- the life number that was drawn for a closed end
   pub cargoes : List Cargo  -- what was taken for the link
   pub sent : List FrameParts  -- the frames that the end gave to be sent
-  pub came : Option FrameParts  -- the frame that came
+  pub came : Option Reading  -- what the datagram that came spells, if one came
+  pub intake : Option Intake  -- what the end made of it
   pub told : List LinkEvent  -- the events that the end gave and that were put
   pub refused : Option LinkEvent  -- the event that the end gave and that was not put
   pub beat : Bool  -- whether a beat was put
@@ -43,10 +48,6 @@ abbrev pub after_frames : Settings → EndState → ℕ → List FrameParts → 
 after_frames s e now [] = e
 after_frames s e now (frame ∷ frames) = after_frames s (after_transmit s e now) now frames
 
-abbrev pub after_came : Settings → EndState → ℕ → Option FrameParts → EndState
-after_came s e now None = e
-after_came s e now (Some frame) = after_frame s e frame now
-
 abbrev pub after_cut_of_bound : EndState → Option Life → EndState
 after_cut_of_bound e None = e
 after_cut_of_bound e (Some life) = after_cut e life
@@ -67,7 +68,7 @@ when_sent s e t = after_frames s (when_served s e t) t.now t.sent
 abbrev pub when_none_due : Settings → EndState → Turn → EndState
 when_none_due s e t = after_transmit s (when_sent s e t) t.now
 
--- once a frame came, if one did
+-- once a datagram came, if one did
 abbrev pub when_heard : Settings → EndState → Turn → EndState
 when_heard s e t = after_came s (when_none_due s e t) t.now t.came
 
@@ -96,10 +97,11 @@ pub record Tells (e : EndState) (told : List LinkEvent) (refused : Option LinkEv
   pub all : refused ≡ None → left ≡ []
   pub after_is : after ≡ record e { events = left }
 
--- a whole turn: cargoes, then frames until none is due, then one receive, then all events
+-- a whole turn: cargoes, then frames until none is due, then one receive, of which at most one datagram comes, then all events
 pub record IsTurn (s : Settings) (e : EndState) (t : Turn) (after : EndState) : Type 0 where
   pub begins : Begins s e t
   pub none_due : frame_due s (when_sent s e t) t.now ≡ None
+  pub heard : t.intake ≡ intake_in s (when_none_due s e t) t.now t.came
   pub tells : Tells (when_heard s e t) t.told t.refused after
   pub accepted : t.refused ≡ None
 
@@ -118,11 +120,18 @@ abbrev pub AreBeats : Option ℕ → List Turn → Option ℕ → Type 0
 AreBeats last [] after = after ≡ last
 AreBeats last (t ∷ turns) after = (t.beat ≡ is_beat_due last t.now) × AreBeats (beat_after last t) turns after
 
+-- ---- the tally
+
+-- each datagram that came is counted
+abbrev pub tally_after : Tally → List Turn → Tally
+tally_after tally [] = tally
+tally_after tally (t ∷ turns) = tally_after (counted_in t.intake tally) turns
+
 -- ---- how the last turn ends
 
 -- nothing came to the end, and it gave nothing
 abbrev pub idle_turn : ℕ → Turn
-idle_turn now = record { now = now; opened = None; cargoes = []; sent = []; came = None; told = []; refused = None; beat = false }
+idle_turn now = record { now = now; opened = None; cargoes = []; sent = []; came = None; intake = None; told = []; refused = None; beat = false }
 
 -- no number: nothing else is done
 pub record EndsWithNoNumber (e : EndState) (t : Turn) (after : EndState) : Type 0 where
@@ -133,6 +142,7 @@ pub record EndsWithNoNumber (e : EndState) (t : Turn) (after : EndState) : Type 
 -- the wire is broken: the bound life is cut, and the events that are left are told
 pub record EndsBroken (e : EndState) (t : Turn) (after : EndState) : Type 0 where
   pub nothing_came : t.came ≡ None
+  pub nothing_heard : t.intake ≡ None
   pub tells : Tells (after_cut_of_bound e (bound_life e)) t.told t.refused after
   pub no_beat : IsFalse t.beat
 
@@ -149,6 +159,7 @@ pub record EndsBrokenAtSend (s : Settings) (e : EndState) (t : Turn) (after : En
 pub record EndsRefused (s : Settings) (e : EndState) (t : Turn) (after : EndState) : Type 0 where
   pub begins : Begins s e t
   pub none_due : frame_due s (when_sent s e t) t.now ≡ None
+  pub heard : t.intake ≡ intake_in s (when_none_due s e t) t.now t.came
   pub tells : Tells (when_heard s e t) t.told t.refused after
   pub no_beat : IsFalse t.beat
 

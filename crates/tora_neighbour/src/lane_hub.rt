@@ -13,8 +13,9 @@ pub struct LaneHub {
 }
 
 impl Hub for LaneHub {
-    ghost use Rattle.std.specs.Prelude.{map};
+    ghost use Rattle.std.specs.Prelude.{◌≡◌, map};
     ghost use Rattle.tora_neighbour.specs.Puts.{put_in};
+    ghost use Rattle.tora_neighbour.specs.LaneHub.{PutsAtPort, TakesFromLane};
 
     ghost puts = { λ h. map put_in h.port.put };
 
@@ -22,9 +23,9 @@ impl Hub for LaneHub {
 
     ghost gone = { λ h. h.port.gone };
 
-    ghost did_put = { λ h now what answer after. Unit {0} };
+    ghost did_put = { λ h now what answer after. (after.outs ≡ h.outs) × PutsAtPort h.port now what answer after.port };
 
-    ghost did_take = { λ h answer after. Unit {0} };
+    ghost did_take = { λ h answer after. (after.port ≡ h.port) × TakesFromLane h.outs answer after.outs };
 
     fn put<R: Wait>(&mut self, rt: &R, now: u64, what: What) -> Result<(), Gone> {
         self.port.put(rt, now, what)

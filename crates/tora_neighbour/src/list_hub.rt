@@ -51,15 +51,17 @@ impl ListHub {
 }
 
 impl Hub for ListHub {
+    ghost use Rattle.tora_neighbour.specs.ListHub.{PutsInList, TakesFromList};
+
     ghost puts = { λ h. h.puts };
 
     ghost takes = { λ h. h.takes };
 
     ghost gone = { λ h. h.gone };
 
-    ghost did_put = { λ h now what answer after. Unit {0} };
+    ghost did_put = { λ h now what answer after. PutsInList h now what answer after };
 
-    ghost did_take = { λ h answer after. Unit {0} };
+    ghost did_take = { λ h answer after. TakesFromList h answer after };
 
     fn put<R: Wait>(&mut self, _rt: &R, now: u64, what: What) -> Result<(), Gone> {
         if self.gone || self.kept.len() >= self.room {

@@ -76,6 +76,8 @@ impl<const N: usize> MemWire<N> {
 }
 
 impl<const N: usize> Wire for MemWire<N> {
+    ghost use Rattle.tora_neighbour.specs.MemoryWire.{SendsToMemory, ReceivesFromMemory};
+
     ghost tells = { λ w. w.tells };
 
     ghost coming = { λ w. w.coming };
@@ -84,9 +86,9 @@ impl<const N: usize> Wire for MemWire<N> {
 
     ghost failures = { λ w. w.failures };
 
-    ghost did_send = { λ w bytes answer after. Unit {0} };
+    ghost did_send = { λ w bytes answer after. SendsToMemory N w bytes answer after };
 
-    ghost did_receive = { λ w answer buffer after. Unit {0} };
+    ghost did_receive = { λ w answer buffer after. ReceivesFromMemory w answer buffer after };
 
     fn send(&mut self, bytes: &[u8]) -> Result<(), WireError> {
         if bytes.len() > LONGEST {

@@ -1,16 +1,19 @@
 //! The thread of a neighbour.
 ghost use Rattle.std.specs.Prelude.{◌≡◌, [], ◌∷◌, ◌++◌, ℕ, List};
 ghost use Rattle.tora_arq.specs.LinkEnd.{first_end};
-ghost use Rattle.tora_neighbour.specs.Turns.{Turn, IsTurnRun};
+ghost use Rattle.tora_neighbour.specs.Tally.{first_tally};
+ghost use Rattle.tora_neighbour.specs.Turns.{Turn, IsTurnRun, tally_after};
 ghost use Rattle.tora_neighbour.specs.Traffic.{Traffic, outside};
 ghost use Rattle.tora_neighbour.specs.Calls.{AreCalls};
-ghost use Rattle.tora_neighbour.specs.Causes.{IsInReach, fault_of, IsEndOf};
+ghost use Rattle.tora_neighbour.specs.Causes.{fault_of, IsEndOf};
 ghost use Rattle.tora_neighbour.specs.declared.ending.Ending.{Ending};
 
 use crate::clock::Clock;
 use crate::ending::Ending;
+use crate::fault::NodeError;
 use crate::hub::Hub;
-use crate::link::{Finished, Link, NodeError};
+use crate::link::{Finished, Link};
+use crate::tally::Tally;
 use crate::turn::{Course, turn};
 use crate::wire::Wire;
 use std::sync::Wait;
@@ -35,8 +38,7 @@ pub fn run_neighbour<R: Wait, D: Disk, W: Wire, C: Clock, H: Hub>(
     hub: H,
 ) -> Finished<D, W, H>
     requires new { link.end.state ≡ first_end }
-    requires numbers { IsInReach link.file.numbers }
-    ensures turns { (turns : List Turn) × (last : Turn) × (ending : Ending) × (result.fault ≡ fault_of link.end.settings.peer ending) × IsTurnRun link.end.settings link.end.state turns last ending result.link.end.state × Traffic 2048 (outside H.puts H.takes W.tells W.coming W.tries link hub) (turns ++ last ∷ []) (outside H.puts H.takes W.tells W.coming W.tries result.link result.hub) × ((before : H) × (wire : W) × AreCalls H.did_take H.did_put W.did_send W.did_receive hub link.wire turns before wire) }
+    ensures turns { (turns : List Turn) × (last : Turn) × (ending : Ending) × (result.fault ≡ fault_of link.end.settings.peer ending) × IsTurnRun link.end.settings link.end.state turns last ending result.link.end.state × Traffic (outside H.puts H.takes W.tells W.coming W.tries link hub) (turns ++ last ∷ []) (outside H.puts H.takes W.tells W.coming W.tries result.link result.hub) × (result.tally ≡ tally_after first_tally (turns ++ last ∷ [])) × ((before : H) × (wire : W) × AreCalls H.did_take H.did_put W.did_send W.did_receive hub link.wire turns before wire) }
     ensures cause { IsEndOf result.fault link.file.numbers result.link.file.numbers (D.failures link.file.disk) (D.failures result.link.file.disk) (W.failures link.wire) (W.failures result.link.wire) (H.gone result.hub) }
 {
     let mut link = link;
@@ -44,7 +46,7 @@ pub fn run_neighbour<R: Wait, D: Disk, W: Wire, C: Clock, H: Hub>(
     let mut course = Course {
         row: 0,
         last_beat: None,
-        bad: 0,
+        tally: Tally::new(),
     };
     for _ in rt.forever() {
         let now = clock.now();
@@ -56,7 +58,7 @@ pub fn run_neighbour<R: Wait, D: Disk, W: Wire, C: Clock, H: Hub>(
                     link,
                     hub,
                     fault,
-                    bad_datagrams: course.bad,
+                    tally: course.tally,
                 };
             }
         }

@@ -1,33 +1,37 @@
 //! The parts of a turn.
 ghost use Rattle.std.specs.Prelude.{◌≡◌, [], ◌∷◌, ◌++◌, ◌+◌, ℕ, ◌≤◌, ◌<◌, List, Option, Result, Some, None, length, map, true, false, IsTrue, IfErr, OnOk, OnErr};
 ghost use Rattle.tora_frame.specs.FrameParts.{FrameParts};
-ghost use Rattle.tora_frame.specs.FrameGrammar.{frame_spelling, frame_reading};
+ghost use Rattle.tora_frame.specs.FrameGrammar.{frame_spelling};
 ghost use Rattle.tora_arq.specs.declared.LinkEvent.{LinkEvent};
 ghost use Rattle.tora_arq.specs.LinkEnd.{is_closed, bound_life, frame_due, after_transmit};
 ghost use Rattle.tora_arq.specs.LinkFacts.{list_of};
 ghost use Rattle.tora_seat.specs.declared.Cargo.{Cargo};
 ghost use Rattle.tora_neighbour.specs.Datagrams.{RoseBy};
-ghost use Rattle.tora_neighbour.specs.Turns.{after_opening, after_cargo, after_cargoes, after_frames, after_came, after_cut_of_bound, IsOpening, AreDue, Tells};
-ghost use Rattle.tora_neighbour.specs.Traffic.{AreDrawn, Came, entry_of, what_of, frame_in};
+ghost use Rattle.tora_neighbour.specs.Intake.{Reading, intake_in, after_came};
+ghost use Rattle.tora_neighbour.specs.Tally.{counted_in};
+ghost use Rattle.tora_neighbour.specs.Turns.{after_opening, after_cargo, after_cargoes, after_frames, after_cut_of_bound, IsOpening, AreDue, Tells};
+ghost use Rattle.tora_neighbour.specs.Traffic.{AreDrawn, Came, entry_of, what_of};
 ghost use Rattle.tora_neighbour.specs.declared.wire.WireError.{WireError};
 ghost use Rattle.tora_neighbour.specs.Calls.{TakesAll, SendsSome, ReceivesOnce, PutsSome};
 ghost use Rattle.tora_neighbour.specs.Causes.{IsReady, IsLifeCause};
 
 use crate::hub::Hub;
+use crate::intake::take_in;
+use crate::tally::Tally;
 use crate::wire::Wire;
 use std::sync::Wait;
 use tora_arq::{LinkEnd, LinkEvent};
-use tora_frame::{decode, encode};
+use tora_frame::encode;
 use tora_lane::{Cargo, Gone, What};
 use tora_life::{Disk, LifeError, LifeFile};
 
 /// The most cargoes that a turn takes.
 pub const MOST_CARGOES: usize = 256;
 
-/// The bytes of a datagram that are received.
-pub const BUFFER: usize = 2048;
+/// The most bytes of a datagram that are received. No frame is longer.
+pub const MOST_BYTES: usize = 2048;
 
-/// How many calls of a wire in a row may fail, less one.
+/// How many calls of a wire in a row fail until the link is given up.
 pub const MOST_FAILURES: u64 = 100;
 
 /// The hundredth call of the wire in a row has failed.
@@ -188,24 +192,12 @@ pub fn send_frames<R: Wait, W: Wire>(
     unreachable!()
 }
 
-/// Hands a datagram to the end, and counts it where it spells no frame.
-pub fn hear(end: &mut LinkEnd, datagram: &[u8], bad: &mut u64, now: u64)
-    ensures { end.new ≡ record end.old { state = after_came end.old.settings end.old.state now (frame_in (frame_reading datagram.now)) } }
-{
-    match decode(datagram) {
-        Ok(frame) => {
-            end.on_frame(&frame, now);
-        }
-        Err(_) => *bad = bad.saturating_add(1),
-    }
-}
-
-/// Receives once.
+/// Receives once, and takes in the datagram that came, if one did.
 pub fn receive<W: Wire>(
     end: &mut LinkEnd,
     wire: &mut W,
     row: &mut u64,
-    bad: &mut u64,
+    tally: &mut Tally,
     now: u64,
 ) -> Result<(), Broken>
     requires { row.old < 100 }
@@ -215,14 +207,14 @@ pub fn receive<W: Wire>(
     ensures broken { OnErr result (row.new ≡ 100) }
     ensures failures { (base : ℕ) → RoseBy row.old base (W.failures wire.old) → RoseBy row.new base (W.failures wire.new) }
     ensures asked { ReceivesOnce W.did_receive wire.old wire.new }
-    ensures came { OnOk result ((came : Option FrameParts) × (end.new ≡ record end.old { state = after_came end.old.settings end.old.state now came }) × (IsTrue (W.tells wire.new) → Came 2048 (W.coming wire.old) (list_of came) (W.coming wire.new))) }
-    ensures none { OnErr result ((end.new ≡ end.old) × (IsTrue (W.tells wire.new) → W.coming wire.new ≡ W.coming wire.old)) }
+    ensures came { OnOk result ((came : Option Reading) × (end.new ≡ record end.old { state = after_came end.old.settings end.old.state now came }) × (tally.new ≡ counted_in (intake_in end.old.settings end.old.state now came) tally.old) × (IsTrue (W.tells wire.new) → Came (W.coming wire.old) (list_of came) (W.coming wire.new))) }
+    ensures none { OnErr result ((end.new ≡ end.old) × (tally.new ≡ tally.old) × (IsTrue (W.tells wire.new) → W.coming wire.new ≡ W.coming wire.old)) }
 {
-    let mut buffer = [0; BUFFER];
+    let mut buffer = [0; MOST_BYTES];
     match wire.receive(&mut buffer) {
         Ok(Some(count)) => {
             *row = 0;
-            hear(end, &buffer[..count], bad, now);
+            take_in(end, tally, &buffer[..count], now);
             Ok(())
         }
         Ok(None) => {

@@ -3,28 +3,30 @@ ghost use Rattle.std.specs.Prelude.{◌≡◌, [], ◌∷◌, ◌++◌, ◌+◌,
 ghost use Rattle.tora_frame.specs.FrameParts.{FrameParts};
 ghost use Rattle.tora_frame.specs.FrameGrammar.{frame_spelling};
 ghost use Rattle.tora_arq.specs.declared.LinkEvent.{LinkEvent};
-ghost use Rattle.tora_arq.specs.LinkEnd.{is_closed, bound_life, frame_due, after_transmit, after_tick};
+ghost use Rattle.tora_arq.specs.LinkEnd.{is_closed, bound_life, after_tick};
 ghost use Rattle.tora_arq.specs.LinkFacts.{list_of};
 ghost use Rattle.tora_seat.specs.declared.Cargo.{Cargo};
 ghost use Rattle.tora_neighbour.specs.Datagrams.{RoseBy};
-ghost use Rattle.tora_neighbour.specs.Turns.{after_opening, after_cargoes, after_frames, after_came, after_cut_of_bound, IsOpening, AreDue, Tells, is_beat_due};
+ghost use Rattle.tora_neighbour.specs.declared.intake.Intake.{Intake};
+ghost use Rattle.tora_neighbour.specs.Intake.{Reading};
+ghost use Rattle.tora_neighbour.specs.Tally.{counted_in};
+ghost use Rattle.tora_neighbour.specs.Turns.{after_opening, after_cargoes, after_cut_of_bound, IsOpening, Tells, is_beat_due};
 ghost use Rattle.tora_neighbour.specs.Traffic.{AreDrawn, Came, entry_of, beat_of};
 ghost use Rattle.tora_neighbour.specs.Calls.{TakesAll, SendsSome, ReceivesOnce, PutsSome, PutsBeat};
 ghost use Rattle.tora_neighbour.specs.Causes.{IsReady, IsLifeCause, IsExchange};
 
 use crate::ending::BrokenAt;
 use crate::hub::Hub;
-use crate::parts::{
-    cut_bound, open_closed, put_events, receive, send_frames, take_cargoes,
-};
+use crate::parts::{cut_bound, open_closed, put_events, receive, send_frames, take_cargoes};
+use crate::tally::Tally;
 use crate::wire::Wire;
 use std::sync::Wait;
 use tora_arq::{LinkEnd, lives_are_bound_once};
 use tora_lane::{Gone, What};
 use tora_life::{Disk, LifeError, LifeFile};
 
-/// How many ticks lie between two beats.
-pub const BEAT: u64 = 10;
+/// How many ticks of 100 ms lie between two beats, at most where turns come each tick.
+pub const BEAT_TICKS: u64 = 10;
 
 /// Opens a closed end, hands the tick to it, and takes the cargoes for it.
 pub fn begin<R: Wait, D: Disk, H: Hub>(
@@ -57,7 +59,7 @@ pub fn exchange<R: Wait, W: Wire>(
     end: &mut LinkEnd,
     wire: &mut W,
     row: &mut u64,
-    bad: &mut u64,
+    tally: &mut Tally,
     now: u64,
 ) -> Result<(), BrokenAt>
     requires { row.old < 100 }
@@ -66,13 +68,13 @@ pub fn exchange<R: Wait, W: Wire>(
     ensures broken { OnErr result (row.new ≡ 100) }
     ensures failures { (base : ℕ) → RoseBy row.old base (W.failures wire.old) → RoseBy row.new base (W.failures wire.new) }
     ensures last { OnOk result (end.new.state.last_life ≡ end.old.state.last_life) }
-    ensures exchange { (frames : List FrameParts) × (came : Option FrameParts) × IsExchange end.old.settings end.old.state now frames came result end.new.state × (end.new.settings ≡ end.old.settings) × (IsTrue (W.tells wire.new) → W.tries wire.new ≡ W.tries wire.old ++ map frame_spelling frames) × (IsTrue (W.tells wire.new) → Came 2048 (W.coming wire.old) (list_of came) (W.coming wire.new)) × OnOk result ((sent : W) × SendsSome W.did_send wire.old frames sent × ReceivesOnce W.did_receive sent wire.new) }
+    ensures exchange { (frames : List FrameParts) × (came : Option Reading) × (intake : Option Intake) × IsExchange end.old.settings end.old.state now frames came intake result end.new.state × (end.new.settings ≡ end.old.settings) × (tally.new ≡ counted_in intake tally.old) × (IsTrue (W.tells wire.new) → W.tries wire.new ≡ W.tries wire.old ++ map frame_spelling frames) × (IsTrue (W.tells wire.new) → Came (W.coming wire.old) (list_of came) (W.coming wire.new)) × OnOk result ((sent : W) × SendsSome W.did_send wire.old frames sent × ReceivesOnce W.did_receive sent wire.new) }
 {
     lives_are_bound_once();
     if let Err(_) = send_frames(rt, end, wire, row, now) {
         return Err(BrokenAt::Send);
     }
-    if let Err(_) = receive(end, wire, row, bad, now) {
+    if let Err(_) = receive(end, wire, row, tally, now) {
         return Err(BrokenAt::Receive);
     }
     Ok(())
@@ -107,7 +109,7 @@ pub fn put_beat<R: Wait, H: Hub>(
 {
     let due = match last_beat {
         None => true,
-        Some(last) => now.saturating_sub(*last) >= BEAT,
+        Some(last) => now.saturating_sub(*last) >= BEAT_TICKS,
     };
     if due {
         hub.put(rt, now, What::Beat)?;

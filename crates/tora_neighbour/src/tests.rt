@@ -2,7 +2,6 @@
 ghost use Rattle.std.specs.Prelude.{◌≡◌};
 ghost use Rattle.tora_arq.specs.LinkEnd.{first_end};
 ghost use Rattle.tora_frame.specs.FrameParts.{IsHeader};
-ghost use Rattle.tora_neighbour.specs.Causes.{IsInReach};
 
 use crate::{Clock, Finished, Link, ListHub, MemWire, NodeError, Put, run_neighbour};
 use std::alloc::{AllocError, Global};
@@ -10,7 +9,7 @@ use std::process::Abort;
 use std::sync::Wait;
 use std::sync::atomic::{AtomicU64, Ordering};
 use std::test::Fail;
-use tora_arq::{Life, LinkEnd, Times};
+use tora_arq::{Life, LinkEnd, Times, Verdict};
 use tora_frame::{Frame, Header, encode};
 use tora_lane::{Cargo, What};
 use tora_life::{LifeError, LifeFile, MemDisk};
@@ -36,8 +35,7 @@ fn run_in_memory<R: Wait>(
     link: Link<MemDisk, MemWire<16>>,
     hub: ListHub,
 ) -> Finished<MemDisk, MemWire<16>, ListHub>
-    requires new { link.end.state ≡ first_end }
-    requires numbers { IsInReach link.file.numbers }
+    requires { link.end.state ≡ first_end }
 {
     let clock = Leaping(AtomicU64::new(0));
     run_neighbour(rt, link, &clock, hub)
@@ -56,7 +54,9 @@ fn a_link_comes_up_and_the_hub_ends_it(rt: HostRuntime) -> Result<(), Fail> {
             heard: 1,
         },
     )?)?;
-    let end = LinkEnd::new(alloc, 1, 2, Times::STANDARD).ok().ok_or("no memory")?;
+    let end = LinkEnd::new(alloc, 1, 2, Times::STANDARD)
+        .ok()
+        .ok_or("no memory")?;
     let file = match LifeFile::open(MemDisk::new()) {
         Ok(file) => file,
         Err(_) => panic!(&rt; "the file does not open"),
@@ -69,9 +69,21 @@ fn a_link_comes_up_and_the_hub_ends_it(rt: HostRuntime) -> Result<(), Fail> {
     let hub = ListHub::new(alloc, 2, Vec::new(alloc))?;
     let finished = run_in_memory(&rt, link, hub);
     assert_eq!(&rt; finished.fault, None);
-    assert_eq!(&rt; finished.bad_datagrams, 0);
+    assert_eq!(&rt; finished.tally.of_verdict(Verdict::Accepted), 1);
     assert_eq!(&rt; finished.hub.kept().len(), 2);
-    assert_eq!(&rt; finished.hub.kept()[0], Put { now: 0, what: What::Up(Life { own: 1, peer: 9 }) });
-    assert_eq!(&rt; finished.hub.kept()[1], Put { now: 0, what: What::Beat });
+    assert_eq!(&rt;
+        finished.hub.kept()[0],
+        Put {
+            now: 0,
+            what: What::Up(Life { own: 1, peer: 9 })
+        }
+    );
+    assert_eq!(&rt;
+        finished.hub.kept()[1],
+        Put {
+            now: 0,
+            what: What::Beat
+        }
+    );
     Ok(())
 }

@@ -1,6 +1,7 @@
 //! One turn of a neighbour's thread.
 ghost use Rattle.std.specs.Prelude.{◌≡◌, [], ◌∷◌, ℕ, ◌<◌, IfErr, OnOk, OnErr};
 ghost use Rattle.tora_neighbour.specs.Datagrams.{RoseBy};
+ghost use Rattle.tora_neighbour.specs.Tally.{counted_in};
 ghost use Rattle.tora_neighbour.specs.Turns.{Turn, IsTurn, IsLastTurn, is_beat_due, beat_after};
 ghost use Rattle.tora_neighbour.specs.Traffic.{Traffic, outside};
 ghost use Rattle.tora_neighbour.specs.Calls.{TurnCalls};
@@ -10,6 +11,7 @@ use crate::ending::Ending;
 use crate::hub::Hub;
 use crate::link::Link;
 use crate::stages::{begin, exchange, give_up, tell};
+use crate::tally::Tally;
 use crate::wire::Wire;
 use std::sync::Wait;
 use tora_life::Disk;
@@ -21,8 +23,8 @@ pub struct Course {
     pub row: u64,
     /// The tick of the last beat.
     pub last_beat: Option<u64>,
-    /// How many datagrams spelt no frame.
-    pub bad: u64,
+    /// What was made of the datagrams that came.
+    pub tally: Tally,
 }
 
 /// One turn, with one tick.
@@ -41,8 +43,8 @@ pub fn turn<R: Wait, D: Disk, W: Wire, H: Hub>(
     ensures failures { (base : ℕ) → RoseBy course.old.row base (W.failures link.old.wire) → RoseBy course.new.row base (W.failures link.new.wire) }
     ensures failed { OnOk result (link.new.file.numbers.failed ≡ link.old.file.numbers.failed) }
     ensures disk { OnOk result (D.failures link.new.file.disk ≡ D.failures link.old.file.disk) }
-    ensures turn { OnOk result ((t : Turn) × IsTurn link.old.end.settings link.old.end.state t link.new.end.state × (t.beat ≡ is_beat_due course.old.last_beat t.now) × (course.new.last_beat ≡ beat_after course.old.last_beat t) × Traffic 2048 (outside H.puts H.takes W.tells W.coming W.tries link.old hub.old) (t ∷ []) (outside H.puts H.takes W.tells W.coming W.tries link.new hub.new) × TurnCalls H.did_take H.did_put W.did_send W.did_receive hub.old link.old.wire t hub.new link.new.wire) }
-    ensures last { IfErr result (λ ending. (t : Turn) × IsLastTurn link.old.end.settings link.old.end.state t ending link.new.end.state × Traffic 2048 (outside H.puts H.takes W.tells W.coming W.tries link.old hub.old) (t ∷ []) (outside H.puts H.takes W.tells W.coming W.tries link.new hub.new)) }
+    ensures turn { OnOk result ((t : Turn) × IsTurn link.old.end.settings link.old.end.state t link.new.end.state × (t.beat ≡ is_beat_due course.old.last_beat t.now) × (course.new.last_beat ≡ beat_after course.old.last_beat t) × (course.new.tally ≡ counted_in t.intake course.old.tally) × Traffic (outside H.puts H.takes W.tells W.coming W.tries link.old hub.old) (t ∷ []) (outside H.puts H.takes W.tells W.coming W.tries link.new hub.new) × TurnCalls H.did_take H.did_put W.did_send W.did_receive hub.old link.old.wire t hub.new link.new.wire) }
+    ensures last { IfErr result (λ ending. (t : Turn) × IsLastTurn link.old.end.settings link.old.end.state t ending link.new.end.state × (course.new.tally ≡ counted_in t.intake course.old.tally) × Traffic (outside H.puts H.takes W.tells W.coming W.tries link.old hub.old) (t ∷ []) (outside H.puts H.takes W.tells W.coming W.tries link.new hub.new)) }
     ensures cause { IfErr result (λ ending. IsCause ending link.old.file.numbers link.new.file.numbers (D.failures link.old.file.disk) (D.failures link.new.file.disk) course.new.row (H.gone hub.new)) }
 {
     if let Err(error) = begin(rt, &mut link.end, &mut link.file, hub, now) {
@@ -53,7 +55,7 @@ pub fn turn<R: Wait, D: Disk, W: Wire, H: Hub>(
         &mut link.end,
         &mut link.wire,
         &mut course.row,
-        &mut course.bad,
+        &mut course.tally,
         now,
     ) {
         give_up(rt, &mut link.end, hub, now);

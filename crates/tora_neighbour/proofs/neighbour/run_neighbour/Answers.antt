@@ -1,23 +1,24 @@
-use Rattle.std.proofs.Common.{◌≡◌, ◌≤◌, List, [], ◌∷◌, ◌++◌, refl, sym, ap, ◌∙◌, subst, arith, Option}
+use Rattle.std.proofs.Common.{◌≡◌, [], ◌∷◌, ◌++◌, refl, sym, ap, ◌∙◌, subst, arith, Option}
 use Rattle.tora_arq.specs.Settings.{Settings}
 use Rattle.tora_arq.specs.LinkEnd.{EndState}
-use Rattle.tora_neighbour.specs.declared.link.NodeError.{NodeError}
+use Rattle.tora_neighbour.specs.declared.fault.NodeError.{NodeError}
+use Rattle.tora_neighbour.specs.Tally.{first_tally}
 use Rattle.tora_neighbour.specs.Causes.{fault_of, IsEndOf}
 use Rattle.tora_neighbour.proofs.Ends.{end_cause}
-use Rattle.tora_neighbour.specs.Turns.{Turn, IsTurn, IsLastTurn}
+use Rattle.tora_neighbour.specs.Turns.{IsTurn, IsLastTurn}
 use Rattle.tora_neighbour.proofs.Chains.{calls_more}
-use Rattle.tora_neighbour.proofs.Runs.{turns_more, beats_more, traffic_more, no_traffic}
+use Rattle.tora_neighbour.proofs.Runs.{turns_more, beats_more, tally_more, traffic_more, no_traffic}
 use Rattle.tora_neighbour.proofs.neighbour.run_neighbour.Goals as goal
 
 pub loop-init : goal.loop-init
 loop-init g c = record {
   settings = refl;
-  ready = record { reach = c.requires.numbers; above = let z : c.args.link.end.state.last_life ≡ 0 = ap (λ (e : EndState). e.last_life) c.requires.new in omega arith };
+  ready = let z : c.args.link.end.state.last_life ≡ 0 = ap (λ (e : EndState). e.last_life) c.requires.new in omega arith;
   row = omega arith;
   failed = refl;
   disk = refl;
   failures = omega arith;
-  so_far = ([], refl, refl, no_traffic 2048 _, (refl, refl));
+  so_far = ([], refl, refl, c.new.ensures, no_traffic _, (refl, refl));
 }
 
 pub loop-preserved : goal.loop-preserved
@@ -34,8 +35,9 @@ loop-preserved g c =
         h.so_far.0 ++ t.0 ∷ [],
         turns_more _ _ h.so_far.0 _ t.0 _ h.so_far.1 (subst (λ (s : Settings). IsTurn s c.loop.link.end.state t.0 c.turn.new.link.end.state) h.settings t.1),
         beats_more _ h.so_far.0 c.loop.course.last_beat t.0 _ h.so_far.2 t.2 t.3,
-        traffic_more 2048 _ _ _ h.so_far.0 (t.0 ∷ []) h.so_far.3 t.4,
-        calls_more g.H.Hub.did_take g.H.Hub.did_put g.W.Wire.did_send g.W.Wire.did_receive c.args.hub c.args.link.wire h.so_far.0 c.loop.hub c.loop.link.wire t.0 c.turn.new.hub c.turn.new.link.wire h.so_far.4 t.5,
+        tally_more first_tally h.so_far.0 c.loop.course.tally t.0 _ h.so_far.3 t.4,
+        traffic_more _ _ _ h.so_far.0 (t.0 ∷ []) h.so_far.4 t.5,
+        calls_more g.H.Hub.did_take g.H.Hub.did_put g.W.Wire.did_send g.W.Wire.did_receive c.args.hub c.args.link.wire h.so_far.0 c.loop.hub c.loop.link.wire t.0 c.turn.new.hub c.turn.new.link.wire h.so_far.5 t.6,
       );
     }
 
@@ -54,8 +56,9 @@ returns-in-Err-clause-turns g c =
         beats_are = h.so_far.2;
         last_is = subst (λ (s : Settings). IsLastTurn s c.loop.link.end.state t.0 c.in-Err.ending c.turn.new.link.end.state) h.settings t.1;
       },
-      traffic_more 2048 _ _ _ h.so_far.0 (t.0 ∷ []) h.so_far.3 t.2,
-      (c.loop.hub, c.loop.link.wire, h.so_far.4),
+      traffic_more _ _ _ h.so_far.0 (t.0 ∷ []) h.so_far.4 t.3,
+      tally_more first_tally h.so_far.0 c.loop.course.tally t.0 _ h.so_far.3 t.2,
+      (c.loop.hub, c.loop.link.wire, h.so_far.5),
     )
 
 pub returns-in-Err-clause-cause : goal.returns-in-Err-clause-cause

@@ -1,6 +1,7 @@
-use Rattle.std.proofs.Common.{◌≡◌, ◌≤◌, ◌<◌, ℕ, List, None}
+use Rattle.std.proofs.Common.{◌≡◌, ◌<◌, List, None}
 use Rattle.tora_neighbour.specs.Datagrams.{RoseBy}
-use Rattle.tora_neighbour.specs.Turns.{Turn, AreTurns, AreBeats}
+use Rattle.tora_neighbour.specs.Tally.{first_tally}
+use Rattle.tora_neighbour.specs.Turns.{Turn, AreTurns, AreBeats, tally_after}
 use Rattle.tora_neighbour.specs.Traffic.{Traffic, outside}
 use Rattle.tora_neighbour.specs.Calls.{AreCalls}
 use Rattle.tora_neighbour.specs.Causes.{IsReady}
@@ -18,6 +19,7 @@ invariant-loop g l = record {
       (turns : List Turn)
       × AreTurns l.fn.link.end.settings l.fn.link.end.state turns l.link.end.state
       × AreBeats None turns l.course.last_beat
-      × Traffic 2048 (outside g.H.Hub.puts g.H.Hub.takes g.W.Wire.tells g.W.Wire.coming g.W.Wire.tries l.fn.link l.fn.hub) turns (outside g.H.Hub.puts g.H.Hub.takes g.W.Wire.tells g.W.Wire.coming g.W.Wire.tries l.link l.hub)
+      × (l.course.tally ≡ tally_after first_tally turns)
+      × Traffic (outside g.H.Hub.puts g.H.Hub.takes g.W.Wire.tells g.W.Wire.coming g.W.Wire.tries l.fn.link l.fn.hub) turns (outside g.H.Hub.puts g.H.Hub.takes g.W.Wire.tells g.W.Wire.coming g.W.Wire.tries l.link l.hub)
       × AreCalls g.H.Hub.did_take g.H.Hub.did_put g.W.Wire.did_send g.W.Wire.did_receive l.fn.hub l.fn.link.wire turns l.hub l.link.wire;
 }

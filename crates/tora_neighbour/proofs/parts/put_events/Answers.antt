@@ -1,8 +1,7 @@
-use Rattle.std.proofs.Common.{◌≡◌, ◌++◌, ◌≤◌, List, length, [], ◌∷◌, refl, sym, ap, ◌∙◌, subst, arith, Ok}
+use Rattle.std.proofs.Common.{◌++◌, [], ◌∷◌, refl, sym, ap, ◌∙◌, subst, Ok}
 use Rattle.tora_arq.specs.EndRange.{LinkEndView}
 use Rattle.tora_neighbour.specs.Puts.{put_of}
-use Rattle.tora_neighbour.specs.Traffic.{entry_of}
-use Rattle.tora_neighbour.proofs.Further.{told_none, told_more, told_all, told_some}
+use Rattle.tora_neighbour.proofs.Further.{told_none, told_more, told_all}
 use Rattle.tora_seat.specs.declared.What.{What}
 use Rattle.tora_neighbour.proofs.Chains.{puts_more}
 use Rattle.tora_neighbour.proofs.parts.put_events.Goals as goal

@@ -1,4 +1,4 @@
-use Rattle.std.proofs.Common.{◌≡◌, [], ◌∷◌, ◌++◌, ℕ, ◌<◌, List, Some, None, IsTrue, refl, sym, ap, ◌∙◌, subst}
+use Rattle.std.proofs.Common.{◌≡◌, [], ◌∷◌, ◌++◌, ℕ, List, None, sym, ap, ◌∙◌, subst}
 use Rattle.tora_arq.specs.LinkEnd.{frame_due, after_transmit}
 use Rattle.tora_arq.specs.EndRange.{LinkEndView, link_end_of}
 use Rattle.tora_neighbour.proofs.Further.{sent_more, on_err_anyway}
@@ -11,8 +11,8 @@ loop-preserved g c =
     let i = h.sent in
     let f = c.in-Some-poll_transmit.frame in
     let more = sent_more c.args.end.now c.args.now c.loop.end c.poll_transmit.new.self (g.W.Wire.tells c.loop.wire) (g.W.Wire.tells c.try_send.new.wire)
-        (g.W.Wire.tries c.args.wire.now) (g.W.Wire.tries c.loop.wire) (g.W.Wire.tries c.try_send.new.wire) i.0 f c.as_slice.result.now i.1 i.2 i.3
-        c.in-Some-poll_transmit.ensures.frame c.in-Some-poll_transmit.ensures.state c.try_send.ensures.tells c.try_send.ensures.tried (c.as_slice.ensures.value ∙ c.encode.ensures.exact) in record {
+    (g.W.Wire.tries c.args.wire.now) (g.W.Wire.tries c.loop.wire) (g.W.Wire.tries c.try_send.new.wire) i.0 f c.as_slice.result.now i.1 i.2 i.3
+    c.in-Some-poll_transmit.ensures.frame c.in-Some-poll_transmit.ensures.state c.try_send.ensures.tells c.try_send.ensures.tried (c.as_slice.ensures.value ∙ c.encode.ensures.exact) in record {
       tells = λ yes. h.tells (c.try_send.ensures.tells yes);
       coming = λ yes. c.try_send.ensures.coming yes ∙ h.coming (c.try_send.ensures.tells yes);
       row = c.in_ok-try_send-in-Some-poll_transmit.ensures.row;
@@ -33,8 +33,8 @@ returns-in_err-try_send-in-Some-poll_transmit-clause-some g c =
     let i = c.loop.invariant.sent in
     let f = c.in-Some-poll_transmit.frame in
     let more = sent_more c.args.end.now c.args.now c.loop.end c.poll_transmit.new.self (g.W.Wire.tells c.loop.wire) (g.W.Wire.tells c.try_send.new.wire)
-        (g.W.Wire.tries c.args.wire.now) (g.W.Wire.tries c.loop.wire) (g.W.Wire.tries c.try_send.new.wire) i.0 f c.as_slice.result.now i.1 i.2 i.3
-        c.in-Some-poll_transmit.ensures.frame c.in-Some-poll_transmit.ensures.state c.try_send.ensures.tells c.try_send.ensures.tried (c.as_slice.ensures.value ∙ c.encode.ensures.exact) in
+    (g.W.Wire.tries c.args.wire.now) (g.W.Wire.tries c.loop.wire) (g.W.Wire.tries c.try_send.new.wire) i.0 f c.as_slice.result.now i.1 i.2 i.3
+    c.in-Some-poll_transmit.ensures.frame c.in-Some-poll_transmit.ensures.state c.try_send.ensures.tells c.try_send.ensures.tried (c.as_slice.ensures.value ∙ c.encode.ensures.exact) in
     on_err_anyway c.from_residual.result (i.0 ++ f ∷ [], more.0, more.1, more.2)
 
 pub returns-in-None-poll_transmit-clause-all : goal.returns-in-None-poll_transmit-clause-all

@@ -1,10 +1,8 @@
-use Rattle.std.proofs.Common.{◌≡◌, ◌++◌, ◌≤◌, List, length, [], ◌∷◌, refl, sym, ap, ◌∙◌, subst, arith, length-append, inl, inr}
+use Rattle.std.proofs.Common.{◌++◌, [], ◌∷◌, refl, sym, ap, ◌∙◌, arith, length-append, inl, inr}
 use Rattle.tora_neighbour.proofs.Chains.{takes_more}
 use Rattle.std.proofs.lemmas.List.{append-nil}
-use Rattle.tora_arq.specs.LinkEnd.{EndState}
-use Rattle.tora_arq.specs.EndRange.{LinkEndView, link_end_of}
-use Rattle.tora_seat.specs.declared.Cargo.{Cargo}
-use Rattle.tora_neighbour.specs.Turns.{after_cargo, after_cargoes}
+use Rattle.tora_arq.specs.EndRange.{link_end_of}
+use Rattle.tora_neighbour.specs.Turns.{after_cargo}
 use Rattle.tora_neighbour.proofs.Further.{cargoes_more, one_more, none_more}
 use Rattle.tora_neighbour.proofs.parts.take_cargoes.Goals as goal
 
@@ -20,8 +18,8 @@ loop-count-preserved g c =
         i.0 ++ c.in-Some.cargo ∷ [],
         omega (arith, more, i.1),
         c.hand_in.ensures
-        ∙ (λ k. link_end_of (i.2 k).settings (after_cargo (i.2 k).state c.in-Some.cargo))
-        ∙ ap (link_end_of c.args.end.now.settings) (sym (cargoes_more c.args.end.now.state i.0 c.in-Some.cargo)),
+            ∙ (λ k. link_end_of (i.2 k).settings (after_cargo (i.2 k).state c.in-Some.cargo))
+            ∙ ap (link_end_of c.args.end.now.settings) (sym (cargoes_more c.args.end.now.state i.0 c.in-Some.cargo)),
         one_more _ _ _ i.0 c.in-Some.cargo i.3 c.in-Some.ensures.taken,
         takes_more g.H.Hub.did_take c.args.hub.now i.0 c.loop-count.hub c.in-Some.cargo c.take.new.self i.4 c.in-Some.ensures.call,
       );

@@ -1,4 +1,4 @@
-use Rattle.std.proofs.Common.{◌≡◌, ◌≤◌, ◌∙◌, ap, arith}
+use Rattle.std.proofs.Common.{◌≡◌, ◌∙◌, ap, arith}
 use Rattle.tora_arq.specs.EndRange.{LinkEndView}
 use Rattle.tora_neighbour.proofs.Numbers.{kept_tick, kept_cargoes}
 use Rattle.tora_neighbour.proofs.stages.begin.Goals as goal
@@ -9,8 +9,8 @@ returns-clause-ready g c =
     let s = c.open_closed.new.end.settings in
     let t = c.take_cargoes.ensures.taken in
     let same : c.take_cargoes.new.end.state.last_life ≡ c.open_closed.new.end.state.last_life =
-        ap (λ (v : LinkEndView). v.state.last_life) t.2
-        ∙ kept_cargoes law s c.on_tick.new.self.state t.0
-        ∙ ap (λ (v : LinkEndView). v.state.last_life) c.on_tick.ensures
-        ∙ kept_tick law s c.open_closed.new.end.state c.args.now in
-    let ready = c.in_ok-open_closed.ensures.ready in record { reach = ready.reach; above = omega (arith, same, ready.above) }
+    ap (λ (v : LinkEndView). v.state.last_life) t.2
+    ∙ kept_cargoes law s c.on_tick.new.self.state t.0
+    ∙ ap (λ (v : LinkEndView). v.state.last_life) c.on_tick.ensures
+    ∙ kept_tick law s c.open_closed.new.end.state c.args.now in
+    let ready = c.in_ok-open_closed.ensures.ready in omega (arith, same, ready)

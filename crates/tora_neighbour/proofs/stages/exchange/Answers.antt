@@ -1,4 +1,4 @@
-use Rattle.std.proofs.Common.{◌≡◌, ◌∙◌, ap}
+use Rattle.std.proofs.Common.{◌∙◌, ap}
 use Rattle.tora_arq.specs.EndRange.{LinkEndView}
 use Rattle.tora_neighbour.specs.Turns.{after_frames}
 use Rattle.tora_neighbour.proofs.Numbers.{kept_transmit, kept_frames, kept_came}

@@ -1,4 +1,4 @@
-use Rattle.std.proofs.Common.{◌≡◌, ◌++◌, [], ◌∷◌, List, None, false, refl, sym, ap, ◌∙◌, subst}
+use Rattle.std.proofs.Common.{◌++◌, [], None, false, refl, sym, ap, ◌∙◌}
 use Rattle.std.proofs.lemmas.List.{append-nil}
 use Rattle.std.specs.Prelude.{map}
 use Rattle.tora_arq.specs.EndRange.{LinkEndView}
@@ -12,8 +12,9 @@ returns-in-Err-clause-last g c =
     let h = c.in-Err.ensures.same in (
       idle_turn c.args.now,
       record { closed = c.in-Err.ensures.closed; nothing = refl; after_is = ap (λ (v : LinkEndView). v.state) h.0 },
-      traffic_of 2048 _ _ (idle_turn c.args.now) h.1 (c.begin.ensures.puts ∙ sym (append-nil _)) (h.2 ∙ sym (append-nil _)) (λ yes. yes) (λ yes. sym (append-nil _))
-      (λ yes. record { given = []; coming_is = refl; frames_are = refl }),
+      refl,
+      traffic_of _ _ (idle_turn c.args.now) h.1 (c.begin.ensures.puts ∙ sym (append-nil _)) (h.2 ∙ sym (append-nil _)) (λ yes. yes) (λ yes. sym (append-nil _))
+          (λ yes. record { given = []; coming_is = refl; readings_are = refl }),
     )
 
 pub returns-in-Err-exchange-clause-last : goal.returns-in-Err-exchange-clause-last
@@ -21,12 +22,13 @@ returns-in-Err-exchange-clause-last g c =
     let b = c.in_default.ensures.begun in
     let x = c.in-Err-exchange.ensures.exchange in
     let w = c.give_up.ensures.told in
-    let t = turn_of c.args.now b.0 b.1 x.0 x.1 w.0 w.1 false in (
+    let t = turn_of c.args.now b.0 b.1 x.0 x.1 x.2 w.0 w.1 false in (
       t,
-      broken_turn c.args.link.now.end c.begin.new.end c.args.now b.0 b.1 b.2 b.3 b.4 c.in-Err-exchange.at x.0 x.1 c.exchange.new.end.state c.give_up.new.end.state w.0 w.1 x.2 w.2,
-      traffic_of 2048 _ _ t b.5
-      (w.3 ∙ ap (λ ps. ps ++ map (entry_of c.args.now) w.0) c.begin.ensures.puts ∙ ap (λ ps. g.H.Hub.puts c.args.hub.now ++ ps) (sym (append-nil (map (entry_of c.args.now) w.0))))
-      (c.give_up.ensures.takes ∙ b.6) c.exchange.ensures.tells x.4 x.5,
+      broken_turn c.args.link.now.end c.begin.new.end c.args.now b.0 b.1 b.2 b.3 b.4 c.in-Err-exchange.at x.0 x.1 x.2 c.exchange.new.end.state c.give_up.new.end.state w.0 w.1 x.3 w.2,
+      x.5,
+      traffic_of _ _ t b.5
+          (w.3 ∙ ap (λ ps. ps ++ map (entry_of c.args.now) w.0) c.begin.ensures.puts ∙ ap (λ ps. g.H.Hub.puts c.args.hub.now ++ ps) (sym (append-nil (map (entry_of c.args.now) w.0))))
+          (c.give_up.ensures.takes ∙ b.6) c.exchange.ensures.tells x.6 x.7,
     )
 
 pub returns-in-Err-tell-clause-last : goal.returns-in-Err-tell-clause-last
@@ -34,12 +36,13 @@ returns-in-Err-tell-clause-last g c =
     let b = c.in_default.ensures.begun in
     let x = c.in_default-exchange.ensures.exchange in
     let w = c.in-Err-tell.ensures.some in
-    let t = turn_of c.args.now b.0 b.1 x.0 x.1 w.0 w.1 false in (
+    let t = turn_of c.args.now b.0 b.1 x.0 x.1 x.2 w.0 w.1 false in (
       t,
-      refused_turn c.args.link.now.end c.begin.new.end c.args.now b.0 b.1 b.2 b.3 b.4 x.0 x.1 c.exchange.new.end.state c.tell.new.end.state w.0 w.1 x.2 w.2,
-      traffic_of 2048 _ _ t b.5
-      (w.3 ∙ ap (λ ps. ps ++ map (entry_of c.args.now) w.0) c.begin.ensures.puts ∙ ap (λ ps. g.H.Hub.puts c.args.hub.now ++ ps) (sym (append-nil (map (entry_of c.args.now) w.0))))
-      (c.tell.ensures.takes ∙ b.6) c.exchange.ensures.tells x.4 x.5,
+      refused_turn c.args.link.now.end c.begin.new.end c.args.now b.0 b.1 b.2 b.3 b.4 x.0 x.1 x.2 c.exchange.new.end.state c.tell.new.end.state w.0 w.1 x.3 w.2,
+      x.5,
+      traffic_of _ _ t b.5
+          (w.3 ∙ ap (λ ps. ps ++ map (entry_of c.args.now) w.0) c.begin.ensures.puts ∙ ap (λ ps. g.H.Hub.puts c.args.hub.now ++ ps) (sym (append-nil (map (entry_of c.args.now) w.0))))
+          (c.tell.ensures.takes ∙ b.6) c.exchange.ensures.tells x.6 x.7,
     )
 
 pub returns-clause-turn : goal.returns-clause-turn
@@ -48,11 +51,12 @@ returns-clause-turn g c =
     let x = c.in_default-exchange.ensures.exchange in
     let w = c.in_default-tell.ensures.all in
     let beat = is_beat_due c.args.course.now.last_beat c.args.now in
-    let t = turn_of c.args.now b.0 b.1 x.0 x.1 w.0 None beat in (
+    let t = turn_of c.args.now b.0 b.1 x.0 x.1 x.2 w.0 None beat in (
       t,
-      whole_turn c.args.link.now.end c.begin.new.end c.args.now b.0 b.1 b.2 b.3 b.4 x.0 x.1 c.exchange.new.end.state c.tell.new.end.state w.0 beat x.2 w.1,
+      whole_turn c.args.link.now.end c.begin.new.end c.args.now b.0 b.1 b.2 b.3 b.4 x.0 x.1 x.2 c.exchange.new.end.state c.tell.new.end.state w.0 beat x.3 w.1,
       refl,
       c.in_default-tell.ensures.last,
-      traffic_of 2048 _ _ t b.5 (w.2 ∙ ap (λ ps. ps ++ (map (entry_of c.args.now) w.0 ++ beat_of beat c.args.now)) c.begin.ensures.puts) (c.tell.ensures.takes ∙ b.6) c.exchange.ensures.tells x.4 x.5,
-      record { taken = c.begin.new.hub; sent = x.6.0; told = w.3.0; takes = b.7; sends = x.6.1; receives = x.6.2; puts = w.3.1; beat = w.3.2 },
+      x.5,
+      traffic_of _ _ t b.5 (w.2 ∙ ap (λ ps. ps ++ (map (entry_of c.args.now) w.0 ++ beat_of beat c.args.now)) c.begin.ensures.puts) (c.tell.ensures.takes ∙ b.6) c.exchange.ensures.tells x.6 x.7,
+      record { taken = c.begin.new.hub; sent = x.8.0; told = w.3.0; takes = b.7; sends = x.8.1; receives = x.8.2; puts = w.3.1; beat = w.3.2 },
     )

@@ -1,0 +1,139 @@
+//! A wire whose calls fail on purpose, for tests.
+ghost use Rattle.std.specs.Prelude.{◌≡◌, ◌+◌, ◌-◌, ◌^◌, min, not, Some, true};
+ghost use Rattle.tora_neighbour.specs.FuseWire.{FuseView, is_blown, left_after};
+
+use crate::wire::{Wire, WireError};
+use std::marker::Model;
+
+/// How long a fuse lets calls fail, once it has blown.
+#[derive(Clone, Copy, Debug, PartialEq, Eq)]
+pub enum FuseMode {
+    /// One call fails.
+    Once,
+    /// Each call fails from then on.
+    Always,
+}
+
+/// A wire around another one: so many calls pass, and then one fails, or all do.
+///
+/// A call that fails so is counted, and makes no call of the wire inside; a datagram that was to be sent by it did not go
+/// out, and from then on contracts are told no datagrams. Calls that the wire inside fails are counted too. The count
+/// begins at 0.
+#[derive(Drop)]
+pub struct FuseWire<W: Wire> {
+    wire: W,
+    mode: FuseMode,
+    left: Option<u64>,
+    told: bool,
+    failures: u64,
+}
+
+impl<W: Wire> Model for FuseWire<W> {
+    ghost use Rattle.tora_neighbour.specs.FuseWire.{FuseView};
+
+    ghost Value = { FuseView W };
+
+    ghost view = { λ f. record { wire = f.wire; mode = f.mode; left = f.left; told = f.told; failures = f.failures } };
+}
+
+impl<W: Wire> FuseWire<W> {
+    /// A wire over which `k` calls pass, sends and receives together.
+    pub fn new(wire: W, k: u64, mode: FuseMode) -> FuseWire<W>
+        ensures { result ≡ record { wire = wire; mode = mode; left = Some k; told = true; failures = 0 } }
+    {
+        FuseWire {
+            wire,
+            mode,
+            left: Some(k),
+            told: true,
+            failures: 0,
+        }
+    }
+
+    /// The wire inside.
+    pub fn into_inner(self) -> W
+        ensures { result ≡ self.wire }
+    {
+        let FuseWire {
+            wire,
+            mode: _,
+            left: _,
+            told: _,
+            failures: _,
+        } = self;
+        wire
+    }
+
+    fn count(&mut self)
+        ensures { self.new ≡ record self.old { failures = min (self.old.failures + 1) (2 ^ 64 - 1) } }
+    {
+        self.failures = self.failures.saturating_add(1);
+    }
+
+    // Whether the next call passes. One that doesn't is not counted here.
+    fn passes(&mut self) -> bool
+        ensures answer { result ≡ not (is_blown self.old.left) }
+        ensures left { self.new ≡ record self.old { left = left_after self.old.mode self.old.left } }
+    {
+        match self.left {
+            None => true,
+            Some(n) => {
+                if n > 0 {
+                    self.left = Some(n - 1);
+                    return true;
+                }
+                match self.mode {
+                    FuseMode::Once => self.left = None,
+                    FuseMode::Always => {}
+                }
+                false
+            }
+        }
+    }
+}
+
+impl<W: Wire> Wire for FuseWire<W> {
+    ghost use Rattle.std.specs.Prelude.{◌&&◌};
+    ghost use Rattle.tora_neighbour.specs.FuseWire.{SendsThroughFuse, ReceivesThroughFuse};
+
+    ghost tells = { λ f. f.told && W.tells f.wire };
+
+    ghost coming = { λ f. W.coming f.wire };
+
+    ghost tries = { λ f. W.tries f.wire };
+
+    ghost failures = { λ f. f.failures };
+
+    ghost did_send = { λ f bytes answer after. SendsThroughFuse W.did_send f bytes answer after };
+
+    ghost did_receive = { λ f answer buffer after. ReceivesThroughFuse W.did_receive f answer buffer after };
+
+    fn send(&mut self, bytes: &[u8]) -> Result<(), WireError> {
+        if !self.passes() {
+            self.told = false;
+            self.count();
+            return Err(WireError);
+        }
+        match self.wire.send(bytes) {
+            Ok(()) => Ok(()),
+            Err(error) => {
+                self.count();
+                Err(error)
+            }
+        }
+    }
+
+    fn receive(&mut self, buf: &mut [u8]) -> Result<Option<usize>, WireError> {
+        if !self.passes() {
+            self.count();
+            return Err(WireError);
+        }
+        match self.wire.receive(buf) {
+            Ok(count) => Ok(count),
+            Err(error) => {
+                self.count();
+                Err(error)
+            }
+        }
+    }
+}
