@@ -1,5 +1,5 @@
 -- A read that goes on behind what was read before.
-use Rattle.std.proofs.Common.{◌≡◌, ◌⊎◌, ⊎_elim, ℕ, ◌+◌, ◌-◌, ◌^◌, ◌<◌, ◌≤◌, min, List, [], ◌∷◌, ◌++◌, length, take, drop, refl, sym, ◌∙◌, ap, subst, subst₂, arith, append_assoc, length-append, length-take}
+use Rattle.std.proofs.Common.{◌≡◌, ◌⊎◌, ⊎_elim, ℕ, ◌+◌, ◌-◌, ◌^◌, ◌<◌, ◌≤◌, min, List, ◌++◌, length, take, drop, sym, ◌∙◌, ap, subst, subst₂, arith, append_assoc, length-take}
 use Rattle.std.proofs.lemmas.List.{take_at, drop_at, take_all, drop_all, drop-drop, append-nil, length-drop, take-append-drop}
 use Rattle.std.proofs.Math.Seq.{take-add}
 use borrow.Rule.Slice.PartMut.{put_mid, mid_of}
@@ -60,7 +60,7 @@ behind seen at count place is = ap (λ (n : ℕ). drop n seen) is ∙ sym (drop-
 
 -- one read more, of a reader with these bytes
 module _ (seen : List ℕ) (at : ℕ) (old buf : List ℕ) (count place n : ℕ) (sub : List ℕ) (long : length buf ≡ length old) (few : count ≤ length buf) (within : count ≤ length (drop at seen)) (so_far : IsSoFar (drop at seen) old count buf) (is : place ≡ at + count)
-  (part : IsReadInPart seen place (mid_of count (length buf - count) buf) n sub) where
+    (part : IsReadInPart seen place (mid_of count (length buf - count) buf) n sub) where
   there : List ℕ
   there = drop at seen
 

@@ -1,8 +1,8 @@
 //! A disk in memory.
 ghost use Rattle.std.specs.Prelude.{◌≡◌, ◌≤◌, [], length};
 
-use crate::disk::{Disk, DiskError};
 use crate::call_record::CallRecord;
+use crate::disk::{Disk, DiskError};
 use crate::state::{DiskCall, State};
 use std::marker::Model;
 

@@ -49,7 +49,11 @@ impl ReadFrom for File {
 /// # Errors
 ///
 /// The first other error of a read.
-pub(crate) fn read_whole<F: ReadFrom>(reader: &mut F, at: usize, buf: &mut [u8]) -> io::Result<usize>
+pub(crate) fn read_whole<F: ReadFrom>(
+    reader: &mut F,
+    at: usize,
+    buf: &mut [u8],
+) -> io::Result<usize>
     ensures count { IfOk result (λ n. n ≤ length buf.old) }
     ensures read { IsTrue (F.tells reader.old) → IfOk result (λ n. IsRead (F.bytes reader.old) at buf.old n buf.new) }
 {

@@ -47,12 +47,21 @@ fn five_bytes(fails_from: u64) -> Dripping {
 #[test]
 fn short_and_interrupted_reads_are_gone_on_with(rt: HostRuntime) -> Result<(), Fail> {
     let mut long = [9u8; 7];
-    assert_eq!(&rt; read_whole(&mut five_bytes(100), 1, &mut long).ok(), Some(4));
+    assert_eq!(&rt;
+        read_whole(&mut five_bytes(100), 1, &mut long).ok(),
+        Some(4)
+    );
     assert_eq!(&rt; long, [2, 3, 4, 5, 9, 9, 9]);
     let mut short = [9u8; 3];
-    assert_eq!(&rt; read_whole(&mut five_bytes(100), 0, &mut short).ok(), Some(3));
+    assert_eq!(&rt;
+        read_whole(&mut five_bytes(100), 0, &mut short).ok(),
+        Some(3)
+    );
     assert_eq!(&rt; short, [1, 2, 3]);
-    assert_eq!(&rt; read_whole(&mut five_bytes(100), 5, &mut short).ok(), Some(0));
+    assert_eq!(&rt;
+        read_whole(&mut five_bytes(100), 5, &mut short).ok(),
+        Some(0)
+    );
     assert!(&rt; read_whole(&mut five_bytes(4), 0, &mut short).is_err());
     Ok(())
 }

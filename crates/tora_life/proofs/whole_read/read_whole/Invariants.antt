@@ -1,4 +1,4 @@
-use Rattle.std.proofs.Common.{◌≡◌, ℕ, ◌≤◌, List, ◌++◌, length, take, drop, Bool, IsTrue}
+use Rattle.std.proofs.Common.{◌≡◌, ◌≤◌, ◌++◌, length, take, drop, IsTrue}
 use Rattle.tora_life.proofs.whole_read.read_whole.Given as goal
 
 -- what was read so far is the beginning of what there is from the place on
