@@ -4,6 +4,7 @@ pub mod Images
 pub mod Moments
 pub mod Opens
 pub mod Past
+pub mod ReadOn
 pub mod Runs
 pub mod TornBytes
 pub mod Wholes

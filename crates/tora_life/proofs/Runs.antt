@@ -1,5 +1,5 @@
 -- Drawn life numbers rise over each run of a life file in memory.
-use Rattle.std.proofs.Common.{◌≡◌, inl, inr, ℕ, ◌+◌, ◌-◌, ◌<◌, ◌≤◌, min, Bool, true, false, List, [], ◌∷◌, ◌++◌, length, take, drop, replicate, refl, sym, ◌∙◌, ap, subst, arith, length-take, Result, Ok, Err, nat_le, if◌then◌else◌, Option}
+use Rattle.std.proofs.Common.{◌≡◌, ◌⊎◌, inl, inr, ℕ, ◌+◌, ◌-◌, ◌<◌, ◌≤◌, min, Bool, true, false, List, [], ◌∷◌, ◌++◌, length, take, drop, replicate, refl, sym, ◌∙◌, ap, subst, arith, length-take, Result, Ok, Err, nat_le, if◌then◌else◌, Option}
 use Rattle.std.proofs.lemmas.List.{take_at, length-replicate}
 use Rattle.std.proofs.lemmas.Bool.Decides.{nat_tests}
 use Rattle.tora_life.specs.declared.disk.DiskError.{DiskError}
@@ -154,3 +154,14 @@ rises n disk (event ∷ events) floor run =
     go n [] after events rest is = rest n is
     go n (x ∷ []) after events rest is = (is.0, rest x is.1)
     go n (x ∷ y ∷ more) after events rest is = absurd is
+
+-- an event draws one number at most
+number_of_answer : (r : Result ℕ LifeError) → (number_in r ≡ []) ⊎ ((x : ℕ) × (number_in r ≡ x ∷ []))
+number_of_answer (Ok x) = inr (x, refl)
+number_of_answer (Err e) = inl refl
+
+pub one_number : (event : LifeEvent) (disk : LifeDisk) → (drawn_by event disk ≡ []) ⊎ ((x : ℕ) × (drawn_by event disk ≡ x ∷ []))
+one_number Draw (Unopened s) = inl refl
+one_number Draw (Opened numbers s) = number_of_answer (draw_answer numbers s)
+one_number (Arm call) disk = inl refl
+one_number (Restart new) disk = inl refl

@@ -46,3 +46,10 @@ HasCause before now = before < now ⊎ (now ≡ 2 ^ 64 - 1)
 pub record IsRead (seen : List ℕ) (at : ℕ) (old : List ℕ) (n : ℕ) (new : List ℕ) : Type 0 where
   pub count : n ≡ min (length old) (length (drop at seen))
   pub bytes : new ≡ take (length old) (drop at seen) ++ drop n old
+
+-- n bytes were read into the front of a buffer: no more than there are and fit, and at least one where there is one and one fits
+pub record IsReadInPart (seen : List ℕ) (at : ℕ) (old : List ℕ) (n : ℕ) (new : List ℕ) : Type 0 where
+  pub few : n ≤ length (drop at seen)
+  pub fits : n ≤ length old
+  pub some : n ≡ 0 → (length old ≡ 0) ⊎ (length (drop at seen) ≡ 0)
+  pub bytes : new ≡ take n (drop at seen) ++ drop n old

@@ -1,4 +1,4 @@
-// A file on a disk: what a read gives, and what a crash may leave.
+//! A file on a disk: what a read gives, and what a crash may leave.
 ghost use Rattle.std.specs.Prelude.{◌≡◌, ◌≤◌, ℕ, Bool, List, length, Result, IfOk, OnOk, OnErr, IsTrue};
 ghost use Rattle.tora_life.specs.declared.disk.DiskError.{DiskError};
 ghost use Rattle.tora_life.specs.Disk.{Holds, Torn, Follows, IsOnlyImage, Elapses, failures_after, IsRead};

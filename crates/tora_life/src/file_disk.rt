@@ -1,10 +1,11 @@
-// A life file's disk over a file of the operating system.
-ghost use Rattle.std.specs.Prelude.{◌≡◌, ◌≤◌, length, Ok, IfOk};
+//! A life file's disk over a file of the operating system.
+ghost use Rattle.std.specs.Prelude.{◌≡◌, Ok, IfOk};
 ghost use Rattle.tora_life.specs.Disk.{failures_after};
 
 use crate::disk::{Disk, DiskError};
+use crate::whole_read::read_whole;
 use std::fs::{File, Files, OpenOptions};
-use std::io::{self, ErrorKind};
+use std::io;
 use std::marker::Model;
 use std::os::unix::fs::FileExt;
 use std::path::Path;
@@ -14,7 +15,7 @@ use std::path::Path;
 /// It tells contracts no bytes. So clauses say of it which numbers are drawn, when each error comes and that each
 /// failed call is counted, and nothing of what a crash leaves. That the file keeps what was synced, and that
 /// nobody else writes it, are premises of the program.
-#[derive(Drop)]
+#[derive(Debug, Drop)]
 pub struct FileDisk {
     file: File,
     failures: u64,
@@ -30,7 +31,11 @@ impl Model for FileDisk {
 
 impl FileDisk {
     /// Opens the file at this path, to read and write. One that is missing is made, empty, and its folder is synced
-    /// too, so that the file itself is there after a crash. Errors are those of the operating system.
+    /// too, so that the file itself is there after a crash.
+    ///
+    /// # Errors
+    ///
+    /// Those of the operating system.
     pub fn open<R: Files<File = File>>(files: &R, path: &str) -> io::Result<FileDisk>
         ensures { IfOk result (λ disk. disk ≡ 0) }
     {
@@ -63,23 +68,6 @@ impl FileDisk {
     }
 }
 
-/// Reads until the buffer is full or the file ends. Answers how many bytes were read.
-fn read_from(file: &File, at: usize, buf: &mut [u8]) -> io::Result<usize>
-    ensures { IfOk result (λ n. n ≤ length buf.old) }
-{
-    let mut count = 0;
-    for _ in 0..u64::MAX {
-        let place = (at as u64).saturating_add(count as u64);
-        match file.read_at(&mut buf[count..], place) {
-            Ok(0) => return Ok(count),
-            Ok(n) => count += n,
-            Err(error) if error.kind() == ErrorKind::Interrupted => {}
-            Err(error) => return Err(error),
-        }
-    }
-    Err(io::Error::from(ErrorKind::Other))
-}
-
 impl Disk for FileDisk {
     ghost use Rattle.std.specs.Prelude.{[], false};
     ghost use Rattle.std.proofs.Common.{rules};
@@ -109,7 +97,7 @@ impl Disk for FileDisk {
     ghost only_now = { λ d c left. left };
 
     fn read(&mut self, at: usize, buf: &mut [u8]) -> Result<usize, DiskError> {
-        let count = read_from(&self.file, at, buf);
+        let count = read_whole(&mut self.file, at, buf);
         self.counted(count)
     }
 

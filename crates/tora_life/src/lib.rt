@@ -13,24 +13,25 @@
 //! The rules of the life file are this project's own profile. No call takes memory.
 #![tactic(auto)]
 
+mod call_record;
 mod disk;
-mod file;
 mod file_disk;
-mod memory;
+mod laws;
+mod life_file;
+mod mem_disk;
 mod numbers;
-mod record;
-mod replacing;
-mod rising;
+mod slot_writing;
 mod slots;
 mod state;
 mod tearing;
+mod whole_read;
 
 pub use disk::{Disk, DiskError};
-pub use file::{LifeFile, OpenFault};
 pub use file_disk::FileDisk;
-pub use memory::MemDisk;
+pub use laws::drawn_life_numbers_rise;
+pub use life_file::{LifeFile, OpenFault};
+pub use mem_disk::MemDisk;
 pub use numbers::LifeError;
-pub use rising::drawn_life_numbers_rise;
 pub use state::DiskCall;
 
 #[cfg(test)]

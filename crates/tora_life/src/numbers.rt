@@ -1,4 +1,4 @@
-// The numbers of an open life file.
+//! The numbers of an open life file.
 ghost use Rattle.std.specs.Prelude.{◌≡◌, ◌+◌, ◌^◌, ◌<◌, ◌≤◌};
 
 use crate::slots::{Slot, bound_of};

@@ -1,4 +1,4 @@
-// The two slots of a life file, in bytes and on a disk.
+//! The two slots of a life file, in bytes and on a disk.
 ghost use Rattle.std.specs.Prelude.{◌≡◌};
 ghost use Rattle.tora_life.specs.LifeFile.{slot_bound, slot_of};
 

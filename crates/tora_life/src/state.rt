@@ -1,4 +1,4 @@
-// The bytes of a disk in memory, and what its calls make of them.
+//! The bytes of a disk in memory, and what its calls make of them.
 use crate::disk::DiskError;
 use crate::tearing::tear;
 

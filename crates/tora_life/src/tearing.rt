@@ -1,4 +1,4 @@
-// What a crash makes of bytes that were written and not synced.
+//! What a crash makes of bytes that were written and not synced.
 ghost use Rattle.std.specs.Prelude.{◌≡◌, ◌≤◌, length};
 ghost use Rattle.tora_life.specs.TornBytes.{torn_over};
 

@@ -1,4 +1,4 @@
-// The worked rows of the life file, and a crash at each call of the disk.
+//! The worked rows of the life file, and a crash at each call of the disk.
 use crate::slots::{bound_of, slot_bytes};
 use crate::{DiskCall, LifeError, LifeFile, MemDisk};
 use std::process::Abort;
@@ -6,6 +6,7 @@ use std::test::Fail;
 
 mod files;
 mod in_memory;
+mod reads;
 
 const SLOT_OF_16: [u8; 16] = [
     0, 0, 0, 0, 0, 0, 0, 0x10, 0xff, 0xff, 0xff, 0xff, 0xff, 0xff, 0xff, 0xef,

@@ -1,7 +1,6 @@
-// Life files in a real folder.
+//! Life files in a real folder.
 use crate::{Disk, DiskError, FileDisk, LifeError, LifeFile};
 use std::fs::{self, File, Files};
-use std::process::Abort;
 use std::test::Fail;
 
 const FOLDER: &str = "tora_life_test";
@@ -12,11 +11,8 @@ const OTHER_FOLDER: &str = "tora_life_places_test";
 
 const OTHER_PATH: &str = "tora_life_places_test/life-3";
 
-fn opened<R: Files<File = File> + Abort>(rt: &R) -> Result<LifeFile<FileDisk>, Fail> {
-    match LifeFile::open(FileDisk::open(rt, PATH)?) {
-        Ok(file) => Ok(file),
-        Err(fault) => panic!(rt; "not opened: {:?}", fault.error),
-    }
+fn opened<R: Files<File = File>>(rt: &R) -> Result<LifeFile<FileDisk>, Fail> {
+    Ok(LifeFile::open(FileDisk::open(rt, PATH)?)?)
 }
 
 // Each of these files is let go without a close, as by a process that is killed between two calls.

@@ -1,4 +1,4 @@
-// Over a disk in memory, a life file is a function of its numbers and the state of the disk.
+//! Over a disk in memory, a life file is a function of its numbers and the state of the disk.
 ghost use Rattle.std.specs.Prelude.{◌≡◌, ◌≤◌, Ok, Err, IfOk, IfErr};
 ghost use Rattle.tora_life.specs.Numbers.{numbers_after};
 ghost use Rattle.tora_life.specs.InMemory.{open_answer, open_state, draw_answer, draw_state};

@@ -1,0 +1,119 @@
+//! Why a text is no configuration.
+use std::alloc::{AllocError, AllocFailed};
+use std::fmt;
+use std::fmt::{Display, Formatter};
+use thiserror::Error;
+use tora_core::CoreError;
+
+/// A key of a configuration. Links and destinations are counted from 1, in the order of the text.
+#[derive(Clone, Copy, Debug, PartialEq, Eq)]
+pub enum Place {
+    /// `node`.
+    Node,
+    /// `dests`.
+    Dests,
+    /// The destination with this number.
+    Dest(usize),
+    /// `life_dir`.
+    LifeDir,
+    /// `link`.
+    Links,
+    /// The link with this number.
+    Link(usize),
+    /// `peer` of the link with this number.
+    Peer(usize),
+    /// `local` of the link with this number.
+    Local(usize),
+    /// `remote` of the link with this number.
+    Remote(usize),
+}
+
+impl Display for Place {
+    fn fmt<W: fmt::Write>(&self, f: &mut Formatter<W>) -> fmt::Result {
+        match *self {
+            Place::Node => write!(f, "`node`"),
+            Place::Dests => write!(f, "`dests`"),
+            Place::Dest(n) => write!(f, "`dests`, number {n}"),
+            Place::LifeDir => write!(f, "`life_dir`"),
+            Place::Links => write!(f, "`link`"),
+            Place::Link(n) => write!(f, "`link`, number {n}"),
+            Place::Peer(n) => write!(f, "`peer` of link {n}"),
+            Place::Local(n) => write!(f, "`local` of link {n}"),
+            Place::Remote(n) => write!(f, "`remote` of link {n}"),
+        }
+    }
+}
+
+/// What is wrong with the value of a key.
+#[derive(Clone, Copy, Debug, PartialEq, Eq)]
+pub enum Reason {
+    /// There is none.
+    Missing,
+    /// It is no whole number.
+    NoNumber,
+    /// It is a number that no node has.
+    NoId,
+    /// It is a number that no port has.
+    NoPort,
+    /// It is no text.
+    NoText,
+    /// It is no list.
+    NoList,
+    /// It is no table.
+    NoTable,
+    /// It stands before already.
+    Repeated,
+    /// It is the node itself.
+    OwnId,
+}
+
+impl Display for Reason {
+    fn fmt<W: fmt::Write>(&self, f: &mut Formatter<W>) -> fmt::Result {
+        match *self {
+            Reason::Missing => write!(f, "is missing"),
+            Reason::NoNumber => write!(f, "is no whole number"),
+            Reason::NoId => write!(f, "is not from 1 to 4294967295"),
+            Reason::NoPort => write!(f, "is not from 1 to 65535"),
+            Reason::NoText => write!(f, "is no text"),
+            Reason::NoList => write!(f, "is no list"),
+            Reason::NoTable => write!(f, "is no table"),
+            Reason::Repeated => write!(f, "stands before already"),
+            Reason::OwnId => write!(f, "is the node itself"),
+        }
+    }
+}
+
+/// Why a text is no configuration.
+#[derive(Debug, Drop, Error)]
+pub enum ConfigError {
+    /// There is no memory.
+    #[error("out of memory")]
+    Memory,
+    /// The text is no TOML.
+    #[error("the configuration is no TOML: {0}")]
+    Syntax(toml::de::Error),
+    /// There is a key that a configuration does not have.
+    #[error("`{0}` is no key of a configuration")]
+    UnknownKey(String),
+    /// The link with this number, from 1 on, has a key that no link has.
+    #[error("`{1}` of link {0} is no key of a link")]
+    UnknownLinkKey(usize, String),
+    /// A key is missing, or has a value that is refused.
+    #[error("{0} {1}")]
+    Value(Place, Reason),
+    /// No core is made of these links and destinations.
+    #[error("there is no such node: {0}")]
+    Core(CoreError),
+}
+
+impl From<AllocError> for ConfigError {
+    fn from(_error: AllocError) -> ConfigError {
+        ConfigError::Memory
+    }
+}
+
+impl<T: Drop> From<AllocFailed<T>> for ConfigError {
+    fn from(_error: AllocFailed<T>) -> ConfigError {
+        ConfigError::Memory
+    }
+}

@@ -1,0 +1,53 @@
+//! The configuration of a node, read from a TOML text.
+//!
+//! ```toml
+//! node = 1
+//! dests = [4]
+//! life_dir = "n1"
+//!
+//! [[link]]
+//! peer = 2
+//! local = 4012
+//! remote = 4021
+//! ```
+//!
+//! Each of these keys is required, `link` at least once, and every other key is a fault. `node`, `peer` and each of `dests`
+//! are whole numbers from 1 to 2^32 - 1; ports are from 1 to 65535. No two links have one peer or one local port, and no
+//! peer is the node itself. What a core refuses is a fault: too many links or destinations, and a destination that stands
+//! twice. Own profile.
+#![tactic(auto)]
+
+mod fault;
+mod reading;
+mod values;
+
+pub use fault::{ConfigError, Place, Reason};
+pub use reading::read_config;
+use tora_height::Id;
+
+/// A link to a neighbour, over UDP on the loopback.
+#[derive(Clone, Copy, Debug, PartialEq, Eq)]
+pub struct LinkConfig {
+    /// The neighbour, not 0.
+    pub peer: Id,
+    /// The own port, 1 to 65535.
+    pub local: u16,
+    /// The neighbour's port, 1 to 65535.
+    pub remote: u16,
+}
+
+/// What a node is started with.
+#[derive(Debug, Drop)]
+pub struct NodeConfig {
+    /// The node, not 0.
+    pub node: Id,
+    /// The destinations of its table, each once and not 0, in the order of the text.
+    pub dests: Vec<Id>,
+    /// The folder of its life files, as it is given.
+    pub life_dir: String,
+    /// Its links, at least one, by ascending peer.
+    pub links: Vec<LinkConfig>,
+}
+
+#[cfg(test)]
+mod tests;

@@ -1,0 +1,104 @@
+//! The values of keys.
+ghost use Rattle.std.specs.Prelude.{◌≡◌, ◌<◌, pos, Some, IfOk};
+ghost use Rattle.toml.specs.Data.{as_integer};
+ghost use Rattle.toml.specs.View.{view};
+
+use crate::fault::{ConfigError, Place, Reason};
+use std::alloc::Global;
+use toml::{Table, Value};
+use tora_height::Id;
+
+/// The number of a node, which stands there.
+pub fn id_of(value: &Value) -> Result<Id, Reason>
+    ensures above { IfOk result (λ n. 0 < n) }
+    ensures exact { IfOk result (λ n. as_integer (view value.now) ≡ Some (pos n)) }
+{
+    let Some(number) = value.as_integer() else {
+        return Err(Reason::NoNumber);
+    };
+    match u32::try_from(number) {
+        Ok(id) => {
+            if id == 0 {
+                return Err(Reason::NoId);
+            }
+            Ok(id)
+        }
+        Err(_) => Err(Reason::NoId),
+    }
+}
+
+/// A port, which stands there.
+pub fn port_of(value: &Value) -> Result<u16, Reason>
+    ensures above { IfOk result (λ n. 0 < n) }
+    ensures exact { IfOk result (λ n. as_integer (view value.now) ≡ Some (pos n)) }
+{
+    let Some(number) = value.as_integer() else {
+        return Err(Reason::NoNumber);
+    };
+    match u16::try_from(number) {
+        Ok(port) => {
+            if port == 0 {
+                return Err(Reason::NoPort);
+            }
+            Ok(port)
+        }
+        Err(_) => Err(Reason::NoPort),
+    }
+}
+
+/// The value at a key, which is required.
+pub fn value_at<'a>(table: &'a Table, key: &str, place: Place) -> Result<&'a Value, ConfigError> {
+    match table.get(key) {
+        Some(value) => Ok(value),
+        None => Err(ConfigError::Value(place, Reason::Missing)),
+    }
+}
+
+/// The number of a node at a key.
+pub fn id_at(table: &Table, key: &str, place: Place) -> Result<Id, ConfigError>
+    ensures { IfOk result (λ n. 0 < n) }
+{
+    let value = value_at(table, key, place)?;
+    match id_of(value) {
+        Ok(id) => Ok(id),
+        Err(reason) => Err(ConfigError::Value(place, reason)),
+    }
+}
+
+/// A port at a key.
+pub fn port_at(table: &Table, key: &str, place: Place) -> Result<u16, ConfigError>
+    ensures { IfOk result (λ n. 0 < n) }
+{
+    let value = value_at(table, key, place)?;
+    match port_of(value) {
+        Ok(port) => Ok(port),
+        Err(reason) => Err(ConfigError::Value(place, reason)),
+    }
+}
+
+/// A text at a key.
+pub fn text_at(
+    alloc: Global,
+    table: &Table,
+    key: &str,
+    place: Place,
+) -> Result<String, ConfigError> {
+    let value = value_at(table, key, place)?;
+    match value.as_str() {
+        Some(text) => Ok(String::from_str(alloc, text)?),
+        None => Err(ConfigError::Value(place, Reason::NoText)),
+    }
+}
+
+/// The values of a list at a key.
+pub fn list_at<'a>(
+    table: &'a Table,
+    key: &str,
+    place: Place,
+) -> Result<&'a [Value], ConfigError> {
+    let value = value_at(table, key, place)?;
+    match value.as_array() {
+        Some(list) => Ok(list.as_slice()),
+        None => Err(ConfigError::Value(place, Reason::NoList)),
+    }
+}

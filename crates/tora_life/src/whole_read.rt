@@ -1,0 +1,71 @@
+//! Reads of a file until all is read that there is and fits.
+ghost use Rattle.std.specs.Prelude.{◌≡◌, ◌<◌, ◌≤◌, ◌^◌, ℕ, Bool, List, length, IfOk, OnErr, IsTrue};
+ghost use Rattle.tora_life.specs.Disk.{IsRead, IsReadInPart};
+
+use std::fs::File;
+use std::io::{self, ErrorKind};
+use std::os::unix::fs::FileExt;
+
+/// Bytes that are read from a place on, as many at a time as the reader pleases.
+///
+/// A reader either tells contracts its bytes, or tells none, as a file of the operating system.
+pub(crate) trait ReadFrom {
+    /// Whether contracts are told the bytes.
+    ghost tells: { Self → Bool };
+
+    /// The bytes.
+    ghost bytes: { Self → List ℕ };
+
+    /// Reads some of the bytes from the place `at` on into the front of `buf`, at least one where there is one and one
+    /// fits, and answers their count. The rest of `buf` stays.
+    ///
+    /// # Errors
+    ///
+    /// Those of the operating system. Nothing was read.
+    fn read_from(&mut self, at: u64, buf: &mut [u8]) -> io::Result<usize>
+        ensures tells { tells self.new ≡ tells self.old }
+        ensures same { bytes self.new ≡ bytes self.old }
+        ensures long { IsTrue (tells self.old) → length (bytes self.old) < 2 ^ 64 }
+        ensures count { IfOk result (λ n. n ≤ length buf.old) }
+        ensures read { IsTrue (tells self.old) → IfOk result (λ n. IsReadInPart (bytes self.old) at buf.old n buf.new) }
+        ensures err { IsTrue (tells self.old) → OnErr result (buf.new ≡ buf.old) };
+}
+
+impl ReadFrom for File {
+    ghost use Rattle.std.specs.Prelude.{[], false};
+
+    ghost tells = { λ f. false };
+
+    ghost bytes = { λ f. [] };
+
+    fn read_from(&mut self, at: u64, buf: &mut [u8]) -> io::Result<usize> {
+        self.read_at(buf, at)
+    }
+}
+
+/// Reads until the buffer is full or nothing is left, and answers how many bytes were read. A read that was interrupted
+/// is made again.
+///
+/// # Errors
+///
+/// The first other error of a read.
+pub(crate) fn read_whole<F: ReadFrom>(
+    reader: &mut F,
+    at: usize,
+    buf: &mut [u8],
+) -> io::Result<usize>
+    ensures count { IfOk result (λ n. n ≤ length buf.old) }
+    ensures read { IsTrue (F.tells reader.old) → IfOk result (λ n. IsRead (F.bytes reader.old) at buf.old n buf.new) }
+{
+    let mut count = 0;
+    for _ in 0..u64::MAX {
+        let place = (at as u64).saturating_add(count as u64);
+        match reader.read_from(place, &mut buf[count..]) {
+            Ok(0) => return Ok(count),
+            Ok(n) => count += n,
+            Err(error) if error.kind() == ErrorKind::Interrupted => {}
+            Err(error) => return Err(error),
+        }
+    }
+    Err(io::Error::from(ErrorKind::Other))
+}
