@@ -25,11 +25,20 @@ const VECTORS: [&str; 6] = [
 const HOSTILE: [(&str, Intake); 10] = [
     ("", Intake::Bad(FrameError::Short)),
     // A HELLO (9,5) and one byte more.
-    ("0101000000000002000000010000000000000009000000000000000500", Intake::Bad(FrameError::Long)),
+    (
+        "0101000000000002000000010000000000000009000000000000000500",
+        Intake::Bad(FrameError::Long),
+    ),
     // The life 2^62 + 1.
-    ("01010000000000020000000140000000000000010000000000000005", Intake::Bad(FrameError::Life)),
+    (
+        "01010000000000020000000140000000000000010000000000000005",
+        Intake::Bad(FrameError::Life),
+    ),
     // A HELLO of node 3.
-    ("01010000000000030000000100000000000000090000000000000005", Intake::Seen(Verdict::Foreign)),
+    (
+        "01010000000000030000000100000000000000090000000000000005",
+        Intake::Seen(Verdict::Foreign),
+    ),
     // An update of node 3.
     (
         "0102003000000002000000010000000000000009000000000000000500000000000000010000000000000000\
@@ -37,9 +46,15 @@ const HOSTILE: [(&str, Intake); 10] = [
         Intake::Seen(Verdict::Foreign),
     ),
     // An ACK of a packet that was never sent.
-    ("010300080000000200000001000000000000000900000000000000050000000000000001", Intake::Seen(Verdict::Foreign)),
+    (
+        "010300080000000200000001000000000000000900000000000000050000000000000001",
+        Intake::Seen(Verdict::Foreign),
+    ),
     // A HELLO (8,5).
-    ("01010000000000020000000100000000000000080000000000000005", Intake::Seen(Verdict::Stale)),
+    (
+        "01010000000000020000000100000000000000080000000000000005",
+        Intake::Seen(Verdict::Stale),
+    ),
     // A DATA frame (9,4).
     (
         "0102001800000002000000010000000000000009000000000000000400000000000000010000000000000000\
@@ -53,7 +68,10 @@ const HOSTILE: [(&str, Intake); 10] = [
         Intake::Seen(Verdict::Ahead),
     ),
     // A HELLO (2^62,0).
-    ("01010000000000020000000140000000000000000000000000000000", Intake::Seen(Verdict::Accepted)),
+    (
+        "01010000000000020000000140000000000000000000000000000000",
+        Intake::Seen(Verdict::Accepted),
+    ),
 ];
 
 /// The bytes of a text of hexadecimal digits, at most 76 bytes, and how many they are.
@@ -94,7 +112,11 @@ fn take_one(rt: &impl Abort, alloc: Global, datagram: &str, expected: Intake) {
         Intake::Seen(verdict) => assert_eq!(rt; tally.of_verdict(verdict), 1),
     }
     let ended = LinkEvent::Down(LIFE, Reason::NewPeer);
-    let event = if expected == Intake::Seen(Verdict::Accepted) { Some(ended) } else { None };
+    let event = if expected == Intake::Seen(Verdict::Accepted) {
+        Some(ended)
+    } else {
+        None
+    };
     assert_eq!(rt; end.poll_event(), event, "{datagram}");
 }
 
@@ -124,9 +146,15 @@ fn busy_end_takes_in_no_more(rt: HostRuntime) {
         let intake = take_data(&rt, &mut end, &mut tally, number);
         assert_eq!(&rt; intake, Intake::Seen(Verdict::Accepted), "{number}");
     }
-    assert_eq!(&rt; take_data(&rt, &mut end, &mut tally, 32), Intake::Seen(Verdict::Busy));
+    assert_eq!(&rt;
+        take_data(&rt, &mut end, &mut tally, 32),
+        Intake::Seen(Verdict::Busy)
+    );
     assert!(&rt; end.poll_event().is_some());
-    assert_eq!(&rt; take_data(&rt, &mut end, &mut tally, 32), Intake::Seen(Verdict::Accepted));
+    assert_eq!(&rt;
+        take_data(&rt, &mut end, &mut tally, 32),
+        Intake::Seen(Verdict::Accepted)
+    );
     assert_eq!(&rt; tally.of_verdict(Verdict::Accepted), 32);
     assert_eq!(&rt; total(&tally), 33);
 }

@@ -170,7 +170,9 @@ fn a_file_that_has_failed_ends_the_link(rt: HostRuntime) -> Result<(), Fail> {
 
 #[test]
 fn a_file_that_is_used_up_ends_the_link(rt: HostRuntime) -> Result<(), Fail> {
-    let slot = [255, 255, 255, 255, 255, 255, 255, 255, 0, 0, 0, 0, 0, 0, 0, 0u8];
+    let slot = [
+        255, 255, 255, 255, 255, 255, 255, 255, 0, 0, 0, 0, 0, 0, 0, 0u8,
+    ];
     let file = file_of(&rt, MemDisk::of(&slot).ok_or("no disk")?);
     let fault = fault_of(&rt, rt.alloc(), file)?;
     assert_eq!(&rt; fault, Some(NodeError::Life(2, LifeError::Spent)));
@@ -195,7 +197,10 @@ fn faults_say_what_they_are(rt: HostRuntime) -> Result<(), Fail> {
             NodeError::Life(2, LifeError::Spent),
             "the life file of the link to 2: no number is left",
         ),
-        (NodeError::Wire(2), "a hundred calls in a row of the wire to 2 failed"),
+        (
+            NodeError::Wire(2),
+            "a hundred calls in a row of the wire to 2 failed",
+        ),
         (NodeError::Output, "the output failed"),
     ];
     for (error, text) in rows {
