@@ -5,13 +5,20 @@ use std::process::Abort;
 use std::test::Fail;
 use tora_core::CoreError;
 
-const WORKED: &str = "node = 1\ndests = [4]\nlife_dir = \"n1\"\n\n[[link]]\npeer = 2\nlocal = 4012\nremote = 4021\n";
+const WORKED: &str =
+    "node = 1\ndests = [4]\nlife_dir = \"n1\"\n\n[[link]]\npeer = 2\nlocal = 4012\nremote = 4021\n";
 
 const HEAD: &str = "node = 1\ndests = [4]\nlife_dir = \"n1\"\n";
 
 const LINK: &str = "[[link]]\npeer = 2\nlocal = 4012\nremote = 4021\n";
 
-fn is_refused(rt: &impl Abort, alloc: Global, parts: &[&str], place: Place, reason: Reason) -> Result<(), Fail> {
+fn is_refused(
+    rt: &impl Abort,
+    alloc: Global,
+    parts: &[&str],
+    place: Place,
+    reason: Reason,
+) -> Result<(), Fail> {
     let mut text = String::new(alloc);
     for part in parts {
         text.push_str(part)?;
@@ -55,11 +62,42 @@ fn configurations_accepted_and_refused(rt: HostRuntime) -> Result<(), Fail> {
         }
         Err(error) => panic!(&rt; "{error}"),
     }
-    is_refused(&rt, alloc, &[HEAD, "[[link]]\nlocal = 4012\nremote = 4021\n"], Place::Peer(1), Reason::Missing)?;
-    assert_eq!(&rt; why(&rt, alloc, &["name = \"one\"\n", WORKED])?.as_str(), "`name` is no key of a configuration");
-    is_refused(&rt, alloc, &[HEAD, LINK, "[[link]]\npeer = 2\nlocal = 4013\nremote = 4031\n"], Place::Peer(2), Reason::Repeated)?;
-    is_refused(&rt, alloc, &[HEAD, "[[link]]\npeer = 2\nlocal = 0\nremote = 4021\n"], Place::Local(1), Reason::NoPort)?;
-    is_refused(&rt, alloc, &["node = 2\ndests = [4]\nlife_dir = \"n1\"\n", LINK], Place::Peer(1), Reason::OwnId)?;
+    is_refused(
+        &rt,
+        alloc,
+        &[HEAD, "[[link]]\nlocal = 4012\nremote = 4021\n"],
+        Place::Peer(1),
+        Reason::Missing,
+    )?;
+    assert_eq!(&rt;
+        why(&rt, alloc, &["name = \"one\"\n", WORKED])?.as_str(),
+        "`name` is no key of a configuration"
+    );
+    is_refused(
+        &rt,
+        alloc,
+        &[
+            HEAD,
+            LINK,
+            "[[link]]\npeer = 2\nlocal = 4013\nremote = 4031\n",
+        ],
+        Place::Peer(2),
+        Reason::Repeated,
+    )?;
+    is_refused(
+        &rt,
+        alloc,
+        &[HEAD, "[[link]]\npeer = 2\nlocal = 0\nremote = 4021\n"],
+        Place::Local(1),
+        Reason::NoPort,
+    )?;
+    is_refused(
+        &rt,
+        alloc,
+        &["node = 2\ndests = [4]\nlife_dir = \"n1\"\n", LINK],
+        Place::Peer(1),
+        Reason::OwnId,
+    )?;
     match read_config(alloc, "node = = 1\n") {
         Err(ConfigError::Syntax(_)) => {}
         other => panic!(&rt; "{other:?}"),
@@ -104,18 +142,54 @@ fn keys_of_a_node(rt: HostRuntime) -> Result<(), Fail> {
         ("node = 4294967296\n", Place::Node, Reason::NoId),
         ("node = 1\n", Place::Dests, Reason::Missing),
         ("node = 1\ndests = 4\n", Place::Dests, Reason::NoList),
-        ("node = 1\ndests = [\"4\"]\n", Place::Dest(1), Reason::NoNumber),
+        (
+            "node = 1\ndests = [\"4\"]\n",
+            Place::Dest(1),
+            Reason::NoNumber,
+        ),
         ("node = 1\ndests = [4, 0]\n", Place::Dest(2), Reason::NoId),
-        ("node = 1\ndests = [4, 4294967296]\n", Place::Dest(2), Reason::NoId),
-        ("node = 1\ndests = [4, 5, 4]\n", Place::Dest(3), Reason::Repeated),
+        (
+            "node = 1\ndests = [4, 4294967296]\n",
+            Place::Dest(2),
+            Reason::NoId,
+        ),
+        (
+            "node = 1\ndests = [4, 5, 4]\n",
+            Place::Dest(3),
+            Reason::Repeated,
+        ),
         ("node = 1\ndests = []\n", Place::LifeDir, Reason::Missing),
-        ("node = 1\ndests = [4]\nlife_dir = 1\n", Place::LifeDir, Reason::NoText),
-        ("node = 1\ndests = [4]\nlife_dir = [\"n1\"]\n", Place::LifeDir, Reason::NoText),
+        (
+            "node = 1\ndests = [4]\nlife_dir = 1\n",
+            Place::LifeDir,
+            Reason::NoText,
+        ),
+        (
+            "node = 1\ndests = [4]\nlife_dir = [\"n1\"]\n",
+            Place::LifeDir,
+            Reason::NoText,
+        ),
         (HEAD, Place::Links, Reason::Missing),
-        ("node = 1\ndests = [4]\nlife_dir = \"n1\"\nlink = []\n", Place::Links, Reason::Missing),
-        ("node = 1\ndests = [4]\nlife_dir = \"n1\"\nlink = 2\n", Place::Links, Reason::NoList),
-        ("node = 1\ndests = [4]\nlife_dir = \"n1\"\nlink = [2]\n", Place::Link(1), Reason::NoTable),
-        ("node = 1\ndests = [4]\nlife_dir = \"n1\"\n[link]\npeer = 2\n", Place::Links, Reason::NoList),
+        (
+            "node = 1\ndests = [4]\nlife_dir = \"n1\"\nlink = []\n",
+            Place::Links,
+            Reason::Missing,
+        ),
+        (
+            "node = 1\ndests = [4]\nlife_dir = \"n1\"\nlink = 2\n",
+            Place::Links,
+            Reason::NoList,
+        ),
+        (
+            "node = 1\ndests = [4]\nlife_dir = \"n1\"\nlink = [2]\n",
+            Place::Link(1),
+            Reason::NoTable,
+        ),
+        (
+            "node = 1\ndests = [4]\nlife_dir = \"n1\"\n[link]\npeer = 2\n",
+            Place::Links,
+            Reason::NoList,
+        ),
     ];
     for (text, place, reason) in rows {
         is_refused(&rt, alloc, &[text], place, reason)?;
@@ -131,18 +205,62 @@ fn keys_of_a_link(rt: HostRuntime) -> Result<(), Fail> {
         ("[[link]]\npeer = \"3\"\n", Place::Peer(2), Reason::NoNumber),
         ("[[link]]\npeer = 0\n", Place::Peer(2), Reason::NoId),
         ("[[link]]\npeer = -3\n", Place::Peer(2), Reason::NoId),
-        ("[[link]]\npeer = 4294967296\n", Place::Peer(2), Reason::NoId),
+        (
+            "[[link]]\npeer = 4294967296\n",
+            Place::Peer(2),
+            Reason::NoId,
+        ),
         ("[[link]]\npeer = 3\n", Place::Local(2), Reason::Missing),
-        ("[[link]]\npeer = 3\nlocal = \"1\"\n", Place::Local(2), Reason::NoNumber),
-        ("[[link]]\npeer = 3\nlocal = 65536\n", Place::Local(2), Reason::NoPort),
-        ("[[link]]\npeer = 3\nlocal = -1\n", Place::Local(2), Reason::NoPort),
-        ("[[link]]\npeer = 3\nlocal = 4013\n", Place::Remote(2), Reason::Missing),
-        ("[[link]]\npeer = 3\nlocal = 4013\nremote = false\n", Place::Remote(2), Reason::NoNumber),
-        ("[[link]]\npeer = 3\nlocal = 4013\nremote = 0\n", Place::Remote(2), Reason::NoPort),
-        ("[[link]]\npeer = 3\nlocal = 4013\nremote = 65536\n", Place::Remote(2), Reason::NoPort),
-        ("[[link]]\npeer = 3\nlocal = 4012\nremote = 4031\n", Place::Local(2), Reason::Repeated),
-        ("[[link]]\npeer = 2\nlocal = 4012\nremote = 4031\n", Place::Peer(2), Reason::Repeated),
-        ("[[link]]\npeer = 1\nlocal = 4013\nremote = 4031\n", Place::Peer(2), Reason::OwnId),
+        (
+            "[[link]]\npeer = 3\nlocal = \"1\"\n",
+            Place::Local(2),
+            Reason::NoNumber,
+        ),
+        (
+            "[[link]]\npeer = 3\nlocal = 65536\n",
+            Place::Local(2),
+            Reason::NoPort,
+        ),
+        (
+            "[[link]]\npeer = 3\nlocal = -1\n",
+            Place::Local(2),
+            Reason::NoPort,
+        ),
+        (
+            "[[link]]\npeer = 3\nlocal = 4013\n",
+            Place::Remote(2),
+            Reason::Missing,
+        ),
+        (
+            "[[link]]\npeer = 3\nlocal = 4013\nremote = false\n",
+            Place::Remote(2),
+            Reason::NoNumber,
+        ),
+        (
+            "[[link]]\npeer = 3\nlocal = 4013\nremote = 0\n",
+            Place::Remote(2),
+            Reason::NoPort,
+        ),
+        (
+            "[[link]]\npeer = 3\nlocal = 4013\nremote = 65536\n",
+            Place::Remote(2),
+            Reason::NoPort,
+        ),
+        (
+            "[[link]]\npeer = 3\nlocal = 4012\nremote = 4031\n",
+            Place::Local(2),
+            Reason::Repeated,
+        ),
+        (
+            "[[link]]\npeer = 2\nlocal = 4012\nremote = 4031\n",
+            Place::Peer(2),
+            Reason::Repeated,
+        ),
+        (
+            "[[link]]\npeer = 1\nlocal = 4013\nremote = 4031\n",
+            Place::Peer(2),
+            Reason::OwnId,
+        ),
     ];
     for (text, place, reason) in rows {
         is_refused(&rt, alloc, &[HEAD, LINK, text], place, reason)?;
@@ -189,7 +307,8 @@ fn what_a_core_refuses(rt: HostRuntime) -> Result<(), Fail> {
         Err(ConfigError::Core(CoreError::TooMany)) => {}
         other => panic!(&rt; "{other:?}"),
     }
-    let most = "node = 1\nlife_dir = \"n1\"\ndests = [1, 2, 3, 4, 5, 6, 7, 8, 9, 10, 11, 12, 13, 14, 15, 16";
+    let most =
+        "node = 1\nlife_dir = \"n1\"\ndests = [1, 2, 3, 4, 5, 6, 7, 8, 9, 10, 11, 12, 13, 14, 15, 16";
     let mut dests = String::from_str(alloc, most)?;
     dests.push_str("]\n")?;
     dests.push_str(LINK)?;
@@ -211,14 +330,35 @@ fn faults_name_the_key_and_the_reason(rt: HostRuntime) -> Result<(), Fail> {
         ("", "`node` is missing"),
         ("node = 0\n", "`node` is not from 1 to 4294967295"),
         ("node = 1\ndests = 4\n", "`dests` is no list"),
-        ("node = 1\ndests = [4, 4]\n", "`dests`, number 2 stands before already"),
-        ("node = 1\ndests = []\nlife_dir = 1\n", "`life_dir` is no text"),
+        (
+            "node = 1\ndests = [4, 4]\n",
+            "`dests`, number 2 stands before already",
+        ),
+        (
+            "node = 1\ndests = []\nlife_dir = 1\n",
+            "`life_dir` is no text",
+        ),
         (HEAD, "`link` is missing"),
-        ("node = 1\ndests = []\nlife_dir = \"\"\nlink = [2]\n", "`link`, number 1 is no table"),
-        ("node = 1\ndests = []\nlife_dir = \"\"\n[[link]]\npeer = 1.5\n", "`peer` of link 1 is no whole number"),
-        ("node = 1\ndests = []\nlife_dir = \"\"\n[[link]]\npeer = 2\nlocal = 0\n", "`local` of link 1 is not from 1 to 65535"),
-        ("node = 1\ndests = []\nlife_dir = \"\"\n[[link]]\npeer = 2\nlocal = 1\n", "`remote` of link 1 is missing"),
-        ("node = 1\ndests = []\nlife_dir = \"\"\n[[link]]\npeer = 1\nlocal = 1\nremote = 1\n", "`peer` of link 1 is the node itself"),
+        (
+            "node = 1\ndests = []\nlife_dir = \"\"\nlink = [2]\n",
+            "`link`, number 1 is no table",
+        ),
+        (
+            "node = 1\ndests = []\nlife_dir = \"\"\n[[link]]\npeer = 1.5\n",
+            "`peer` of link 1 is no whole number",
+        ),
+        (
+            "node = 1\ndests = []\nlife_dir = \"\"\n[[link]]\npeer = 2\nlocal = 0\n",
+            "`local` of link 1 is not from 1 to 65535",
+        ),
+        (
+            "node = 1\ndests = []\nlife_dir = \"\"\n[[link]]\npeer = 2\nlocal = 1\n",
+            "`remote` of link 1 is missing",
+        ),
+        (
+            "node = 1\ndests = []\nlife_dir = \"\"\n[[link]]\npeer = 1\nlocal = 1\nremote = 1\n",
+            "`peer` of link 1 is the node itself",
+        ),
     ];
     for (text, words) in rows {
         assert_eq!(&rt; why(&rt, alloc, &[text])?.as_str(), words);

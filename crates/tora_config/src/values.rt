@@ -91,11 +91,7 @@ pub fn text_at(
 }
 
 /// The values of a list at a key.
-pub fn list_at<'a>(
-    table: &'a Table,
-    key: &str,
-    place: Place,
-) -> Result<&'a [Value], ConfigError> {
+pub fn list_at<'a>(table: &'a Table, key: &str, place: Place) -> Result<&'a [Value], ConfigError> {
     let value = value_at(table, key, place)?;
     match value.as_array() {
         Some(list) => Ok(list.as_slice()),

@@ -1,89 +1,100 @@
-// A neighbour's thread over memory.
-ghost use Rattle.std.specs.Prelude.{◌≡◌};
+// A neighbour's thread over memory and over the loopback.
+ghost use Rattle.std.specs.Prelude.{◌≡◌, ◌≢◌, ◌<◌};
 ghost use Rattle.tora_arq.specs.LinkEnd.{first_end};
-ghost use Rattle.tora_frame.specs.FrameParts.{IsHeader};
 
-use crate::{Clock, Finished, Link, ListHub, MemWire, NodeError, Put, run_neighbour};
+use crate::*;
 use std::alloc::{AllocError, Global};
 use std::process::Abort;
 use std::sync::Wait;
 use std::sync::atomic::{AtomicU64, Ordering};
 use std::test::Fail;
-use tora_arq::{Life, LinkEnd, Times, Verdict};
-use tora_frame::{Frame, Header, encode};
+use tora_arq::{Life, LinkEnd, Reason, Times, Verdict};
+use tora_frame::FrameError;
+use tora_height::Id;
 use tora_lane::{Cargo, What};
-use tora_life::{LifeError, LifeFile, MemDisk};
+use tora_life::{Disk, DiskCall, LifeError, LifeFile, MemDisk};
 
-// A clock that goes on by ten ticks each time it is read.
+mod datagrams;
+mod runs;
+mod sockets;
+
+// A clock that goes on by so many ticks each time it is read.
 #[derive(Drop)]
-struct Leaping(AtomicU64);
+struct Leaping {
+    now: AtomicU64,
+    step: u64,
+}
 
 impl Clock for Leaping {
     fn now(&self) -> u64 {
-        self.0.fetch_add(10, Ordering::SeqCst)
+        self.now.fetch_add(self.step, Ordering::SeqCst)
     }
 }
 
-fn datagram(alloc: Global, header: Header) -> Result<Vec<u8>, AllocError>
-    requires { IsHeader header }
-{
-    encode(&Frame::hello(header)).as_slice().to_vec(alloc)
+fn clock_of(step: u64) -> Leaping {
+    Leaping {
+        now: AtomicU64::new(0),
+        step,
+    }
 }
 
-fn run_in_memory<R: Wait>(
-    rt: &R,
-    link: Link<MemDisk, MemWire<16>>,
-    hub: ListHub,
-) -> Finished<MemDisk, MemWire<16>, ListHub>
-    requires { link.end.state ≡ first_end }
-{
-    let clock = Leaping(AtomicU64::new(0));
-    run_neighbour(rt, link, &clock, hub)
+// The bytes of a frame, by the table of the formats.
+fn frame_bytes(
+    alloc: Global,
+    kind: u8,
+    sender: u32,
+    life: u64,
+    heard: u64,
+    payload: &[u8],
+) -> Result<Vec<u8>, AllocError> {
+    let mut bytes = Vec::new(alloc);
+    let length = u16::try_from(payload.len()).unwrap_or(0);
+    bytes.extend_from_slice(&[1, kind])?;
+    bytes.extend_from_slice(&length.to_be_bytes())?;
+    bytes.extend_from_slice(&sender.to_be_bytes())?;
+    bytes.extend_from_slice(&1u32.to_be_bytes())?;
+    bytes.extend_from_slice(&life.to_be_bytes())?;
+    bytes.extend_from_slice(&heard.to_be_bytes())?;
+    bytes.extend_from_slice(payload)?;
+    Ok(bytes)
 }
 
-#[test]
-fn a_link_comes_up_and_the_hub_ends_it(rt: HostRuntime) -> Result<(), Fail> {
-    let alloc = rt.alloc();
-    let mut datagrams = Vec::new(alloc);
-    datagrams.push(datagram(
-        alloc,
-        Header {
-            sender: 2,
-            receiver: 1,
-            life: 9,
-            heard: 1,
-        },
-    )?)?;
-    let end = LinkEnd::new(alloc, 1, 2, Times::STANDARD)
-        .ok()
-        .ok_or("no memory")?;
-    let file = match LifeFile::open(MemDisk::new()) {
+// A HELLO of node 2 to node 1.
+fn hello(alloc: Global, life: u64, heard: u64) -> Result<Vec<u8>, AllocError> {
+    frame_bytes(alloc, 1, 2, life, heard, &[])
+}
+
+fn end_of(rt: &impl Abort, alloc: Global, me: Id, peer: Id) -> LinkEnd
+    requires me { 0 < me }
+    requires peer { 0 < peer }
+    requires other { me ≢ peer }
+    ensures { result.state ≡ first_end }
+{
+    LinkEnd::new(alloc, me, peer, Times::STANDARD).expect(rt, "memory")
+}
+
+fn file_of(rt: &impl Abort, disk: MemDisk) -> LifeFile<MemDisk> {
+    match LifeFile::open(disk) {
         Ok(file) => file,
-        Err(_) => panic!(&rt; "the file does not open"),
-    };
-    let link = Link {
-        end,
-        file,
-        wire: MemWire::<16>::new(datagrams),
-    };
-    let hub = ListHub::new(alloc, 2, Vec::new(alloc))?;
-    let finished = run_in_memory(&rt, link, hub);
-    assert_eq!(&rt; finished.fault, None);
-    assert_eq!(&rt; finished.tally.of_verdict(Verdict::Accepted), 1);
-    assert_eq!(&rt; finished.hub.kept().len(), 2);
-    assert_eq!(&rt;
-        finished.hub.kept()[0],
-        Put {
-            now: 0,
-            what: What::Up(Life { own: 1, peer: 9 })
-        }
-    );
-    assert_eq!(&rt;
-        finished.hub.kept()[1],
-        Put {
-            now: 0,
-            what: What::Beat
-        }
-    );
-    Ok(())
+        Err(fault) => panic!(rt; "the file does not open: {:?}", fault.error),
+    }
+}
+
+// How many datagrams were counted.
+fn total(tally: &Tally) -> u64 {
+    let mut sum = 0u64;
+    for verdict in [
+        Verdict::Accepted,
+        Verdict::Repeated,
+        Verdict::Ahead,
+        Verdict::Stale,
+        Verdict::Foreign,
+        Verdict::Busy,
+    ] {
+        sum = sum.saturating_add(tally.of_verdict(verdict));
+    }
+    for n in 0..=255u8 {
+        sum = sum.saturating_add(tally.of_bad(n));
+    }
+    sum
 }

@@ -1,0 +1,101 @@
+// Runs over the loopback.
+ghost use Rattle.std.specs.Prelude.{◌≢◌, ◌<◌};
+
+use super::*;
+use std::net::Net;
+use std::thread;
+use std::thread::Threads;
+
+// Two wires to each other, on two ports of the loopback that are free.
+fn pair<R: Net>(rt: &R) -> Option<(UdpWire, UdpWire)> {
+    for port in 42_400..42_900u16 {
+        let Ok(first) = UdpWire::bind(rt, port, port + 500) else {
+            continue;
+        };
+        let Ok(second) = UdpWire::bind(rt, port + 500, port) else {
+            continue;
+        };
+        return Some((first, second));
+    }
+    None
+}
+
+#[test]
+fn datagrams_go_over_the_loopback(rt: HostRuntime) -> Result<(), Fail> {
+    let (mut first, mut second) = pair(&rt).ok_or("no two ports are free")?;
+    let mut buffer = [0u8; 4];
+    assert_eq!(&rt; second.receive(&mut buffer), Ok(None));
+    assert_eq!(&rt; first.send(&[]), Ok(()));
+    assert_eq!(&rt; first.send(&[4, 5, 6, 7, 8, 9]), Ok(()));
+    assert_eq!(&rt; second.receive(&mut buffer), Ok(Some(0)));
+    assert_eq!(&rt; second.receive(&mut buffer), Ok(Some(4)));
+    assert_eq!(&rt; buffer, [4, 5, 6, 7]);
+    Ok(())
+}
+
+#[test]
+fn a_port_that_is_taken_is_not_bound(rt: HostRuntime) -> Result<(), Fail> {
+    for port in 43_400..43_900u16 {
+        let Ok(_first) = UdpWire::bind(&rt, port, port) else {
+            continue;
+        };
+        assert!(&rt; UdpWire::bind(&rt, port, port).is_err());
+        return Ok(());
+    }
+    Err("no port is free")?
+}
+
+// The first tick is in or after the year 2020.
+#[test]
+fn the_clock_of_the_system_goes_on(rt: HostRuntime) {
+    let clock = UnixClock::new(rt);
+    let then = clock.now();
+    assert!(&rt; then > 15_778_368_000);
+    assert!(&rt; clock.now() >= then);
+}
+
+// Runs one end with a clock of one tick a turn, until 30 things were put, and answers the first life that was bound.
+fn run_end<R: Wait + Abort>(rt: &R, alloc: Global, me: Id, peer: Id, wire: UdpWire) -> Option<Life>
+    requires me { 0 < me }
+    requires peer { 0 < peer }
+    requires other { me ≢ peer }
+{
+    let link = Link {
+        end: end_of(rt, alloc, me, peer),
+        file: file_of(rt, MemDisk::new()),
+        wire,
+    };
+    let Ok(hub) = ListHub::new(alloc, 30, Vec::new(alloc)) else {
+        return None;
+    };
+    let finished = run_neighbour(rt, link, &clock_of(1), hub);
+    for put in finished.hub.kept() {
+        if let What::Up(life) = put.what {
+            return Some(life);
+        }
+    }
+    None
+}
+
+fn run_both<R: Threads + Wait + Abort + Sync>(
+    rt: &R,
+    alloc: Global,
+    first: UdpWire,
+    second: UdpWire,
+) -> (Option<Life>, Option<Life>) {
+    thread::join(
+        rt,
+        move || run_end(rt, alloc, 1, 2, first),
+        move || run_end(rt, alloc, 2, 1, second),
+    )
+}
+
+// Both draw 1 from an empty file.
+#[test]
+fn two_threads_bind_a_life_over_the_loopback(rt: HostRuntime) -> Result<(), Fail> {
+    let (first, second) = pair(&rt).ok_or("no two ports are free")?;
+    let lives = run_both(&rt, rt.alloc(), first, second);
+    let life = Some(Life { own: 1, peer: 1 });
+    assert_eq!(&rt; lives, (life, life));
+    Ok(())
+}
