@@ -15,3 +15,6 @@ pub use config::Config;
 pub use core_thread::{CoreEnd, run_core};
 pub use log_hub::LogHub;
 pub use node::{Ended, run_node};
+
+#[cfg(test)]
+mod tests;

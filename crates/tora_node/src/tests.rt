@@ -1,0 +1,273 @@
+//! Nodes of several threads, in one process.
+use crate::*;
+use std::alloc::Global;
+use std::io;
+use std::io::{Read, Write};
+use std::net::Net;
+use std::process::Abort;
+use std::sync::Wait;
+use std::sync::atomic::{AtomicU64, Ordering};
+use std::test::Fail;
+use std::thread;
+use std::thread::Threads;
+use std::time;
+use std::time::Duration;
+use tora_life::MemDisk;
+use tora_neighbour::{NodeError, UdpWire, UnixClock, Wire, WireError};
+
+/// The line of a core that has found its route.
+const FOUND: &[u8] = b"to 4 height (0,0,0,1,3) flag 0 hop 4";
+
+/// What the two nodes of a test tell each other of their course.
+#[derive(Drop)]
+struct Course {
+    /// 1 once something was printed.
+    printed: AtomicU64,
+    /// 1 once the route was printed.
+    found: AtomicU64,
+}
+
+/// Where a node prints: it looks for the route.
+#[derive(Drop)]
+struct Screen<'a> {
+    course: &'a Course,
+}
+
+impl Write for Screen<'_> {
+    fn write(&mut self, buf: &[u8]) -> io::Result<usize> {
+        if buf.windows(FOUND.len()).any(|part| part == FOUND) {
+            self.course.found.store(1, Ordering::SeqCst);
+        }
+        self.course.printed.store(1, Ordering::SeqCst);
+        Ok(buf.len())
+    }
+
+    fn flush(&mut self) -> io::Result<()> {
+        Ok(())
+    }
+}
+
+/// Commands: one at first, and then `show` every 100 ms until the route is found, a hundred times at most.
+#[derive(Drop)]
+struct Asking<'a, R> {
+    rt: &'a R,
+    first: &'a [u8],
+    course: &'a Course,
+    asked: u64,
+}
+
+impl<R: time::Clock> Read for Asking<'_, R> {
+    fn read(&mut self, buf: &mut [u8]) -> io::Result<usize> {
+        let text: &[u8] = if self.asked == 0 {
+            self.first
+        } else if self.asked <= 100 && self.course.found.load(Ordering::SeqCst) == 0 {
+            thread::sleep(self.rt, Duration::from_millis(100));
+            b"show\n"
+        } else {
+            return Ok(0);
+        };
+        self.asked = self.asked.saturating_add(1);
+        let count = text.len().min(buf.len());
+        for (to, from) in buf.iter_mut().zip(text) {
+            *to = *from;
+        }
+        Ok(count)
+    }
+}
+
+/// Runs a node with one link over the loopback.
+fn run_one<R: Threads + Wait + Sync + Net + time::Clock + log::Log + Abort>(
+    rt: &R,
+    alloc: Global,
+    me: u32,
+    peer: u32,
+    wire: UdpWire,
+    first: &[u8],
+    course: &Course,
+) -> bool
+    requires me { 0 < me }
+    requires peer { 0 < peer }
+{
+    let config = Config::new(alloc, me, &[peer], &[4]).expect(rt, "a configuration");
+    let mut wires = Vec::new(alloc);
+    wires.push(wire).expect(rt, "memory");
+    let mut disks = Vec::new(alloc);
+    disks.push(MemDisk::new()).expect(rt, "memory");
+    let links = config.peers().len();
+    assert_eq!(rt; wires.len(), links);
+    assert_eq!(rt; disks.len(), links);
+    let clock = UnixClock::new(rt);
+    let mut commands = Asking {
+        rt,
+        first,
+        course,
+        asked: 0,
+    };
+    let mut screen = Screen { course };
+    run_node(rt, alloc, config, wires, disks, &clock, &mut commands, &mut screen).is_ok()
+}
+
+/// Two wires to each other, on two ports of the loopback that are free.
+fn pair<R: Net>(rt: &R) -> Option<(UdpWire, UdpWire)> {
+    for port in 44_400..44_900u16 {
+        let Ok(first) = UdpWire::bind(rt, port, port + 500) else {
+            continue;
+        };
+        let Ok(second) = UdpWire::bind(rt, port + 500, port) else {
+            continue;
+        };
+        return Some((first, second));
+    }
+    None
+}
+
+/// Waits until the other node has printed, 10 s at most.
+fn wait_for_print<R: time::Clock>(rt: &R, course: &Course) {
+    for _ in 0..100 {
+        if course.printed.load(Ordering::SeqCst) == 1 {
+            return;
+        }
+        thread::sleep(rt, Duration::from_millis(100));
+    }
+}
+
+#[test]
+fn two_nodes_on_the_loopback(rt: HostRuntime) -> Result<(), Fail> {
+    let alloc = rt.alloc();
+    let (third, fourth) = pair(&rt).ok_or("no two ports are free")?;
+    let course = Course {
+        printed: AtomicU64::new(0),
+        found: AtomicU64::new(0),
+    };
+    let (runtime, shared) = (&rt, &course);
+    let (three, four) = thread::join(
+        &rt,
+        move || run_one(runtime, alloc, 3, 4, third, b"need 4\nshow\n", shared),
+        move || {
+            wait_for_print(runtime, shared);
+            run_one(runtime, alloc, 4, 3, fourth, b"hello\n", shared)
+        },
+    );
+    assert!(&rt; three && four);
+    assert_eq!(&rt; course.found.load(Ordering::SeqCst), 1);
+    Ok(())
+}
+
+/// A wire on which nothing comes, that looks in its first `receive` whether another wire is in its own.
+#[derive(Drop)]
+struct Meeting<'a, R> {
+    rt: &'a R,
+    own: &'a AtomicU64,
+    other: &'a AtomicU64,
+    met: &'a AtomicU64,
+}
+
+impl<R: time::Clock> Wire for Meeting<'_, R> {
+    ghost use Rattle.std.specs.Prelude.{false, []};
+
+    ghost tells = { λ w. false };
+
+    ghost coming = { λ w. [] };
+
+    ghost tries = { λ w. [] };
+
+    ghost failures = { λ w. 0 };
+
+    ghost did_send = { λ w bytes answer after. Unit {0} };
+
+    ghost did_receive = { λ w answer buffer after. Unit {0} };
+
+    fn send(&mut self, _bytes: &[u8]) -> Result<(), WireError> {
+        Ok(())
+    }
+
+    fn receive(&mut self, _buf: &mut [u8]) -> Result<Option<usize>, WireError> {
+        if self.own.swap(1, Ordering::SeqCst) == 0 {
+            for _ in 0..10_000 {
+                if self.other.load(Ordering::SeqCst) == 1 {
+                    self.met.fetch_add(1, Ordering::SeqCst);
+                    break;
+                }
+                thread::sleep(self.rt, Duration::from_millis(1));
+            }
+        }
+        Ok(None)
+    }
+}
+
+/// Commands that end once both neighbours have met, after ten seconds at the latest.
+#[derive(Drop)]
+struct Waiting<'a, R> {
+    rt: &'a R,
+    met: &'a AtomicU64,
+}
+
+impl<R: time::Clock> Read for Waiting<'_, R> {
+    fn read(&mut self, _buf: &mut [u8]) -> io::Result<usize> {
+        for _ in 0..100 {
+            if self.met.load(Ordering::SeqCst) == 2 {
+                break;
+            }
+            thread::sleep(self.rt, Duration::from_millis(100));
+        }
+        Ok(0)
+    }
+}
+
+#[test]
+fn neighbours_at_once(rt: HostRuntime) -> Result<(), Fail> {
+    let alloc = rt.alloc();
+    let (first, second, met) = (AtomicU64::new(0), AtomicU64::new(0), AtomicU64::new(0));
+    let config = Config::new(alloc, 1, &[2, 3], &[4]).ok().ok_or("a configuration")?;
+    let mut wires = Vec::new(alloc);
+    wires.push(Meeting { rt: &rt, own: &first, other: &second, met: &met })?;
+    wires.push(Meeting { rt: &rt, own: &second, other: &first, met: &met })?;
+    let mut disks = Vec::new(alloc);
+    disks.push(MemDisk::new())?;
+    disks.push(MemDisk::new())?;
+    let links = config.peers().len();
+    assert_eq!(&rt; wires.len(), links);
+    assert_eq!(&rt; disks.len(), links);
+    let clock = UnixClock::new(&rt);
+    let mut commands = Waiting { rt: &rt, met: &met };
+    let mut screen = Vec::new(alloc);
+    let ended = run_node(&rt, alloc, config, wires, disks, &clock, &mut commands, &mut screen);
+    assert!(&rt; ended.is_ok());
+    assert_eq!(&rt; met.load(Ordering::SeqCst), 2);
+    Ok(())
+}
+
+#[test]
+fn a_damaged_life_file_starts_no_thread(rt: HostRuntime) -> Result<(), Fail> {
+    let alloc = rt.alloc();
+    let (first, second, met) = (AtomicU64::new(0), AtomicU64::new(0), AtomicU64::new(0));
+    let config = Config::new(alloc, 1, &[3], &[4]).ok().ok_or("a configuration")?;
+    let mut wires = Vec::new(alloc);
+    wires.push(Meeting { rt: &rt, own: &first, other: &second, met: &met })?;
+    let mut disks = Vec::new(alloc);
+    disks.push(MemDisk::of(&[0; 33]).ok_or("a disk")?)?;
+    let links = config.peers().len();
+    assert_eq!(&rt; wires.len(), links);
+    assert_eq!(&rt; disks.len(), links);
+    let clock = UnixClock::new(&rt);
+    let mut commands = Waiting { rt: &rt, met: &met };
+    let mut screen = Vec::new(alloc);
+    let ended = run_node(&rt, alloc, config, wires, disks, &clock, &mut commands, &mut screen);
+    assert_eq!(&rt; ended.err(), Some(NodeError::Life(3, tora_life::LifeError::Damaged)));
+    assert_eq!(&rt; first.load(Ordering::SeqCst), 0);
+    Ok(())
+}
+
+#[test]
+fn lines_that_are_commands(rt: HostRuntime) {
+    assert_eq!(&rt; command_of(b"show"), Command::Show);
+    assert_eq!(&rt; command_of(b"quit"), Command::Quit);
+    assert_eq!(&rt; command_of(b"need 4"), Command::Need(4));
+    assert_eq!(&rt; command_of(b"need 4294967295"), Command::Need(4_294_967_295));
+    for line in [
+        b"".as_slice(), b"need", b"need ", b"need 0", b"need 04", b"need +4", b"need 4 ", b"need  4",
+        b"need 4294967296", b"need 99999999999", b"Show", b"show ", b"quit\r",
+    ] {
+        assert_eq!(&rt; command_of(line), Command::Unknown);
+    }
+}
