@@ -2,7 +2,8 @@ pub mod Words
 pub mod Gives
 pub mod Lines
 pub mod LineGrammar
-pub mod Answers
-pub mod ReplayText
+pub mod LineText
 pub mod Session
 pub mod Engine
+pub mod Answers
+pub mod ReplayText

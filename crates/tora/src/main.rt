@@ -11,6 +11,7 @@ mod engine;
 mod line;
 mod parse;
 mod recent;
+mod replaying;
 mod session;
 mod words;
 
@@ -18,9 +19,9 @@ use cause::cause_of;
 use clap::error::ErrorKind;
 use command::command;
 pub use ended::{Ended, ReplayError};
-pub use engine::{fault_is_the_first, replay};
 pub use parse::{first_lines_are_read_as_written, lines_are_read_as_written};
 use recent::Recent;
+pub use replaying::{fault_is_the_first, replay};
 use std::alloc::Global;
 use std::io;
 use std::io::{BufWriter, Read, Write};
