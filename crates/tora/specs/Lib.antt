@@ -7,3 +7,4 @@ pub mod Session
 pub mod Engine
 pub mod Answers
 pub mod ReplayText
+pub mod SimulationLines

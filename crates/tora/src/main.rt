@@ -13,6 +13,8 @@ mod parse;
 mod recent;
 mod replaying;
 mod session;
+mod simulation_line;
+mod simulation_parse;
 mod words;
 
 use cause::cause_of;
