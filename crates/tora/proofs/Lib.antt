@@ -9,3 +9,4 @@ pub mod Grammar
 pub mod LineLaws
 pub mod HeaderLaws
 pub mod FaultLaws
+pub mod RoundLaws

@@ -8,3 +8,5 @@ pub mod Engine
 pub mod Answers
 pub mod ReplayText
 pub mod SimulationLines
+pub mod Rounds
+pub mod Simulator

@@ -12,9 +12,11 @@ mod line;
 mod parse;
 mod recent;
 mod replaying;
+mod rounds;
 mod session;
 mod simulation_line;
 mod simulation_parse;
+mod simulator;
 mod words;
 
 use cause::cause_of;
