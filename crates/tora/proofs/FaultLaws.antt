@@ -2,7 +2,7 @@
 use Rattle.std.proofs.Common.{◌≡◌, ℕ, ◌+◌, List, [], ◌∷◌, ◌++◌, length, Option, None, Some, refl, sym, ap, ◌∙◌, arith}
 use Rattle.std.specs.Option.{option_and_then, option_map_or}
 use Rattle.tora.specs.Lines.{pieces_of}
-use Rattle.tora.specs.LineText.{Rules, prepend, faulty, ending, reply, text_from, text_of, whole_text, fault_of, state_behind, IsFaultNext, IsFirstFaultBy}
+use Rattle.tora.specs.LineText.{Rules, prepend, faulty, ending, reply, text_from, whole_text, fault_of, state_behind, IsFaultNext, IsFirstFaultBy}
 use Rattle.tora.proofs.LineLaws.{some_is}
 
 ends_so : (o : Option ℕ) → fault_of (ending o).1 ≡ o
@@ -54,10 +54,8 @@ only_from rules state n (line ∷ before) rest last m t f =
     ] refl t
 
 pub fault_found : {S : Type 0} (rules : Rules S) (bytes : List ℕ) (m : ℕ) → fault_of (whole_text rules bytes).1 ≡ Some m → IsFirstFaultBy rules rules.start 1 (pieces_of bytes) m
-unfolding text_of
 fault_found rules bytes m h = found_from rules rules.start 1 (pieces_of bytes) m h
 
 pub fault_only : {S : Type 0} (rules : Rules S) (bytes : List ℕ) (m : ℕ) → IsFirstFaultBy rules rules.start 1 (pieces_of bytes) m → fault_of (whole_text rules bytes).1 ≡ Some m
-unfolding text_of
 fault_only rules bytes m f =
     ap (λ (t : List (List ℕ)). fault_of (text_from rules rules.start 1 t).1) f.lines_are ∙ only_from rules rules.start 1 f.before f.rest f.last m f.taken f.fault

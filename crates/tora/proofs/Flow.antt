@@ -6,8 +6,8 @@ use Rattle.std.proofs.lemmas.Bool.{lt-ltb}
 use Rattle.std.proofs.lemmas.List.{append-nil, length-append}
 use Rattle.tora.specs.Words.{split}
 use Rattle.tora.specs.Lines.{without_last_empty, pieces_of}
-use Rattle.tora.specs.LineText.{Rules, Text, reply, faulty, prepend, ending, text_from, text_of}
-use Rattle.tora.specs.Engine.{IsOpen, Prints}
+use Rattle.tora.specs.LineText.{Text, faulty, prepend}
+use Rattle.tora.specs.Engine.{Kind, IsFault, GoesOn, text_of, IsOpen, Prints}
 use Rattle.tora.specs.declared.ended.Ended.{Ended}
 use Rattle.tora.proofs.Splits.{Lacks, cut_none, split_first, split_none}
 
@@ -39,7 +39,7 @@ lines_first i bytes more h =
     ∙ drop_last (take i bytes) r.first r.others
     ∙ ap (λ (t : List (List ℕ)). take i bytes ∷ without_last_empty t) (sym r.is)
 
--- an open front goes onto rules the first line of what follows
+-- an open front goes onto kind the first line of what follows
 split_open : (c : ℕ) (a b : List ℕ) → Lacks c a → (r : HasFirst c b) → split c (a ++ b) ≡ (a ++ r.first) ∷ r.others
 split_open c [] b clear r = r.is
 split_open c (x ∷ xs) b clear r =
@@ -62,21 +62,20 @@ lines_open a b h some =
 
 -- ---- the text
 
-pub text_goes_on : {S : Type 0} (rules : Rules S) (state : S) (n i : ℕ) (bytes more : List ℕ) (next : S) (out : List ℕ) → position (λ x. x == 10) bytes ≡ Some i → reply rules state (take i bytes) ≡ Some (next, out)
-    → text_of rules state n (bytes ++ more) ≡ prepend out (text_of rules next (n + 1) (drop (i + 1) bytes ++ more))
-unfolding text_of text_from
-text_goes_on rules state n i bytes more next out h r = rw (lines_first i bytes more h, r) refl
+pub text_goes_on : {S : Type 0} (kind : Kind S) (state : S) (n i : ℕ) (bytes more : List ℕ) (next : S) (out : List ℕ) → position (λ x. x == 10) bytes ≡ Some i → GoesOn kind state (take i bytes) next out
+    → text_of kind state n (bytes ++ more) ≡ prepend out (text_of kind next (n + 1) (drop (i + 1) bytes ++ more))
+unfolding text_of
+text_goes_on kind state n i bytes more next out h r = ap (kind.text state n) (lines_first i bytes more h) ∙ r n (pieces_of (drop (i + 1) bytes ++ more))
 
-pub text_faults : {S : Type 0} (rules : Rules S) (state : S) (n i : ℕ) (bytes more : List ℕ) → position (λ x. x == 10) bytes ≡ Some i → reply rules state (take i bytes) ≡ None → text_of rules state n (bytes ++ more) ≡ faulty n
-unfolding text_of text_from
-text_faults rules state n i bytes more h r = rw (lines_first i bytes more h, r) refl
+pub text_faults : {S : Type 0} (kind : Kind S) (state : S) (n i : ℕ) (bytes more : List ℕ) → position (λ x. x == 10) bytes ≡ Some i → IsFault kind state (take i bytes) → text_of kind state n (bytes ++ more) ≡ faulty n
+unfolding text_of
+text_faults kind state n i bytes more h r = ap (kind.text state n) (lines_first i bytes more h) ∙ r n (pieces_of (drop (i + 1) bytes ++ more))
 
-pub text_too_long : {S : Type 0} (rules : Rules S) (state : S) (n : ℕ) (bytes more : List ℕ) → IsOpen bytes → 4096 < length bytes → text_of rules state n (bytes ++ more) ≡ faulty n
-unfolding text_of text_from reply
-text_too_long rules state n bytes more h long =
+pub text_too_long : {S : Type 0} (kind : Kind S) (state : S) (n : ℕ) (bytes more : List ℕ) → IsOpen bytes → 4096 < length bytes → text_of kind state n (bytes ++ more) ≡ faulty n
+unfolding text_of
+text_too_long kind state n bytes more h long =
     let l = lines_open bytes more h (omega arith) in
-    let over : ltb 4096 (length (bytes ++ l.0)) ≡ true = lt-ltb _ _ (omega (arith, length-append bytes l.0)) in
-    rw (l.2, over) refl
+    ap (kind.text state n) l.2 ∙ kind.long state (bytes ++ l.0) (omega (arith, long, length-append bytes l.0)) n l.1
 
 pub lines_last : (bytes : List ℕ) → IsOpen bytes → 0 < length bytes → pieces_of bytes ≡ bytes ∷ []
 unfolding pieces_of
@@ -86,17 +85,17 @@ lines_last bytes h some = ap without_last_empty (split_none 10 bytes h) ∙ last
     last [] h = absurd (omega arith)
     last (x ∷ xs) h = refl
 
-pub text_ends : {S : Type 0} (rules : Rules S) (state : S) (n : ℕ) → text_of rules state n [] ≡ ending (rules.at_end state n)
-unfolding text_of text_from pieces_of
-text_ends rules state n = refl
+pub text_ends : {S : Type 0} (kind : Kind S) (state : S) (n : ℕ) → text_of kind state n [] ≡ kind.text state n []
+unfolding text_of pieces_of
+text_ends kind state n = refl
 
-pub text_last : {S : Type 0} (rules : Rules S) (state : S) (n : ℕ) (bytes : List ℕ) (next : S) (out : List ℕ) → IsOpen bytes → 0 < length bytes → reply rules state bytes ≡ Some (next, out) → text_of rules state n bytes ≡ prepend out (ending (rules.at_end next (n + 1)))
-unfolding text_of text_from
-text_last rules state n bytes next out h some r = rw (lines_last bytes h some, r) refl
+pub text_last : {S : Type 0} (kind : Kind S) (state : S) (n : ℕ) (bytes : List ℕ) (next : S) (out : List ℕ) → IsOpen bytes → 0 < length bytes → GoesOn kind state bytes next out → text_of kind state n bytes ≡ prepend out (kind.text next (n + 1) [])
+unfolding text_of
+text_last kind state n bytes next out h some r = ap (kind.text state n) (lines_last bytes h some) ∙ r n []
 
-pub text_last_faults : {S : Type 0} (rules : Rules S) (state : S) (n : ℕ) (bytes : List ℕ) → IsOpen bytes → 0 < length bytes → reply rules state bytes ≡ None → text_of rules state n bytes ≡ faulty n
-unfolding text_of text_from
-text_last_faults rules state n bytes h some r = rw (lines_last bytes h some, r) refl
+pub text_last_faults : {S : Type 0} (kind : Kind S) (state : S) (n : ℕ) (bytes : List ℕ) → IsOpen bytes → 0 < length bytes → IsFault kind state bytes → text_of kind state n bytes ≡ faulty n
+unfolding text_of
+text_last_faults kind state n bytes h some r = ap (kind.text state n) (lines_last bytes h some) ∙ r n []
 
 -- ---- known bytes
 
@@ -128,9 +127,9 @@ Consumes-then (Some a) (Some b) (Some c) xs ys p q = p ∙ ap (λ (t : List ℕ)
 -- ---- steps
 
 -- what was printed, and then more
-pub Prints-then : {S : Type 0} (rules : Rules S) (state : S) (n : ℕ) (bytes : List ℕ) (a b c : Option (List ℕ)) (next : S) (m : ℕ) (left : List ℕ) (onward : List ℕ → Text)
-    → Prints rules state n bytes a b (λ more. text_of rules next m (left ++ more)) → Prints rules next m left b c onward → Prints rules state n bytes a c onward
-Prints-then rules state n bytes a b c next m left onward p q = record {
+pub Prints-then : {S : Type 0} (kind : Kind S) (state : S) (n : ℕ) (bytes : List ℕ) (a b c : Option (List ℕ)) (next : S) (m : ℕ) (left : List ℕ) (onward : List ℕ → Text)
+    → Prints kind state n bytes a b (λ more. text_of kind next m (left ++ more)) → Prints kind next m left b c onward → Prints kind state n bytes a c onward
+Prints-then kind state n bytes a b c next m left onward p q = record {
   written = p.written ++ q.written;
   grown = Appends-then a b c p.written q.written p.grown q.grown;
   goes = λ more. p.goes more ∙ ap (prepend p.written) (q.goes more) ∙ ap (λ (t : List ℕ). pair t (onward more).1) (sym (append_assoc p.written q.written (onward more).0));

@@ -41,8 +41,8 @@ part w events now next some any plan rest o h =
     record {
       goes = ap (λ (x : World). world_after_all x (rest next)) h.after_is ∙ sym (after_append now (plan now) (rest next)) ∙ ap (world_after_all now) (sym whole) ∙ o.goes;
       any =
-        or_assoc some any (not (is_empty (rest next))) ∙ ap (λ (b : Bool). some || (b || not (is_empty (rest next)))) h.some_is
-        ∙ ap (λ (b : Bool). some || b) (sym (some_append (plan now) (rest next))) ∙ ap (λ (x : List Event). some || not (is_empty x)) (sym whole) ∙ o.any;
+          or_assoc some any (not (is_empty (rest next))) ∙ ap (λ (b : Bool). some || (b || not (is_empty (rest next)))) h.some_is
+          ∙ ap (λ (b : Bool). some || b) (sym (some_append (plan now) (rest next))) ∙ ap (λ (x : List Event). some || not (is_empty x)) (sym whole) ∙ o.any;
     }
 
 -- ---- an event again and again

@@ -50,8 +50,3 @@ order_reply core Show now = replied core (show_text core)
 
 unfoldable pub answer : CoreView → Line → Reply
 answer core line = order_reply core line.order line.now
-
--- the core is the reply's, and the text has grown by the reply's text
-pub record TakesReply (reply : Reply) (core : CoreView) (old new : List ℕ) : Type 0 where
-  pub core_is : core ≡ reply.0
-  pub text_is : new ≡ old ++ reply.1

@@ -5,8 +5,12 @@ pub mod LineGrammar
 pub mod LineText
 pub mod Session
 pub mod Engine
+pub mod Kinds
 pub mod Answers
 pub mod ReplayText
 pub mod SimulationLines
 pub mod Rounds
 pub mod Simulator
+pub mod SimulationText
+pub mod RunningView
+pub mod SimulationView

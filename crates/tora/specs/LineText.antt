@@ -10,6 +10,11 @@ use Rattle.tora.specs.declared.ended.Ended.TheVariants.{Whole, Fault}
 abbrev pub numbered : List ℕ → ℕ → List ℕ
 numbered word n = word ++ decimal n ++ 10 ∷ []
 
+-- the state is the reply's, and the text has grown by the reply's text
+pub record TakesReply {S : Type 0} (reply : S × List ℕ) (state : S) (old new : List ℕ) : Type 0 where
+  pub state_is : state ≡ reply.0
+  pub text_is : new ≡ old ++ reply.1
+
 -- ---- one kind of file
 
 pub record Rules (S : Type 0) : Type 0 where
@@ -44,13 +49,9 @@ unfoldable pub text_from : {S : Type 0} → Rules S → S → ℕ → List (List
 text_from rules state n [] = ending (rules.at_end state n)
 text_from rules state n (line ∷ lines) = option_map_or (λ r. prepend r.1 (text_from rules r.0 (n + 1) lines)) (reply rules state line) (faulty n)
 
--- the text of bytes that begin with line n
-unfoldable pub text_of : {S : Type 0} → Rules S → S → ℕ → List ℕ → Text
-text_of rules state n bytes = text_from rules state n (pieces_of bytes)
-
 -- the text of an input
 abbrev pub whole_text : {S : Type 0} → Rules S → List ℕ → Text
-whole_text rules bytes = text_of rules rules.start 1 bytes
+whole_text rules bytes = text_from rules rules.start 1 (pieces_of bytes)
 
 abbrev pub fault_of : Ended → Option ℕ
 fault_of Whole = None

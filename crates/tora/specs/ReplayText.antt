@@ -62,8 +62,8 @@ IsFirstFault core n lines m = IsFirstFaultBy replay_rules core n lines m
 
 -- Known bytes grew by what is printed for the input, and the input ends so.
 abbrev pub Replays : List ℕ → Option (List ℕ) → Option (List ℕ) → Ended → Type 0
-Replays input old new ended = IsWholeText replay_rules input old new ended
+Replays input old new ended = IsWholeText (whole_text replay_rules) input old new ended
 
 -- The reader gave some bytes, and the writer got a front of what is printed for them.
 abbrev pub IsBegun : Option (List ℕ) → Option (List ℕ) → Option (List ℕ) → Option (List ℕ) → Type 0
-IsBegun old_reader new_reader old_writer new_writer = IsFrontOfText replay_rules old_reader new_reader old_writer new_writer
+IsBegun old_reader new_reader old_writer new_writer = IsFrontOfText (whole_text replay_rules) old_reader new_reader old_writer new_writer

@@ -1,8 +1,8 @@
 //! From a reader of lines to a writer of answers.
 ghost use Rattle.std.specs.Prelude.{◌≡◌, ◌≢◌, ◌+◌, ◌-◌, ◌^◌, ◌<◌, ◌≤◌, ◌++◌, [], length, drop, OnOk, IfOk, IfErr, IfSome, None, Ok, true, vec_len, ℕ, List, Some};
 ghost use Rattle.std.specs.Io.KnownBytes.{Appends, IsAtEnd, ReadConsumes};
-ghost use Rattle.tora.specs.LineText.{faulty, ending};
-ghost use Rattle.tora.specs.Engine.{IsOpen, Answers, Keeps, Drains, TakesChunk, Finishes, Ends, IsWholeText, IsFrontOfText};
+ghost use Rattle.tora.specs.LineText.{faulty};
+ghost use Rattle.tora.specs.Engine.{text_of, IsOpen, Answers, Keeps, Drains, TakesChunk, Finishes, Ends, IsWholeText, IsFrontOfText};
 
 use crate::answer::numbered;
 use crate::ended::{Ended, ReplayError};
@@ -35,7 +35,7 @@ fn answer<K: FileKind, W: Write>(
     writer: &mut W,
     line: &[u8],
 ) -> Result<bool, ReplayError>
-    ensures { Answers K.rules session.old.state line.now session.new.state (W.contents writer.old) (W.contents writer.new) result }
+    ensures { Answers K.kind session.old.state line.now session.new.state (W.contents writer.old) (W.contents writer.new) result }
 {
     match session.take(alloc, line) {
         Ok(()) => {
@@ -57,7 +57,7 @@ fn drain<K: FileKind, W: Write>(
     text: &[u8],
 ) -> Result<Option<usize>, ReplayError>
     requires { number.old + length text.now < 2 ^ 64 }
-    ensures { Drains K.rules session.old.state number.old text.now (W.contents writer.old) (W.contents writer.new) session.new.state number.new result }
+    ensures { Drains K.kind session.old.state number.old text.now (W.contents writer.old) (W.contents writer.new) session.new.state number.new result }
 {
     let mut rest = text;
     while let Some(at) = place(b'\n', rest) {
@@ -93,7 +93,7 @@ fn end_line<K: FileKind, W: Write>(
     end: &[u8],
 ) -> Result<bool, ReplayError>
     requires { vec_len pending.old ≤ LONGEST_LINE }
-    ensures line { Answers K.rules session.old.state (pending.old.items ++ end.now) session.new.state (W.contents writer.old) (W.contents writer.new) result }
+    ensures line { Answers K.kind session.old.state (pending.old.items ++ end.now) session.new.state (W.contents writer.old) (W.contents writer.new) result }
     ensures empty { result ≡ Ok true → (pending.new.items ≡ []) × (vec_len pending.new ≡ 0) }
 {
     if !keep(pending, end)? {
@@ -116,7 +116,7 @@ fn take_rest<K: FileKind, W: Write>(
     requires room { number.old + length text.now < 2 ^ 64 }
     requires empty { pending.old.items ≡ [] }
     requires len { vec_len pending.old ≡ 0 }
-    ensures { TakesChunk K.rules session.old.state number.old text.now (W.contents writer.old) (W.contents writer.new)
+    ensures { TakesChunk K.kind session.old.state number.old text.now (W.contents writer.old) (W.contents writer.new)
         session.new.state number.new pending.new.items result }
 {
     let Some(left) = drain(alloc, session, number, writer, text)? else {
@@ -137,7 +137,7 @@ fn take_chunk<K: FileKind, W: Write>(
     requires room { number.old + length pending.old.items + length chunk.now < 2 ^ 64 }
     requires is_open { IsOpen pending.old.items }
     requires short { vec_len pending.old ≤ LONGEST_LINE }
-    ensures { TakesChunk K.rules session.old.state number.old (pending.old.items ++ chunk.now) (W.contents writer.old) (W.contents writer.new)
+    ensures { TakesChunk K.kind session.old.state number.old (pending.old.items ++ chunk.now) (W.contents writer.old) (W.contents writer.new)
         session.new.state number.new pending.new.items result }
 {
     let Some(at) = place(b'\n', chunk) else {
@@ -169,7 +169,7 @@ fn close<K: FileKind, W: Write>(
     number: u64,
     writer: &mut W,
 ) -> Result<Ended, ReplayError>
-    ensures { Ends (ending (K.rules.at_end session.now.state number)) (W.contents writer.old) (W.contents writer.new) result }
+    ensures { Ends (K.kind.text session.now.state number []) (W.contents writer.old) (W.contents writer.new) result }
 {
     match session.state.end(alloc, number) {
         Ok(None) => Ok(Ended::Whole),
@@ -188,7 +188,7 @@ fn finish<K: FileKind, W: Write>(
 ) -> Result<Ended, ReplayError>
     requires is_open { IsOpen last.now }
     requires room { number + 1 < 2 ^ 64 }
-    ensures { Finishes K.rules session.old.state number last.now (W.contents writer.old) (W.contents writer.new) result }
+    ensures { Finishes K.kind session.old.state number last.now (W.contents writer.old) (W.contents writer.new) result }
 {
     if last.is_empty() {
         return close(alloc, session, number, writer);
@@ -227,14 +227,13 @@ pub fn read_lines<K: FileKind, R: Read, W: Write>(
     reader: &mut R,
     writer: &mut W,
 ) -> Result<Ended, ReplayError>
-    requires { state ≡ K.rules.start }
     // What was written is the text of the whole input, and the input ends so.
     ensures whole { IfOk result (λ ended. IfSome (R.remaining reader.old) (λ input.
-        IsWholeText K.rules input (W.contents writer.old) (W.contents writer.new) ended)) }
+        IsWholeText (text_of K.kind state 1) input (W.contents writer.old) (W.contents writer.new) ended)) }
     ensures at_end { result ≡ Ok Ended.Whole → IsAtEnd (R.remaining reader.new) }
     // What was written begins the text of what was read.
     ensures begun { IfErr result (λ e. e ≢ ReplayError.Write →
-        IsFrontOfText K.rules (R.remaining reader.old) (R.remaining reader.new) (W.contents writer.old) (W.contents writer.new)) }
+        IsFrontOfText (text_of K.kind state 1) (R.remaining reader.old) (R.remaining reader.new) (W.contents writer.old) (W.contents writer.new)) }
 {
     let mut session = Session::new(alloc, state);
     let mut number = 1u64;

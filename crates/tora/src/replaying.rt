@@ -5,6 +5,7 @@ ghost use Rattle.std.specs.Io.KnownBytes.{IsAtEnd};
 ghost use Rattle.tora.specs.Gives.{Gives};
 ghost use Rattle.tora.specs.Lines.{header_of, pieces_of};
 ghost use Rattle.tora.specs.LineText.{fault_of};
+ghost use Rattle.tora.specs.Kinds.{kind_of};
 ghost use Rattle.tora.specs.ReplayText.{core_of, next_reply, replay_rules, first_fault, IsFirstFault, Replays, IsBegun};
 
 use crate::answer::answer;
@@ -44,9 +45,9 @@ fn next(core: &mut Core, line: &[u8], text: &mut String) -> Result<(), LineError
 
 /// A replay file: the core, once the first line is taken.
 impl FileKind for Option<Core> {
-    ghost rules = { replay_rules };
+    ghost kind = { kind_of replay_rules };
 
-    #[tactic(auto, unfolding(crate::specs::ReplayText::replay_reply))]
+    #[tactic(auto, unfolding(crate::specs::ReplayText::replay_reply), using(crate::proofs::KindLaws::goes_on, crate::proofs::KindLaws::is_fault))]
     fn take(&mut self, alloc: Global, line: &[u8], text: &mut String) -> Result<(), LineError> {
         match self {
             Some(core) => next(core, line, text),
@@ -57,6 +58,7 @@ impl FileKind for Option<Core> {
         }
     }
 
+    #[tactic(auto, unfolding(crate::specs::LineText::text_from))]
     fn end(&self, _alloc: Global, number: u64) -> Result<Option<u64>, AllocError> {
         match self {
             Some(_) => Ok(None),
@@ -78,6 +80,7 @@ impl FileKind for Option<Core> {
 /// `Memory` where memory was refused; `Read` where a read failed, or 2^32 reads came to no end (a read that was
 /// interrupted is made again, and counts); `Write` where a write failed. No line is taken in part: at `Memory` and `Read`
 /// whole lines' answers were written.
+#[tactic(auto, unfolding(crate::specs::Engine::text_of))]
 pub fn replay<R: Read, W: Write>(
     alloc: Global,
     reader: &mut R,

@@ -87,13 +87,18 @@ fn turn_ends<S: Simulator>(
     Ok(some)
 }
 
+/// Whether the same two nodes are named, in either order.
+pub fn is_same_pair(p: (Id, Id), q: (Id, Id)) -> bool
+    ensures { result ≡ is_same_pair p q }
+{
+    (p.0 == q.0 && p.1 == q.1) || (p.0 == q.1 && p.1 == q.0)
+}
+
 /// Whether the nodes are parted.
 pub fn is_parted(parted: &[(Id, Id)], a: Id, b: Id) -> bool
     ensures { result ≡ is_parted parted.now a b }
 {
-    parted
-        .iter()
-        .any(|p| (a == p.0 && b == p.1) || (a == p.1 && b == p.0))
+    parted.iter().any(|p| is_same_pair((a, b), *p))
 }
 
 /// Delivers a datagram, unless its nodes are parted.
