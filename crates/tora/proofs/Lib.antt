@@ -12,3 +12,4 @@ pub mod FaultLaws
 pub mod KindLaws
 pub mod RoundLaws
 pub mod SimulationLaws
+pub mod Flushed

@@ -14,3 +14,4 @@ pub mod Simulator
 pub mod SimulationText
 pub mod RunningView
 pub mod SimulationView
+pub mod Statuses

@@ -22,7 +22,7 @@ repeats (suc k) event w = if is_some (refusal_of w event) then [] else event ∷
 abbrev pub once : Event → Plan
 once event = repeats 1 event
 
--- an event until it is refused: no lane, no queue and no link end has as many as 1,024 to do at one tick
+-- an event until it is refused, and 1,024 times at most
 abbrev pub while_possible : Event → Plan
 while_possible event = repeats 1024 event
 
