@@ -5,10 +5,9 @@ use Rattle.std.specs.Io.KnownBytes.{Appends, Consumes, Keeps}
 use Rattle.std.proofs.lemmas.Bool.{lt-ltb}
 use Rattle.std.proofs.lemmas.List.{append-nil, length-append}
 use Rattle.tora.specs.Words.{split}
-use Rattle.tora_core.specs.CoreRun.{CoreView}
 use Rattle.tora.specs.Lines.{without_last_empty, pieces_of}
-use Rattle.tora.specs.ReplayText.{Text, reply, faulty, prepend, at_end, text_from, text_of}
-use Rattle.tora.specs.Engine.{IsOpen, Prints}
+use Rattle.tora.specs.LineText.{Text, faulty, prepend}
+use Rattle.tora.specs.Engine.{Kind, IsFault, GoesOn, text_of, IsOpen, Prints}
 use Rattle.tora.specs.declared.ended.Ended.{Ended}
 use Rattle.tora.proofs.Splits.{Lacks, cut_none, split_first, split_none}
 
@@ -40,7 +39,7 @@ lines_first i bytes more h =
     ∙ drop_last (take i bytes) r.first r.others
     ∙ ap (λ (t : List (List ℕ)). take i bytes ∷ without_last_empty t) (sym r.is)
 
--- an open front goes onto the first line of what follows
+-- an open front goes onto kind the first line of what follows
 split_open : (c : ℕ) (a b : List ℕ) → Lacks c a → (r : HasFirst c b) → split c (a ++ b) ≡ (a ++ r.first) ∷ r.others
 split_open c [] b clear r = r.is
 split_open c (x ∷ xs) b clear r =
@@ -63,21 +62,20 @@ lines_open a b h some =
 
 -- ---- the text
 
-pub text_goes_on : (core : Option CoreView) (n i : ℕ) (bytes more : List ℕ) (next : CoreView) (out : List ℕ) → position (λ x. x == 10) bytes ≡ Some i → reply core (take i bytes) ≡ Some (next, out)
-    → text_of core n (bytes ++ more) ≡ prepend out (text_of (Some next) (n + 1) (drop (i + 1) bytes ++ more))
-unfolding text_of text_from
-text_goes_on core n i bytes more next out h r = rw (lines_first i bytes more h, r) refl
+pub text_goes_on : {S : Type 0} (kind : Kind S) (state : S) (n i : ℕ) (bytes more : List ℕ) (next : S) (out : List ℕ) → position (λ x. x == 10) bytes ≡ Some i → GoesOn kind state (take i bytes) next out
+    → text_of kind state n (bytes ++ more) ≡ prepend out (text_of kind next (n + 1) (drop (i + 1) bytes ++ more))
+unfolding text_of
+text_goes_on kind state n i bytes more next out h r = ap (kind.text state n) (lines_first i bytes more h) ∙ r n (pieces_of (drop (i + 1) bytes ++ more))
 
-pub text_faults : (core : Option CoreView) (n i : ℕ) (bytes more : List ℕ) → position (λ x. x == 10) bytes ≡ Some i → reply core (take i bytes) ≡ None → text_of core n (bytes ++ more) ≡ faulty n
-unfolding text_of text_from
-text_faults core n i bytes more h r = rw (lines_first i bytes more h, r) refl
+pub text_faults : {S : Type 0} (kind : Kind S) (state : S) (n i : ℕ) (bytes more : List ℕ) → position (λ x. x == 10) bytes ≡ Some i → IsFault kind state (take i bytes) → text_of kind state n (bytes ++ more) ≡ faulty n
+unfolding text_of
+text_faults kind state n i bytes more h r = ap (kind.text state n) (lines_first i bytes more h) ∙ r n (pieces_of (drop (i + 1) bytes ++ more))
 
-pub text_too_long : (core : Option CoreView) (n : ℕ) (bytes more : List ℕ) → IsOpen bytes → 4096 < length bytes → text_of core n (bytes ++ more) ≡ faulty n
-unfolding text_of text_from reply
-text_too_long core n bytes more h long =
+pub text_too_long : {S : Type 0} (kind : Kind S) (state : S) (n : ℕ) (bytes more : List ℕ) → IsOpen bytes → 4096 < length bytes → text_of kind state n (bytes ++ more) ≡ faulty n
+unfolding text_of
+text_too_long kind state n bytes more h long =
     let l = lines_open bytes more h (omega arith) in
-    let over : ltb 4096 (length (bytes ++ l.0)) ≡ true = lt-ltb _ _ (omega (arith, length-append bytes l.0)) in
-    rw (l.2, over) refl
+    ap (kind.text state n) l.2 ∙ kind.long state (bytes ++ l.0) (omega (arith, long, length-append bytes l.0)) n l.1
 
 pub lines_last : (bytes : List ℕ) → IsOpen bytes → 0 < length bytes → pieces_of bytes ≡ bytes ∷ []
 unfolding pieces_of
@@ -87,17 +85,17 @@ lines_last bytes h some = ap without_last_empty (split_none 10 bytes h) ∙ last
     last [] h = absurd (omega arith)
     last (x ∷ xs) h = refl
 
-pub text_ends : (core : Option CoreView) (n : ℕ) → text_of core n [] ≡ at_end core n
-unfolding text_of text_from pieces_of
-text_ends core n = refl
+pub text_ends : {S : Type 0} (kind : Kind S) (state : S) (n : ℕ) → text_of kind state n [] ≡ kind.text state n []
+unfolding text_of pieces_of
+text_ends kind state n = refl
 
-pub text_last : (core : Option CoreView) (n : ℕ) (bytes : List ℕ) (next : CoreView) (out : List ℕ) → IsOpen bytes → 0 < length bytes → reply core bytes ≡ Some (next, out) → text_of core n bytes ≡ prepend out (at_end (Some next) (n + 1))
-unfolding text_of text_from
-text_last core n bytes next out h some r = rw (lines_last bytes h some, r) refl
+pub text_last : {S : Type 0} (kind : Kind S) (state : S) (n : ℕ) (bytes : List ℕ) (next : S) (out : List ℕ) → IsOpen bytes → 0 < length bytes → GoesOn kind state bytes next out → text_of kind state n bytes ≡ prepend out (kind.text next (n + 1) [])
+unfolding text_of
+text_last kind state n bytes next out h some r = ap (kind.text state n) (lines_last bytes h some) ∙ r n []
 
-pub text_last_faults : (core : Option CoreView) (n : ℕ) (bytes : List ℕ) → IsOpen bytes → 0 < length bytes → reply core bytes ≡ None → text_of core n bytes ≡ faulty n
-unfolding text_of text_from
-text_last_faults core n bytes h some r = rw (lines_last bytes h some, r) refl
+pub text_last_faults : {S : Type 0} (kind : Kind S) (state : S) (n : ℕ) (bytes : List ℕ) → IsOpen bytes → 0 < length bytes → IsFault kind state bytes → text_of kind state n bytes ≡ faulty n
+unfolding text_of
+text_last_faults kind state n bytes h some r = ap (kind.text state n) (lines_last bytes h some) ∙ r n []
 
 -- ---- known bytes
 
@@ -129,9 +127,9 @@ Consumes-then (Some a) (Some b) (Some c) xs ys p q = p ∙ ap (λ (t : List ℕ)
 -- ---- steps
 
 -- what was printed, and then more
-pub Prints-then : (core : Option CoreView) (n : ℕ) (bytes : List ℕ) (a b c : Option (List ℕ)) (next : Option CoreView) (m : ℕ) (left : List ℕ) (onward : List ℕ → Text)
-    → Prints core n bytes a b (λ more. text_of next m (left ++ more)) → Prints next m left b c onward → Prints core n bytes a c onward
-Prints-then core n bytes a b c next m left onward p q = record {
+pub Prints-then : {S : Type 0} (kind : Kind S) (state : S) (n : ℕ) (bytes : List ℕ) (a b c : Option (List ℕ)) (next : S) (m : ℕ) (left : List ℕ) (onward : List ℕ → Text)
+    → Prints kind state n bytes a b (λ more. text_of kind next m (left ++ more)) → Prints kind next m left b c onward → Prints kind state n bytes a c onward
+Prints-then kind state n bytes a b c next m left onward p q = record {
   written = p.written ++ q.written;
   grown = Appends-then a b c p.written q.written p.grown q.grown;
   goes = λ more. p.goes more ∙ ap (prepend p.written) (q.goes more) ∙ ap (λ (t : List ℕ). pair t (onward more).1) (sym (append_assoc p.written q.written (onward more).0));

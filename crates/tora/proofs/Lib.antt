@@ -9,3 +9,7 @@ pub mod Grammar
 pub mod LineLaws
 pub mod HeaderLaws
 pub mod FaultLaws
+pub mod KindLaws
+pub mod RoundLaws
+pub mod SimulationLaws
+pub mod Flushed

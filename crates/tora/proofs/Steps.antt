@@ -3,40 +3,39 @@ use Rattle.std.proofs.Common.{◌≡◌, ℕ, ◌+◌, ◌-◌, ◌<◌, ◌≤�
 use Rattle.std.specs.List.{position}
 use Rattle.std.specs.Io.KnownBytes.{Appends}
 use Rattle.std.proofs.lemmas.List.{length-drop, drop-drop, take_all}
-use Rattle.tora_core.specs.CoreRun.{CoreView}
-use Rattle.tora.specs.ReplayText.{reply, faulty, text_of}
-use Rattle.tora.specs.Engine.{Prints, Answers, IsAnswered, Stops}
+use Rattle.tora.specs.LineText.{faulty}
+use Rattle.tora.specs.Engine.{Kind, IsFault, text_of, Prints, Answers, IsAnswered, Stops}
 use Rattle.tora.specs.declared.ended.ReplayError.{ReplayError}
 use Rattle.tora.specs.declared.ended.ReplayError.TheVariants.{Memory, Read, Write}
 use Rattle.tora.proofs.Splits.{cut_at}
 use Rattle.tora.proofs.Flow.{text_goes_on, text_faults, Prints-then}
 
 -- from a place on, one line that is taken
-pub line_prints : (core : Option CoreView) (n i : ℕ) (bytes : List ℕ) (next : Option CoreView) (b c : Option (List ℕ)) → position (λ x. x == 10) bytes ≡ Some i → IsAnswered (reply core (take i bytes)) next b c
-    → Prints core n bytes b c (λ more. text_of next (n + 1) (drop (i + 1) bytes ++ more))
-line_prints core n i bytes next b c h a = record {
+pub line_prints : {S : Type 0} (kind : Kind S) (state : S) (n i : ℕ) (bytes : List ℕ) (next : S) (b c : Option (List ℕ)) → position (λ x. x == 10) bytes ≡ Some i → IsAnswered kind state (take i bytes) next b c
+    → Prints kind state n bytes b c (λ more. text_of kind next (n + 1) (drop (i + 1) bytes ++ more))
+line_prints kind state n i bytes next b c h a = record {
   written = a.text;
   grown = a.grown;
-  goes = λ more. rw a.core_is (text_goes_on core n i bytes more a.next a.text h a.given_is);
+  goes = λ more. text_goes_on kind state n i bytes more next a.text h a.goes_on;
 }
 
-pub line_faults : (core : Option CoreView) (n i : ℕ) (bytes : List ℕ) (b c : Option (List ℕ)) → position (λ x. x == 10) bytes ≡ Some i → reply core (take i bytes) ≡ None → Appends b c [] → Prints core n bytes b c (λ more. faulty n)
-line_faults core n i bytes b c h r kept = record { written = []; grown = kept; goes = λ more. text_faults core n i bytes more h r }
+pub line_faults : {S : Type 0} (kind : Kind S) (state : S) (n i : ℕ) (bytes : List ℕ) (b c : Option (List ℕ)) → position (λ x. x == 10) bytes ≡ Some i → IsFault kind state (take i bytes) → Appends b c [] → Prints kind state n bytes b c (λ more. faulty n)
+line_faults kind state n i bytes b c h r kept = record { written = []; grown = kept; goes = λ more. text_faults kind state n i bytes more h r }
 
 -- nothing is taken, and memory is out
-pub nothing_prints : (core : Option CoreView) (n : ℕ) (bytes : List ℕ) (b c : Option (List ℕ)) → Appends b c [] → Prints core n bytes b c (λ more. text_of core n (bytes ++ more))
-nothing_prints core n bytes b c kept = record { written = []; grown = kept; goes = λ more. refl }
+pub nothing_prints : {S : Type 0} (kind : Kind S) (state : S) (n : ℕ) (bytes : List ℕ) (b c : Option (List ℕ)) → Appends b c [] → Prints kind state n bytes b c (λ more. text_of kind state n (bytes ++ more))
+nothing_prints kind state n bytes b c kept = record { written = []; grown = kept; goes = λ more. refl }
 
-pub line_stops : (core : Option CoreView) (n : ℕ) (bytes line : List ℕ) (next : Option CoreView) (b c : Option (List ℕ)) (e : ReplayError) → Answers core line next b c (Err e) → Stops core n bytes b c e
-line_stops core n bytes line next b c Memory h = ((λ more. text_of core n (bytes ++ more)), nothing_prints core n bytes b c h)
-line_stops core n bytes line next b c Read h = h
-line_stops core n bytes line next b c Write h = tt
+pub line_stops : {S : Type 0} (kind : Kind S) (state : S) (n : ℕ) (bytes line : List ℕ) (next : S) (b c : Option (List ℕ)) (e : ReplayError) → Answers kind state line next b c (Err e) → Stops kind state n bytes b c e
+line_stops kind state n bytes line next b c Memory h = ((λ more. text_of kind state n (bytes ++ more)), nothing_prints kind state n bytes b c h)
+line_stops kind state n bytes line next b c Read h = h
+line_stops kind state n bytes line next b c Write h = tt
 
-pub Stops-then : (core : Option CoreView) (n : ℕ) (bytes : List ℕ) (a b c : Option (List ℕ)) (next : Option CoreView) (m : ℕ) (left : List ℕ) (e : ReplayError)
-    → Prints core n bytes a b (λ more. text_of next m (left ++ more)) → Stops next m left b c e → Stops core n bytes a c e
-Stops-then core n bytes a b c next m left Memory p q = (q.0, Prints-then core n bytes a b c next m left q.0 p q.1)
-Stops-then core n bytes a b c next m left Read p q = q
-Stops-then core n bytes a b c next m left Write p q = tt
+pub Stops-then : {S : Type 0} (kind : Kind S) (state : S) (n : ℕ) (bytes : List ℕ) (a b c : Option (List ℕ)) (next : S) (m : ℕ) (left : List ℕ) (e : ReplayError)
+    → Prints kind state n bytes a b (λ more. text_of kind next m (left ++ more)) → Stops kind next m left b c e → Stops kind state n bytes a c e
+Stops-then kind state n bytes a b c next m left Memory p q = (q.0, Prints-then kind state n bytes a b c next m left q.0 p q.1)
+Stops-then kind state n bytes a b c next m left Read p q = q
+Stops-then kind state n bytes a b c next m left Write p q = tt
 
 -- what is left of a text, one line further on
 pub left_is : (text rest : List ℕ) (i : ℕ) → length rest ≤ length text → i < length rest → rest ≡ drop (length text - length rest) text → drop (i + 1) rest ≡ drop (length text - length (drop (i + 1) rest)) text
@@ -44,8 +43,8 @@ left_is text rest i within below e =
     let k : length text - length (drop (i + 1) rest) ≡ (length text - length rest) + (i + 1) = simp length-drop (omega arith) in
     rw (k, ← drop-drop (i + 1) (length text - length rest) text) (ap (drop (i + 1)) e)
 
-pub record IsRunning (core : Option CoreView) (n : ℕ) (text : List ℕ) (a b : Option (List ℕ)) (next : Option CoreView) (m : ℕ) (rest : List ℕ) : Type 0 where
-  pub prints : Prints core n text a b (λ more. text_of next m (rest ++ more))
+pub record IsRunning {S : Type 0} (kind : Kind S) (state : S) (n : ℕ) (text : List ℕ) (a b : Option (List ℕ)) (next : S) (m : ℕ) (rest : List ℕ) : Type 0 where
+  pub prints : Prints kind state n text a b (λ more. text_of kind next m (rest ++ more))
   pub count : m + length rest ≤ n + length text
   pub within : length rest ≤ length text
   pub rest_is : rest ≡ drop (length text - length rest) text
@@ -54,13 +53,13 @@ pub tail_is : (k : ℕ) (rest : List ℕ) → take (length rest - k) (drop k res
 tail_is k rest = take_all (length rest - k) (drop k rest) (omega (arith, length-drop k rest))
 
 -- a line is taken, and the loop goes on behind it
-pub runs_on : (core : Option CoreView) (n : ℕ) (text : List ℕ) (a b c : Option (List ℕ)) (next : Option CoreView) (m : ℕ) (rest : List ℕ) (i : ℕ) (new : Option CoreView)
-    → IsRunning core n text a b next m rest → position (λ x. x == 10) rest ≡ Some i → IsAnswered (reply next (take i rest)) new b c
-    → IsRunning core n text a c new (m + 1) (take (length rest - (i + 1)) (drop (i + 1) rest))
-runs_on core n text a b c next m rest i new r h done =
+pub runs_on : {S : Type 0} (kind : Kind S) (state : S) (n : ℕ) (text : List ℕ) (a b c : Option (List ℕ)) (next : S) (m : ℕ) (rest : List ℕ) (i : ℕ) (new : S)
+    → IsRunning kind state n text a b next m rest → position (λ x. x == 10) rest ≡ Some i → IsAnswered kind next (take i rest) new b c
+    → IsRunning kind state n text a c new (m + 1) (take (length rest - (i + 1)) (drop (i + 1) rest))
+runs_on kind state n text a b c next m rest i new r h done =
     let below = (cut_at 10 i rest h).below in
     rw (tail_is (i + 1) rest) (record {
-      prints = Prints-then core n text a b c next m rest (λ more. text_of new (m + 1) (drop (i + 1) rest ++ more)) r.prints (line_prints next m i rest new b c h done);
+      prints = Prints-then kind state n text a b c next m rest (λ more. text_of kind new (m + 1) (drop (i + 1) rest ++ more)) r.prints (line_prints kind next m i rest new b c h done);
       count = omega (arith, r.count, length-drop (i + 1) rest);
       within = omega (arith, r.within, length-drop (i + 1) rest);
       rest_is = left_is text rest i r.within below r.rest_is;

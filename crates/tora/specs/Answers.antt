@@ -1,7 +1,6 @@
 -- What is printed for each line behind the first, and the core after it.
 use Rattle.std.specs.Prelude.{◌≡◌, ℕ, codes, List, [], ◌∷◌, ◌++◌, Option, Some, None, Ok, Err}
 use Rattle.std.specs.List.{flat_map}
-use Rattle.std.specs.Fmt.{decimal}
 use Rattle.hex.specs.Hex.{encode_lower}
 use Rattle.tora_packet.specs.declared.Packet.{Packet as AnyPacket}
 use Rattle.tora_packet.specs.PacketGrammar.{packet_spelling, packet_error_number}
@@ -11,13 +10,10 @@ use Rattle.tora_core.specs.declared.Input.TheVariants as input
 use Rattle.tora_core.specs.Errors.{step_error_number}
 use Rattle.tora_core.specs.CoreRun.{CoreView, refusal_of, core_after, sends_of}
 use Rattle.tora_core.specs.ShowText.{show_text}
+use Rattle.tora.specs.LineText.{numbered}
 use Rattle.tora.specs.declared.line.Line.{Line}
 use Rattle.tora.specs.declared.line.Order.{Order}
 use Rattle.tora.specs.declared.line.Order.TheVariants.{Up, Down, Need, From, Show}
-
--- a word, a number and the end of the line
-abbrev pub numbered : List ℕ → ℕ → List ℕ
-numbered word n = word ++ decimal n ++ 10 ∷ []
 
 -- `send HEX`
 abbrev pub send_line : AnyPacket → List ℕ
@@ -54,8 +50,3 @@ order_reply core Show now = replied core (show_text core)
 
 unfoldable pub answer : CoreView → Line → Reply
 answer core line = order_reply core line.order line.now
-
--- the core is the reply's, and the text has grown by the reply's text
-pub record TakesReply (reply : Reply) (core : CoreView) (old new : List ℕ) : Type 0 where
-  pub core_is : core ≡ reply.0
-  pub text_is : new ≡ old ++ reply.1

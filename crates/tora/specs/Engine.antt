@@ -1,57 +1,81 @@
 -- What the engine promises of what it reads and writes.
-use Rattle.std.specs.Prelude.{◌≡◌, ℕ, ◌+◌, ◌-◌, ◌≤◌, ◌<◌, ◌==◌, Bool, true, false, List, [], ◌++◌, length, drop, Option, Some, None, Result, Ok, Err}
+use Rattle.std.specs.Prelude.{◌≡◌, ℕ, ◌+◌, ◌-◌, ◌≤◌, ◌<◌, ◌==◌, Bool, true, false, List, [], ◌∷◌, ◌++◌, length, drop, Option, Some, None, Result, Ok, Err}
 use Rattle.std.specs.List.{position}
 use Rattle.std.specs.Io.KnownBytes.{Appends, Consumes}
-use Rattle.tora_core.specs.CoreRun.{CoreView}
-use Rattle.tora.specs.Answers.{Reply}
-use Rattle.tora.specs.ReplayText.{Text, prepend, faulty, reply, text_of, replay_text, replay_end}
+use Rattle.tora.specs.Lines.{pieces_of}
+use Rattle.tora.specs.LineText.{Text, prepend, faulty}
 use Rattle.tora.specs.declared.ended.Ended.{Ended}
 use Rattle.tora.specs.declared.ended.ReplayError.{ReplayError}
 use Rattle.tora.specs.declared.ended.ReplayError.TheVariants.{Memory, Read, Write}
 
--- Known bytes grew by what is printed for the input, and the input ends so.
-pub record Replays (input : List ℕ) (old new : Option (List ℕ)) (ended : Ended) : Type 0 where
-  pub written : Appends old new (replay_text input)
-  pub ends : ended ≡ replay_end input
+-- ---- a kind of file
+
+-- a line is a fault, whatever comes behind it
+abbrev pub IsFaultIn : {S : Type 0} → (S → ℕ → List (List ℕ) → Text) → S → List ℕ → Type 0
+IsFaultIn text state line = (n : ℕ) (lines : List (List ℕ)) → text state n (line ∷ lines) ≡ faulty n
+
+-- a line leaves a state and prints a text, whatever comes behind it
+abbrev pub GoesOnIn : {S : Type 0} → (S → ℕ → List (List ℕ) → Text) → S → List ℕ → S → List ℕ → Type 0
+GoesOnIn text state line next out = (n : ℕ) (lines : List (List ℕ)) → text state n (line ∷ lines) ≡ prepend out (text next (n + 1) lines)
+
+-- what is printed for the lines from line n on in each state, and how that ends; a line of more than 4,096 bytes is a fault
+pub record Kind (S : Type 0) : Type 0 where
+  pub text : S → ℕ → List (List ℕ) → Text
+  pub long : (state : S) (line : List ℕ) → 4096 < length line → IsFaultIn text state line
+
+abbrev pub IsFault : {S : Type 0} → Kind S → S → List ℕ → Type 0
+IsFault kind state line = IsFaultIn kind.text state line
+
+abbrev pub GoesOn : {S : Type 0} → Kind S → S → List ℕ → S → List ℕ → Type 0
+GoesOn kind state line next out = GoesOnIn kind.text state line next out
+
+-- the text of bytes that begin with line n
+unfoldable pub text_of : {S : Type 0} → Kind S → S → ℕ → List ℕ → Text
+text_of kind state n bytes = kind.text state n (pieces_of bytes)
+
+-- ---- what is promised of an input
+
+-- Known bytes grew by the text of the input, and the input ends so.
+pub record IsWholeText (text : List ℕ → Text) (input : List ℕ) (old new : Option (List ℕ)) (ended : Ended) : Type 0 where
+  pub written : Appends old new (text input).0
+  pub ends : ended ≡ (text input).1
 
 -- s is the front of t
 abbrev pub Begins : List ℕ → List ℕ → Type 0
 Begins s t = (rest : List ℕ) × (t ≡ s ++ rest)
 
--- The reader gave some bytes, and the writer got a front of what is printed for them.
-pub record IsBegun (old_reader new_reader old_writer new_writer : Option (List ℕ)) : Type 0 where
+-- The reader gave some bytes, and the writer got a front of their text.
+pub record IsFrontOfText (text : List ℕ → Text) (old_reader new_reader old_writer new_writer : Option (List ℕ)) : Type 0 where
   pub given : List ℕ
   pub written : List ℕ
   pub read : Consumes old_reader new_reader given
   pub grown : Appends old_writer new_writer written
-  pub begins : Begins written (replay_text given)
+  pub begins : Begins written (text given).0
 
 -- ---- steps of the engine
 
 -- The text of these bytes, whatever follows them, is what was written and then a text that goes on.
-pub record Prints (core : Option CoreView) (n : ℕ) (bytes : List ℕ) (old new : Option (List ℕ)) (onward : List ℕ → Text) : Type 0 where
+pub record Prints {S : Type 0} (kind : Kind S) (state : S) (n : ℕ) (bytes : List ℕ) (old new : Option (List ℕ)) (onward : List ℕ → Text) : Type 0 where
   pub written : List ℕ
   pub grown : Appends old new written
-  pub goes : (more : List ℕ) → text_of core n (bytes ++ more) ≡ prepend written (onward more)
+  pub goes : (more : List ℕ) → text_of kind state n (bytes ++ more) ≡ prepend written (onward more)
 
 -- no line ends in the bytes
 abbrev pub IsOpen : List ℕ → Type 0
 IsOpen bytes = position (λ x. x == 10) bytes ≡ None
 
 -- One line was taken (true), or it is a fault (false).
-pub record IsAnswered (given : Option Reply) (core : Option CoreView) (old new : Option (List ℕ)) : Type 0 where
-  pub next : CoreView
+pub record IsAnswered {S : Type 0} (kind : Kind S) (state : S) (line : List ℕ) (next : S) (old new : Option (List ℕ)) : Type 0 where
   pub text : List ℕ
-  pub core_is : core ≡ Some next
-  pub given_is : given ≡ Some (next, text)
+  pub goes_on : GoesOn kind state line next text
   pub grown : Appends old new text
 
-abbrev pub Answers : Option CoreView → List ℕ → Option CoreView → Option (List ℕ) → Option (List ℕ) → Result Bool ReplayError → Type 0
-Answers core line next old new (Ok true) = IsAnswered (reply core line) next old new
-Answers core line next old new (Ok false) = (reply core line ≡ None) × Appends old new []
-Answers core line next old new (Err Memory) = Appends old new []
-Answers core line next old new (Err Read) = ⊥
-Answers core line next old new (Err Write) = Unit {0}
+abbrev pub Answers : {S : Type 0} → Kind S → S → List ℕ → S → Option (List ℕ) → Option (List ℕ) → Result Bool ReplayError → Type 0
+Answers kind state line next old new (Ok true) = IsAnswered kind state line next old new
+Answers kind state line next old new (Ok false) = IsFault kind state line × Appends old new []
+Answers kind state line next old new (Err Memory) = Appends old new []
+Answers kind state line next old new (Err Read) = ⊥
+Answers kind state line next old new (Err Write) = Unit {0}
 
 -- The bytes went behind what is pending of a line (true), or the line is too long (false).
 abbrev pub Keeps : List ℕ → List ℕ → List ℕ → Result Bool ReplayError → Type 0
@@ -62,56 +86,56 @@ Keeps old bytes new (Err Read) = ⊥
 Keeps old bytes new (Err Write) = ⊥
 
 -- where memory was refused, with some text still to come
-abbrev pub Stops : Option CoreView → ℕ → List ℕ → Option (List ℕ) → Option (List ℕ) → ReplayError → Type 0
-Stops core n bytes old new Memory = (onward : List ℕ → Text) × Prints core n bytes old new onward
-Stops core n bytes old new Read = ⊥
-Stops core n bytes old new Write = Unit {0}
+abbrev pub Stops : {S : Type 0} → Kind S → S → ℕ → List ℕ → Option (List ℕ) → Option (List ℕ) → ReplayError → Type 0
+Stops kind state n bytes old new Memory = (onward : List ℕ → Text) × Prints kind state n bytes old new onward
+Stops kind state n bytes old new Read = ⊥
+Stops kind state n bytes old new Write = Unit {0}
 
 -- Whole lines were taken from the front of the bytes, and these are left.
-pub record IsDrained (core : Option CoreView) (n : ℕ) (bytes : List ℕ) (old new : Option (List ℕ)) (next : Option CoreView) (m : ℕ) (left : List ℕ) : Type 0 where
-  pub prints : Prints core n bytes old new (λ more. text_of next m (left ++ more))
+pub record IsDrained {S : Type 0} (kind : Kind S) (state : S) (n : ℕ) (bytes : List ℕ) (old new : Option (List ℕ)) (next : S) (m : ℕ) (left : List ℕ) : Type 0 where
+  pub prints : Prints kind state n bytes old new (λ more. text_of kind next m (left ++ more))
   pub is_open : IsOpen left
   pub count : m + length left ≤ n + length bytes
 
-abbrev pub Drains : Option CoreView → ℕ → List ℕ → Option (List ℕ) → Option (List ℕ) → Option CoreView → ℕ → Result (Option ℕ) ReplayError → Type 0
-Drains core n bytes old new next m (Ok (Some left)) = (left ≤ length bytes) × IsDrained core n bytes old new next m (drop (length bytes - left) bytes)
-Drains core n bytes old new next m (Ok None) = Prints core n bytes old new (λ more. faulty m)
-Drains core n bytes old new next m (Err e) = Stops core n bytes old new e
+abbrev pub Drains : {S : Type 0} → Kind S → S → ℕ → List ℕ → Option (List ℕ) → Option (List ℕ) → S → ℕ → Result (Option ℕ) ReplayError → Type 0
+Drains kind state n bytes old new next m (Ok (Some left)) = (left ≤ length bytes) × IsDrained kind state n bytes old new next m (drop (length bytes - left) bytes)
+Drains kind state n bytes old new next m (Ok None) = Prints kind state n bytes old new (λ more. faulty m)
+Drains kind state n bytes old new next m (Err e) = Stops kind state n bytes old new e
 
 -- A chunk went behind what was left, and its whole lines were taken (true), or one is a fault (false).
-abbrev pub TakesChunk : Option CoreView → ℕ → List ℕ → Option (List ℕ) → Option (List ℕ) → Option CoreView → ℕ → List ℕ → Result Bool ReplayError → Type 0
-TakesChunk core n bytes old new next m left (Ok true) = IsDrained core n bytes old new next m left × (length left ≤ 4096)
-TakesChunk core n bytes old new next m left (Ok false) = Prints core n bytes old new (λ more. faulty m)
-TakesChunk core n bytes old new next m left (Err e) = Stops core n bytes old new e
+abbrev pub TakesChunk : {S : Type 0} → Kind S → S → ℕ → List ℕ → Option (List ℕ) → Option (List ℕ) → S → ℕ → List ℕ → Result Bool ReplayError → Type 0
+TakesChunk kind state n bytes old new next m left (Ok true) = IsDrained kind state n bytes old new next m left × (length left ≤ 4096)
+TakesChunk kind state n bytes old new next m left (Ok false) = Prints kind state n bytes old new (λ more. faulty m)
+TakesChunk kind state n bytes old new next m left (Err e) = Stops kind state n bytes old new e
 
 -- The end of the input: the text of the bytes, and how it ends.
-pub record IsFinished (core : Option CoreView) (n : ℕ) (bytes : List ℕ) (old new : Option (List ℕ)) (ended : Ended) : Type 0 where
-  pub grown : Appends old new (text_of core n bytes).0
-  pub ends : ended ≡ (text_of core n bytes).1
+pub record IsFinished {S : Type 0} (kind : Kind S) (state : S) (n : ℕ) (bytes : List ℕ) (old new : Option (List ℕ)) (ended : Ended) : Type 0 where
+  pub grown : Appends old new (text_of kind state n bytes).0
+  pub ends : ended ≡ (text_of kind state n bytes).1
 
 -- where memory was refused at the end, after a front of the text
-pub record IsCutOff (core : Option CoreView) (n : ℕ) (bytes : List ℕ) (old new : Option (List ℕ)) : Type 0 where
+pub record IsCutOff {S : Type 0} (kind : Kind S) (state : S) (n : ℕ) (bytes : List ℕ) (old new : Option (List ℕ)) : Type 0 where
   pub written : List ℕ
   pub grown : Appends old new written
-  pub begins : Begins written (text_of core n bytes).0
+  pub begins : Begins written (text_of kind state n bytes).0
 
-abbrev pub Finishes : Option CoreView → ℕ → List ℕ → Option (List ℕ) → Option (List ℕ) → Result Ended ReplayError → Type 0
-Finishes core n bytes old new (Ok ended) = IsFinished core n bytes old new ended
-Finishes core n bytes old new (Err Memory) = IsCutOff core n bytes old new
-Finishes core n bytes old new (Err Read) = ⊥
-Finishes core n bytes old new (Err Write) = Unit {0}
+abbrev pub Finishes : {S : Type 0} → Kind S → S → ℕ → List ℕ → Option (List ℕ) → Option (List ℕ) → Result Ended ReplayError → Type 0
+Finishes kind state n bytes old new (Ok ended) = IsFinished kind state n bytes old new ended
+Finishes kind state n bytes old new (Err Memory) = IsCutOff kind state n bytes old new
+Finishes kind state n bytes old new (Err Read) = ⊥
+Finishes kind state n bytes old new (Err Write) = Unit {0}
 
--- A fault is written.
-abbrev pub Faults : ℕ → Option (List ℕ) → Option (List ℕ) → Result Ended ReplayError → Type 0
-Faults n old new (Ok ended) = Appends old new (faulty n).0 × (ended ≡ (faulty n).1)
-Faults n old new (Err Memory) = Appends old new []
-Faults n old new (Err Read) = ⊥
-Faults n old new (Err Write) = Unit {0}
+-- The end of a text is written: nothing, or a fault.
+abbrev pub Ends : Text → Option (List ℕ) → Option (List ℕ) → Result Ended ReplayError → Type 0
+Ends text old new (Ok ended) = Appends old new text.0 × (ended ≡ text.1)
+Ends text old new (Err Memory) = Appends old new []
+Ends text old new (Err Read) = ⊥
+Ends text old new (Err Write) = Unit {0}
 
 -- Between two reads: what was given, and what is left of it.
-pub record IsUnderway (core : Option CoreView) (n : ℕ) (left : List ℕ) (old_reader reader old_writer writer : Option (List ℕ)) (most : ℕ) : Type 0 where
+pub record IsUnderway {S : Type 0} (kind : Kind S) (start state : S) (n : ℕ) (left : List ℕ) (old_reader reader old_writer writer : Option (List ℕ)) (most : ℕ) : Type 0 where
   pub given : List ℕ
   pub read : Consumes old_reader reader given
-  pub drained : IsDrained None 1 given old_writer writer core n left
+  pub drained : IsDrained kind start 1 given old_writer writer state n left
   pub short : length left ≤ 4096
   pub few : length given ≤ most

@@ -70,7 +70,8 @@ with_id order text = do
 unfoldable pub is_show : List ℕ → Bool
 is_show text = (length text == 4) && is_some (after (codes "show") text)
 
-abbrev pub or_else : Option (List ℕ) → (List ℕ → Option Order) → Option Order → Option Order
+-- what is read behind a word, or the other where the word doesn't stand in front
+abbrev pub or_else : {A : Type 0} → Option (List ℕ) → (List ℕ → Option A) → Option A → Option A
 or_else (Some rest) read other = read rest
 or_else None read other = other
 

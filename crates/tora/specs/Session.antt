@@ -1,18 +1,11 @@
 -- What a session makes of a line.
-use Rattle.std.specs.Prelude.{◌≡◌, ℕ, List, string_bytes, Option, Some, Result, Ok, Err}
-use Rattle.tora.specs.declared.session.Session.{Session}
+use Rattle.std.specs.Prelude.{ℕ, List, Result, Ok, Err}
 use Rattle.tora.specs.declared.words.LineError.{LineError}
-use Rattle.tora.specs.Gives.{Fails}
-use Rattle.tora_core.specs.CoreRun.{CoreView}
-use Rattle.tora.specs.Answers.{Reply}
-use Rattle.tora.specs.ReplayText.{reply}
+use Rattle.tora.specs.declared.words.LineError.TheVariants.{Memory, Fault}
+use Rattle.tora.specs.Engine.{Kind, IsFault, GoesOn}
 
--- the reply is this core and this text
-pub record IsReplied (given : Option Reply) (core : Option CoreView) (text : List ℕ) : Type 0 where
-  pub next : CoreView
-  pub core_is : core ≡ Some next
-  pub given_is : given ≡ Some (next, text)
-
-abbrev pub TakesLine : Option CoreView → List ℕ → Session → Result (Unit {0}) LineError → Type 0
-TakesLine old line session (Ok x) = IsReplied (reply old line) session.core (string_bytes session.text)
-TakesLine old line session (Err e) = Fails e (reply old line)
+-- a line leaves this state and prints this text, or it is a fault, or memory was refused
+abbrev pub TakesLine : {S : Type 0} → Kind S → S → List ℕ → S → List ℕ → Result (Unit {0}) LineError → Type 0
+TakesLine kind old line new out (Ok x) = GoesOn kind old line new out
+TakesLine kind old line new out (Err Memory) = Unit {0}
+TakesLine kind old line new out (Err Fault) = IsFault kind old line

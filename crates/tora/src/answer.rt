@@ -1,7 +1,8 @@
 //! What is printed for the lines behind the first.
 ghost use Rattle.std.specs.Prelude.{◌≡◌, ◌++◌, OnOk, string_bytes, Ok, Err};
 ghost use Rattle.tora_core.specs.ShowText.{show_text};
-ghost use Rattle.tora.specs.Answers.{answer, step_reply, replied, numbered, send_line, send_lines, TakesReply};
+ghost use Rattle.tora.specs.LineText.{numbered, TakesReply};
+ghost use Rattle.tora.specs.Answers.{answer, step_reply, replied, send_line, send_lines};
 
 use crate::line::{Line, Order};
 use std::alloc::AllocError;

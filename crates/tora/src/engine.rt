@@ -1,13 +1,12 @@
 //! From a reader of lines to a writer of answers.
 ghost use Rattle.std.specs.Prelude.{◌≡◌, ◌≢◌, ◌+◌, ◌-◌, ◌^◌, ◌<◌, ◌≤◌, ◌++◌, [], length, drop, OnOk, IfOk, IfErr, IfSome, None, Ok, true, vec_len, ℕ, List, Some};
 ghost use Rattle.std.specs.Io.KnownBytes.{Appends, IsAtEnd, ReadConsumes};
-ghost use Rattle.tora.specs.Lines.{pieces_of};
-ghost use Rattle.tora.specs.ReplayText.{fault_of, first_fault, IsFirstFault};
-ghost use Rattle.tora.specs.Engine.{IsOpen, Answers, Keeps, Drains, TakesChunk, Finishes, Faults, Replays, IsBegun};
+ghost use Rattle.tora.specs.LineText.{faulty};
+ghost use Rattle.tora.specs.Engine.{text_of, IsOpen, Answers, Keeps, Drains, TakesChunk, Finishes, Ends, IsWholeText, IsFrontOfText};
 
 use crate::answer::numbered;
 use crate::ended::{Ended, ReplayError};
-use crate::session::{LONGEST_LINE, Session};
+use crate::session::{FileKind, LONGEST_LINE, Session};
 use crate::words::{LineError, place};
 use std::alloc::{AllocError, Global};
 use std::io;
@@ -30,13 +29,13 @@ fn put<W: Write>(writer: &mut W, text: &[u8]) -> Result<(), ReplayError>
 }
 
 /// Takes one line, and writes what is printed for it.
-fn answer<W: Write>(
+fn answer<K: FileKind, W: Write>(
     alloc: Global,
-    session: &mut Session,
+    session: &mut Session<K>,
     writer: &mut W,
     line: &[u8],
 ) -> Result<bool, ReplayError>
-    ensures { Answers session.old.core line.now session.new.core (W.contents writer.old) (W.contents writer.new) result }
+    ensures { Answers K.kind session.old.state line.now session.new.state (W.contents writer.old) (W.contents writer.new) result }
 {
     match session.take(alloc, line) {
         Ok(()) => {
@@ -50,15 +49,15 @@ fn answer<W: Write>(
 
 /// Takes the whole lines of the text, and says how many bytes are left behind them, or nothing at
 /// a fault.
-fn drain<W: Write>(
+fn drain<K: FileKind, W: Write>(
     alloc: Global,
-    session: &mut Session,
+    session: &mut Session<K>,
     number: &mut u64,
     writer: &mut W,
     text: &[u8],
 ) -> Result<Option<usize>, ReplayError>
     requires { number.old + length text.now < 2 ^ 64 }
-    ensures { Drains session.old.core number.old text.now (W.contents writer.old) (W.contents writer.new) session.new.core number.new result }
+    ensures { Drains K.kind session.old.state number.old text.now (W.contents writer.old) (W.contents writer.new) session.new.state number.new result }
 {
     let mut rest = text;
     while let Some(at) = place(b'\n', rest) {
@@ -86,15 +85,15 @@ fn keep(pending: &mut Vec<u8>, bytes: &[u8]) -> Result<bool, ReplayError>
 }
 
 /// Takes the line that is pending and ends so. Nothing is pending once it is taken.
-fn end_line<W: Write>(
+fn end_line<K: FileKind, W: Write>(
     alloc: Global,
-    session: &mut Session,
+    session: &mut Session<K>,
     writer: &mut W,
     pending: &mut Vec<u8>,
     end: &[u8],
 ) -> Result<bool, ReplayError>
     requires { vec_len pending.old ≤ LONGEST_LINE }
-    ensures line { Answers session.old.core (pending.old.items ++ end.now) session.new.core (W.contents writer.old) (W.contents writer.new) result }
+    ensures line { Answers K.kind session.old.state (pending.old.items ++ end.now) session.new.state (W.contents writer.old) (W.contents writer.new) result }
     ensures empty { result ≡ Ok true → (pending.new.items ≡ []) × (vec_len pending.new ≡ 0) }
 {
     if !keep(pending, end)? {
@@ -106,9 +105,9 @@ fn end_line<W: Write>(
 }
 
 /// Takes the whole lines of a text that begins with a line, and keeps what is left of it.
-fn take_rest<W: Write>(
+fn take_rest<K: FileKind, W: Write>(
     alloc: Global,
-    session: &mut Session,
+    session: &mut Session<K>,
     number: &mut u64,
     writer: &mut W,
     pending: &mut Vec<u8>,
@@ -117,8 +116,8 @@ fn take_rest<W: Write>(
     requires room { number.old + length text.now < 2 ^ 64 }
     requires empty { pending.old.items ≡ [] }
     requires len { vec_len pending.old ≡ 0 }
-    ensures { TakesChunk session.old.core number.old text.now (W.contents writer.old) (W.contents writer.new)
-        session.new.core number.new pending.new.items result }
+    ensures { TakesChunk K.kind session.old.state number.old text.now (W.contents writer.old) (W.contents writer.new)
+        session.new.state number.new pending.new.items result }
 {
     let Some(left) = drain(alloc, session, number, writer, text)? else {
         return Ok(false);
@@ -127,9 +126,9 @@ fn take_rest<W: Write>(
 }
 
 /// Takes the whole lines of what is pending and the chunk behind it, and keeps what is left of them.
-fn take_chunk<W: Write>(
+fn take_chunk<K: FileKind, W: Write>(
     alloc: Global,
-    session: &mut Session,
+    session: &mut Session<K>,
     number: &mut u64,
     writer: &mut W,
     pending: &mut Vec<u8>,
@@ -138,8 +137,8 @@ fn take_chunk<W: Write>(
     requires room { number.old + length pending.old.items + length chunk.now < 2 ^ 64 }
     requires is_open { IsOpen pending.old.items }
     requires short { vec_len pending.old ≤ LONGEST_LINE }
-    ensures { TakesChunk session.old.core number.old (pending.old.items ++ chunk.now) (W.contents writer.old) (W.contents writer.new)
-        session.new.core number.new pending.new.items result }
+    ensures { TakesChunk K.kind session.old.state number.old (pending.old.items ++ chunk.now) (W.contents writer.old) (W.contents writer.new)
+        session.new.state number.new pending.new.items result }
 {
     let Some(at) = place(b'\n', chunk) else {
         return keep(pending, chunk);
@@ -153,7 +152,7 @@ fn take_chunk<W: Write>(
 
 /// Writes that a line is a fault.
 fn fault<W: Write>(alloc: Global, number: u64, writer: &mut W) -> Result<Ended, ReplayError>
-    ensures { Faults number (W.contents writer.old) (W.contents writer.new) result }
+    ensures { Ends (faulty number) (W.contents writer.old) (W.contents writer.new) result }
 {
     let mut text = String::new(alloc);
     if numbered(&mut text, "fault ", number).is_err() {
@@ -163,27 +162,39 @@ fn fault<W: Write>(alloc: Global, number: u64, writer: &mut W) -> Result<Ended, 
     Ok(Ended::Fault(number))
 }
 
-/// Takes a last line that has no end, and says how the input ended.
-fn finish<W: Write>(
+/// Says how an input ends that ends before this line.
+fn close<K: FileKind, W: Write>(
     alloc: Global,
-    session: &mut Session,
+    session: &Session<K>,
+    number: u64,
+    writer: &mut W,
+) -> Result<Ended, ReplayError>
+    ensures { Ends (K.kind.text session.now.state number []) (W.contents writer.old) (W.contents writer.new) result }
+{
+    match session.state.end(alloc, number) {
+        Ok(None) => Ok(Ended::Whole),
+        Ok(Some(line)) => fault(alloc, line, writer),
+        Err(_) => Err(ReplayError::Memory),
+    }
+}
+
+/// Takes a last line that has no end, and says how the input ended.
+fn finish<K: FileKind, W: Write>(
+    alloc: Global,
+    session: &mut Session<K>,
     number: u64,
     writer: &mut W,
     last: &[u8],
 ) -> Result<Ended, ReplayError>
     requires is_open { IsOpen last.now }
     requires room { number + 1 < 2 ^ 64 }
-    ensures { Finishes session.old.core number last.now (W.contents writer.old) (W.contents writer.new) result }
+    ensures { Finishes K.kind session.old.state number last.now (W.contents writer.old) (W.contents writer.new) result }
 {
     if last.is_empty() {
-        return if session.core.is_some() {
-            Ok(Ended::Whole)
-        } else {
-            fault(alloc, number, writer)
-        };
+        return close(alloc, session, number, writer);
     }
     if answer(alloc, session, writer, last)? {
-        Ok(Ended::Whole)
+        close(alloc, session, number + 1, writer)
     } else {
         fault(alloc, number, writer)
     }
@@ -204,34 +215,27 @@ fn read_some<R: Read>(reader: &mut R, chunk: &mut Vec<u8>) -> io::Result<usize>
     reader.read(chunk.as_mut_slice())
 }
 
-/// Reads the lines of a replay file to the end of the input or to the first line that is a fault, and writes what is
-/// printed for each. Own profile.
-///
-/// The first line is `node I links LIST dests LIST`, and each further one `NOW up K`, `NOW down K`, `NOW need D`,
-/// `NOW from K HEX` or `NOW show`. A line has at most 4,096 bytes without its LF. What is printed for a line is written
-/// whole, by one call of the writer's `write_all`. The memory taken is bounded by one line.
-///
-/// A fault is no error: `fault N` is written, and the answer is `Ended::Fault(N)`.
+/// Reads the lines of a file to the end of the input or to the first line that is a fault, and writes what is printed
+/// for each.
 ///
 /// # Errors
-/// `Memory` where memory was refused; `Read` where a read failed, or 2^32 reads came to no end (a read that was
-/// interrupted is made again, and counts); `Write` where a write failed. No line is taken in part: at `Memory` and `Read`
-/// whole lines' answers were written.
-pub fn replay<R: Read, W: Write>(
+/// `Memory` where memory was refused; `Read` where a read failed, or 2^32 reads came to no end; `Write` where a write
+/// failed. No line is taken in part.
+pub fn read_lines<K: FileKind, R: Read, W: Write>(
     alloc: Global,
+    state: K,
     reader: &mut R,
     writer: &mut W,
 ) -> Result<Ended, ReplayError>
     // What was written is the text of the whole input, and the input ends so.
     ensures whole { IfOk result (λ ended. IfSome (R.remaining reader.old) (λ input.
-        Replays input (W.contents writer.old) (W.contents writer.new) ended)) }
+        IsWholeText (text_of K.kind state 1) input (W.contents writer.old) (W.contents writer.new) ended)) }
     ensures at_end { result ≡ Ok Ended.Whole → IsAtEnd (R.remaining reader.new) }
-    ensures fault { IfOk result (λ ended. IfSome (R.remaining reader.old) (λ input. fault_of ended ≡ first_fault input)) }
     // What was written begins the text of what was read.
     ensures begun { IfErr result (λ e. e ≢ ReplayError.Write →
-        IsBegun (R.remaining reader.old) (R.remaining reader.new) (W.contents writer.old) (W.contents writer.new)) }
+        IsFrontOfText (text_of K.kind state 1) (R.remaining reader.old) (R.remaining reader.new) (W.contents writer.old) (W.contents writer.new)) }
 {
-    let mut session = Session::new(alloc);
+    let mut session = Session::new(alloc, state);
     let mut number = 1u64;
     let Ok(mut pending) = Vec::with_capacity(alloc, LONGEST_LINE) else {
         return Err(ReplayError::Memory);
@@ -266,9 +270,3 @@ pub fn replay<R: Read, W: Write>(
     }
     Err(ReplayError::Read)
 }
-
-/// The line whose number a fault gives is the first that is none: all lines before it are taken, and it is not.
-pub fn fault_is_the_first()
-    ensures found { (bytes : List ℕ) (n : ℕ) → first_fault bytes ≡ Some n → IsFirstFault None 1 (pieces_of bytes) n }
-    ensures only { (bytes : List ℕ) (n : ℕ) → IsFirstFault None 1 (pieces_of bytes) n → first_fault bytes ≡ Some n }
-{}

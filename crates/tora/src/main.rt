@@ -3,28 +3,44 @@
 //! `replay` reads the inputs of one node from a reader, and writes what the node sends.
 #![tactic(auto)]
 
+ghost use Rattle.std.specs.Prelude.{◌≡◌};
+ghost use Rattle.std.specs.Process.{exit_status};
+ghost use Rattle.tora.specs.Statuses.{status_of};
+
 mod answer;
 mod cause;
 mod command;
 mod ended;
 mod engine;
+mod flushing;
+mod height_text;
 mod line;
 mod parse;
 mod recent;
+mod replaying;
+mod rounds;
+mod running;
 mod session;
+mod simulating;
+mod simulation_line;
+mod simulation_parse;
+mod simulator;
 mod words;
 
 use cause::cause_of;
 use clap::error::ErrorKind;
 use command::command;
 pub use ended::{Ended, ReplayError};
-pub use engine::{fault_is_the_first, replay};
+use flushing::replay_and_flush;
 pub use parse::{first_lines_are_read_as_written, lines_are_read_as_written};
 use recent::Recent;
+pub use replaying::{fault_is_the_first, replay};
 use std::alloc::Global;
 use std::io;
-use std::io::{BufWriter, Read, Write};
+use std::io::{BufWriter, Write};
 use std::process::ExitCode;
+pub use simulating::{simulate_in, simulation_fault_is_the_first};
+pub use simulator::Simulator;
 pub use words::numbers_are_read_as_printed;
 
 /// Exit statuses: 0 stands for an end without a fault.
@@ -34,33 +50,24 @@ const USAGE: u8 = 2;
 
 const MEMORY: u8 = 5;
 
-/// Replays, and hands on all that was written.
-fn run<R: Read, W: Write>(
-    alloc: Global,
-    reader: &mut R,
-    writer: &mut W,
-) -> Result<Ended, ReplayError> {
-    let result = replay(alloc, reader, writer);
-    match writer.flush() {
-        Ok(()) => result,
-        Err(_) if result.is_ok() => Err(ReplayError::Write),
-        Err(_) => result,
-    }
-}
-
 /// Says on standard error why the program stops.
-fn stop(rt: &impl Eprint, status: u8, cause: &str) -> ExitCode {
+fn stop(rt: &impl Eprint, status: u8, cause: &str) -> ExitCode
+    ensures { exit_status result ≡ status }
+{
     let _ = rt.eprintln(format_args!("tora: {cause}"));
     ExitCode::from(status)
 }
 
-/// The exit status of a replay, after its line on standard error.
-fn status(rt: &impl Eprint, ended: Result<Ended, ReplayError>) -> ExitCode {
+/// The exit status of a replay or a simulation, after its line on standard error.
+fn status(rt: &impl Eprint, ended: Result<Ended, ReplayError>) -> ExitCode
+    ensures { exit_status result ≡ status_of ended }
+{
     match ended {
         Ok(Ended::Whole) => ExitCode::SUCCESS,
         Ok(Ended::Fault(_)) => stop(rt, INPUT, "input"),
         Err(ReplayError::Memory) => stop(rt, MEMORY, "memory"),
-        Err(_) => stop(rt, INPUT, "input"),
+        Err(ReplayError::Read) => stop(rt, INPUT, "input"),
+        Err(ReplayError::Write) => stop(rt, INPUT, "input"),
     }
 }
 
@@ -68,7 +75,7 @@ fn status(rt: &impl Eprint, ended: Result<Ended, ReplayError>) -> ExitCode {
 fn replay_verbosely<W: Write>(rt: &HostRuntime, writer: &mut W) -> ExitCode {
     let alloc = rt.alloc();
     let mut reader = Recent::new(alloc, rt.stdin());
-    let result = run(alloc, &mut reader, writer);
+    let result = replay_and_flush(alloc, &mut reader, writer);
     let code = status(rt, result);
     let _ = match result {
         Ok(Ended::Whole) => Ok(()),
@@ -93,7 +100,7 @@ fn replay_input(rt: &HostRuntime, is_verbose: bool) -> ExitCode {
     if is_verbose {
         return replay_verbosely(rt, &mut writer);
     }
-    let result = run(alloc, &mut rt.stdin(), &mut writer);
+    let result = replay_and_flush(alloc, &mut rt.stdin(), &mut writer);
     status(rt, result)
 }
 

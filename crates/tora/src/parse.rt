@@ -14,7 +14,7 @@ use std::alloc::Global;
 use tora_height::Id;
 
 #[tactic(auto, unfolding(crate::specs::Lines::after))]
-fn after<'a>(front: &[u8], text: &'a [u8]) -> Option<&'a [u8]>
+pub fn after<'a>(front: &[u8], text: &'a [u8]) -> Option<&'a [u8]>
     ensures rest { option_map (λ rest. rest.now) result ≡ after front.now text.now }
     ensures shorter { IfSome result (λ rest. length rest.now ≤ length text.now) }
 {
@@ -25,7 +25,7 @@ fn after<'a>(front: &[u8], text: &'a [u8]) -> Option<&'a [u8]>
     }
 }
 
-fn behind<'a>(front: &[u8], text: &'a [u8]) -> Result<&'a [u8], LineError>
+pub fn behind<'a>(front: &[u8], text: &'a [u8]) -> Result<&'a [u8], LineError>
     ensures { Gives (λ rest. rest.now) result (after front.now text.now) }
 {
     match after(front, text) {

@@ -1,79 +1,56 @@
-//! The core between two lines, and the answer to the last line.
-ghost use Rattle.std.specs.Prelude.{◌≡◌, ◌≤◌, length, string_bytes, None, Some};
-ghost use Rattle.std.specs.Option.{option_and_then, option_map};
-ghost use Rattle.tora.specs.Gives.{Gives};
-ghost use Rattle.tora.specs.Lines.{header_of};
-ghost use Rattle.tora.specs.Answers.{answer, TakesReply};
-ghost use Rattle.tora.specs.ReplayText.{core_of, next_reply};
+//! What is kept between two lines of a file, and the answer to the last line.
+ghost use Rattle.std.specs.Prelude.{◌≡◌, ◌≤◌, [], length, string_bytes, IfOk};
+ghost use Rattle.tora.specs.LineText.{ending};
+ghost use Rattle.tora.specs.Engine.{Kind};
 ghost use Rattle.tora.specs.Session.{TakesLine};
 
-use crate::answer::answer;
-use crate::parse;
 use crate::words::LineError;
-use std::alloc::Global;
-use tora_core::{Core, CoreError};
+use std::alloc::{AllocError, Global};
 
 /// The most bytes of a line, without its LF. Own profile.
 pub const LONGEST_LINE: usize = 4096;
 
-/// The core, once the first line is taken, and what was printed for the last line.
+/// A kind of file of lines, by what is kept between two of them.
+pub trait FileKind: Drop {
+    ghost kind: { Kind Self };
+
+    /// Takes a line of at most 4,096 bytes, and puts what is printed for it behind an empty text.
+    fn take(&mut self, alloc: Global, line: &[u8], text: &mut String) -> Result<(), LineError>
+        requires short { length line.now ≤ 4096 }
+        requires empty { string_bytes text.old ≡ [] }
+        ensures { TakesLine kind self.old line.now self.new (string_bytes text.new) result };
+
+    /// The number of the line that is a fault where the input ends before this line, if one is.
+    fn end(&self, alloc: Global, number: u64) -> Result<Option<u64>, AllocError>
+        ensures { IfOk result (λ fault. kind.text self.now number [] ≡ ending fault) };
+}
+
+/// What is kept between two lines, and what was printed for the last line.
 #[derive(Drop)]
-pub struct Session {
-    pub core: Option<Core>,
+pub struct Session<K> {
+    pub state: K,
     pub text: String,
 }
 
-/// The core that the first line makes.
-#[tactic(auto, unfolding(crate::specs::ReplayText::core_of))]
-fn first(alloc: Global, line: &[u8]) -> Result<Core, LineError>
-    ensures { Gives (λ core. core) result (option_and_then core_of (header_of line.now)) }
-{
-    let header = parse::header(alloc, line)?;
-    match Core::new(alloc, header.node, &header.links, &header.dests) {
-        Ok(core) => Ok(core),
-        Err(CoreError::Memory) => Err(LineError::Memory),
-        Err(_) => Err(LineError::Fault),
-    }
-}
-
-fn next(core: &mut Core, line: &[u8], text: &mut String) -> Result<(), LineError>
-    requires { length line.now ≤ 4096 }
-    ensures { Gives (λ _. (core.new, string_bytes text.new)) result (next_reply core.old line.now) }
-{
-    text.clear();
-    let Some(line) = parse::line(line) else {
-        return Err(LineError::Fault);
-    };
-    answer(core, line, text)?;
-    Ok(())
-}
-
-impl Session {
+impl<K: FileKind> Session<K> {
     /// Before the first line.
-    pub fn new(alloc: Global) -> Session
-        ensures { result.core ≡ None }
+    pub fn new(alloc: Global, state: K) -> Session<K>
+        ensures { result.state ≡ state }
     {
         Session {
-            core: None,
+            state,
             text: String::new(alloc),
         }
     }
 
     /// Takes a line, and keeps what is printed for it.
-    #[tactic(auto, unfolding(crate::specs::ReplayText::reply))]
     pub fn take(&mut self, alloc: Global, line: &[u8]) -> Result<(), LineError>
-        ensures { TakesLine self.old.core line.now self.new result }
+        ensures { TakesLine K.kind self.old.state line.now self.new.state (string_bytes self.new.text) result }
     {
         if line.len() > LONGEST_LINE {
             return Err(LineError::Fault);
         }
-        match &mut self.core {
-            Some(core) => next(core, line, &mut self.text),
-            None => {
-                self.text.clear();
-                self.core = Some(first(alloc, line)?);
-                Ok(())
-            }
-        }
+        self.text.clear();
+        self.state.take(alloc, line, &mut self.text)
     }
 }

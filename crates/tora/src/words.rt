@@ -123,7 +123,8 @@ fn ids(alloc: Global, text: &[u8]) -> Result<Vec<Id>, LineError>
     Ok(ids)
 }
 
-fn is_dash(text: &[u8]) -> bool
+/// Whether the text is the one byte `-`.
+pub fn is_dash(text: &[u8]) -> bool
     ensures { result ≡ is_dash text.now }
 {
     text.len() == 1 && text[0] == b'-'

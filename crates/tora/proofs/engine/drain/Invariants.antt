@@ -4,7 +4,7 @@ use Rattle.tora.proofs.engine.drain.Given as goal
 
 abbrev pub invariant-loop-at : goal.invariant-loop-at
 invariant-loop-at g l =
-    IsRunning l.initial.session.core l.initial.number l.text (g.W.Write.contents l.initial.writer) (g.W.Write.contents l.writer) l.session.core l.number l.rest
+    IsRunning g.K.FileKind.kind l.initial.session.state l.initial.number l.text (g.W.Write.contents l.initial.writer) (g.W.Write.contents l.writer) l.session.state l.number l.rest
 
 abbrev pub decreases-loop-at : goal.decreases-loop-at
 decreases-loop-at g l = length l.rest

@@ -1,0 +1,182 @@
+-- What a simulation of an input prints, and how it ends.
+use Rattle.std.specs.Prelude.{ℕ, ◌+◌, ◌-◌, ◌==◌, ◌&&◌, Bool, not, if◌then◌else◌, codes, List, [], ◌∷◌, ◌++◌, length, filter, Option, Some, None, option_map}
+use Rattle.std.specs.List.{flat_map, list_any}
+use Rattle.std.specs.Option.{option_and_then}
+use Rattle.std.specs.Fmt.{decimal}
+use Rattle.tora_height.specs.Height.{Quintuple}
+use Rattle.tora_core.specs.Numbers.{has_number}
+use Rattle.tora_core.specs.ShowText.{height_text, hop_text}
+use Rattle.tora_world.specs.declared.Event.{Event}
+use Rattle.tora_world.specs.declared.SimError.{SimError}
+use Rattle.tora_world.specs.declared.SimError.TheVariants.{Memory, NoNode, NoDatagram, NotPossible}
+use Rattle.tora_world.specs.World.{World, is_empty, refusal_of, world_after, world_after_all, sent_packets, taken_packets}
+use Rattle.tora.specs.LineText.{Rules, numbered, whole_text, fault_of, IsFirstFaultBy}
+use Rattle.tora.specs.Engine.{IsWholeText, IsFrontOfText}
+use Rattle.tora.specs.SimulationLines.{dests_of, link_of, simulation_line_of}
+use Rattle.tora.specs.Rounds.{is_same_pair, is_parted, rounds}
+use Rattle.tora.specs.Simulator.{started, nodes_of, ends_of, height_at, hop_at}
+use Rattle.tora.specs.declared.ended.Ended.{Ended}
+use Rattle.tora.specs.declared.simulation_line.SimulationLine.{SimulationLine}
+use Rattle.tora.specs.declared.simulation_line.SimulationLine.TheVariants.{Happens, Rounds, Part, Mend, Heights, Sent, Taken}
+
+-- ---- what is kept between two lines
+
+-- a simulation behind its links
+pub record RunningView : Type 0 where
+  pub dests : List ℕ  -- the destinations
+  pub nodes : List ℕ  -- the nodes, ascending
+  pub ends : List (ℕ × ℕ)  -- the link ends, by ascending node and then neighbour
+  pub parted : List (ℕ × ℕ)  -- the pairs of nodes between which rounds deliver nothing
+  pub world : World
+
+pub data Progress : Type 0 where
+  First : Progress  -- before the first line
+  Links : (dests : List ℕ) (links : List (ℕ × ℕ)) → Progress  -- the destinations, and the links so far
+  Runs : RunningView → Progress
+
+-- a simulation of these destinations that begins in a world
+abbrev pub begun_in : List ℕ → World → RunningView
+begun_in dests w = record { dests = dests; nodes = nodes_of w; ends = ends_of w; parted = []; world = w }
+
+-- ---- a line behind the links
+
+abbrev pub Reply : Type 0
+Reply = RunningView × List ℕ
+
+abbrev pub sim_error_number : SimError → ℕ
+sim_error_number Memory = 1
+sim_error_number NoNode = 2
+sim_error_number NoDatagram = 3
+sim_error_number NotPossible = 4
+
+abbrev pub refusal_text : Option SimError → List ℕ
+refusal_text None = []
+refusal_text (Some error) = numbered (codes "refused ") (sim_error_number error)
+
+-- an event: nothing, or `refused N` where it changes nothing
+abbrev pub event_reply : RunningView → Event → Reply
+event_reply s event = (record s { world = world_after s.world event }, refusal_text (refusal_of s.world event))
+
+abbrev pub after_rounds : ℕ → RunningView → World
+after_rounds r s = world_after_all s.world (rounds r s.nodes s.ends s.parted s.world)
+
+-- there is a link between the nodes
+abbrev pub has_end : ℕ → ℕ → List (ℕ × ℕ) → Bool
+has_end a b ends = list_any (λ e. (e.0 == a) && (e.1 == b)) ends
+
+abbrev pub with_parted : ℕ → ℕ → List (ℕ × ℕ) → List (ℕ × ℕ)
+with_parted a b parted = if is_parted parted a b then parted else parted ++ (a, b) ∷ []
+
+abbrev pub without_parted : ℕ → ℕ → List (ℕ × ℕ) → List (ℕ × ℕ)
+without_parted a b parted = filter (λ p. not (is_same_pair (a, b) p)) parted
+
+-- NULL where there is no height
+abbrev pub known_height : Option (Option Quintuple) → Option Quintuple
+known_height None = None
+known_height (Some entry) = entry
+
+-- `node N H hop K`
+unfoldable pub node_line : World → ℕ → ℕ → List ℕ
+node_line w d n = codes "node " ++ decimal n ++ codes " " ++ height_text (known_height (height_at w n d)) ++ codes " hop " ++ hop_text (hop_at w n d) ++ 10 ∷ []
+
+-- the line of each node
+abbrev pub heights_text : World → ℕ → List ℕ → List ℕ
+heights_text w d nodes = flat_map (node_line w d) nodes
+
+-- the heights for a destination, unless it is none of the simulation
+abbrev pub heights_reply : RunningView → ℕ → Option Reply
+heights_reply s d = if has_number d s.dests then Some (s, heights_text s.world d s.nodes) else None
+
+-- `count C`
+abbrev pub count_text : ℕ → List ℕ
+count_text n = numbered (codes "count ") n
+
+-- a reply, unless the line names no link
+abbrev pub where_linked : RunningView → ℕ → ℕ → Reply → Option Reply
+where_linked s a b reply = if has_end a b s.ends then Some reply else None
+
+unfoldable pub running_reply : RunningView → SimulationLine → Option Reply
+running_reply s (Happens event) = Some (event_reply s event)
+running_reply s (Rounds r) = Some (record s { world = after_rounds r s }, [])
+running_reply s (Part a b) = where_linked s a b (record s { parted = with_parted a b s.parted }, [])
+running_reply s (Mend a b) = where_linked s a b (record s { parted = without_parted a b s.parted }, [])
+running_reply s (Heights d) = heights_reply s d
+running_reply s (Sent a b life) = where_linked s a b (s, count_text (length (sent_packets s.world a b life)))
+running_reply s (Taken b a life) = where_linked s b a (s, count_text (length (taken_packets s.world b a life)))
+
+abbrev pub line_reply : RunningView → List ℕ → Option Reply
+line_reply s line = option_and_then (running_reply s) (simulation_line_of line)
+
+-- ---- any line
+
+abbrev pub left_by : Reply → Progress × List ℕ
+left_by r = (Runs r.0, r.1)
+
+-- behind the links: the topology is made, and the line is one of its simulation
+abbrev pub first_run : List ℕ → List (ℕ × ℕ) → List ℕ → Option Reply
+first_run dests links line = option_and_then (λ w. line_reply (begun_in dests w) line) (started links dests)
+
+-- the line behind the last link: at least one link is required
+abbrev pub behind_links : List ℕ → List (ℕ × ℕ) → List ℕ → Option (Progress × List ℕ)
+behind_links dests [] line = None
+behind_links dests (link ∷ links) line = option_map left_by (first_run dests (link ∷ links) line)
+
+abbrev pub link_reply : List ℕ → List (ℕ × ℕ) → List ℕ → Option (ℕ × ℕ) → Option (Progress × List ℕ)
+link_reply dests links line (Some link) = Some (Links dests (links ++ link ∷ []), [])
+link_reply dests links line None = behind_links dests links line
+
+-- behind the first line
+abbrev pub first_progress : List ℕ → Option Progress
+first_progress line = option_map (λ dests. Links dests []) (dests_of line)
+
+unfoldable pub simulation_reply : Progress → List ℕ → Option (Progress × List ℕ)
+simulation_reply First line = option_map (λ progress. (progress, [])) (first_progress line)
+simulation_reply (Links dests links) line = link_reply dests links line (link_of line)
+simulation_reply (Runs s) line = option_map left_by (line_reply s line)
+
+-- ---- the end
+
+-- the first line or a link is still required: a fault of the line that would come next; where there is no such topology, of the last link's line
+abbrev pub end_of_links : ℕ → List ℕ → List (ℕ × ℕ) → Option ℕ
+end_of_links n dests [] = Some n
+end_of_links n dests (link ∷ links) = unless_started (n - 1) (started (link ∷ links) dests)
+  where
+    unless_started : ℕ → Option World → Option ℕ
+    unless_started m None = Some m
+    unless_started m (Some w) = None
+
+unfoldable pub simulation_at_end : Progress → ℕ → Option ℕ
+simulation_at_end First n = Some n
+simulation_at_end (Links dests links) n = end_of_links n dests links
+simulation_at_end (Runs s) n = None
+
+abbrev pub simulation_rules : Rules Progress
+simulation_rules = record { start = First; reply = simulation_reply; at_end = simulation_at_end }
+
+-- ---- all lines
+
+-- what is printed for an input
+abbrev pub simulation_text : List ℕ → List ℕ
+simulation_text bytes = (whole_text simulation_rules bytes).0
+
+-- how an input ends
+abbrev pub simulation_end : List ℕ → Ended
+simulation_end bytes = (whole_text simulation_rules bytes).1
+
+-- the number of the first line that is a fault, if one is
+abbrev pub first_simulation_fault : List ℕ → Option ℕ
+first_simulation_fault bytes = fault_of (simulation_end bytes)
+
+-- of lines from line n on, line m is a fault, and all before it are taken
+abbrev pub IsFirstSimulationFault : Progress → ℕ → List (List ℕ) → ℕ → Type 0
+IsFirstSimulationFault progress n lines m = IsFirstFaultBy simulation_rules progress n lines m
+
+-- ---- what simulate promises
+
+-- Known bytes grew by what is printed for the input, and the input ends so.
+abbrev pub Simulates : List ℕ → Option (List ℕ) → Option (List ℕ) → Ended → Type 0
+Simulates input old new ended = IsWholeText (whole_text simulation_rules) input old new ended
+
+-- The reader gave some bytes, and the writer got a front of what is printed for them.
+abbrev pub IsSimulationBegun : Option (List ℕ) → Option (List ℕ) → Option (List ℕ) → Option (List ℕ) → Type 0
+IsSimulationBegun old_reader new_reader old_writer new_writer = IsFrontOfText (whole_text simulation_rules) old_reader new_reader old_writer new_writer

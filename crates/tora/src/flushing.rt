@@ -1,0 +1,55 @@
+//! The engines, with all that was written handed on.
+ghost use Rattle.std.specs.Prelude.{◌≡◌, ◌≢◌, Ok, IfOk, IfErr, IfSome};
+ghost use Rattle.std.specs.Io.KnownBytes.{IsAtEnd};
+ghost use Rattle.tora.specs.LineText.{fault_of};
+ghost use Rattle.tora.specs.ReplayText.{first_fault, Replays, IsBegun};
+ghost use Rattle.tora.specs.SimulationText.{first_simulation_fault, Simulates, IsSimulationBegun};
+
+use crate::ended::{Ended, ReplayError};
+use crate::replaying::replay;
+use crate::simulating::simulate_in;
+use crate::simulator::Simulator;
+use std::alloc::Global;
+use std::io::{Read, Write};
+
+/// Replays, and flushes the writer: `Write` where that alone fails.
+pub fn replay_and_flush<R: Read, W: Write>(
+    alloc: Global,
+    reader: &mut R,
+    writer: &mut W,
+) -> Result<Ended, ReplayError>
+    ensures whole { IfOk result (λ ended. IfSome (R.remaining reader.old) (λ input.
+        Replays input (W.contents writer.old) (W.contents writer.new) ended)) }
+    ensures at_end { result ≡ Ok Ended.Whole → IsAtEnd (R.remaining reader.new) }
+    ensures fault { IfOk result (λ ended. IfSome (R.remaining reader.old) (λ input. fault_of ended ≡ first_fault input)) }
+    ensures begun { IfErr result (λ e. e ≢ ReplayError.Write →
+        IsBegun (R.remaining reader.old) (R.remaining reader.new) (W.contents writer.old) (W.contents writer.new)) }
+{
+    let result = replay(alloc, reader, writer);
+    match writer.flush() {
+        Ok(()) => result,
+        Err(_) if result.is_ok() => Err(ReplayError::Write),
+        Err(_) => result,
+    }
+}
+
+/// Simulates, and flushes the writer: `Write` where that alone fails.
+pub fn simulate_and_flush<S: Simulator, R: Read, W: Write>(
+    alloc: Global,
+    reader: &mut R,
+    writer: &mut W,
+) -> Result<Ended, ReplayError>
+    ensures whole { IfOk result (λ ended. IfSome (R.remaining reader.old) (λ input.
+        Simulates input (W.contents writer.old) (W.contents writer.new) ended)) }
+    ensures at_end { result ≡ Ok Ended.Whole → IsAtEnd (R.remaining reader.new) }
+    ensures fault { IfOk result (λ ended. IfSome (R.remaining reader.old) (λ input. fault_of ended ≡ first_simulation_fault input)) }
+    ensures begun { IfErr result (λ e. e ≢ ReplayError.Write →
+        IsSimulationBegun (R.remaining reader.old) (R.remaining reader.new) (W.contents writer.old) (W.contents writer.new)) }
+{
+    let result = simulate_in::<S, R, W>(alloc, reader, writer);
+    match writer.flush() {
+        Ok(()) => result,
+        Err(_) if result.is_ok() => Err(ReplayError::Write),
+        Err(_) => result,
+    }
+}

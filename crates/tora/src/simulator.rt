@@ -1,0 +1,57 @@
+//! What the engine asks of a simulator.
+ghost use Rattle.std.specs.Prelude.{◌≡◌, length, option_map, IfOk};
+ghost use Rattle.tora_world.specs.World.{World, refusal_of, world_after, datagram, sent_packets, taken_packets};
+ghost use Rattle.tora.specs.Gives.{Gives};
+ghost use Rattle.tora.specs.Simulator.{started, nodes_of, ends_of, height_at, hop_at};
+
+use crate::words::LineError;
+use std::alloc::{AllocError, Global};
+use tora_arq::Life;
+use tora_height::{Entry, Id};
+use tora_world::{Event, SimError};
+
+/// A simulated world.
+pub trait Simulator: Drop {
+    ghost world: { Self → World };
+
+    /// The first world of links and destinations; a fault where there is no such topology.
+    fn start(alloc: Global, links: &[(Id, Id)], dests: &[Id]) -> Result<Self, LineError>
+        ensures { Gives (λ sim. world sim) result (started links.now dests.now) };
+
+    /// Makes an event happen, and says why it is refused, if it is: it then changes nothing.
+    fn happen(&mut self, event: &Event) -> Result<Option<SimError>, AllocError>
+        ensures refused { IfOk result (λ refused. refused ≡ refusal_of (world self.old) event.now) }
+        ensures after { IfOk result (λ _. world self.new ≡ world_after (world self.old) event.now) };
+
+    /// The nodes, in ascending order.
+    fn nodes(&self, alloc: Global) -> Result<Vec<Id>, AllocError>
+        ensures { IfOk result (λ v. v.items ≡ nodes_of (world self.now)) };
+
+    /// The link ends, in ascending order of the node and then of the neighbour.
+    fn ends(&self, alloc: Global) -> Result<Vec<(Id, Id)>, AllocError>
+        ensures { IfOk result (λ v. v.items ≡ ends_of (world self.now)) };
+
+    /// How many datagrams were ever sent.
+    fn datagrams(&self) -> u64
+        ensures { result ≡ length (world self.now).datagrams };
+
+    /// The sender and the receiver of a datagram, by its number from 1.
+    fn datagram(&self, i: u64) -> Option<(Id, Id)>
+        ensures { result ≡ option_map (λ f. (f.header.sender, f.header.receiver)) (datagram (world self.now) i) };
+
+    /// The height of a node for a destination.
+    fn height(&self, n: Id, d: Id) -> Option<Entry>
+        ensures { result ≡ height_at (world self.now) n d };
+
+    /// The next hop of a node for a destination.
+    fn next_hop(&self, n: Id, d: Id) -> Option<Id>
+        ensures { result ≡ hop_at (world self.now) n d };
+
+    /// How many packets the core of `a` sent to `b` in a life.
+    fn sent(&self, a: Id, b: Id, life: Life) -> usize
+        ensures { result ≡ length (sent_packets (world self.now) a b life) };
+
+    /// How many packets the core of `b` took from `a` in a life.
+    fn taken(&self, b: Id, a: Id, life: Life) -> usize
+        ensures { result ≡ length (taken_packets (world self.now) b a life) };
+}
