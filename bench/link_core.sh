@@ -1,6 +1,6 @@
 #!/usr/bin/env bash
 # Nanoseconds for one packet between two link ends in one thread: submitted, transmitted, delivered, acknowledged.
-# There is no baseline for it yet.
+# `link-packet`: one at a time, a DATA frame and an ACK each. `link-window`: 32 under way, 33 frames for them.
 # usage: bench/link_core.sh [PACKETS]
 set -eu
 top=$(cd "$(dirname "$0")/.." && pwd)

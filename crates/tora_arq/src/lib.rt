@@ -207,4 +207,6 @@ pub enum ArqError {
 }
 
 #[cfg(test)]
+mod shuffled;
+#[cfg(test)]
 mod tests;

@@ -1,15 +1,15 @@
 //! Times the calls of the lower crates, for the scripts under `bench/`. With no words it prints nothing.
 //!
 //! `tora_bench core N` times N steps of a core on four mixes of inputs, `tora_bench link N` N packets that go from one link
-//! end to another and are acknowledged. Each line is a name, nanoseconds an operation (the best of seven runs), and a
-//! number that depends on every result.
+//! end to another and are acknowledged, one at a time and a window at a time. Each line is a name, nanoseconds an operation
+//! (the best of seven runs), and a number that depends on every result.
 #![tactic(auto)]
 
 mod inputs;
 mod links;
 
 use inputs::{fresh_core, mixed_inputs, quiet_update, reacting_update, routed_core, small_core};
-use links::run_link;
+use links::{run_link, run_window};
 use std::alloc::Global;
 use std::io;
 use std::time::{Duration, Instant};
@@ -99,6 +99,7 @@ enum Mix {
     Reacting,
     Links,
     Link,
+    Window,
 }
 
 impl Mix {
@@ -109,6 +110,7 @@ impl Mix {
             Mix::Reacting => "core-reacting",
             Mix::Links => "core-links",
             Mix::Link => "link-packet",
+            Mix::Window => "link-window",
         }
     }
 
@@ -117,7 +119,7 @@ impl Mix {
         match self {
             Mix::Mixed => fresh_core(alloc),
             Mix::Reacting => small_core(alloc),
-            Mix::Quiet | Mix::Links | Mix::Link => routed_core(alloc),
+            Mix::Quiet | Mix::Links | Mix::Link | Mix::Window => routed_core(alloc),
         }
     }
 
@@ -128,6 +130,7 @@ impl Mix {
             Mix::Reacting => run_reacting(core, steps),
             Mix::Links => run_links(core, steps),
             Mix::Link => run_link(alloc, steps).unwrap_or(0),
+            Mix::Window => run_window(alloc, steps).unwrap_or(0),
         }
     }
 
@@ -135,7 +138,7 @@ impl Mix {
     fn count(self, inputs: &[(u64, Input)], steps: u32) -> u64 {
         match self {
             Mix::Mixed => inputs.len() as u64,
-            Mix::Quiet | Mix::Reacting | Mix::Links | Mix::Link => u64::from(steps),
+            Mix::Quiet | Mix::Reacting | Mix::Links | Mix::Link | Mix::Window => u64::from(steps),
         }
     }
 }
@@ -171,7 +174,14 @@ fn main(rt: HostRuntime) -> io::Result<()> {
         None => STEPS,
     };
     let inputs = mixed_inputs(rt.alloc(), steps)?;
-    let mixes = [Mix::Mixed, Mix::Quiet, Mix::Reacting, Mix::Links, Mix::Link];
+    let mixes = [
+        Mix::Mixed,
+        Mix::Quiet,
+        Mix::Reacting,
+        Mix::Links,
+        Mix::Link,
+        Mix::Window,
+    ];
     for mix in mixes {
         if mix.name().starts_with(word.as_str()) {
             time(&rt, mix, inputs.as_slice(), steps)?;

@@ -1,0 +1,158 @@
+//! Two ends over datagrams that are lost, repeated and reordered.
+
+use super::*;
+use std::alloc::Global;
+use std::process::Abort;
+use std::test::Fail;
+use tora_frame::Frame;
+use tora_height::Id;
+use tora_packet::Packet;
+
+/// Numbers that a fixed seed gives.
+#[derive(Drop)]
+struct Dice {
+    seed: u64,
+}
+
+impl Dice {
+    /// A number below `sides`, or 0 where there are no sides.
+    fn roll(&mut self, sides: u64) -> u64 {
+        self.seed = self
+            .seed
+            .wrapping_mul(6_364_136_223_846_793_005)
+            .wrapping_add(1_442_695_040_888_963_407);
+        (self.seed >> 33).checked_rem(sides).unwrap_or(0)
+    }
+}
+
+/// Times under which no loss ends a life.
+const PATIENT: Times = Times {
+    hello: 10,
+    silent: 1_000_000,
+    retry: 5,
+    tries: 1_000_000,
+};
+
+/// Two ends, and the frames on the way, to either of them.
+#[derive(Drop)]
+struct Network {
+    one: LinkEnd,
+    two: LinkEnd,
+    frames: Vec<Frame>,
+    dice: Dice,
+}
+
+fn query(rt: &impl Abort, number: u64) -> Packet {
+    let destination = Id::try_from(number).unwrap_or(Id::MAX);
+    Packet::qry(destination).expect(rt, "a query")
+}
+
+impl Network {
+    fn new(rt: &impl Abort, alloc: Global) -> Network {
+        let mut one = LinkEnd::new(alloc, 1, 2, PATIENT).expect(rt, "memory");
+        let mut two = LinkEnd::new(alloc, 2, 1, PATIENT).expect(rt, "memory");
+        one.open(5, 0);
+        two.open(9, 0);
+        Network {
+            one,
+            two,
+            frames: Vec::new(alloc),
+            dice: Dice { seed: 1 },
+        }
+    }
+
+    /// Puts the first frame due at one end on the way, where there is room: one of eight is lost.
+    fn transmit(&mut self, rt: &impl Abort, is_first: bool, now: u64) {
+        if self.frames.len() >= 64 {
+            return;
+        }
+        let due = if is_first {
+            self.one.poll_transmit(now)
+        } else {
+            self.two.poll_transmit(now)
+        };
+        if let Some(frame) = due {
+            if self.dice.roll(8) > 0 {
+                self.frames.push(frame).expect(rt, "memory");
+            }
+        }
+    }
+
+    /// Hands a frame on the way to its end, any of them: one of eight stays on the way, and comes again.
+    fn hand(&mut self, now: u64) -> bool {
+        let place = self.dice.roll(self.frames.len() as u64) as usize;
+        let Some(frame) = self.frames.get(place).copied() else {
+            return false;
+        };
+        if self.dice.roll(8) > 0 {
+            self.frames.swap_remove(place);
+        }
+        if frame.header().receiver == 1 {
+            self.one.on_frame(&frame, now);
+        } else {
+            self.two.on_frame(&frame, now);
+        }
+        true
+    }
+}
+
+/// Submits the next packet at an end, where it is bound and few wait.
+fn submit_next(rt: &impl Abort, end: &mut LinkEnd, submitted: u64) -> u64 {
+    let Some(life) = end.life() else {
+        return submitted;
+    };
+    if end.waiting() >= 100 {
+        return submitted;
+    }
+    let next = submitted.saturating_add(1);
+    assert_eq!(rt; end.submit(life, query(rt, next)), Ok(()));
+    next
+}
+
+/// Polls the events of an end: after `Up` come the packets in order, each once.
+fn count_delivered(rt: &impl Abort, end: &mut LinkEnd, delivered: u64) -> u64 {
+    let mut delivered = delivered;
+    for _ in 0..64 {
+        match end.poll_event() {
+            Some(LinkEvent::Deliver(_, packet)) => {
+                delivered = delivered.saturating_add(1);
+                assert_eq!(rt; packet, query(rt, delivered));
+            }
+            Some(LinkEvent::Up(_)) => assert_eq!(rt; delivered, 0),
+            Some(LinkEvent::Down(_, reason)) => panic!(rt; "{reason}"),
+            None => {}
+        }
+    }
+    delivered
+}
+
+#[test]
+fn packets_come_out_once_in_order_whatever_comes(rt: HostRuntime) -> Result<(), Fail> {
+    let mut network = Network::new(&rt, rt.alloc());
+    let mut sent = 0;
+    let mut came = 0;
+    let mut back = 0;
+    let mut came_back = 0;
+    let mut handed = 0u64;
+    for turn in 0..40_000u64 {
+        if handed < 10_000 {
+            let now = turn / 8;
+            sent = submit_next(&rt, &mut network.one, sent);
+            back = submit_next(&rt, &mut network.two, back);
+            network.transmit(&rt, turn % 2 == 0, now);
+            network.transmit(&rt, turn % 3 == 0, now);
+            if network.hand(now) {
+                handed = handed.saturating_add(1);
+            }
+            came = count_delivered(&rt, &mut network.two, came);
+            came_back = count_delivered(&rt, &mut network.one, came_back);
+        }
+    }
+    assert_eq!(&rt; handed, 10_000);
+    assert!(&rt;
+        came > 1_000 && came_back > 1_000,
+        "{came} of {sent}, {came_back} of {back}"
+    );
+    assert!(&rt; came <= sent && came_back <= back);
+    Ok(())
+}
