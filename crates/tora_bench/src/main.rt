@@ -44,10 +44,11 @@ fn folded_sends(sum: u64, sends: &Sends) -> u64 {
 }
 
 fn run_mixed(core: &mut Core, inputs: &[(u64, Input)]) -> u64 {
+    let mut sends = Sends::new();
     let mut sum = 0xcbf29ce484222325u64;
     for (now, input) in inputs {
-        sum = match core.step(*input, *now) {
-            Ok(sends) => folded_sends(sum, &sends),
+        sum = match core.step_into(input, *now, &mut sends) {
+            Ok(()) => folded_sends(sum, &sends),
             Err(error) => folded(sum, u64::from(error.number())),
         };
     }
@@ -56,37 +57,41 @@ fn run_mixed(core: &mut Core, inputs: &[(u64, Input)]) -> u64 {
 
 /// One step, and one more than the packets that it broadcasts, or 0 where it is refused: a run in which steps are refused
 /// shows it in its number.
-fn sent(core: &mut Core, input: Option<Input>, now: u64) -> u64 {
+fn sent(core: &mut Core, input: &Option<Input>, now: u64, sends: &mut Sends) -> u64 {
     let Some(input) = input else {
         return 0;
     };
-    match core.step(input, now) {
-        Ok(sends) => (sends.len() as u64).wrapping_add(1),
+    match core.step_into(input, now, sends) {
+        Ok(()) => (sends.len() as u64).wrapping_add(1),
         Err(_) => 0,
     }
 }
 
 fn run_quiet(core: &mut Core, steps: u32) -> u64 {
+    let mut sends = Sends::new();
     let mut sum = 0u64;
     for i in 0..steps {
-        sum = sum.wrapping_add(sent(core, quiet_update(i), 1));
+        sum = sum.wrapping_add(sent(core, &quiet_update(i), 1, &mut sends));
     }
     sum
 }
 
 fn run_reacting(core: &mut Core, steps: u32) -> u64 {
+    let mut sends = Sends::new();
     let mut sum = 0u64;
     for i in 0..steps {
-        sum = sum.wrapping_add(sent(core, reacting_update(i), 1));
+        sum = sum.wrapping_add(sent(core, &reacting_update(i), 1, &mut sends));
     }
     sum
 }
 
 fn run_links(core: &mut Core, steps: u32) -> u64 {
+    let mut sends = Sends::new();
     let mut sum = 0u64;
     for i in 0..steps / 2 {
-        sum = sum.wrapping_add(sent(core, Some(Input::LinkDown(8)), u64::from(i)));
-        sum = sum.wrapping_add(sent(core, Some(Input::LinkUp(8)), u64::from(i)));
+        let now = u64::from(i);
+        sum = sum.wrapping_add(sent(core, &Some(Input::LinkDown(8)), now, &mut sends));
+        sum = sum.wrapping_add(sent(core, &Some(Input::LinkUp(8)), now, &mut sends));
     }
     sum
 }

@@ -17,4 +17,5 @@ pub mod ReactsHop
 pub mod Worked
 pub mod LinkLemmas
 pub mod RowPlaces
+pub mod RowChanges
 pub mod AfterInputs

@@ -16,10 +16,10 @@ use Rattle.tora_core.proofs.ReactsWords.{IsAmong, all-among, all-from_among, amo
 abbrev HasEntry : Row → Type 0
 HasEntry row = (h : Quintuple) × (row.entry ≡ Some h)
 
-abbrev is_down : View → Row → Bool
+abbrev pub is_down : View → Row → Bool
 is_down v row = is_downstream v.height row.entry
 
-among-filter : (test : Row → Bool) (rows : List Row) (row : Row) → IsAmong row (filter test rows) → IsAmong row rows × (test row ≡ true)
+pub among-filter : (test : Row → Bool) (rows : List Row) (row : Row) → IsAmong row (filter test rows) → IsAmong row rows × (test row ≡ true)
 among-filter test [] row i = absurd i
 among-filter test (r ∷ rows) row i =
     cond_both (test r) (r ∷ filter test rows) (filter test rows) (λ (xs : List Row). IsAmong row xs → IsAmong row (r ∷ rows) × (test row ≡ true))
@@ -32,7 +32,7 @@ among-filter test (r ∷ rows) row i =
     first t rest (inl e) = (inl e, ap test (sym e) ∙ t)
     first t rest (inr j) = later (rest j)
 
-filter-among : (test : Row → Bool) (rows : List Row) (row : Row) → IsAmong row rows → test row ≡ true → IsAmong row (filter test rows)
+pub filter-among : (test : Row → Bool) (rows : List Row) (row : Row) → IsAmong row rows → test row ≡ true → IsAmong row (filter test rows)
 filter-among test [] row i t = absurd i
 filter-among test (r ∷ rows) row i t =
     cond_both (test r) (r ∷ filter test rows) (filter test rows) (IsAmong row) (λ _. first i (λ j. filter-among test rows row j t)) (λ f. second f i (λ j. filter-among test rows row j t))
@@ -110,7 +110,7 @@ lowest-some best (row ∷ rows) e =
     let P : Option Row → Type 0 = λ o. fold lower_row_of o rows ≡ None → ⊥ in
     cond_both (is_downstream best.entry row.entry) (Some row) (Some best) P (λ _ f. lowest-some row rows f) (λ _ f. lowest-some best rows f) e
 
-lowest-none : (rows : List Row) (row : Row) → fold lower_row_of None rows ≡ None → IsAmong row rows → ⊥
+pub lowest-none : (rows : List Row) (row : Row) → fold lower_row_of None rows ≡ None → IsAmong row rows → ⊥
 lowest-none [] row e i = i
 lowest-none (r ∷ rows) row e i = lowest-some r rows e
 

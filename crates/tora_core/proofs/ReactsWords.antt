@@ -339,7 +339,7 @@ greatest-none (g ∷ hs) h e i = greatest-some (level_of g) hs e
 abbrev IsReached : List Quintuple → Level → Type 0
 IsReached hs level = (h : Quintuple) × IsAmong h hs × (level_of h ≡ level)
 
-greatest-is_reached : (hs : List Quintuple) (m : Level) → greatest_level hs ≡ Some m → IsReached hs m
+pub greatest-is_reached : (hs : List Quintuple) (m : Level) → greatest_level hs ≡ Some m → IsReached hs m
 greatest-is_reached hs m e = greatest-reached (IsReached hs) hs m (all-from_among (λ (h : Quintuple). IsReached hs (level_of h)) hs (λ h i. (h, i, refl))) e
 
 pub greatest-known : (v : View) (m : Level) → greatest_level (known_heights v) ≡ Some m → IsGreatestLevel v m

@@ -36,7 +36,7 @@ fn fitted(tau: u64, oid: Id, r: u8, delta: i32, id: Id) -> Entry
 }
 
 /// What a node knows of one destination.
-#[derive(Drop)]
+#[derive(Debug, Drop)]
 pub struct Destination {
     me: Id,
     destination: Id,

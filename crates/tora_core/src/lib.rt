@@ -6,6 +6,7 @@
 //! which entries a clear takes are this project's own profile). Only a new core and its text take memory.
 #![tactic(auto)]
 
+mod changes;
 mod destination;
 mod errors;
 mod facts;
@@ -19,6 +20,10 @@ mod show;
 mod table;
 
 use arrayvec::ArrayVec;
+pub use changes::{
+    all_are_cleared, all_are_erased, all_are_told, entries_are_taken, nothing_is_found, rows_come,
+    rows_go,
+};
 pub use errors::{CoreError, StepError};
 pub use facts::{
     inputs_are_accepted, links_follow_inputs, numbers_are_put_in_order, numbers_come_and_go,

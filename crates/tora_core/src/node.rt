@@ -25,7 +25,7 @@ use tora_packet::Packet;
 /// A core takes inputs by `step`, one after the other, each with the tick at which it came. What it keeps, whatever
 /// comes in: a route is required only where the height and every entry are NULL, and a node other than the destination
 /// that has a height has a lower neighbour.
-#[derive(Drop)]
+#[derive(Debug, Drop)]
 pub struct Core {
     me: Id,
     neighbours: ArrayVec<Id, MOST_NEIGHBOURS>,
