@@ -1,8 +1,8 @@
 -- Offers and their answers, one list after another.
-use Rattle.std.proofs.Common.{◌≡◌, ℕ, zero, suc, ◌<◌, Bool, List, [], ◌∷◌, ◌++◌, take, drop, length, set, get_or, refl, sym, ap, ◌∙◌, subst, append_assoc, append-nil, arith}
+use Rattle.std.proofs.Common.{◌≡◌, ℕ, zero, suc, ◌<◌, Bool, List, [], ◌∷◌, ◌++◌, take, drop, length, set, get_or, refl, sym, ap, subst, append_assoc, append-nil, arith}
 use Rattle.tora_seat.specs.declared.Cargo.{Cargo}
 use Rattle.tora_seat.specs.Serving.{Offer, Answers}
-use Rattle.tora_seat.specs.Offers.{place_of, AreOffered, Follows}
+use Rattle.tora_seat.specs.Offers.{AreOffered, Follows}
 
 pub follows_split : (answers : Answers) (before xs ys : List Offer) → Follows answers before (xs ++ ys) → Follows answers before xs × Follows answers (before ++ xs) ys
 follows_split answers before [] ys h = (tt, subst (λ os. Follows answers os ys) (sym (append-nil before)) h)

@@ -1,5 +1,5 @@
 -- Cargoes are offered to one row after another.
-use Rattle.std.proofs.Common.{◌≡◌, ℕ, zero, suc, ◌+◌, ◌<◌, ◌≤◌, Bool, true, false, List, [], ◌∷◌, ◌++◌, take, drop, length, set, get_or, Option, Some, None, if◌then◌else◌, refl, sym, ap, ap₂, ◌∙◌, subst, append_assoc, append-nil, arith}
+use Rattle.std.proofs.Common.{◌≡◌, ℕ, zero, suc, ◌+◌, ◌<◌, Bool, true, false, List, [], ◌∷◌, ◌++◌, take, drop, length, set, get_or, Option, Some, None, if◌then◌else◌, refl, sym, ap, ap₂, ◌∙◌, subst, append_assoc, append-nil, arith}
 use mathlib.Core.Path.{fun_ext}
 use Rattle.tora_packet.specs.declared.Packet.{Packet}
 use Rattle.tora_arq.specs.declared.Life.{Life}
@@ -7,12 +7,12 @@ use Rattle.tora_core.specs.Numbers.{has_number, has_repeat}
 use Rattle.tora_seat.specs.declared.Cargo.{Cargo}
 use Rattle.tora_seat.specs.declared.Cargo.TheVariants as Gives
 use Rattle.tora_seat.specs.declared.rows.LinkRow.{LinkRow}
-use Rattle.tora_seat.specs.Serving.{Offer, Answers, Serving, put_one, offered, with_current, with_pending, after_cut_tried, after_cuts_tried, after_sent, after_broadcast, after_broadcasts}
+use Rattle.tora_seat.specs.Serving.{Offer, Answers, Serving, offered, with_current, with_pending, after_cut_tried, after_cuts_tried, after_sent, after_broadcast, after_broadcasts}
 use Rattle.tora_seat.specs.Offers.{place_of, AreOffered, Follows}
-use Rattle.tora_seat.specs.Rows.{neighbours_of, current_of, pending_of}
+use Rattle.tora_seat.specs.Rows.{neighbours_of}
 use Rattle.tora_seat.specs.Bodies.{TriesCut, SendsTo, on_rows, RowsGo}
 use Rattle.tora_seat.proofs.Chains.{follows_split, offered_more, split_at, set_at, drop_at, length_take, drop_end}
-use Rattle.tora_seat.proofs.Places.{not_before, place_there, neighbours-append, neighbours-length, current_there, pending_there, current_set, pending_set, current_stays, pending_stays}
+use Rattle.tora_seat.proofs.Places.{not_before, place_there, neighbours-append, neighbours-length, current_there, pending_there, current_set, pending_set, current_stays}
 
 -- one row is done
 pub record RowGoes {O : Type 0} (did_offer : O → ℕ → Cargo → Bool → O → Type 0) (one : Answers → Serving → ℕ → Serving) (rows : List LinkRow) (k : ℕ) (outs : O) (new : List LinkRow) (after : O) : Type 0 where
@@ -48,7 +48,7 @@ module _ {O : Type 0} (did_offer : O → ℕ → Cargo → Bool → O → Type 0
       let split = neighbours-append pre (row ∷ rest) in
       let off : has_number row.neighbour (neighbours_of pre) ≡ false = not_before (neighbours_of pre) row.neighbour (neighbours_of rest) (ap has_repeat (sym split) ∙ h) in
       let place : place_of row.neighbour (neighbours_of (pre ++ row ∷ rest)) ≡ length pre =
-          ap (place_of row.neighbour) split ∙ place_there (neighbours_of pre) row.neighbour (neighbours_of rest) off ∙ neighbours-length pre in record {
+      ap (place_of row.neighbour) split ∙ place_there (neighbours_of pre) row.neighbour (neighbours_of rest) off ∙ neighbours-length pre in record {
         made = record { to = row.neighbour; cargo = cargo; put = put } ∷ [];
         offered = (after, subst (λ p. did_offer outs p cargo put after) (sym place) o, refl);
         same = neighbours-append pre (new ∷ rest) ∙ ap (λ n. neighbours_of pre ++ n ∷ neighbours_of rest) e ∙ sym split;

@@ -1,12 +1,12 @@
 -- Offers and inputs that grow by one.
-use Rattle.std.proofs.Common.{◌≡◌, ℕ, Bool, true, false, true≢false, not, ◌&&◌, ◌||◌, ◌⊎◌, inl, inr, List, [], ◌∷◌, ◌++◌, Option, Some, None, nat_eq, if◌then◌else◌, refl, sym, ap, ◌∙◌, subst, append_assoc, append-nil}
+use Rattle.std.proofs.Common.{◌≡◌, ℕ, Bool, true, false, true≢false, ◌&&◌, ◌||◌, List, [], ◌∷◌, ◌++◌, Option, nat_eq, if◌then◌else◌, refl, sym, ap, ◌∙◌, append_assoc, append-nil}
 use Rattle.tora_packet.specs.declared.Packet.{Packet}
 use Rattle.tora_arq.specs.declared.Life.{Life}
 use Rattle.tora_core.specs.declared.Input.{Input}
 use Rattle.tora_core.specs.Numbers.{has_number}
 use Rattle.tora_core.specs.CoreRun.{CoreView, core_after, core_after_all, sends_of}
 use Rattle.tora_seat.specs.Serving.{Offer}
-use Rattle.tora_seat.specs.SeatLaws.{is_packet, is_back, has_back, has_offer, NothingAfterBack, packet_in, packets_put, IsOfLife, AreOfLife, broadcast_to, is_link_down, has_link_down, Begins}
+use Rattle.tora_seat.specs.SeatLaws.{is_back, has_back, has_offer, NothingAfterBack, packet_in, packets_put, IsOfLife, AreOfLife, broadcast_to, is_link_down, has_link_down, Begins}
 use Rattle.tora_seat.proofs.Places.{or_none}
 
 or_assoc : (a b c : Bool) → (a || (b || c)) ≡ ((a || b) || c)

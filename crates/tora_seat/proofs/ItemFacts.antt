@@ -1,7 +1,7 @@
 -- What serving an item keeps at one neighbour.
-use Rattle.std.proofs.Common.{◌≡◌, ℕ, zero, suc, ◌+◌, ◌<◌, ◌≤◌, Bool, true, false, true≢false, not, ◌&&◌, ◌||◌, ◌⊎◌, inl, inr, ⊎_elim, List, [], ◌∷◌, ◌++◌, length, Option, Some, None, nat_eq, if◌then◌else◌, refl, sym, ap, ap₂, ◌∙◌, subst, append_assoc, append-nil, eqb-true, eq-eqb, arith}
+use Rattle.std.proofs.Common.{◌≡◌, ℕ, zero, suc, ◌<◌, ◌≤◌, Bool, true, false, true≢false, not, ◌&&◌, ◌||◌, ◌⊎◌, inl, inr, ⊎_elim, List, [], ◌∷◌, ◌++◌, length, Option, Some, None, nat_eq, if◌then◌else◌, refl, sym, ap, ap₂, ◌∙◌, subst, append_assoc, append-nil, eqb-true, eq-eqb, arith}
 use Rattle.std.proofs.lemmas.Bool.{cond_both, cases_Bool}
-use Rattle.std.specs.Prelude.{slice_get, is_none, is_some}
+use Rattle.std.specs.Prelude.{is_none, is_some}
 use Rattle.tora_packet.specs.declared.Packet.{Packet}
 use Rattle.tora_arq.specs.declared.Life.{Life}
 use Rattle.tora_core.specs.declared.Input.{Input}
@@ -12,10 +12,10 @@ use Rattle.tora_core.specs.CoreRun.{CoreView, refusal_of, up_after, core_after, 
 use Rattle.tora_seat.specs.declared.Cargo.{Cargo}
 use Rattle.tora_seat.specs.declared.Cargo.TheVariants as Gives
 use Rattle.tora_seat.specs.Serving.{SeatState, Offer, Serving, Answers, put_one, offered, with_current, with_pending, after_cut_tried, after_cuts_tried, after_sent, after_broadcast, after_broadcasts, accepting, after_answer, after_step, first_cut, after_settling, after_input, after_down, after_old_down, after_up, begin_serving}
-use Rattle.tora_seat.specs.SeatLaws.{IsInStep, is_packet, packet_in, is_back, has_back, NothingAfterBack, packets_put, IsOfLife, AreOfLife, broadcast_to, is_link_down, has_link_down, Begins}
+use Rattle.tora_seat.specs.SeatLaws.{is_packet, packet_in, has_back, NothingAfterBack, packets_put, IsOfLife, AreOfLife, broadcast_to, is_link_down, has_link_down, Begins}
 use Rattle.tora_seat.proofs.Places.{or_none, turned}
 use Rattle.tora_seat.proofs.Ups.{is_link_up, up_same, up_come, up_gone, core_accepted, same_neighbours, up_accepted, down_accepted, count_up, count_most, count_drops, first_cut_is, first_cut_none, settled_at}
-use Rattle.tora_seat.proofs.Histories.{back-push, nothing_other, nothing_first, put-push, life-push, core-push, broadcast-push, down-push, begins_more, begins_same}
+use Rattle.tora_seat.proofs.Histories.{back-push, nothing_other, nothing_first, put-push, life-push, core-push, broadcast-push, down-push, begins_more}
 
 pub put_at : {A : Type 0} (f : ℕ → A) (k : ℕ) (a : A) → put_one f k a k ≡ a
 put_at f k a = ap (λ b. if b then a else f k) (eq-eqb k k refl)

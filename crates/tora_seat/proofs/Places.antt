@@ -1,8 +1,7 @@
 -- Rows of different neighbours.
-use Rattle.std.proofs.Common.{◌≡◌, ℕ, zero, suc, Bool, true, false, true≢false, ◌||◌, ◌⊎◌, inl, inr, List, [], ◌∷◌, ◌++◌, length, map, Option, Some, None, nat_eq, if◌then◌else◌, refl, sym, ap, ap₂, ◌∙◌, subst, eqb-true, eq-eqb, ne_eqb}
+use Rattle.std.proofs.Common.{◌≡◌, ℕ, suc, Bool, true, false, true≢false, ◌||◌, ◌⊎◌, inl, inr, List, [], ◌∷◌, ◌++◌, length, None, nat_eq, if◌then◌else◌, refl, sym, ap, ap₂, ◌∙◌, eqb-true, eq-eqb, ne_eqb}
 use Rattle.std.proofs.lemmas.Bool.{cases_Bool, eqb-false}
 use mathlib.Core.Path.{fun_ext}
-use Rattle.tora_arq.specs.declared.Life.{Life}
 use Rattle.tora_core.specs.Numbers.{has_number, has_repeat}
 use Rattle.tora_seat.specs.declared.rows.LinkRow.{LinkRow}
 use Rattle.tora_seat.specs.Serving.{put_one}

@@ -1,7 +1,6 @@
 -- Rows of a seat, by place and by neighbour.
 use Rattle.std.proofs.Common.{◌≡◌, ℕ, zero, suc, ◌<◌, ◌≤◌, ◌+◌, ◌*◌, Bool, true, false, ◌&&◌, ◌||◌, ne_eqb, List, [], ◌∷◌, ◌++◌, map, length, set, get_or, slice_get, find, option_map, Option, Some, None, if◌then◌else◌, refl, sym, ap, ap₂, ◌∙◌, subst, append_assoc, arith}
 use mathlib.Core.Path.{fun_ext}
-use Rattle.std.specs.Option.{option_and_then}
 use Rattle.std.specs.Prelude.{MatchOption, is_none}
 use Rattle.tora_arq.specs.declared.Life.{Life}
 use Rattle.tora_core.specs.CoreRun.{CoreView}
@@ -9,11 +8,11 @@ use Rattle.std.specs.List.{AllByRecursion}
 use Rattle.tora_core.specs.Kept.{IsCore}
 use Rattle.tora_core.specs.Numbers.{has_number, has_repeat, IsAscending}
 use Rattle.tora_seat.specs.declared.rows.LinkRow.{LinkRow}
-use Rattle.tora_seat.specs.Serving.{SeatState, put_one, first_cut}
+use Rattle.tora_seat.specs.Serving.{put_one, first_cut}
 use Rattle.std.proofs.lemmas.Option.{slice_get-map, slice_get_within, get_or_from_slice_get}
 use Rattle.tora_seat.specs.Bodies.{IsSeat}
-use Rattle.tora_seat.specs.Serving.{Offer, Serving, with_current, with_pending}
-use Rattle.tora_seat.specs.Rows.{SeatView, state_of, serving_at, steps_of, neighbours_of, current_of, pending_of, is_cut, first_cut_of, new_row}
+use Rattle.tora_seat.specs.Serving.{Offer, with_current, with_pending}
+use Rattle.tora_seat.specs.Rows.{SeatView, serving_at, neighbours_of, current_of, pending_of, is_cut, first_cut_of, new_row}
 use Rattle.tora_seat.proofs.Places.{not_before, neighbours-append, current_there, pending_there, current_set, pending_set, current_stays, pending_stays}
 use Rattle.tora_seat.proofs.Goings.{at_place}
 
@@ -39,10 +38,11 @@ set_row rows place k d new different is e =
     let a = row_at rows place k d is in
     at_place (λ xs i row ys. has_repeat (neighbours_of xs) ≡ false → row.neighbour ≡ k → new.neighbour ≡ row.neighbour →
     (neighbours_of ys ≡ neighbours_of xs) × (put_one (current_of xs) k new.current ≡ current_of ys) × (put_one (pending_of xs) k new.pending ≡ pending_of ys)) rows place d new a.0
-    (λ pre row rest _ _ h n m.
-    (neighbours-append pre (new ∷ rest) ∙ ap (λ j. neighbours_of pre ++ j ∷ neighbours_of rest) m ∙ sym (neighbours-append pre (row ∷ rest)),
-    ap (λ j. put_one (current_of (pre ++ row ∷ rest)) j new.current) (sym n) ∙ current_set pre row new rest m (off_of pre row rest h),
-    ap (λ j. put_one (pending_of (pre ++ row ∷ rest)) j new.pending) (sym n) ∙ pending_set pre row new rest m (off_of pre row rest h)))
+    (λ pre row rest _ _ h n m. (
+      neighbours-append pre (new ∷ rest) ∙ ap (λ j. neighbours_of pre ++ j ∷ neighbours_of rest) m ∙ sym (neighbours-append pre (row ∷ rest)),
+      ap (λ j. put_one (current_of (pre ++ row ∷ rest)) j new.current) (sym n) ∙ current_set pre row new rest m (off_of pre row rest h),
+      ap (λ j. put_one (pending_of (pre ++ row ∷ rest)) j new.pending) (sym n) ∙ pending_set pre row new rest m (off_of pre row rest h),
+    ))
     different a.1 e
 
 keep_row : (rows : List LinkRow) (place : ℕ) (d new : LinkRow) → place < length rows → new.neighbour ≡ (get_or rows place d).neighbour →
@@ -79,7 +79,7 @@ row_lives rows place row different is =
     let lt = slice_get_within rows place row is in
     let e : get_or rows place row ≡ row = get_or_from_slice_get rows place row row is in
     let h = at_place (λ xs i r ys. has_repeat (neighbours_of xs) ≡ false → (current_of xs r.neighbour ≡ r.current) × (pending_of xs r.neighbour ≡ r.pending)) rows place row row lt
-        (λ pre r rest _ _ d. (current_there pre r rest (off_of pre r rest d), pending_there pre r rest (off_of pre r rest d))) different in
+    (λ pre r rest _ _ d. (current_there pre r rest (off_of pre r rest d), pending_there pre r rest (off_of pre r rest d))) different in
     let P : LinkRow → Type 0 = λ r. (current_of rows r.neighbour ≡ r.current) × (pending_of rows r.neighbour ≡ r.pending) in
     let q = subst P e h in
     (slice_get-map (λ (r : LinkRow). r.neighbour) rows place ∙ ap (option_map (λ (r : LinkRow). r.neighbour)) is, q.0, q.1)

@@ -1,5 +1,5 @@
 -- A seat that goes from one part of serving to the next.
-use Rattle.std.proofs.Common.{◌≡◌, ℕ, zero, suc, ◌+◌, ◌-◌, ◌<◌, ◌≤◌, Bool, true, false, List, [], ◌∷◌, ◌++◌, map, slice_get, length, Option, Some, None, MatchOption, IsOk, Result, Ok, Err, if◌then◌else◌, refl, sym, ap, ap₂, ◌∙◌, subst, append_assoc, append-nil, arith}
+use Rattle.std.proofs.Common.{◌≡◌, ℕ, zero, suc, ◌+◌, ◌-◌, ◌<◌, Bool, true, false, List, [], ◌∷◌, ◌++◌, map, slice_get, length, Option, Some, None, MatchOption, IsOk, Result, Ok, Err, if◌then◌else◌, refl, sym, ap, ap₂, ◌∙◌, subst, append_assoc, append-nil, arith}
 use Rattle.std.proofs.lemmas.List.{map_push}
 use Rattle.std.proofs.lemmas.Bool.{false≢true}
 use Rattle.tora_packet.specs.declared.Packet.{Packet}
@@ -18,7 +18,7 @@ use Rattle.tora_seat.specs.declared.rows.LinkRow.{LinkRow}
 use Rattle.tora_seat.specs.Serving.{Offer, Answers, Serving, SeatState, accepting, after_answer, after_step, after_broadcasts, after_settling, first_cut, after_input, with_pending, after_cuts_tried, after_up, after_down, after_old_down, after_packet, after_link_item, after_other_item, after_item_of, begin_serving, serving_of, is_current}
 use Rattle.tora_seat.specs.Offers.{AreOffered, Follows}
 use Rattle.tora_seat.specs.Rows.{SeatView, neighbours_of, current_of, pending_of, steps_of, state_of, serving_at}
-use Rattle.tora_seat.specs.Bodies.{on_rows, RowsGo, SeatGoes}
+use Rattle.tora_seat.specs.Bodies.{RowsGo, SeatGoes}
 use Rattle.tora_seat.proofs.Chains.{follows_split, offered_more}
 
 -- what a refusal is, by what the core answered
@@ -96,7 +96,7 @@ module _ {O : Type 0} (did_offer : O → ℕ → Cargo → Bool → O → Type 0
   step_took input now s outs after core given rows new inputs sends free core_is same sends_is given_is rows_is inputs_is apart r0 =
       let r : RowsGo did_offer (λ answers ks. after_broadcasts answers ks sends) s.rows outs new after = subst (λ xs. RowsGo did_offer (λ answers ks. after_broadcasts answers ks sends) xs outs new after) given_is r0 in
       let built : List Offer → CoreView → List LinkRow → List (Input × ℕ) → Serving =
-          λ offers c rs is. record { seat = record { core = c; current = current_of rs; pending = pending_of rs }; offers = offers; inputs = is; steps = steps_of s.stepped; answer = s.answer } in
+      λ offers c rs is. record { seat = record { core = c; current = current_of rs; pending = pending_of rs }; offers = offers; inputs = is; steps = steps_of s.stepped; answer = s.answer } in
       let kept : map (λ (i : Input). (i, now)) inputs ≡ map (λ (i : Input). (i, now)) s.inputs ++ (input, now) ∷ [] = ap (map (λ (i : Input). (i, now))) inputs_is ∙ map_push (λ (i : Input). (i, now)) s.inputs input in record {
         made = r.made;
         offered = subst (λ ks. AreOffered did_offer ks outs r.made after) apart r.offered;
@@ -131,12 +131,12 @@ settling_done : (most : ℕ) (answers : Answers) (ks : List ℕ) (now : ℕ) (v 
 unfolding after_settling
 settling_done zero answers ks now v e = refl
 settling_done (suc most) answers ks now v e =
-    ap (λ (o : Option ℕ). elim o [ | None ↦ v | Some k ↦ after_settling most answers ks now (after_step answers ks (In.LinkDown k) now v) ]) e
+    ap (λ (o : Option ℕ). elim o [ None ↦ v | Some k ↦ after_settling most answers ks now (after_step answers ks (In.LinkDown k) now v) ]) e
 
 settling_more : (most : ℕ) (answers : Answers) (ks : List ℕ) (now : ℕ) (v : Serving) (k : ℕ) → first_cut v.seat ks ≡ Some k → after_settling (suc most) answers ks now v ≡ after_settling most answers ks now (after_step answers ks (In.LinkDown k) now v)
 unfolding after_settling
 settling_more most answers ks now v k e =
-    ap (λ (o : Option ℕ). elim o [ | None ↦ v | Some k ↦ after_settling most answers ks now (after_step answers ks (In.LinkDown k) now v) ]) e
+    ap (λ (o : Option ℕ). elim o [ None ↦ v | Some k ↦ after_settling most answers ks now (after_step answers ks (In.LinkDown k) now v) ]) e
 
 -- so many rounds are done
 pub record Rounds {O : Type 0} (did_offer : O → ℕ → Cargo → Bool → O → Type 0) (now : ℕ) (first : SeatView) (start : O) (i : ℕ) (s : SeatView) (outs : O) : Type 0 where
@@ -359,7 +359,7 @@ module _ {O : Type 0} (did_offer : O → ℕ → Cargo → Bool → O → Type 0
   item_goes item s outs begun between middle new after e a b =
       let first : SeatView = record s { inputs = []; stepped = None; answer = Says.Nothing } in
       let h = seat_then did_offer after_cuts_tried (λ answers ks. after_item_of answers ks (slice_get ks item.seat) item.now item.what) item.now first outs between middle new after
-          (seat_from did_offer after_cuts_tried item.now begun first outs between middle e a) b in
+      (seat_from did_offer after_cuts_tried item.now begun first outs between middle e a) b in
       (h.made, h.offered, λ answers f. serving_is answers s.core.neighbours (state_of s) item ∙ h.leads answers [] f)
 
 -- ---- a pending cut is forgotten

@@ -1,15 +1,15 @@
 -- Which neighbours are up.
-use Rattle.std.proofs.Common.{◌≡◌, ℕ, zero, suc, ◌+◌, ◌<◌, ◌≤◌, Bool, true, false, true≢false, not, ◌&&◌, ◌||◌, ◌⊎◌, inl, inr, ⊎_elim, List, [], ◌∷◌, length, Option, Some, None, nat_eq, nat_lt, if◌then◌else◌, refl, sym, ap, ◌∙◌, subst, arith, eqb-true, eq-eqb}
+use Rattle.std.proofs.Common.{◌≡◌, ℕ, suc, ◌+◌, ◌<◌, ◌≤◌, Bool, true, false, true≢false, not, ◌&&◌, ◌||◌, ◌⊎◌, inl, inr, ⊎_elim, List, [], ◌∷◌, length, Some, None, nat_eq, nat_lt, if◌then◌else◌, refl, sym, ap, ◌∙◌, subst, arith, eqb-true, eq-eqb}
 use Rattle.std.proofs.lemmas.Bool.{cond_both, cases_Bool, and_parts}
 use Rattle.std.specs.Prelude.{is_none, is_some, cond, fold}
 use Rattle.tora_core.specs.declared.Input.{Input}
 use Rattle.tora_core.specs.declared.Input.TheVariants as In
 use Rattle.tora_core.specs.declared.errors.StepError.TheVariants as Fault
-use Rattle.tora_core.specs.Numbers.{has_number, with_number, without_number, ascending, has_repeat}
-use Rattle.tora_core.specs.CoreRun.{CoreView, refusal_of, up_after, core_after, core_taking, first_core}
+use Rattle.tora_core.specs.Numbers.{has_number, with_number, without_number, ascending}
+use Rattle.tora_core.specs.CoreRun.{CoreView, refusal_of, up_after, core_after, core_taking}
 use Rattle.tora_seat.specs.Serving.{SeatState, first_cut}
 use Rattle.tora_seat.specs.SeatLaws.{is_link_down}
-use Rattle.tora_seat.proofs.Places.{or_none, turned}
+use Rattle.tora_seat.proofs.Places.{turned}
 
 or_swap : (a b c : Bool) → (a || (b || c)) ≡ (b || (a || c))
 or_swap true true c = refl

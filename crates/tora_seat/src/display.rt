@@ -9,9 +9,7 @@ impl fmt::Display for What {
             What::Packet(life, packet) => {
                 write!(f, "packet {}/{} {packet:?}", life.own, life.peer)
             }
-            What::Down(life, reason) => {
-                write!(f, "down {}/{} {reason:?}", life.own, life.peer)
-            }
+            What::Down(life, reason) => { write!(f, "down {}/{} {reason:?}", life.own, life.peer) }
             What::Beat => f.write_str("beat"),
             What::Need(d) => write!(f, "need {d}"),
             What::Show => f.write_str("show"),

@@ -25,8 +25,8 @@ mod seat;
 pub use inputs::accepted_inputs_make_the_core;
 pub use lanes::OutLanes;
 pub use laws::{
-    handed_back_packets_end_their_lives, items_step_few_inputs, lives_are_current_where_links_are_up,
-    lives_have_no_gap,
+    handed_back_packets_end_their_lives, items_step_few_inputs,
+    lives_are_current_where_links_are_up, lives_have_no_gap,
 };
 pub use rows::LinkRow;
 pub use seat::CoreSeat;

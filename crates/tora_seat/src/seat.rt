@@ -204,14 +204,7 @@ impl CoreSeat {
     }
 
     /// A life of the neighbour at a place has ended.
-    fn on_down<O: OutLanes>(
-        &mut self,
-        place: usize,
-        k: Id,
-        life: &Life,
-        now: u64,
-        outs: &mut O,
-    )
+    fn on_down<O: OutLanes>(&mut self, place: usize, k: Id, life: &Life, now: u64, outs: &mut O)
         requires place { slice_get self.old.core.neighbours place ≡ Some k }
         requires lanes { length self.old.core.neighbours ≤ O.count outs.old }
         requires room { length self.old.inputs ≤ 0 }
@@ -367,7 +360,7 @@ impl CoreSeat {
         ensures neighbours { self.new.core.neighbours ≡ self.old.core.neighbours }
         ensures served { (offers : List Offer) × AreOffered O.did_offer self.old.core.neighbours outs.old offers outs.new
             × ((answers : Answers) → Follows answers [] offers
-                → serving_of answers self.old.core.neighbours (state_of self.old) item.entry.now ≡ serving_at item.entry.now.now self.new offers) }
+            → serving_of answers self.old.core.neighbours (state_of self.old) item.entry.now ≡ serving_at item.entry.now.now self.new offers) }
         ensures answer { result ≡ self.new.answer }
     {
         self.begin();

@@ -83,11 +83,7 @@ fn serves(rt: &impl Abort, seat: &mut CoreSeat, lanes: &mut TestLanes, at: usize
 }
 
 /// Node 1 needs a route to each of 4 to 8, the link to 2 is up, and so many cargoes wait in its lane.
-fn needing(
-    rt: &impl Abort,
-    alloc: Global,
-    waiting: usize,
-) -> Result<(CoreSeat, TestLanes), Fail> {
+fn needing(rt: &impl Abort, alloc: Global, waiting: usize) -> Result<(CoreSeat, TestLanes), Fail> {
     let core = Core::new(alloc, 1, &[2, 3], &[4, 5, 6, 7, 8]).expect(rt, "a core");
     let mut seat = CoreSeat::new(alloc, core)?;
     let mut lanes = TestLanes {
@@ -186,16 +182,27 @@ fn life_is_cut_where_its_lane_is_short_of_room(rt: HostRuntime) -> Result<(), Fa
 #[test]
 fn packet_of_the_current_life_is_handed_to_the_core(rt: HostRuntime) -> Result<(), Fail> {
     let (mut seat, mut lanes) = needing(&rt, rt.alloc(), 0)?;
-    let packet = query(&rt, 4);
-    serves(&rt, &mut seat, &mut lanes, 0, What::Packet(FIRST, packet));
+    serves(
+        &rt,
+        &mut seat,
+        &mut lanes,
+        0,
+        What::Packet(FIRST, query(&rt, 4)),
+    );
     let stepped = Stepped {
         from: 2,
         life: FIRST,
-        packet,
+        packet: query(&rt, 4),
     };
     assert_eq!(rt; seat.stepped(), Some(stepped));
-    assert_eq!(rt; seat.inputs(), [Input::Packet(2, packet)].as_slice());
-    serves(&rt, &mut seat, &mut lanes, 0, What::Packet(SECOND, packet));
+    assert_eq!(rt; seat.inputs(), [Input::Packet(2, query(&rt, 4))].as_slice());
+    serves(
+        &rt,
+        &mut seat,
+        &mut lanes,
+        0,
+        What::Packet(SECOND, query(&rt, 4)),
+    );
     assert_eq!(rt; seat.stepped(), None);
     Ok(())
 }

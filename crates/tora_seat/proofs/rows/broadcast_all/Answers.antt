@@ -1,7 +1,7 @@
-use Rattle.std.proofs.Common.{◌≡◌, ◌≤◌, length, ap, sym, subst, ◌∙◌, arith}
+use Rattle.std.proofs.Common.{◌≡◌, length, ap, sym, ◌∙◌, arith}
 use Rattle.tora_core.specs.Numbers.{has_repeat}
 use Rattle.tora_seat.proofs.Places.{neighbours-length}
-use Rattle.tora_seat.proofs.Goings.{sending_none, sending_more, sending_all}
+use Rattle.tora_seat.proofs.Goings.{sending_more, sending_all}
 use Rattle.tora_seat.proofs.rows.broadcast_all.Goals as goal
 
 pub broadcast-requires-clause-lanes : goal.broadcast-requires-clause-lanes

@@ -1,5 +1,5 @@
 use Rattle.std.proofs.Common.{◌≡◌}
-use Rattle.tora_seat.specs.Serving.{after_cuts_tried, after_broadcast}
+use Rattle.tora_seat.specs.Serving.{after_cuts_tried}
 use Rattle.tora_seat.proofs.Goings.{Going}
 use Rattle.tora_seat.proofs.rows.try_cuts.Given as goal
 

@@ -1,4 +1,4 @@
-use Rattle.std.proofs.Common.{◌≡◌, List, sym, ap, subst, ◌∙◌}
+use Rattle.std.proofs.Common.{ap, ◌∙◌}
 use Rattle.tora_core.specs.Numbers.{has_repeat}
 use Rattle.tora_seat.specs.Serving.{first_cut}
 use Rattle.tora_seat.specs.Rows.{SeatView, state_of, first_cut_of}

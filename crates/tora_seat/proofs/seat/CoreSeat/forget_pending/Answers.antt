@@ -1,4 +1,3 @@
-use Rattle.std.proofs.Common.{◌≡◌}
 use Rattle.tora_seat.specs.Rows.{SeatView}
 use Rattle.tora_seat.proofs.Seats.{forget_seat, seat_set, forget_serves}
 use Rattle.tora_seat.proofs.seat.CoreSeat.forget_pending.Goals as goal

@@ -1,4 +1,4 @@
-use Rattle.std.proofs.Common.{◌≡◌, ◌≤◌, ◌+◌, ◌*◌, length, map, ap, ◌∙◌, arith}
+use Rattle.std.proofs.Common.{◌≡◌, length, map, ap, ◌∙◌, arith}
 use Rattle.tora_seat.specs.Rows.{new_row}
 use Rattle.tora_seat.proofs.Seats.{new_seat}
 use Rattle.tora_seat.proofs.seat.CoreSeat.new.Goals as goal

@@ -1,4 +1,4 @@
-use Rattle.std.proofs.Common.{◌≡◌, None, ap}
+use Rattle.std.proofs.Common.{None, ap}
 use Rattle.tora_core.specs.declared.Input.TheVariants as In
 use Rattle.tora_seat.specs.Serving.{with_current, after_input}
 use Rattle.tora_seat.specs.Rows.{SeatView}

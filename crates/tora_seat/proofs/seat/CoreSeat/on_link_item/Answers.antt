@@ -1,4 +1,3 @@
-use Rattle.std.proofs.Common.{◌≡◌}
 use Rattle.tora_seat.specs.Rows.{SeatView}
 use Rattle.tora_seat.proofs.Steps.{link_up_goes, link_packet_goes, link_down_goes, link_need_goes, link_beat_goes, link_show_goes, link_quit_goes}
 use Rattle.tora_seat.proofs.seat.CoreSeat.on_link_item.Goals as goal
@@ -29,4 +28,3 @@ returns-in-Quit-clause-goes g c =
     let i = c.self-in-Quit.inside in
     let s : SeatView = record { core = i.core; rows = i.rows.items; inputs = i.inputs.items; stepped = i.stepped; answer = i.answer } in
     link_quit_goes g.O.OutLanes.did_offer c.args.now c.args.self.now c.args.outs.now c.args.k c.args.what.now s c.self-in-Quit.view_is c.in-Quit.is
-

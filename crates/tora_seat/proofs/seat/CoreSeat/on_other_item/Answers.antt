@@ -1,4 +1,4 @@
-use Rattle.std.proofs.Common.{◌≡◌, refl}
+use Rattle.std.proofs.Common.{refl}
 use Rattle.tora_seat.specs.Rows.{SeatView}
 use Rattle.tora_seat.proofs.Steps.{other_need_goes, other_idle_goes, other_show_goes, other_quit_goes}
 use Rattle.tora_seat.proofs.seat.CoreSeat.on_other_item.Goals as goal
@@ -29,4 +29,3 @@ returns-in-Down-clause-goes g c = other_idle_goes g.O.OutLanes.did_offer c.args.
 
 pub returns-in-Beat-clause-goes : goal.returns-in-Beat-clause-goes
 returns-in-Beat-clause-goes g c = other_idle_goes g.O.OutLanes.did_offer c.args.now c.args.self.now c.args.outs.now c.args.what.now _ c.in-Beat.is refl
-

@@ -1,4 +1,4 @@
-use Rattle.std.proofs.Common.{◌≡◌, None, Some, ap}
+use Rattle.std.proofs.Common.{Some, ap}
 use Rattle.tora_core.specs.declared.Input.TheVariants as In
 use Rattle.tora_seat.specs.Serving.{with_current, after_input, after_old_down, after_up}
 use Rattle.tora_seat.specs.Rows.{SeatView}

@@ -1,4 +1,3 @@
-use Rattle.std.proofs.Common.{◌≡◌}
 use Rattle.tora_seat.specs.Rows.{SeatView}
 use Rattle.tora_seat.proofs.Seats.{set_seat, seat_set, set_serves}
 use Rattle.tora_seat.proofs.seat.CoreSeat.set_current.Goals as goal

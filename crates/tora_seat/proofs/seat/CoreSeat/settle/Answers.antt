@@ -1,4 +1,4 @@
-use Rattle.std.proofs.Common.{◌≡◌, ◌<◌, ◌+◌, length, ap, sym, ◌∙◌, arith}
+use Rattle.std.proofs.Common.{◌≡◌, ◌<◌, length, ap, sym, ◌∙◌, arith}
 use Rattle.tora_seat.specs.Rows.{SeatView}
 use Rattle.tora_seat.proofs.Steps.{rounds_more, rounds_done, rounds_all}
 use Rattle.tora_seat.proofs.seat.CoreSeat.settle.Goals as goal

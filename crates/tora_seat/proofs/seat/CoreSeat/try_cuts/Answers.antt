@@ -1,4 +1,4 @@
-use Rattle.std.proofs.Common.{◌≡◌, arith}
+use Rattle.std.proofs.Common.{arith}
 use Rattle.std.proofs.lemmas.List.{with_items_is}
 use Rattle.tora_seat.specs.Serving.{after_cuts_tried}
 use Rattle.tora_seat.specs.Rows.{SeatView}
