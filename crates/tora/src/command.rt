@@ -43,11 +43,23 @@ pub fn command<'a>(alloc: Global) -> Result<Command<'a>, AllocError> {
     let replay = Command::new(alloc, "replay")
         .about("Replays the inputs of one node, from standard input to standard output")
         .after_help(FORMATS);
+    let config = Arg::new(alloc, "CONFIG")
+        .required(true)
+        .help("The configuration, a TOML file");
+    let check = Arg::new(alloc, "check")
+        .long("check")
+        .action(ArgAction::SetTrue)
+        .help("Reads the configuration, says what is wrong with it, and ends");
+    let node = Command::new(alloc, "node")
+        .about("Runs a node over UDP on the loopback, with its commands on standard input")
+        .arg(config)?
+        .arg(check)?;
     Command::new(alloc, "tora")
         .bin_name("tora")?
         .version("0.1.0")
         .about("A TORA router node")
         .after_help(FORMATS)
         .arg(verbose)?
-        .subcommand(replay)
+        .subcommand(replay)?
+        .subcommand(node)
 }

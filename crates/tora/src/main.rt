@@ -15,6 +15,7 @@ mod engine;
 mod flushing;
 mod height_text;
 mod line;
+mod node_command;
 mod parse;
 mod recent;
 mod replaying;
@@ -47,6 +48,10 @@ pub use words::numbers_are_read_as_printed;
 const INPUT: u8 = 1;
 
 const USAGE: u8 = 2;
+
+const SOCKET: u8 = 3;
+
+const LIFE: u8 = 4;
 
 const MEMORY: u8 = 5;
 
@@ -135,7 +140,18 @@ fn main(rt: HostRuntime) -> ExitCode {
         return stop(&rt, MEMORY, "memory");
     };
     match command.try_get_matches_from(words.as_slice()) {
-        Ok(matches) => replay_input(&rt, matches.get_flag("verbose")),
+        Ok(matches) => {
+            let is_verbose = matches.get_flag("verbose");
+            match matches.subcommand() {
+                Some(("node", node)) => {
+                    let path = node.get_str("CONFIG").unwrap_or("");
+                    let is_check = node.get_flag("check");
+                    let (mut reader, mut writer) = (rt.stdin(), io::writer(&rt));
+                    node_command::run(&rt, path, is_check, is_verbose, &mut reader, &mut writer)
+                }
+                _ => replay_input(&rt, is_verbose),
+            }
+        }
         Err(error) => usage(&rt, &error),
     }
 }
