@@ -84,7 +84,7 @@ listed : (text ns : List ℕ) → split 44 text ≡ map decimal ns → text ≡ 
 listed text [] e = let one = length-slice_split (λ x. x == 44) text in absurd (omega (arith, ap length e))
 listed text (n ∷ ns) e = sym (join_with_byte-slice_split 44 text) ∙ ap (join_with_byte 44) e
 
-list_found : (text ns : List ℕ) → list_of text ≡ Some ns → (text ≡ list_text ns) × All IsId ns
+pub list_found : (text ns : List ℕ) → list_of text ≡ Some ns → (text ≡ list_text ns) × All IsId ns
 unfolding list_of
 list_found text ns h =
     elim (is_dash text) as (λ b. is_dash text ≡ b → cond b (Some []) (ids_of (split 44 text)) ≡ Some ns → (text ≡ list_text ns) × All IsId ns) [
@@ -92,7 +92,7 @@ list_found text ns h =
       | false ↦ λ e g. let r = pieces_found (split 44 text) ns g in (listed text ns r.pieces_are, r.ids)
     ] refl h
 
-list_here : (ns : List ℕ) → All IsId ns → list_of (list_text ns) ≡ Some ns
+pub list_here : (ns : List ℕ) → All IsId ns → list_of (list_text ns) ≡ Some ns
 unfolding list_of
 list_here [] h = refl
 list_here (n ∷ []) h =

@@ -13,3 +13,5 @@ pub mod KindLaws
 pub mod RoundLaws
 pub mod SimulationLaws
 pub mod Flushed
+pub mod SimulationFound
+pub mod SimulationHere

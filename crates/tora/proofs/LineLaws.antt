@@ -156,7 +156,7 @@ bytes_here word bytes h =
 
 -- ---- orders
 
-or_else_some : (front text : List ℕ) (read : List ℕ → Option Order) (other : Option Order) (o : Order) → or_else (after front text) read other ≡ Some o
+pub or_else_some : {A : Type 0} (front text : List ℕ) (read : List ℕ → Option A) (other : Option A) (o : A) → or_else (after front text) read other ≡ Some o
     → ((rest : List ℕ) × (text ≡ front ++ rest) × (read rest ≡ Some o)) ⊎ (other ≡ Some o)
 or_else_some front text read other o h =
     elim (after front text) as (λ r. after front text ≡ r → or_else r read other ≡ Some o → ((rest : List ℕ) × (text ≡ front ++ rest) × (read rest ≡ Some o)) ⊎ (other ≡ Some o)) [

@@ -15,3 +15,4 @@ pub mod SimulationText
 pub mod RunningView
 pub mod SimulationView
 pub mod Statuses
+pub mod SimulationGrammar

@@ -41,6 +41,7 @@ use std::io;
 use std::io::{BufWriter, Write};
 use std::process::ExitCode;
 pub use simulating::{simulate_in, simulation_fault_is_the_first};
+pub use simulation_parse::simulation_lines_are_read_as_written;
 pub use simulator::Simulator;
 pub use words::numbers_are_read_as_printed;
 

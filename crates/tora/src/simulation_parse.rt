@@ -1,6 +1,7 @@
 //! Lines of a simulation file to what they say.
-ghost use Rattle.std.specs.Prelude.{◌≡◌, ℕ, ◌<◌, ◌≤◌, Some, IfSome, IfOk, All, length, option_map};
-ghost use Rattle.tora_world.specs.declared.Event.{Event as AnyEvent};
+ghost use Rattle.std.specs.Prelude.{◌≡◌, ℕ, ◌<◌, List, Some, IfSome, IfOk, All};
+ghost use Rattle.tora.specs.declared.simulation_line.SimulationLine.{SimulationLine as AnySimulationLine};
+ghost use Rattle.tora.specs.SimulationGrammar.{SpellsSimulationLine, SpellsDests, SpellsLink};
 ghost use Rattle.tora.specs.Gives.{Gives};
 ghost use Rattle.tora.specs.SimulationLines.{is_word, pair_of, life_number_of, life_of, lane_of, call_of, torn_of, rounds_of, arm_of, restart_of, end_event_of, node_event_of, order_line_of, simulation_line_of, dests_of, link_of};
 
@@ -257,3 +258,13 @@ pub fn link(text: &[u8]) -> Option<(Id, Id)>
 {
     pair(after(b"link ", text)?)
 }
+
+/// A line of a simulation file is read exactly where it is written as the formats say.
+pub fn simulation_lines_are_read_as_written()
+    ensures found { (text : List ℕ) (line : AnySimulationLine) → simulation_line_of text ≡ Some line → SpellsSimulationLine text line }
+    ensures only { (text : List ℕ) (line : AnySimulationLine) → SpellsSimulationLine text line → simulation_line_of text ≡ Some line }
+    ensures dests_found { (text dests : List ℕ) → dests_of text ≡ Some dests → SpellsDests text dests }
+    ensures dests_only { (text dests : List ℕ) → SpellsDests text dests → dests_of text ≡ Some dests }
+    ensures link_found { (text : List ℕ) (p : ℕ × ℕ) → link_of text ≡ Some p → SpellsLink text p }
+    ensures link_only { (text : List ℕ) (p : ℕ × ℕ) → SpellsLink text p → link_of text ≡ Some p }
+{}

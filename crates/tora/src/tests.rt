@@ -37,6 +37,8 @@ struct ArrayWriter {
     bytes: [u8; ROOM],
     len: usize,
     until_failure: u64,
+    /// Whether it fails to hand on what was written.
+    keeps: bool,
 }
 
 impl ArrayWriter {
@@ -45,6 +47,7 @@ impl ArrayWriter {
             bytes: [0; ROOM],
             len: 0,
             until_failure,
+            keeps: false,
         }
     }
 
@@ -71,6 +74,9 @@ impl Write for ArrayWriter {
     }
 
     fn flush(&mut self) -> io::Result<()> {
+        if self.keeps {
+            return Err(Error::from(IoErrorKind::Other));
+        }
         Ok(())
     }
 }
@@ -514,6 +520,97 @@ fn recent_lines_are_kept(rt: HostRuntime) {
         let found = replay(rt.alloc(), &mut reader, &mut writer);
         if found != Ok(Ended::Fault(3)) || reader.line(3) != Some(b"1 shows".as_slice()) {
             refused = refused.saturating_add(1);
+        }
+    }
+    assert!(&rt;
+        refused <= 1,
+        "one refusal of memory at most, not {refused}"
+    );
+}
+
+/// A flush that fails at the end is a failed write, also behind a fault; all was written.
+#[test]
+fn failed_flushes(rt: HostRuntime) {
+    let rows = [
+        (ROUTE, ROUTE_TEXT, Ended::Whole),
+        ("", "fault 1\n", Ended::Fault(1)),
+    ];
+    for (input, text, ended) in rows {
+        for keeps in [false, true] {
+            let mut writer = ArrayWriter::new(0);
+            writer.keeps = keeps;
+            let mut found = replay_and_flush(rt.alloc(), &mut input.as_bytes(), &mut writer);
+            if found == Err(ReplayError::Memory) {
+                writer = ArrayWriter::new(0);
+                writer.keeps = keeps;
+                found = replay_and_flush(rt.alloc(), &mut input.as_bytes(), &mut writer);
+            }
+            let wanted = if keeps {
+                Err(ReplayError::Write)
+            } else {
+                Ok(ended)
+            };
+            assert_eq!(&rt; found, wanted, "at {input:?}");
+            assert_eq!(&rt; writer.text(), text.as_bytes(), "at {input:?}");
+        }
+    }
+}
+
+/// The exit status of a command line that does not replay, or none where memory was refused.
+fn usage_status(rt: &HostRuntime, words: &[&str]) -> Option<ExitCode> {
+    let command = command(rt.alloc()).ok()?;
+    match command.try_get_matches_from(words) {
+        Ok(_) => None,
+        Err(error) if error.kind() == ErrorKind::OutOfMemory => None,
+        Err(error) => Some(usage(rt, &error)),
+    }
+}
+
+/// Help that is asked for is no fault of usage; a word that is not known is one.
+#[test]
+fn usage_statuses(rt: HostRuntime) {
+    let rows = [
+        (["tora", "--help"], ExitCode::SUCCESS),
+        (["tora", "--version"], ExitCode::SUCCESS),
+        (["tora", "walk"], ExitCode::from(2)),
+        (["tora", "--quiet"], ExitCode::from(2)),
+    ];
+    let mut refused = 0u64;
+    for (words, status) in rows {
+        match usage_status(&rt, words.as_slice()) {
+            None => refused = refused.saturating_add(1),
+            Some(found) => assert!(&rt; found == status, "at {words:?}"),
+        }
+    }
+    assert!(&rt;
+        refused <= 1,
+        "one refusal of memory at most, not {refused}"
+    );
+}
+
+/// Whether `-v` is among the words, or nothing where they are no command line.
+fn is_verbose(rt: &HostRuntime, words: &[&str]) -> Option<bool> {
+    let command = command(rt.alloc()).ok()?;
+    let matches = command.try_get_matches_from(words).ok()?;
+    Some(matches.get_flag("verbose"))
+}
+
+/// `-v` stands before or behind the word.
+#[test]
+fn verbose_words(rt: HostRuntime) {
+    let rows = [
+        (["tora", "-v", "replay"].as_slice(), true),
+        (["tora", "replay", "-v"].as_slice(), true),
+        (["tora", "replay", "--verbose"].as_slice(), true),
+        (["tora", "-v"].as_slice(), true),
+        (["tora", "replay"].as_slice(), false),
+        (["tora"].as_slice(), false),
+    ];
+    let mut refused = 0u64;
+    for (words, wanted) in rows {
+        match is_verbose(&rt, words) {
+            None => refused = refused.saturating_add(1),
+            Some(found) => assert_eq!(&rt; found, wanted, "at {words:?}"),
         }
     }
     assert!(&rt;
