@@ -1,7 +1,8 @@
 //! `tora node CONFIG`: a node over UDP on the loopback and real life files.
-ghost use Rattle.std.specs.Prelude.{◌≡◌};
+ghost use Rattle.std.specs.Prelude.{◌≡◌, IfOk};
 ghost use Rattle.std.specs.Process.{exit_status};
 ghost use Rattle.tora.specs.Statuses.{status_of_node, status_of_fault};
+ghost use Rattle.tora_config.specs.NodeConfig.{IsNodeConfig};
 
 use crate::{INPUT, LIFE, MEMORY, SOCKET, stop};
 use log::Log;
@@ -67,7 +68,9 @@ fn read<R: Files<File = File> + AllocGlobal + Eprint>(
     rt: &R,
     path: &str,
     is_verbose: bool,
-) -> Result<NodeConfig, Fault> {
+) -> Result<NodeConfig, Fault>
+    ensures { IfOk result IsNodeConfig }
+{
     let text = match fs::read_to_string(rt, path) {
         Ok(text) => text,
         Err(error) if error.kind() == ErrorKind::OutOfMemory => return Err(Fault::Memory),
@@ -187,13 +190,12 @@ pub fn run<
 }
 
 /// The node of a configuration.
-fn node_of(alloc: Global, config: &NodeConfig) -> Result<Config, Fault> {
-    let mut peers = Vec::new(alloc);
-    for link in config.links.as_slice() {
-        let Ok(()) = peers.push(link.peer) else {
-            return Err(Fault::Memory);
-        };
-    }
+fn node_of(alloc: Global, config: &NodeConfig) -> Result<Config, Fault>
+    requires { IsNodeConfig config.now }
+{
+    let Ok(peers) = config.links.iter().map(|link| link.peer).collect::<Vec<u32>>(alloc) else {
+        return Err(Fault::Memory);
+    };
     match Config::new(alloc, config.node, peers.as_slice(), config.dests.as_slice()) {
         Ok(node) => Ok(node),
         Err(CoreError::Memory) => Err(Fault::Memory),
