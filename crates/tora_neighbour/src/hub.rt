@@ -10,10 +10,10 @@ ghost use Rattle.tora_neighbour.specs.declared.hub.Put.{Put};
 use std::sync::Wait;
 use tora_lane::{Cargo, Gone, What};
 
-/// What was put, and its tick.
+/// What was put by a neighbour's thread, and its tick.
 #[derive(Clone, Copy, Debug, PartialEq, Eq)]
 pub struct Put {
-    /// The tick.
+    /// The tick of 100 ms at which it was put.
     pub now: u64,
     /// What was put.
     pub what: What,

@@ -29,7 +29,10 @@ impl Model for ListHub {
 }
 
 impl ListHub {
-    /// A hub with these cargoes, which keeps as much as there is room for.
+    /// A hub with these cargoes to be taken, which keeps up to `room` things that are put. It makes room for them at once.
+    ///
+    /// # Errors
+    /// Want of memory.
     pub fn new(alloc: Global, room: usize, cargoes: Vec<Cargo>) -> Result<ListHub, AllocError>
         ensures { IfOk result (λ h. h ≡ record { puts = []; room = room; takes = []; cargoes = cargoes.items; gone = false }) }
     {
@@ -42,7 +45,7 @@ impl ListHub {
         })
     }
 
-    /// What was put.
+    /// What was put, the first of it first.
     pub fn kept(&self) -> &[Put]
         ensures { result.now ≡ self.now.puts }
     {

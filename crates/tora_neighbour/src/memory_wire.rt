@@ -61,7 +61,7 @@ impl<const N: usize> Model for MemWire<N> {
 }
 
 impl<const N: usize> MemWire<N> {
-    /// A wire with these datagrams to come.
+    /// A wire with these datagrams to come, of any length.
     pub fn new(datagrams: Vec<Vec<u8>>) -> MemWire<N>
         ensures { result ≡ record { tells = true; coming = map bytes_of datagrams.items; tries = []; failures = 0 } }
     {

@@ -30,7 +30,21 @@ fn fault_of(peer: Id, ending: Ending) -> Option<NodeError>
     }
 }
 
-/// Runs the link to a neighbour.
+/// Runs the link to a neighbour, whose end was never opened. It may wait, and no clause says that it returns.
+///
+/// In each turn, with one tick of 100 ms, it
+/// 1. draws a number for a closed end, and opens it;
+/// 2. hands the tick to the end;
+/// 3. takes the cargoes that wait, at most 256, and submits or cuts each in its own life (a packet of another life than the
+///    bound one is dropped);
+/// 4. sends each frame that is due, until none is;
+/// 5. receives once, and takes in the datagram that came, if one did;
+/// 6. puts each event of the end;
+/// 7. puts a beat in the first turn, and where ten ticks have passed since the last one.
+///
+/// It ends where the life file draws no number (`Life`), where a hundred calls of the wire in a row have failed (`Wire`;
+/// it makes no further call of the wire, cuts the bound life, if there is one, and puts the events that are left), and
+/// where the hub answers `Gone` (no fault). A failed send counts as a try of its frame; a failed receive gives nothing.
 pub fn run_neighbour<R: Wait, D: Disk, W: Wire, C: Clock, H: Hub>(
     rt: &R,
     link: Link<D, W>,
