@@ -1,23 +1,20 @@
 -- The text that shows a core: for each destination a line, and then one for each neighbour whose link is up.
 use Rattle.std.specs.Prelude.{ℕ, Bool, true, false, codes, List, [], ◌∷◌, ◌++◌, Option, None, Some}
 use Rattle.std.specs.List.{flat_map}
-use Rattle.std.specs.Fmt.{decimal, signed_decimal}
+use Rattle.std.specs.Fmt.{decimal}
 use Rattle.tora_height.specs.declared.Direction.{Direction}
 use Rattle.tora_height.specs.declared.Direction.TheVariants.{Up, Down, Undirected}
 use Rattle.tora_height.specs.Height.{Quintuple}
+use Rattle.tora_height.specs.HeightText.{written_height}
 use Rattle.tora_height.specs.HeightOrder.{link_status}
 use Rattle.tora_core.specs.declared.rows.Row.{Row}
 use Rattle.tora_core.specs.View.{View, next_hop_of}
 use Rattle.tora_core.specs.CoreRun.{CoreView}
 
--- a reference level as tau,oid,r
-abbrev pub level_text : Quintuple → List ℕ
-level_text h = decimal h.tau ++ codes "," ++ decimal h.oid ++ codes "," ++ decimal h.r
-
 -- a height as (tau,oid,r,delta,id), and NULL as -
 abbrev pub height_text : Option Quintuple → List ℕ
 height_text None = codes "-"
-height_text (Some h) = codes "(" ++ level_text h ++ codes "," ++ signed_decimal h.delta ++ codes "," ++ decimal h.id ++ codes ")"
+height_text (Some h) = written_height h
 
 abbrev pub flag_text : Bool → List ℕ
 flag_text true = codes "1"

@@ -61,4 +61,6 @@ pub enum Input {
 pub type Sends = ArrayVec<Packet, MOST_DESTINATIONS>;
 
 #[cfg(test)]
+mod plain;
+#[cfg(test)]
 mod tests;

@@ -1,2 +1,3 @@
 pub mod Height
 pub mod HeightOrder
+pub mod HeightText

@@ -12,6 +12,7 @@ ghost use Rattle.tora_height.specs.HeightOrder.{IsLower, IsLowerLevel, level_cmp
 ghost use Rattle.tora_height.specs.declared.Level.{Level as AnyLevel};
 
 use std::cmp::Ordering;
+use std::fmt;
 use std::marker::Model;
 use thiserror::Error;
 
@@ -215,6 +216,36 @@ impl Height {
         ensures { result ≡ is_lt (height_cmp self.now other.now) }
     {
         self < other
+    }
+}
+
+/// A reference level as `tau,oid,r`.
+impl fmt::Display for Level {
+    ghost use Rattle.std.specs.Prelude.{Some};
+    ghost use Rattle.tora_height.specs.HeightText.{written_level};
+
+    ghost output = { λ l. Some (written_level l) };
+
+    fn fmt<W: fmt::Write>(&self, f: &mut fmt::Formatter<W>) -> fmt::Result {
+        let tau = self.tau;
+        let oid = self.oid;
+        let r = self.r;
+        write!(f, "{tau},{oid},{r}")
+    }
+}
+
+/// A height as `(tau,oid,r,delta,id)`.
+impl fmt::Display for Height {
+    ghost use Rattle.std.specs.Prelude.{Some};
+    ghost use Rattle.tora_height.specs.HeightText.{written_height};
+
+    ghost output = { λ h. Some (written_height h) };
+
+    fn fmt<W: fmt::Write>(&self, f: &mut fmt::Formatter<W>) -> fmt::Result {
+        let level = self.level();
+        let delta = self.delta;
+        let id = self.id;
+        write!(f, "({level},{delta},{id})")
     }
 }
 
