@@ -1,8 +1,9 @@
 -- Offers and their answers, one list after another.
-use Rattle.std.proofs.Common.{◌≡◌, ℕ, zero, suc, ◌<◌, Bool, List, [], ◌∷◌, ◌++◌, take, drop, length, set, get_or, refl, sym, ap, subst, append_assoc, append-nil, arith}
+use Rattle.std.specs.Option.{option_map_or}
+use Rattle.std.proofs.Common.{◌≡◌, ℕ, zero, suc, ◌<◌, Bool, List, [], ◌∷◌, ◌++◌, take, drop, length, set, get_or, refl, sym, ap, subst, append_assoc, append-nil, arith, slice_get, Some, false}
 use Rattle.tora_seat.specs.declared.Cargo.{Cargo}
 use Rattle.tora_seat.specs.Serving.{Offer, Answers}
-use Rattle.tora_seat.specs.Offers.{AreOffered, Follows}
+use Rattle.tora_seat.specs.Offers.{AreOffered, Follows, answers_in}
 
 pub follows_split : (answers : Answers) (before xs ys : List Offer) → Follows answers before (xs ++ ys) → Follows answers before xs × Follows answers (before ++ xs) ys
 follows_split answers before [] ys h = (tt, subst (λ os. Follows answers os ys) (sym (append-nil before)) h)
@@ -37,3 +38,19 @@ length_take (y ∷ ys) (suc i) lt = ap suc (length_take ys i (omega arith))
 pub drop_end : {A : Type 0} (xs : List A) → drop (length xs) xs ≡ []
 drop_end [] = refl
 drop_end (x ∷ xs) = drop_end xs
+
+-- ---- offers read back
+
+at_end : (pre : List Offer) (o : Offer) (os : List Offer) → slice_get (pre ++ o ∷ os) (length pre) ≡ Some o
+at_end [] o os = refl
+at_end (x ∷ pre) o os = at_end pre o os
+
+follows_from : (pre os : List Offer) → Follows (answers_in (pre ++ os)) pre os
+follows_from pre [] = tt
+follows_from pre (o ∷ os) = (
+  ap (λ x. option_map_or (λ (y : Offer). y.put) x false) (at_end pre o os),
+  subst (λ xs. Follows (answers_in xs) (pre ++ o ∷ []) os) (append_assoc pre (o ∷ []) os) (follows_from (pre ++ o ∷ []) os),
+)
+
+pub follows_back : (offers : List Offer) → Follows (answers_in offers) [] offers
+follows_back offers = follows_from [] offers

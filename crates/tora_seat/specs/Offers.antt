@@ -1,5 +1,6 @@
 -- Cargoes that are offered to the lanes of a node, one after another.
-use Rattle.std.specs.Prelude.{◌≡◌, ℕ, suc, ◌==◌, Bool, if◌then◌else◌, List, [], ◌∷◌, ◌++◌}
+use Rattle.std.specs.Option.{option_map_or}
+use Rattle.std.specs.Prelude.{false, slice_get, length, ◌≡◌, ℕ, suc, ◌==◌, Bool, if◌then◌else◌, List, [], ◌∷◌, ◌++◌}
 use Rattle.tora_seat.specs.declared.Cargo.{Cargo}
 use Rattle.tora_seat.specs.Serving.{Offer, Answers}
 
@@ -18,3 +19,7 @@ AreOffered {O = O} did_offer neighbours outs (o ∷ offers) after =
 abbrev pub Follows : Answers → List Offer → List Offer → Type 0
 Follows answers before [] = Unit {0}
 Follows answers before (o ∷ offers) = (answers before o.to ≡ o.put) × Follows answers (before ++ o ∷ []) offers
+
+-- offers read back as answers: each offer was answered as it was put
+abbrev pub answers_in : List Offer → Answers
+answers_in offers before k = option_map_or (λ o. o.put) (slice_get offers (length before)) false

@@ -26,7 +26,7 @@ pub use inputs::accepted_inputs_make_the_core;
 pub use lanes::OutLanes;
 pub use laws::{
     handed_back_packets_end_their_lives, items_step_few_inputs,
-    lives_are_current_where_links_are_up, lives_have_no_gap,
+    lives_are_current_where_links_are_up, lives_have_no_gap, offers_are_their_own_answers,
 };
 pub use rows::LinkRow;
 pub use seat::CoreSeat;

@@ -67,7 +67,8 @@ fn broadcast<O: OutLanes>(rows: &mut [LinkRow], packet: &Packet, outs: &mut O)
     requires lanes { length rows.old ≤ O.count outs.old }
     requires different { has_repeat (neighbours_of rows.old) ≡ false }
     ensures count { O.count outs.new ≡ O.count outs.old }
-    ensures goes { RowsGo O.did_offer (λ answers ks. after_broadcast answers packet.now ks) rows.old outs.old rows.new outs.new }
+    ensures goes { RowsGo O.did_offer (λ answers ks. after_broadcast answers packet.now ks)
+        rows.old outs.old rows.new outs.new }
 {
     for (place, row) in rows.iter_mut().enumerate() {
         send(row, place, packet, outs);
@@ -79,7 +80,8 @@ pub fn broadcast_all<O: OutLanes>(rows: &mut [LinkRow], packets: &[Packet], outs
     requires lanes { length rows.old ≤ O.count outs.old }
     requires different { has_repeat (neighbours_of rows.old) ≡ false }
     ensures count { O.count outs.new ≡ O.count outs.old }
-    ensures goes { RowsGo O.did_offer (λ answers ks. after_broadcasts answers ks packets.now) rows.old outs.old rows.new outs.new }
+    ensures goes { RowsGo O.did_offer (λ answers ks. after_broadcasts answers ks packets.now)
+        rows.old outs.old rows.new outs.new }
 {
     for packet in packets {
         broadcast(rows, packet, outs);

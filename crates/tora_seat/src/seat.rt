@@ -69,7 +69,8 @@ impl CoreSeat {
         requires room { length self.old.inputs < 2 * (length self.old.core.neighbours + 1) }
         ensures count { O.count outs.new ≡ O.count outs.old }
         ensures stepped { length self.new.inputs ≤ length self.old.inputs + 1 }
-        ensures goes { SeatGoes O.did_offer (λ answers ks. after_step answers ks input.now now) now self.old outs.old self.new outs.new }
+        ensures goes { SeatGoes O.did_offer (λ answers ks. after_step answers ks input.now now)
+            now self.old outs.old self.new outs.new }
     {
         match self.core.step_into(input, now, &mut self.sends) {
             Ok(()) => {
@@ -86,7 +87,8 @@ impl CoreSeat {
         requires room { length self.old.inputs + length self.old.core.neighbours ≤ 2 * (length self.old.core.neighbours + 1) }
         ensures count { O.count outs.new ≡ O.count outs.old }
         ensures stepped { length self.new.inputs ≤ length self.old.inputs + length self.old.core.neighbours }
-        ensures goes { SeatGoes O.did_offer (λ answers ks. after_settling (length ks) answers ks now) now self.old outs.old self.new outs.new }
+        ensures goes { SeatGoes O.did_offer
+            (λ answers ks. after_settling (length ks) answers ks now) now self.old outs.old self.new outs.new }
     {
         let most = self.core.neighbours().len();
         for _round in 0..most {
@@ -103,7 +105,8 @@ impl CoreSeat {
         requires room { length self.old.inputs ≤ length self.old.core.neighbours + 1 }
         ensures count { O.count outs.new ≡ O.count outs.old }
         ensures stepped { length self.new.inputs ≤ length self.old.inputs + length self.old.core.neighbours + 1 }
-        ensures goes { SeatGoes O.did_offer (λ answers ks. after_input answers ks input.now now) now self.old outs.old self.new outs.new }
+        ensures goes { SeatGoes O.did_offer (λ answers ks. after_input answers ks input.now now)
+            now self.old outs.old self.new outs.new }
     {
         self.step(input, now, outs);
         self.settle(now, outs);
@@ -113,7 +116,8 @@ impl CoreSeat {
     fn set_current(&mut self, place: usize, k: Id, life: Option<Life>)
         requires { slice_get self.old.core.neighbours place ≡ Some k }
         ensures rest { self.new ≡ record self.old { rows = self.new.rows } }
-        ensures set { (now : ℕ) (before : List Offer) → with_current (serving_at now self.old before) k life ≡ serving_at now self.new before }
+        ensures set { (now : ℕ) (before : List Offer)
+            → with_current (serving_at now self.old before) k life ≡ serving_at now self.new before }
     {
         let row = &mut self.rows[place];
         row.current = life;
@@ -123,7 +127,8 @@ impl CoreSeat {
     fn forget_pending(&mut self, place: usize, k: Id)
         requires { slice_get self.old.core.neighbours place ≡ Some k }
         ensures rest { self.new ≡ record self.old { rows = self.new.rows } }
-        ensures set { (now : ℕ) (before : List Offer) → with_pending (serving_at now self.old before) k None ≡ serving_at now self.new before }
+        ensures set { (now : ℕ) (before : List Offer)
+            → with_pending (serving_at now self.old before) k None ≡ serving_at now self.new before }
     {
         let row = &mut self.rows[place];
         row.pending = None;
@@ -136,7 +141,8 @@ impl CoreSeat {
         requires room { length self.old.inputs ≤ length self.old.core.neighbours + 1 }
         ensures count { O.count outs.new ≡ O.count outs.old }
         ensures stepped { length self.new.inputs ≤ length self.old.inputs + length self.old.core.neighbours + 1 }
-        ensures goes { SeatGoes O.did_offer (λ answers ks. after_down answers ks k now) now self.old outs.old self.new outs.new }
+        ensures goes { SeatGoes O.did_offer (λ answers ks. after_down answers ks k now)
+            now self.old outs.old self.new outs.new }
     {
         self.set_current(place, k, None);
         self.take_in(&Input::LinkDown(k), now, outs);
@@ -149,7 +155,9 @@ impl CoreSeat {
         requires room { length self.old.inputs ≤ 0 }
         ensures count { O.count outs.new ≡ O.count outs.old }
         ensures stepped { length self.new.inputs ≤ length self.old.core.neighbours + 1 }
-        ensures goes { SeatGoes O.did_offer (λ answers ks v. after_old_down answers ks k now v (v.seat.current k)) now self.old outs.old self.new outs.new }
+        ensures goes { SeatGoes O.did_offer
+            (λ answers ks v. after_old_down answers ks k now v (v.seat.current k))
+            now self.old outs.old self.new outs.new }
     {
         if self.current(place).is_some() {
             self.on_end(place, k, now, outs);
@@ -162,7 +170,8 @@ impl CoreSeat {
         requires lanes { length self.old.core.neighbours ≤ O.count outs.old }
         requires room { length self.old.inputs ≤ 0 }
         ensures count { O.count outs.new ≡ O.count outs.old }
-        ensures goes { SeatGoes O.did_offer (λ answers ks v. after_up answers ks k life now (after_old_down answers ks k now v (v.seat.current k))) now self.old outs.old self.new outs.new }
+        ensures goes { SeatGoes O.did_offer (λ answers ks v. after_up answers ks k life now
+            (after_old_down answers ks k now v (v.seat.current k))) now self.old outs.old self.new outs.new }
     {
         self.on_old_end(place, k, now, outs);
         self.set_current(place, k, Some(life));
@@ -184,7 +193,9 @@ impl CoreSeat {
         requires room { length self.old.inputs ≤ 0 }
         requires first { self.old.stepped ≡ None }
         ensures count { O.count outs.new ≡ O.count outs.old }
-        ensures goes { SeatGoes O.did_offer (λ answers ks v. if is_current life.now (v.seat.current k) then after_packet answers ks k life.now packet.now now v else v) now self.old outs.old self.new outs.new }
+        ensures goes { SeatGoes O.did_offer (λ answers ks v. if is_current life.now (v.seat.current k)
+            then after_packet answers ks k life.now packet.now now v else v)
+            now self.old outs.old self.new outs.new }
     {
         if is_current(life, &self.current(place)) {
             self.note_stepped(k, life, packet);
@@ -209,7 +220,9 @@ impl CoreSeat {
         requires lanes { length self.old.core.neighbours ≤ O.count outs.old }
         requires room { length self.old.inputs ≤ 0 }
         ensures count { O.count outs.new ≡ O.count outs.old }
-        ensures goes { SeatGoes O.did_offer (λ answers ks v. if is_current life.now (v.seat.current k) then after_down answers ks k now v else if is_current life.now (v.seat.pending k) then with_pending v k None else v) now self.old outs.old self.new outs.new }
+        ensures goes { SeatGoes O.did_offer (λ answers ks v. if is_current life.now (v.seat.current k)
+            then after_down answers ks k now v else if is_current life.now (v.seat.pending k)
+            then with_pending v k None else v) now self.old outs.old self.new outs.new }
     {
         if is_current(life, &self.current(place)) {
             self.on_end(place, k, now, outs);
@@ -232,7 +245,8 @@ impl CoreSeat {
         requires room { length self.old.inputs ≤ 0 }
         requires first { self.old.stepped ≡ None }
         ensures count { O.count outs.new ≡ O.count outs.old }
-        ensures goes { SeatGoes O.did_offer (λ answers ks. after_link_item answers ks k now what.now) now self.old outs.old self.new outs.new }
+        ensures goes { SeatGoes O.did_offer
+            (λ answers ks. after_link_item answers ks k now what.now) now self.old outs.old self.new outs.new }
     {
         match what {
             What::Up(life) => self.on_up(place, k, *life, now, outs),
@@ -250,7 +264,8 @@ impl CoreSeat {
         requires lanes { length self.old.core.neighbours ≤ O.count outs.old }
         requires room { length self.old.inputs ≤ 0 }
         ensures count { O.count outs.new ≡ O.count outs.old }
-        ensures goes { SeatGoes O.did_offer (λ answers ks. after_other_item answers ks now what.now) now self.old outs.old self.new outs.new }
+        ensures goes { SeatGoes O.did_offer
+            (λ answers ks. after_other_item answers ks now what.now) now self.old outs.old self.new outs.new }
     {
         match what {
             What::Need(d) => self.take_in(&Input::Need(*d), now, outs),
@@ -279,7 +294,9 @@ impl CoreSeat {
         requires room { length self.old.inputs ≤ 0 }
         requires first { self.old.stepped ≡ None }
         ensures count { O.count outs.new ≡ O.count outs.old }
-        ensures goes { SeatGoes O.did_offer (λ answers ks. after_item_of answers ks (slice_get ks item.entry.now.seat) item.entry.now.now item.entry.now.what) item.entry.now.now self.old outs.old self.new outs.new }
+        ensures goes { SeatGoes O.did_offer
+            (λ answers ks. after_item_of answers ks (slice_get ks item.entry.now.seat)
+            item.entry.now.now item.entry.now.what) item.entry.now.now self.old outs.old self.new outs.new }
     {
         match self.neighbour(item.seat) {
             Some(k) => self.on_link_item(item.seat, k, &item.what, item.now, outs),
@@ -332,7 +349,8 @@ impl CoreSeat {
     /// The current life of the neighbour at a place, from 0 on in ascending order; `None` where it has none, or there is
     /// no such neighbour.
     pub fn current(&self, place: usize) -> Option<Life>
-        ensures { MatchOption (slice_get self.now.core.neighbours place) (result ≡ None) (λ k. result ≡ current_of self.now.rows k) }
+        ensures { MatchOption (slice_get self.now.core.neighbours place) (result ≡ None)
+            (λ k. result ≡ current_of self.now.rows k) }
     {
         match row_at(&self.rows, place) {
             Some(row) => row.current,
@@ -343,7 +361,8 @@ impl CoreSeat {
     /// The life of the neighbour at a place, from 0 on in ascending order, whose cut was not put yet; `None` where there
     /// is none, or there is no such neighbour.
     pub fn pending(&self, place: usize) -> Option<Life>
-        ensures { MatchOption (slice_get self.now.core.neighbours place) (result ≡ None) (λ k. result ≡ pending_of self.now.rows k) }
+        ensures { MatchOption (slice_get self.now.core.neighbours place) (result ≡ None)
+            (λ k. result ≡ pending_of self.now.rows k) }
     {
         match row_at(&self.rows, place) {
             Some(row) => row.pending,
@@ -358,7 +377,8 @@ impl CoreSeat {
         requires { length self.old.core.neighbours ≤ O.count outs.old }
         ensures count { O.count outs.new ≡ O.count outs.old }
         ensures neighbours { self.new.core.neighbours ≡ self.old.core.neighbours }
-        ensures served { (offers : List Offer) × AreOffered O.did_offer self.old.core.neighbours outs.old offers outs.new
+        ensures served { (offers : List Offer)
+            × AreOffered O.did_offer self.old.core.neighbours outs.old offers outs.new
             × ((answers : Answers) → Follows answers [] offers
             → serving_of answers self.old.core.neighbours (state_of self.old) item.entry.now ≡ serving_at item.entry.now.now self.new offers) }
         ensures answer { result ≡ self.new.answer }
