@@ -1,6 +1,6 @@
 use super::*;
 use crate::cause::Cause;
-use std::io::{Error, ErrorKind as IoErrorKind};
+use std::io::{Error, ErrorKind as IoErrorKind, Read};
 use std::process::Abort;
 use std::test::*;
 use tora_core::CoreError;
