@@ -59,36 +59,41 @@ and_false : (b : Bool) → (b && false) ≡ false
 and_false true = refl
 and_false false = refl
 
+-- as many lanes as before
+same_count : (before after : List SendEnd) (place : ℕ) (cargo : Cargo) (put : Bool) → DidOffer before place cargo put after → length after ≡ length before
+same_count before after place cargo false did = ap length did.3
+same_count before after place cargo true did = ap length did.3 ∙ length-set before place (with_sent did.0 cargo)
+
 -- what is sent by one offer
 one_offer : (ns : List ℕ) (before after : List SendEnd) (to : ℕ) (cargo : Cargo) (put : Bool) (k : ℕ) → DidOffer before (place_of to ns) cargo put after → length before ≤ length ns → place_of k ns < length ns
-    → (length after ≡ length before) × (sent_at after (place_of k ns) ≡ sent_at before (place_of k ns) ++ (if (to == k) && put then cargo ∷ [] else []))
-one_offer ns before after to cargo false k did few within = (
-  ap length did.3,
-  ap (λ e. sent_at e (place_of k ns)) did.3 ∙ sym (append-nil (sent_at before (place_of k ns))) ∙ sym (ap (λ b. sent_at before (place_of k ns) ++ (if b then cargo ∷ [] else [])) (and_false (to == k))),
-)
+    → sent_at after (place_of k ns) ≡ sent_at before (place_of k ns) ++ (if (to == k) && put then cargo ∷ [] else [])
+one_offer ns before after to cargo false k did few within =
+    ap (λ e. sent_at e (place_of k ns)) did.3 ∙ sym (append-nil (sent_at before (place_of k ns))) ∙ sym (ap (λ b. sent_at before (place_of k ns) ++ (if b then cargo ∷ [] else [])) (and_false (to == k)))
 one_offer ns before after to cargo true k did few within =
     let p : ℕ = place_of k ns in
     let q : ℕ = place_of to ns in
     let new : SendEnd = with_sent did.0 cargo in
-    let q_within : q < length before = slice_get_within before q did.0 did.1 in (
-      ap length did.3 ∙ length-set before q new,
-      ⊎_elim
-      (λ (t : ((to == k) ≡ true) × (to ≡ k)).
-          let there : p ≡ q = ap (λ n. place_of n ns) (sym t.1) in
-          ap (λ e. sent_at e p) did.3 ∙ ap (λ n. sent_at (slice_set before q new) n) there ∙ ap sent_by (got_here before q new q_within)
-          ∙ ap (λ l. l ++ cargo ∷ []) (sym (ap (λ n. sent_at before n) there ∙ ap sent_by did.1))
-          ∙ sym (ap (λ b. sent_at before p ++ (if b && true then cargo ∷ [] else [])) t.0))
-      (λ (t : ((to == k) ≡ false) × (to ≢ k)).
-          ap (λ e. sent_at e p) did.3 ∙ ap sent_by (got_else before q p new (λ e. t.1 (sym (same_place ns k to e (omega arith)))))
-          ∙ sym (append-nil (sent_at before p)) ∙ sym (ap (λ b. sent_at before p ++ (if b && true then cargo ∷ [] else [])) t.0))
-      (eqb_tells to k),
-    )
+    let q_within : q < length before = slice_get_within before q did.0 did.1 in
+    ⊎_elim
+    (λ (t : ((to == k) ≡ true) × (to ≡ k)).
+        let there : p ≡ q = ap (λ n. place_of n ns) (sym t.1) in
+        ap (λ e. sent_at e p) did.3 ∙ ap (λ n. sent_at (slice_set before q new) n) there ∙ ap sent_by (got_here before q new q_within)
+        ∙ ap (λ l. l ++ cargo ∷ []) (sym (ap (λ n. sent_at before n) there ∙ ap sent_by did.1))
+        ∙ sym (ap (λ b. sent_at before p ++ (if b && true then cargo ∷ [] else [])) t.0))
+    (λ (t : ((to == k) ≡ false) × (to ≢ k)).
+        ap (λ e. sent_at e p) did.3 ∙ ap sent_by (got_else before q p new (λ e. t.1 (sym (same_place ns k to e (omega arith)))))
+        ∙ sym (append-nil (sent_at before p)) ∙ sym (ap (λ b. sent_at before p ++ (if b && true then cargo ∷ [] else [])) t.0))
+    (eqb_tells to k)
 
 -- what is sent by all offers
 pub offers_are_sent : OffersAreSent
-offers_are_sent ns before after [] k h few within = ap (λ e. sent_at e (place_of k ns)) h ∙ sym (append-nil (sent_at before (place_of k ns)))
-offers_are_sent ns before after (o ∷ offers) k h few within =
-    let one = one_offer ns before h.0 o.to o.cargo o.put k h.1 few within in
-    offers_are_sent ns h.0 after offers k h.2 (let same : length h.0 ≡ length before = one.0 in omega arith) within
-    ∙ ap (λ l. l ++ put_to k offers) one.1
-    ∙ append_assoc (sent_at before (place_of k ns)) (if (o.to == k) && o.put then o.cargo ∷ [] else []) (put_to k offers)
+offers_are_sent ns before after [] h few = (ap length h, λ k within. ap (λ e. sent_at e (place_of k ns)) h ∙ sym (append-nil (sent_at before (place_of k ns))))
+offers_are_sent ns before after (o ∷ offers) h few =
+    let same : length h.0 ≡ length before = same_count before h.0 (place_of o.to ns) o.cargo o.put h.1 in
+    let more = offers_are_sent ns h.0 after offers h.2 (omega arith) in (
+      more.0 ∙ same,
+      λ k within.
+          more.1 k within
+          ∙ ap (λ l. l ++ put_to k offers) (one_offer ns before h.0 o.to o.cargo o.put k h.1 few within)
+          ∙ append_assoc (sent_at before (place_of k ns)) (if (o.to == k) && o.put then o.cargo ∷ [] else []) (put_to k offers),
+    )

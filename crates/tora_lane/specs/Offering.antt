@@ -23,12 +23,12 @@ sent_by (Some end) = end.sent
 abbrev pub sent_at : List SendEnd → ℕ → List Cargo
 sent_at ends place = sent_by (slice_get ends place)
 
--- Where cargoes were offered to the lanes to these neighbours, the lane to each neighbour has sent what it had sent before
--- and then what was put for that neighbour
+-- Where cargoes were offered to the lanes to these neighbours, there are as many lanes as before, and the lane to each
+-- neighbour has sent what it had sent before and then what was put for that neighbour
 abbrev pub OffersAreSent : Type 0
 OffersAreSent =
-    (neighbours : List ℕ) (before after : List SendEnd) (offers : List Offer) (k : ℕ)
+    (neighbours : List ℕ) (before after : List SendEnd) (offers : List Offer)
     → AreOffered DidOffer neighbours before offers after
     → length before ≤ length neighbours
-    → place_of k neighbours < length neighbours
-    → sent_at after (place_of k neighbours) ≡ sent_at before (place_of k neighbours) ++ put_to k offers
+    → (length after ≡ length before)
+    × ((k : ℕ) → place_of k neighbours < length neighbours → sent_at after (place_of k neighbours) ≡ sent_at before (place_of k neighbours) ++ put_to k offers)
