@@ -1,11 +1,10 @@
 -- The end of the input, and what is left of a chunk.
-use Rattle.std.proofs.Common.{◌≡◌, ℕ, ◌+◌, ◌<◌, true, false, List, [], ◌++◌, length, Option, None, Some, Result, Ok, Err, refl, sym, ap, ◌∙◌, is_some}
+use Rattle.std.proofs.Common.{◌≡◌, ℕ, ◌+◌, ◌<◌, List, [], ◌++◌, length, Option, Result, Ok, Err, refl, sym, ap, ◌∙◌}
 use Rattle.std.specs.Io.KnownBytes.{Appends}
 use Rattle.std.proofs.lemmas.List.{append-nil}
 use Rattle.tora.specs.LineText.{Text, faulty}
-use Rattle.tora.specs.Engine.{Kind, IsFault, text_of, IsOpen, Prints, IsAnswered, IsDrained, Stops, IsFinished, Finishes, Ends}
+use Rattle.tora.specs.Engine.{Kind, IsFault, text_of, IsOpen, Prints, IsAnswered, IsDrained, Stops, Finishes, Ends}
 use Rattle.tora.specs.declared.ended.Ended.{Ended}
-use Rattle.tora.specs.declared.ended.Ended.TheVariants.{Whole}
 use Rattle.tora.specs.declared.ended.ReplayError.{ReplayError}
 use Rattle.tora.specs.declared.ended.ReplayError.TheVariants.{Memory, Read, Write}
 use Rattle.tora.proofs.Flow.{text_too_long, text_ends, text_last, text_last_faults, Appends-nil, Appends-then, Prints-then}

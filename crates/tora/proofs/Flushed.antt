@@ -1,5 +1,5 @@
 -- What was written, once it is handed on.
-use Rattle.std.proofs.Common.{◌≡◌, ◌≢◌, ℕ, List, Option, None, Some, Result, Ok, Err, ◌∙◌}
+use Rattle.std.proofs.Common.{◌≢◌, ℕ, List, Option, None, Some, Result, Ok, Err, ◌∙◌}
 use Rattle.std.specs.Prelude.{IfOk, IfErr, IfSome}
 use Rattle.std.specs.Io.KnownBytes.{Appends, Keeps}
 use Rattle.tora.specs.LineText.{Text}

@@ -1,5 +1,5 @@
 -- A line's reply, as the text that goes on.
-use Rattle.std.proofs.Common.{◌≡◌, ℕ, ◌≤◌, false, ltb, List, [], ◌∷◌, length, Option, None, Some, refl, ap, ◌∙◌}
+use Rattle.std.proofs.Common.{◌≡◌, ℕ, ◌≤◌, false, ltb, List, length, None, Some, refl}
 use Rattle.std.proofs.lemmas.Bool.{le-ltb}
 use Rattle.tora.specs.LineText.{Rules, reply, text_from}
 use Rattle.tora.specs.Engine.{IsFaultIn, GoesOnIn}

@@ -1,5 +1,5 @@
 -- What is read of a line of a simulation file is written there.
-use Rattle.std.proofs.Common.{◌≡◌, ℕ, ◌+◌, ◌<◌, ◌≤◌, ◌^◌, ◌⊎◌, inl, inr, Bool, true, false, cond, ltb, leb, ◌==◌, codes, List, [], ◌∷◌, ◌++◌, length, Option, None, Some, Result, Ok, Err, is_some, refl, sym, ap, ◌∙◌, arith, option_map}
+use Rattle.std.proofs.Common.{◌≡◌, ℕ, ◌+◌, ◌≤◌, ◌⊎◌, inl, inr, Bool, true, false, cond, leb, ◌==◌, codes, List, [], ◌∷◌, ◌++◌, length, Option, None, Some, Result, Ok, Err, is_some, refl, ap, ◌∙◌, arith, option_map}
 use Rattle.std.specs.Result.{result_ok}
 use Rattle.std.specs.Fmt.{decimal}
 use Rattle.std.proofs.lemmas.Bool.{and_parts, eqb-true}
@@ -19,7 +19,7 @@ use Rattle.tora.specs.Words.{cut, number_of, id_of, list_of, is_dash}
 use Rattle.tora.specs.Lines.{after, or_else, ◌>>=◌}
 use Rattle.tora.specs.LineGrammar.{SpellsId}
 use Rattle.tora.specs.SimulationLines.{is_word, pair_of, life_number_from, life_number_of, life_of, lane_of, call_of, torn_of, rounds_from, rounds_of, for_pair, for_lane, for_id, deliver_of, arm_of, restart_of, end_event_of, node_event_of, order_line_of, first_of_two, simulation_line_of, dests_of, link_of}
-use Rattle.tora.specs.SimulationGrammar.{SpellsPair, IsLifeNumber, SpellsLane, call_text, SpellsArm, SpellsTorn, SpellsRestart, SpellsNumber, SpellsEvent, SpellsSimulationLine, SpellsDests, SpellsLink}
+use Rattle.tora.specs.SimulationGrammar.{SpellsPair, IsLifeNumber, SpellsLane, call_text, SpellsTorn, SpellsEvent, SpellsSimulationLine, SpellsDests, SpellsLink}
 use Rattle.tora.proofs.Grammar.{number_prints}
 use Rattle.tora.proofs.LineLaws.{some_is, bind_some, id_found, after_found, cut_found, dash_found, or_else_some}
 use Rattle.tora.proofs.HeaderLaws.{list_found}

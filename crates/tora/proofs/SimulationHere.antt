@@ -1,9 +1,8 @@
 -- What is written in a line of a simulation file is read there.
-use Rattle.std.proofs.Common.{◌≡◌, ℕ, ◌<◌, ◌≤◌, ◌^◌, Bool, true, false, ◌&&◌, ltb, leb, ◌==◌, codes, List, [], ◌∷◌, ◌++◌, length, Option, None, Some, Result, Ok, Err, refl, sym, ap, ◌∙◌, arith}
+use Rattle.std.proofs.Common.{◌≡◌, ℕ, ◌<◌, ◌≤◌, ◌^◌, Bool, true, false, ◌&&◌, ltb, leb, ◌==◌, codes, List, ◌∷◌, ◌++◌, length, Option, None, Some, refl, ap, ◌∙◌, arith}
 use Rattle.std.specs.Fmt.{decimal}
 use Rattle.std.proofs.lemmas.Bool.{lt-ltb, le-leb}
 use Rattle.std.proofs.lemmas.Bool.Decides.{nat_tests}
-use Rattle.hex.specs.Hex.{decode_of}
 use Rattle.tora_packet.specs.PacketParts.{IsId}
 use Rattle.tora_arq.specs.declared.Life.{Life}
 use Rattle.tora_world.specs.declared.Event.{Event}
@@ -12,9 +11,8 @@ use Rattle.tora_world.specs.declared.Call.{Call}
 use Rattle.tora_world.specs.declared.Call.TheVariants as Fails
 use Rattle.tora.specs.declared.simulation_line.SimulationLine.{SimulationLine}
 use Rattle.tora.specs.declared.simulation_line.SimulationLine.TheVariants.{Happens, Rounds, Part, Mend, Heights, Sent, Taken}
-use Rattle.tora.specs.Words.{number_of, id_of, list_of, is_dash}
 use Rattle.tora.specs.Lines.{after}
-use Rattle.tora.specs.SimulationLines.{is_word, pair_of, life_number_from, life_number_of, life_of, lane_of, call_of, torn_of, rounds_of, for_pair, for_lane, for_id, deliver_of, arm_of, restart_of, end_event_of, node_event_of, order_line_of, simulation_line_of, dests_of, link_of}
+use Rattle.tora.specs.SimulationLines.{is_word, pair_of, life_number_of, life_of, lane_of, call_of, torn_of, rounds_of, for_pair, for_lane, for_id, deliver_of, arm_of, restart_of, end_event_of, node_event_of, order_line_of, simulation_line_of, dests_of, link_of}
 use Rattle.tora.specs.SimulationGrammar.{IsLifeNumber, call_text, SpellsTorn, SpellsEvent, SpellsSimulationLine, SpellsDests, SpellsLink}
 use Rattle.tora.proofs.Grammar.{number_again}
 use Rattle.tora.proofs.LineLaws.{id_here, after_here, no_blank, cut_here}
@@ -45,8 +43,13 @@ lane_here : (n k : ℕ) (life : Life) → IsId n → IsId k → IsLifeNumber lif
     → lane_of (decimal n ++ 32 ∷ (decimal k ++ 32 ∷ (decimal life.own ++ 32 ∷ decimal life.peer))) ≡ Some (n, k, life)
 unfolding lane_of
 lane_here n k life p q r s =
-    rw (cut_here (decimal n) (decimal k ++ 32 ∷ (decimal life.own ++ 32 ∷ decimal life.peer)) (no_blank n (small n p)), id_here n p,
-    cut_here (decimal k) (decimal life.own ++ 32 ∷ decimal life.peer) (no_blank k (small k q)), id_here k q, life_here life r s) refl
+    rw (
+      cut_here (decimal n) (decimal k ++ 32 ∷ (decimal life.own ++ 32 ∷ decimal life.peer)) (no_blank n (small n p)),
+      id_here n p,
+      cut_here (decimal k) (decimal life.own ++ 32 ∷ decimal life.peer) (no_blank k (small k q)),
+      id_here k q,
+      life_here life r s,
+    ) refl
 
 call_here : (call : Call) → call_of (call_text call) ≡ Some call
 unfolding call_of is_word after

@@ -1,5 +1,5 @@
 -- A line's reply in a simulation, as the text that goes on.
-use Rattle.std.proofs.Common.{◌≡◌, ℕ, ◌≤◌, List, length, Result, Ok, Err}
+use Rattle.std.proofs.Common.{ℕ, ◌≤◌, List, length, Result, Ok, Err}
 use Rattle.tora_world.specs.World.{World}
 use Rattle.tora.specs.declared.words.LineError.{LineError}
 use Rattle.tora.specs.declared.words.LineError.TheVariants.{Memory, Fault}

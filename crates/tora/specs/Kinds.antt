@@ -1,7 +1,7 @@
 -- The kind of file that rules make.
-use Rattle.std.specs.Prelude.{◌≡◌, ℕ, ◌<◌, true, nat_lt, List, [], ◌∷◌, length, None, refl}
+use Rattle.std.specs.Prelude.{◌≡◌, ℕ, ◌<◌, true, nat_lt, List, length, refl}
 use Rattle.std.proofs.lemmas.Bool.{lt-ltb}
-use Rattle.tora.specs.LineText.{Rules, reply, faulty, text_from}
+use Rattle.tora.specs.LineText.{Rules, reply, text_from}
 use Rattle.tora.specs.Engine.{Kind, IsFaultIn}
 
 -- a line of more than 4,096 bytes is a fault

@@ -1,5 +1,5 @@
 -- What a simulation of an input prints, and how it ends.
-use Rattle.std.specs.Prelude.{ℕ, ◌+◌, ◌-◌, ◌==◌, ◌&&◌, Bool, not, if◌then◌else◌, codes, List, [], ◌∷◌, ◌++◌, length, filter, Option, Some, None, option_map}
+use Rattle.std.specs.Prelude.{ℕ, ◌-◌, ◌==◌, ◌&&◌, Bool, not, if◌then◌else◌, codes, List, [], ◌∷◌, ◌++◌, length, filter, Option, Some, None, option_map}
 use Rattle.std.specs.List.{flat_map, list_any}
 use Rattle.std.specs.Option.{option_and_then}
 use Rattle.std.specs.Fmt.{decimal}
@@ -9,7 +9,7 @@ use Rattle.tora_core.specs.ShowText.{height_text, hop_text}
 use Rattle.tora_world.specs.declared.Event.{Event}
 use Rattle.tora_world.specs.declared.SimError.{SimError}
 use Rattle.tora_world.specs.declared.SimError.TheVariants.{Memory, NoNode, NoDatagram, NotPossible}
-use Rattle.tora_world.specs.World.{World, is_empty, refusal_of, world_after, world_after_all, sent_packets, taken_packets}
+use Rattle.tora_world.specs.World.{World, refusal_of, world_after, world_after_all, sent_packets, taken_packets}
 use Rattle.tora.specs.LineText.{Rules, numbered, whole_text, fault_of, IsFirstFaultBy}
 use Rattle.tora.specs.Engine.{IsWholeText, IsFrontOfText}
 use Rattle.tora.specs.SimulationLines.{dests_of, link_of, simulation_line_of}

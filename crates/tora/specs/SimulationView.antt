@@ -1,5 +1,4 @@
 -- What is kept between two lines of a simulation file, and the kind of file that it is.
-use Rattle.std.specs.Prelude.{ℕ, List}
 use Rattle.tora_world.specs.World.{World}
 use Rattle.tora.specs.declared.simulating.Simulation.{Simulation}
 use Rattle.tora.specs.declared.simulating.Simulation.TheVariants as At

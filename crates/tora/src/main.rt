@@ -36,13 +36,13 @@ use flushing::replay_and_flush;
 pub use parse::{first_lines_are_read_as_written, lines_are_read_as_written};
 use recent::Recent;
 pub use replaying::{fault_is_the_first, replay};
+pub use simulating::{simulate_in, simulation_fault_is_the_first};
+pub use simulation_parse::simulation_lines_are_read_as_written;
+pub use simulator::Simulator;
 use std::alloc::Global;
 use std::io;
 use std::io::{BufWriter, Write};
 use std::process::ExitCode;
-pub use simulating::{simulate_in, simulation_fault_is_the_first};
-pub use simulation_parse::simulation_lines_are_read_as_written;
-pub use simulator::Simulator;
 pub use words::numbers_are_read_as_printed;
 
 /// Exit statuses: 0 stands for an end without a fault.

@@ -1,4 +1,4 @@
-use Rattle.std.proofs.Common.{◌≡◌, ◌≤◌, arith}
+use Rattle.std.proofs.Common.{arith}
 use Rattle.tora.specs.Rounds.{new_deliveries}
 use Rattle.tora.proofs.RoundLaws.{delivered, all_delivered}
 use Rattle.tora.proofs.rounds.deliver_new.Goals as goal

@@ -1,4 +1,4 @@
-use Rattle.std.proofs.Common.{◌≡◌, ◌∙◌, sym, ℕ, suc, ◌+◌, ◌-◌, arith}
+use Rattle.std.proofs.Common.{◌≡◌, ◌∙◌, sym, suc, ◌+◌, ◌-◌, arith}
 use Rattle.tora_world.specs.World.{world_after_all}
 use Rattle.tora.specs.Rounds.{passes}
 use Rattle.tora.proofs.RoundLaws.{passes_on, passes_stop, no_passes}

@@ -1,4 +1,4 @@
-use Rattle.std.proofs.Common.{◌≡◌, ◌∙◌, sym, ℕ, suc, ◌+◌, ◌-◌, arith}
+use Rattle.std.proofs.Common.{◌≡◌, ◌∙◌, sym, suc, ◌+◌, ◌-◌, arith}
 use Rattle.tora_world.specs.World.{world_after_all}
 use Rattle.tora.specs.Rounds.{rounds}
 use Rattle.tora.proofs.RoundLaws.{rounds_on, no_rounds}

@@ -1,4 +1,4 @@
-use Rattle.std.proofs.Common.{◌≡◌, ◌∙◌, ℕ, suc, ◌+◌, ◌-◌, sym, arith}
+use Rattle.std.proofs.Common.{◌≡◌, ◌∙◌, suc, ◌+◌, ◌-◌, sym, arith}
 use Rattle.tora.specs.Rounds.{repeats}
 use Rattle.tora.proofs.RoundLaws.{again, refused, no_more}
 use Rattle.tora.proofs.rounds.repeat.Goals as goal
