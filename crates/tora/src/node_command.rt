@@ -16,8 +16,8 @@ use std::rt::Files;
 use std::sync::Wait;
 use std::thread::Threads;
 use std::time::Clock;
-use tora_core::CoreError;
 use tora_config::{ConfigError, LinkConfig, NodeConfig, read_config};
+use tora_core::CoreError;
 use tora_life::FileDisk;
 use tora_neighbour::{NodeError, UdpWire, UnixClock};
 use tora_node::{Config, Ended, run_node};
@@ -107,7 +107,9 @@ fn bind<R: Net + Eprint>(
                 };
             }
             Err(error) => {
-                let _ = rt.eprintln(format_args!("tora: port {port} of the link to {peer}: {error}"));
+                let _ = rt.eprintln(format_args!(
+                    "tora: port {port} of the link to {peer}: {error}"
+                ));
                 return Err(Fault::Socket);
             }
         }
@@ -186,17 +188,30 @@ pub fn run<
         return refuse(rt, Fault::Config);
     }
     let clock = UnixClock::new(rt);
-    status(rt, run_node(rt, alloc, node, wires, disks, &clock, reader, writer))
+    status(
+        rt,
+        run_node(rt, alloc, node, wires, disks, &clock, reader, writer),
+    )
 }
 
 /// The node of a configuration.
 fn node_of(alloc: Global, config: &NodeConfig) -> Result<Config, Fault>
     requires { IsNodeConfig config.now }
 {
-    let Ok(peers) = config.links.iter().map(|link| link.peer).collect::<Vec<u32>>(alloc) else {
+    let Ok(peers) = config
+        .links
+        .iter()
+        .map(|link| link.peer)
+        .collect::<Vec<u32>>(alloc)
+    else {
         return Err(Fault::Memory);
     };
-    match Config::new(alloc, config.node, peers.as_slice(), config.dests.as_slice()) {
+    match Config::new(
+        alloc,
+        config.node,
+        peers.as_slice(),
+        config.dests.as_slice(),
+    ) {
         Ok(node) => Ok(node),
         Err(CoreError::Memory) => Err(Fault::Memory),
         Err(_) => Err(Fault::Config),

@@ -55,8 +55,16 @@ pub fn run_core_lane<R: Threads + Wait + Sync>(rt: &R, alloc: Global, count: u32
     };
     let (_, (_, taken)) = join(
         rt,
-        move || join(rt, move || put_all(rt, first, count), move || put_all(rt, second, count)),
-        move || join(rt, move || put_all(rt, command, count), move || take_all(rt, core)),
+        move || join(
+            rt,
+            move || put_all(rt, first, count),
+            move || put_all(rt, second, count),
+        ),
+        move || join(
+            rt,
+            move || put_all(rt, command, count),
+            move || take_all(rt, core),
+        ),
     );
     taken
 }

@@ -575,6 +575,7 @@ least-lower least row rows more is down = at row.entry refl least is down
     nothing : (o : Option Quintuple) → is_downstream o None ≡ false
     nothing None = refl
     nothing (Some a) = refl
+
     at : (o : Option Quintuple) → row.entry ≡ o → (l : Option ℕ) → IsLeastPlace l rows → is_downstream (low_of l (rows ++ more)) o ≡ true → (h : Quintuple) × IsLeastAt (length rows) h (rows ++ row ∷ [])
     at None e l x f = absurd (let g = nothing (low_of l (rows ++ more)) in cc)
     at (Some g) e None x f = (g, least-more_first g row rows x e)
@@ -603,6 +604,7 @@ with_row-insert new (row ∷ rows) = at (with_row-insert new rows) (nat_lt new.n
   where
     later : (n : ℕ) → insert (row ∷ rows) (1 + n) new ≡ row ∷ insert rows n new
     later n = let s : 1 + n ≡ suc n = omega arith in rw s refl
+
     at : (insert rows (position_or_len (λ row. nat_lt new.neighbour row.neighbour) rows) new ≡ with_row new rows) → (b : Bool) → nat_lt new.neighbour row.neighbour ≡ b
         → insert (row ∷ rows) (position_or_len (λ row. nat_lt new.neighbour row.neighbour) (row ∷ rows)) new ≡ with_row new (row ∷ rows)
     at rest true e = rw e refl

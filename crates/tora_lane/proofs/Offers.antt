@@ -76,13 +76,13 @@ one_offer ns before after to cargo true k did few within =
     let q_within : q < length before = slice_get_within before q did.0 did.1 in
     ⊎_elim
     (λ (t : ((to == k) ≡ true) × (to ≡ k)).
-        let there : p ≡ q = ap (λ n. place_of n ns) (sym t.1) in
-        ap (λ e. sent_at e p) did.3 ∙ ap (λ n. sent_at (slice_set before q new) n) there ∙ ap sent_by (got_here before q new q_within)
-        ∙ ap (λ l. l ++ cargo ∷ []) (sym (ap (λ n. sent_at before n) there ∙ ap sent_by did.1))
-        ∙ sym (ap (λ b. sent_at before p ++ (if b && true then cargo ∷ [] else [])) t.0))
+    let there : p ≡ q = ap (λ n. place_of n ns) (sym t.1) in
+    ap (λ e. sent_at e p) did.3 ∙ ap (λ n. sent_at (slice_set before q new) n) there ∙ ap sent_by (got_here before q new q_within)
+    ∙ ap (λ l. l ++ cargo ∷ []) (sym (ap (λ n. sent_at before n) there ∙ ap sent_by did.1))
+    ∙ sym (ap (λ b. sent_at before p ++ (if b && true then cargo ∷ [] else [])) t.0))
     (λ (t : ((to == k) ≡ false) × (to ≢ k)).
-        ap (λ e. sent_at e p) did.3 ∙ ap sent_by (got_else before q p new (λ e. t.1 (sym (same_place ns k to e (omega arith)))))
-        ∙ sym (append-nil (sent_at before p)) ∙ sym (ap (λ b. sent_at before p ++ (if b && true then cargo ∷ [] else [])) t.0))
+    ap (λ e. sent_at e p) did.3 ∙ ap sent_by (got_else before q p new (λ e. t.1 (sym (same_place ns k to e (omega arith)))))
+    ∙ sym (append-nil (sent_at before p)) ∙ sym (ap (λ b. sent_at before p ++ (if b && true then cargo ∷ [] else [])) t.0))
     (eqb_tells to k)
 
 -- what is sent by all offers

@@ -5,5 +5,4 @@ ghost use Rattle.tora_lane.specs.Offering.{OffersAreSent};
 /// before and then the cargoes that were put for its neighbour, in order, and nothing else. Own profile.
 pub fn what_was_offered_was_sent()
     ensures { OffersAreSent }
-{
-}
+{}

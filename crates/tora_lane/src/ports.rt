@@ -133,7 +133,8 @@ pub(crate) fn core_lane(alloc: Global) -> Result<(CorePort, Sender), AllocError>
     ensures { IfOk result (λ r. (r.0 ≡ new_core r.0.lane 0) × IsChannelOf r.0.lane (sends_on r.1)) }
 {
     let (sender, receiver, pass) = bounded_with::<Item, LaneView, LaneRule, Global>(
-        alloc, CORE_LANE_ROOM,
+        alloc,
+        CORE_LANE_ROOM,
     )?;
     let core = CorePort {
         receiver,

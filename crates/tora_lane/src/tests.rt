@@ -245,12 +245,15 @@ fn two_links<R: Wait + Abort>(rt: &R, alloc: Global) -> (CoreSide, LinkSide, Lin
     ensures ports { IsPortOf result.0.core result.1.port × IsPortOf result.0.core result.2.port × IsPortOf result.0.core result.3 }
     ensures rings { AreEndsOf result.0.first result.1.take × AreEndsOf result.0.second result.2.take }
 {
-    let Ok(Lanes {
-        core,
-        command,
-        mut links,
-        mut outs,
-    }) = lanes(rt, alloc, 2) else {
+    let Ok(
+        Lanes {
+            core,
+            command,
+            mut links,
+            mut outs,
+        },
+    ) = lanes(rt, alloc, 2)
+    else {
         panic!(rt; "no memory");
     };
     let (port, take, second_put) = last_link(rt, &core, &mut links, &mut outs);
@@ -293,7 +296,11 @@ fn lane_order(rt: HostRuntime) -> Result<(), Fail> {
     assert_eq!(&rt; port.settle(&rt, first.port), all_taken(0, EACH));
     assert_eq!(&rt; port.settle(&rt, second.port), all_taken(1, EACH));
     assert_eq!(&rt; port.settle(&rt, command), all_taken(2, EACH));
-    let whole = OutEnd { sent: EACH, received: EACH, waiting: 0 };
+    let whole = OutEnd {
+        sent: EACH,
+        received: EACH,
+        waiting: 0,
+    };
     assert_eq!(&rt; settle_out(core.first, first.take), whole);
     assert_eq!(&rt; settle_out(core.second, second.take), whole);
     assert!(&rt; port.take(&rt).is_err());
@@ -379,8 +386,12 @@ fn ports_tell_that_the_other_side_ended(rt: HostRuntime) -> Result<(), Fail> {
 fn node_has_one_to_eight_links(rt: HostRuntime) -> Result<(), Fail> {
     for (links, refused) in [(0, true), (1, false), (8, false), (9, true)] {
         match lanes(&rt, rt.alloc(), links) {
-            Ok(made) => assert!(&rt; !refused && made.links.len() == links && made.outs.len() == links),
-            Err(error) => assert!(&rt; refused && error == LaneError::TooMany && error.number() == 2),
+            Ok(made) => assert!(&rt;
+                !refused && made.links.len() == links && made.outs.len() == links
+            ),
+            Err(error) => assert!(&rt;
+                refused && error == LaneError::TooMany && error.number() == 2
+            ),
         }
     }
     assert_eq!(&rt; LaneError::Memory.number(), 1);

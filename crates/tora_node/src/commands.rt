@@ -40,7 +40,9 @@ fn id_of(digits: &[u8]) -> Option<Id>
         if !digit.is_ascii_digit() {
             return None;
         }
-        value = value.saturating_mul(10).saturating_add(u64::from(*digit - b'0'));
+        value = value
+            .saturating_mul(10)
+            .saturating_add(u64::from(*digit - b'0'));
     }
     match u32::try_from(value) {
         Ok(id) if id > 0 => Some(id),

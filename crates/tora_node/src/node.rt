@@ -60,11 +60,7 @@ impl<'a, D: Disk + Drop, W: Wire + Drop, C: Clock> Task for Start<'a, D, W, C> {
             hub,
             clock,
         } = self;
-        let hub = LogHub {
-            log: rt,
-            peer,
-            hub,
-        };
+        let hub = LogHub { log: rt, peer, hub };
         let finished = run_neighbour(rt, link, clock, hub);
         let tally = finished.tally;
         let bad = bad_datagrams(&tally);
@@ -282,7 +278,11 @@ fn run_threads<
                 let outcome = handle.join(rt);
                 has_all = has_all && outcomes.push(outcome).is_ok();
             }
-            if has_all { Some((core, outcomes)) } else { None }
+            if has_all {
+                Some((core, outcomes))
+            } else {
+                None
+            }
         },
     )
 }
@@ -367,9 +367,8 @@ pub fn run_node<
     let Some(core_task) = new_core_start(alloc, core, port, outs, writer) else {
         return Err(NodeError::Memory);
     };
-    let Some((core, outcomes)) = run_threads(
-        rt, alloc, core_task, command, starts, clock, reader,
-    ) else {
+    let Some((core, outcomes)) = run_threads(rt, alloc, core_task, command, starts, clock, reader)
+    else {
         return Err(NodeError::Memory);
     };
     match first_fault(&core, outcomes.as_slice()) {

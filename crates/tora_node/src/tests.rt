@@ -1,17 +1,15 @@
 //! Nodes of several threads, in one process.
 use crate::*;
 use std::alloc::Global;
-use std::io;
 use std::io::{Read, Write};
 use std::net::Net;
 use std::process::Abort;
 use std::sync::Wait;
 use std::sync::atomic::{AtomicU64, Ordering};
 use std::test::Fail;
-use std::thread;
 use std::thread::Threads;
-use std::time;
 use std::time::Duration;
+use std::{io, thread, time};
 use tora_life::MemDisk;
 use tora_neighbour::{NodeError, UdpWire, UnixClock, Wire, WireError};
 
@@ -104,7 +102,17 @@ fn run_one<R: Threads + Wait + Sync + Net + time::Clock + log::Log + Abort>(
         asked: 0,
     };
     let mut screen = Screen { course };
-    run_node(rt, alloc, config, wires, disks, &clock, &mut commands, &mut screen).is_ok()
+    run_node(
+        rt,
+        alloc,
+        config,
+        wires,
+        disks,
+        &clock,
+        &mut commands,
+        &mut screen,
+    )
+    .is_ok()
 }
 
 /// Two wires to each other, on two ports of the loopback that are free.
@@ -218,10 +226,22 @@ impl<R: time::Clock> Read for Waiting<'_, R> {
 fn neighbours_at_once(rt: HostRuntime) -> Result<(), Fail> {
     let alloc = rt.alloc();
     let (first, second, met) = (AtomicU64::new(0), AtomicU64::new(0), AtomicU64::new(0));
-    let config = Config::new(alloc, 1, &[2, 3], &[4]).ok().ok_or("a configuration")?;
+    let config = Config::new(alloc, 1, &[2, 3], &[4])
+        .ok()
+        .ok_or("a configuration")?;
     let mut wires = Vec::new(alloc);
-    wires.push(Meeting { rt: &rt, own: &first, other: &second, met: &met })?;
-    wires.push(Meeting { rt: &rt, own: &second, other: &first, met: &met })?;
+    wires.push(Meeting {
+        rt: &rt,
+        own: &first,
+        other: &second,
+        met: &met,
+    })?;
+    wires.push(Meeting {
+        rt: &rt,
+        own: &second,
+        other: &first,
+        met: &met,
+    })?;
     let mut disks = Vec::new(alloc);
     disks.push(MemDisk::new())?;
     disks.push(MemDisk::new())?;
@@ -231,7 +251,16 @@ fn neighbours_at_once(rt: HostRuntime) -> Result<(), Fail> {
     let clock = UnixClock::new(&rt);
     let mut commands = Waiting { rt: &rt, met: &met };
     let mut screen = Vec::new(alloc);
-    let ended = run_node(&rt, alloc, config, wires, disks, &clock, &mut commands, &mut screen);
+    let ended = run_node(
+        &rt,
+        alloc,
+        config,
+        wires,
+        disks,
+        &clock,
+        &mut commands,
+        &mut screen,
+    );
     assert!(&rt; ended.is_ok());
     assert_eq!(&rt; met.load(Ordering::SeqCst), 2);
     Ok(())
@@ -241,9 +270,16 @@ fn neighbours_at_once(rt: HostRuntime) -> Result<(), Fail> {
 fn a_damaged_life_file_starts_no_thread(rt: HostRuntime) -> Result<(), Fail> {
     let alloc = rt.alloc();
     let (first, second, met) = (AtomicU64::new(0), AtomicU64::new(0), AtomicU64::new(0));
-    let config = Config::new(alloc, 1, &[3], &[4]).ok().ok_or("a configuration")?;
+    let config = Config::new(alloc, 1, &[3], &[4])
+        .ok()
+        .ok_or("a configuration")?;
     let mut wires = Vec::new(alloc);
-    wires.push(Meeting { rt: &rt, own: &first, other: &second, met: &met })?;
+    wires.push(Meeting {
+        rt: &rt,
+        own: &first,
+        other: &second,
+        met: &met,
+    })?;
     let mut disks = Vec::new(alloc);
     disks.push(MemDisk::of(&[0; 33]).ok_or("a disk")?)?;
     let links = config.peers().len();
@@ -252,8 +288,20 @@ fn a_damaged_life_file_starts_no_thread(rt: HostRuntime) -> Result<(), Fail> {
     let clock = UnixClock::new(&rt);
     let mut commands = Waiting { rt: &rt, met: &met };
     let mut screen = Vec::new(alloc);
-    let ended = run_node(&rt, alloc, config, wires, disks, &clock, &mut commands, &mut screen);
-    assert_eq!(&rt; ended.err(), Some(NodeError::Life(3, tora_life::LifeError::Damaged)));
+    let ended = run_node(
+        &rt,
+        alloc,
+        config,
+        wires,
+        disks,
+        &clock,
+        &mut commands,
+        &mut screen,
+    );
+    assert_eq!(&rt;
+        ended.err(),
+        Some(NodeError::Life(3, tora_life::LifeError::Damaged))
+    );
     assert_eq!(&rt; first.load(Ordering::SeqCst), 0);
     Ok(())
 }
@@ -263,10 +311,24 @@ fn lines_that_are_commands(rt: HostRuntime) {
     assert_eq!(&rt; command_of(b"show"), Command::Show);
     assert_eq!(&rt; command_of(b"quit"), Command::Quit);
     assert_eq!(&rt; command_of(b"need 4"), Command::Need(4));
-    assert_eq!(&rt; command_of(b"need 4294967295"), Command::Need(4_294_967_295));
+    assert_eq!(&rt;
+        command_of(b"need 4294967295"),
+        Command::Need(4_294_967_295)
+    );
     for line in [
-        b"".as_slice(), b"need", b"need ", b"need 0", b"need 04", b"need +4", b"need 4 ", b"need  4",
-        b"need 4294967296", b"need 99999999999", b"Show", b"show ", b"quit\r",
+        b"".as_slice(),
+        b"need",
+        b"need ",
+        b"need 0",
+        b"need 04",
+        b"need +4",
+        b"need 4 ",
+        b"need  4",
+        b"need 4294967296",
+        b"need 99999999999",
+        b"Show",
+        b"show ",
+        b"quit\r",
     ] {
         assert_eq!(&rt; command_of(line), Command::Unknown);
     }

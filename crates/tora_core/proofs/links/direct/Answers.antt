@@ -31,7 +31,7 @@ loop-i-preserved c =
     let few = c.loop-i.invariant.few in
     let sum : (c.if-is_down.downstream ≡ downstream_in own (take (i + 1) rows)) × (c.if-is_down.downstream ≤ i + 1) =
     elim c.if-is_down.branch [
-      then-is_down w ↦ (let e = more true (sym c.is_down.ensures ∙ w.if-is_down.true) in let f = w.downstream-is in (f ∙ sym e, omega arith))
+      | then-is_down w ↦ (let e = more true (sym c.is_down.ensures ∙ w.if-is_down.true) in let f = w.downstream-is in (f ∙ sym e, omega arith))
       | else-is_down w ↦ (let e = more false (sym c.is_down.ensures ∙ w.if-is_down.false) in let f = w.downstream-is in let z : c.loop-i.downstream + 0 ≡ c.loop-i.downstream = omega arith in (f ∙ sym z ∙ sym e, omega arith))
     ] in
     record {

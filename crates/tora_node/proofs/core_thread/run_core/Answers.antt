@@ -21,15 +21,17 @@ returns-in-Err g c =
     let r = c.loop.invariant.ran in
     let gone = c.in-Err.ensures.gone in
     let ks = c.args.seat.core.neighbours in
-    record { runs = (
-      r.xs,
-      gone.0 ∙ r.taken_is,
-      r.served,
-      r.offered,
-      core_is c.accepted_inputs_make_the_core.ensures.runs ks (state_of c.args.seat) (state_of c.loop.seat) r.xs r.served,
-      (λ none. r.written),
-      inr gone.1,
-    ) }
+    record {
+      runs = (
+        r.xs,
+        gone.0 ∙ r.taken_is,
+        r.served,
+        r.offered,
+        core_is c.accepted_inputs_make_the_core.ensures.runs ks (state_of c.args.seat) (state_of c.loop.seat) r.xs r.served,
+        (λ none. r.written),
+        inr gone.1,
+      );
+    }
 
 pub returns-then-is_quit : goal.returns-then-is_quit
 returns-then-is_quit g c =
@@ -38,19 +40,21 @@ returns-then-is_quit g c =
     let ks = c.args.seat.core.neighbours in
     let v = serving_at c.in-Ok.item.now c.serve-answer.new.self t.0 in
     let d = done g.O.OutLanes.did_offer ks (state_of c.args.seat) c.args.outs c.args.port.taken (g.W.Write.contents c.args.writer.now)
-        (state_of c.loop.seat) c.loop.outs c.loop.port.taken (g.W.Write.contents c.loop.writer) h.ran
-        c.in-Ok.item t.0 c.serve-answer.new.outs c.take.new.self.taken v c.loop.seat.core.neighbours h.neighbours c.in-Ok.ensures.taken.0 t.1 t.2 refl in
+    (state_of c.loop.seat) c.loop.outs c.loop.port.taken (g.W.Write.contents c.loop.writer) h.ran
+    c.in-Ok.item t.0 c.serve-answer.new.outs c.take.new.self.taken v c.loop.seat.core.neighbours h.neighbours c.in-Ok.ensures.taken.0 t.1 t.2 refl in
     let quit = c.is_quit.ensures c.if-is_quit.true in
     let text = g.W.Write.contents c.loop.writer in
-    record { runs = (
-      d.front ++ d.x ∷ [],
-      d.taken_is,
-      d.served,
-      d.offered,
-      core_is c.accepted_inputs_make_the_core.ensures.runs ks (state_of c.args.seat) (state_of c.serve-answer.new.self) (d.front ++ d.x ∷ []) d.served,
-      (λ none. d.written text (subst (λ (w : What). Appends text text (reply_text w v.answer v.seat.core)) (sym quit) (Appends-nil text))),
-      inl (d.front, d.x, refl, ap (λ (i : Item). i.what) d.item_is ∙ quit),
-    ) }
+    record {
+      runs = (
+        d.front ++ d.x ∷ [],
+        d.taken_is,
+        d.served,
+        d.offered,
+        core_is c.accepted_inputs_make_the_core.ensures.runs ks (state_of c.args.seat) (state_of c.serve-answer.new.self) (d.front ++ d.x ∷ []) d.served,
+        (λ none. d.written text (subst (λ (w : What). Appends text text (reply_text w v.answer v.seat.core)) (sym quit) (Appends-nil text))),
+        inl (d.front, d.x, refl, ap (λ (i : Item). i.what) d.item_is ∙ quit),
+      );
+    }
 
 pub returns-in-Err-reply : goal.returns-in-Err-reply
 returns-in-Err-reply g c =
@@ -59,17 +63,19 @@ returns-in-Err-reply g c =
     let ks = c.args.seat.core.neighbours in
     let v = serving_at c.in-Ok.item.now c.serve-answer.new.self t.0 in
     let d = done g.O.OutLanes.did_offer ks (state_of c.args.seat) c.args.outs c.args.port.taken (g.W.Write.contents c.args.writer.now)
-        (state_of c.loop.seat) c.loop.outs c.loop.port.taken (g.W.Write.contents c.loop.writer) h.ran
-        c.in-Ok.item t.0 c.serve-answer.new.outs c.take.new.self.taken v c.loop.seat.core.neighbours h.neighbours c.in-Ok.ensures.taken.0 t.1 t.2 refl in
-    record { runs = (
-      d.front ++ d.x ∷ [],
-      d.taken_is,
-      d.served,
-      d.offered,
-      core_is c.accepted_inputs_make_the_core.ensures.runs ks (state_of c.args.seat) (state_of c.serve-answer.new.self) (d.front ++ d.x ∷ []) d.served,
-      (λ none. absurd (cc)),
-      (d.front, d.x, refl, subst (λ (i : Item). MayFail c.in-Err-reply.fault i.what) (sym d.item_is) c.in-Err-reply.ensures.err),
-    ) }
+    (state_of c.loop.seat) c.loop.outs c.loop.port.taken (g.W.Write.contents c.loop.writer) h.ran
+    c.in-Ok.item t.0 c.serve-answer.new.outs c.take.new.self.taken v c.loop.seat.core.neighbours h.neighbours c.in-Ok.ensures.taken.0 t.1 t.2 refl in
+    record {
+      runs = (
+        d.front ++ d.x ∷ [],
+        d.taken_is,
+        d.served,
+        d.offered,
+        core_is c.accepted_inputs_make_the_core.ensures.runs ks (state_of c.args.seat) (state_of c.serve-answer.new.self) (d.front ++ d.x ∷ []) d.served,
+        (λ none. absurd (cc)),
+        (d.front, d.x, refl, subst (λ (i : Item). MayFail c.in-Err-reply.fault i.what) (sym d.item_is) c.in-Err-reply.ensures.err),
+      );
+    }
 
 pub loop-preserved : goal.loop-preserved
 loop-preserved g c =
@@ -78,8 +84,8 @@ loop-preserved g c =
     let ks = c.args.seat.core.neighbours in
     let v = serving_at c.in-Ok.item.now c.serve-answer.new.self t.0 in
     let d = done g.O.OutLanes.did_offer ks (state_of c.args.seat) c.args.outs c.args.port.taken (g.W.Write.contents c.args.writer.now)
-        (state_of c.loop.seat) c.loop.outs c.loop.port.taken (g.W.Write.contents c.loop.writer) h.ran
-        c.in-Ok.item t.0 c.serve-answer.new.outs c.take.new.self.taken v c.loop.seat.core.neighbours h.neighbours c.in-Ok.ensures.taken.0 t.1 t.2 refl in
+    (state_of c.loop.seat) c.loop.outs c.loop.port.taken (g.W.Write.contents c.loop.writer) h.ran
+    c.in-Ok.item t.0 c.serve-answer.new.outs c.take.new.self.taken v c.loop.seat.core.neighbours h.neighbours c.in-Ok.ensures.taken.0 t.1 t.2 refl in
     let same = c.serve-answer.ensures.neighbours in
     let count = c.serve-answer.ensures.count in
     let new = g.W.Write.contents c.reply.new.writer in

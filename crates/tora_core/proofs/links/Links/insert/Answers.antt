@@ -39,12 +39,12 @@ invariant_of-self c =
     let le : c.args.place ≤ length rows = let within = place-within (λ other. nat_lt c.args.row.neighbour other.neighbour) rows in omega arith in
     let least : IsLeastPlace c.if-is_some.self (insert rows c.args.place c.args.row) =
     elim c.if-is_some.branch [
-      then-is_some w ↦ subst (λ (l : Option ℕ). IsLeastPlace l (insert rows c.args.place c.args.row)) (sym w.self-is)
-      (subst (IsLeastPlace w.place_of_least-self-inside.result) (w.as_slice.ensures.value ∙ c.insert.ensures.items) w.place_of_least-self-inside.ensures)
+      | then-is_some w ↦ subst (λ (l : Option ℕ). IsLeastPlace l (insert rows c.args.place c.args.row)) (sym w.self-is)
+          (subst (IsLeastPlace w.place_of_least-self-inside.result) (w.as_slice.ensures.value ∙ c.insert.ensures.items) w.place_of_least-self-inside.ensures)
       | else-is_some w ↦
-      (let null : IsNull c.args.row = not-some c.args.row.entry (sym c.is_some.ensures ∙ w.if-is_some.false) in
-      subst (λ (l : Option ℕ). IsLeastPlace l (insert rows c.args.place c.args.row)) (sym w.self-is ∙ refl)
-      (subst (λ (l : Option ℕ). IsLeastPlace l (insert rows c.args.place c.args.row)) (sym w.moved_up-self-inside.ensures) (least-insert c.args.place c.self.inside.least c.args.row rows le null c.self.invariant.least_is)))
+          (let null : IsNull c.args.row = not-some c.args.row.entry (sym c.is_some.ensures ∙ w.if-is_some.false) in
+          subst (λ (l : Option ℕ). IsLeastPlace l (insert rows c.args.place c.args.row)) (sym w.self-is ∙ refl)
+          (subst (λ (l : Option ℕ). IsLeastPlace l (insert rows c.args.place c.args.row)) (sym w.moved_up-self-inside.ensures) (least-insert c.args.place c.self.inside.least c.args.row rows le null c.self.invariant.least_is)))
     ] in
     rw (c.insert.ensures.items, c.insert-2.ensures.items, c.status-direction.ensures)
     (kept-insert c.self.inside.own rows c.self.inside.directions.items c.self.inside.downstream c.self.inside.least c.args.place c.args.row c.recounted-self-inside.result c.if-is_some.self

@@ -63,14 +63,14 @@ invariant_of-self c =
     let lt : c.args.place < length rows = only-within c.args.k c.args.place rows only in
     let least : IsLeastPlace c.match-self.self (remove rows c.args.place) =
     elim c.match-self.branch [
-      in-None w ↦ subst (λ (l : Option ℕ). IsLeastPlace l (remove rows c.args.place)) (sym w.self-is) (null-remove c.args.place rows lt (subst (λ (l : Option ℕ). IsLeastPlace l rows) w.in-None.is c.self.invariant.least_is))
+      | in-None w ↦ subst (λ (l : Option ℕ). IsLeastPlace l (remove rows c.args.place)) (sym w.self-is) (null-remove c.args.place rows lt (subst (λ (l : Option ℕ). IsLeastPlace l rows) w.in-None.is c.self.invariant.least_is))
       | in-Some+then-least-place w ↦ subst (λ (l : Option ℕ). IsLeastPlace l (remove rows c.args.place)) (sym w.self-is)
-      (subst (IsLeastPlace w.place_of_least.result) (w.as_slice-then-least-place.ensures.value ∙ c.remove.ensures.items) w.place_of_least.ensures)
+          (subst (IsLeastPlace w.place_of_least.result) (w.as_slice-then-least-place.ensures.value ∙ c.remove.ensures.items) w.place_of_least.ensures)
       | in-Some+else-least-place w ↦
-      (let is : IsLeastPlace (Some w.in-Some.least) rows = subst (λ (l : Option ℕ). IsLeastPlace l rows) w.in-Some.is c.self.invariant.least_is in
-      let found = least-remove c.args.place w.in-Some.least is.0 rows w.if-least-place.false lt is.1 in
-      subst (λ (l : Option ℕ). IsLeastPlace l (remove rows c.args.place)) (sym w.self-is)
-      (is.0, subst (λ (n : ℕ). IsLeastAt n is.0 (remove rows c.args.place)) (sym w.moved_down.ensures) found))
+          (let is : IsLeastPlace (Some w.in-Some.least) rows = subst (λ (l : Option ℕ). IsLeastPlace l rows) w.in-Some.is c.self.invariant.least_is in
+          let found = least-remove c.args.place w.in-Some.least is.0 rows w.if-least-place.false lt is.1 in
+          subst (λ (l : Option ℕ). IsLeastPlace l (remove rows c.args.place)) (sym w.self-is)
+          (is.0, subst (λ (n : ℕ). IsLeastAt n is.0 (remove rows c.args.place)) (sym w.moved_down.ensures) found))
     ] in
     rw (c.remove.ensures.items, c.remove-before.ensures.items)
     (kept-remove c.self.inside.own rows c.self.inside.directions.items c.self.inside.downstream c.self.inside.least c.args.place c.remove-before.result c.recounted-self-inside.result c.match-self.self

@@ -83,14 +83,14 @@ invariant_of-self c =
     ∙ ap (slice_set c.self.inside.directions.items c.args.place) c.status-direction.ensures in
     let least : IsLeastPlace c.match-least.self (with_entry_at c.args.place c.args.height rows) =
     elim c.match-least.branch [
-      in-None w ↦ subst (λ (l : Option ℕ). IsLeastPlace l (with_entry_at c.args.place c.args.height rows)) (sym w.self-is)
-      (subst (IsLeastPlace w.place_of_least-self-inside.result) (w.as_slice-in-None.ensures.value ∙ told ∙ entries) w.place_of_least-self-inside.ensures)
+      | in-None w ↦ subst (λ (l : Option ℕ). IsLeastPlace l (with_entry_at c.args.place c.args.height rows)) (sym w.self-is)
+          (subst (IsLeastPlace w.place_of_least-self-inside.result) (w.as_slice-in-None.ensures.value ∙ told ∙ entries) w.place_of_least-self-inside.ensures)
       | in-Some w ↦
-      (let known : IfSome c.least_with-least.result (λ i. IsLeastPlace (Some i) (with_entry_at c.args.place c.args.height rows)) =
-      subst (λ (xs : List Row). IfSome c.least_with-least.result (λ i. IsLeastPlace (Some i) (with_entry_at c.args.place c.args.height xs))) c.as_slice-2.ensures.value c.least_with-least.ensures in
-      let found : IsLeastPlace (Some w.in-Some.place) (with_entry_at c.args.place c.args.height rows) =
-      subst (λ (l : Option ℕ). IfSome l (λ i. IsLeastPlace (Some i) (with_entry_at c.args.place c.args.height rows))) w.in-Some.is known in
-      subst (λ (l : Option ℕ). IsLeastPlace l (with_entry_at c.args.place c.args.height rows)) (sym w.self-is) found)
+          (let known : IfSome c.least_with-least.result (λ i. IsLeastPlace (Some i) (with_entry_at c.args.place c.args.height rows)) =
+          subst (λ (xs : List Row). IfSome c.least_with-least.result (λ i. IsLeastPlace (Some i) (with_entry_at c.args.place c.args.height xs))) c.as_slice-2.ensures.value c.least_with-least.ensures in
+          let found : IsLeastPlace (Some w.in-Some.place) (with_entry_at c.args.place c.args.height rows) =
+          subst (λ (l : Option ℕ). IfSome l (λ i. IsLeastPlace (Some i) (with_entry_at c.args.place c.args.height rows))) w.in-Some.is known in
+          subst (λ (l : Option ℕ). IsLeastPlace l (with_entry_at c.args.place c.args.height rows)) (sym w.self-is) found)
     ] in
     rw (told, written, entries, directed)
     (kept-set c.self.inside.own rows c.self.inside.directions.items c.self.inside.downstream c.self.inside.least c.args.place c.args.height before c.recounted-self-inside.result c.match-least.self
