@@ -1,5 +1,5 @@
 //! The send queue of a link end.
-ghost use Rattle.std.specs.Prelude.{◌≡◌, ◌<◌, ◌+◌, ◌^◌, ℕ, [], ◌∷◌, ◌++◌, length, drop, slice_get, IfOk, IfNone, OnSome, IsTrue, option_map};
+ghost use Rattle.std.specs.Prelude.{◌≡◌, ◌<◌, ◌+◌, ◌^◌, ℕ, [], ◌∷◌, ◌++◌, length, drop, slice_get, IfOk, IfNone, OnSome, IsTrue, is_some, option_map};
 ghost use Rattle.tora_arq.specs.Settings.{ticks_passed};
 ghost use Rattle.tora_arq.specs.SendQueue.{untried, retried, is_retry_time, is_ready, is_given_up, has_given_up, first_due, DuePacket, due_packet};
 ghost use Rattle.tora_arq.specs.EndRange.{AreUntried};
@@ -137,6 +137,17 @@ impl SendQueue {
     {
         match self.ring.front() {
             Some(first) => first.is_given_up(times, now),
+            None => false,
+        }
+    }
+
+    /// Whether a packet within the window is due.
+    #[tactic(auto, using(crate::proofs::QueueLemmas::due_first, crate::proofs::QueueLemmas::none_due_first, crate::proofs::QueueLemmas::none_due_empty))]
+    pub fn is_due(&self, times: &Times, now: u64) -> bool
+        ensures { (number : ℕ) → result ≡ is_some (first_due times.now now number WINDOW self.now) }
+    {
+        match self.ring.front() {
+            Some(first) => first.is_ready(times, now),
             None => false,
         }
     }
