@@ -1,5 +1,5 @@
 //! The events of a link end that wait to be polled.
-ghost use Rattle.std.specs.Prelude.{◌≡◌, ◌<◌, ◌≤◌, ◌-◌, [], ◌∷◌, ◌++◌, length, drop, slice_get, is_some, nat_lt, IfOk};
+ghost use Rattle.std.specs.Prelude.{◌≡◌, ◌<◌, ◌≤◌, ◌-◌, [], ◌∷◌, ◌++◌, length, drop, slice_get, nat_lt, IfOk};
 
 use crate::LinkEvent;
 use crate::rings::push;
@@ -58,11 +58,11 @@ impl EventQueue {
         push(&mut self.ring, event);
     }
 
-    /// Whether there is an event.
-    pub fn has_first(&self) -> bool
-        ensures { result ≡ is_some (slice_get self.now 0) }
+    /// The first event.
+    pub fn first(&self) -> Option<LinkEvent>
+        ensures { result ≡ slice_get self.now 0 }
     {
-        self.ring.front().is_some()
+        self.ring.front().copied()
     }
 
     /// Removes the first event.

@@ -162,11 +162,11 @@ impl LinkEnd {
         self.state.submit(life, packet)
     }
 
-    /// Whether an event waits.
-    pub fn has_event(&self) -> bool
-        ensures { result ≡ is_some (first_event self.now.state) }
+    /// The next event, if one waits. It stays.
+    pub fn next_event(&self) -> Option<LinkEvent>
+        ensures { result ≡ first_event self.now.state }
     {
-        self.state.events.has_first()
+        self.state.events.first()
     }
 
     /// Takes the next event, if one waits.
