@@ -1,2 +1,6 @@
 pub mod Lasts
 pub mod Keys
+pub mod Stores
+pub mod Ticks
+pub mod Opens
+pub mod Needs

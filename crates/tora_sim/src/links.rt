@@ -159,7 +159,15 @@ fn give(end: &mut LinkEnd, cargo: &Cargo)
 }
 
 /// The place of the end of node `n` towards `k`.
-pub fn place(links: &[LinkSlot], n: Id, k: Id) -> Option<usize>
+pub fn place(links: &Vec<LinkSlot>, n: Id, k: Id) -> Option<usize>
+    requires { AreRising links.now.items }
+    ensures first { IfSome result (λ i. IsFirst (is_at n k) links.now.items i) }
+    ensures none { IfNone result (find (is_at n k) links.now.items ≡ None) }
+{
+    search(links, n, k)
+}
+
+fn search(links: &[LinkSlot], n: Id, k: Id) -> Option<usize>
     requires { AreRising links.now }
     ensures first { IfSome result (λ i. IsFirst (is_at n k) links.now i) }
     ensures none { IfNone result (find (is_at n k) links.now ≡ None) }
@@ -170,7 +178,13 @@ pub fn place(links: &[LinkSlot], n: Id, k: Id) -> Option<usize>
 }
 
 /// Ticks every end.
-pub fn tick(links: &mut [LinkSlot], now: u64)
+pub fn tick(links: &mut Vec<LinkSlot>, now: u64)
+    ensures { links.new.items ≡ map (ticked now) links.old.items }
+{
+    tick_each(links, now);
+}
+
+fn tick_each(links: &mut [LinkSlot], now: u64)
     ensures { links.new ≡ map (ticked now) links.old }
 {
     for link in links.iter_mut() {

@@ -112,7 +112,15 @@ impl NodeSlot {
 }
 
 /// The place of a node.
-pub fn place(nodes: &[NodeSlot], n: Id) -> Option<usize>
+pub fn place(nodes: &Vec<NodeSlot>, n: Id) -> Option<usize>
+    requires { AreRising nodes.now.items }
+    ensures first { IfSome result (λ i. IsFirst (is_of n) nodes.now.items i) }
+    ensures none { IfNone result (find (is_of n) nodes.now.items ≡ None) }
+{
+    search(nodes, n)
+}
+
+fn search(nodes: &[NodeSlot], n: Id) -> Option<usize>
     requires { AreRising nodes.now }
     ensures first { IfSome result (λ i. IsFirst (is_of n) nodes.now i) }
     ensures none { IfNone result (find (is_of n) nodes.now ≡ None) }

@@ -3,7 +3,7 @@ use Rattle.std.proofs.lemmas.List.Sorted.{answers_always}
 use Rattle.tora_sim.specs.Keyed.{IsFirst}
 use Rattle.tora_sim.specs.Links.{LinkView, is_at, compared}
 use Rattle.tora_sim.proofs.Keys.{placed, not_placed}
-use Rattle.tora_sim.proofs.links.place.Goals as goal
+use Rattle.tora_sim.proofs.links.search.Goals as goal
 
 pub returns-clause-first : goal.returns-clause-first
 returns-clause-first c =

@@ -3,7 +3,7 @@ use Rattle.std.proofs.lemmas.List.Sorted.{answers_always}
 use Rattle.tora_sim.specs.Keyed.{IsFirst}
 use Rattle.tora_sim.specs.Nodes.{NodeView, is_of}
 use Rattle.tora_sim.proofs.Keys.{node_placed, node_not_placed}
-use Rattle.tora_sim.proofs.nodes.place.Goals as goal
+use Rattle.tora_sim.proofs.nodes.search.Goals as goal
 
 pub returns-clause-first : goal.returns-clause-first
 returns-clause-first c =
