@@ -1,8 +1,8 @@
 -- An item more in the lane of a node.
-use Rattle.std.proofs.Common.{◌≡◌, ℕ, zero, suc, ◌+◌, ◌<◌, ◌≤◌, ◌⊎◌, inl, inr, Bool, true, false, not, ◌&&◌, List, [], ◌∷◌, ◌++◌, Option, Some, None, refl, sym, ap, ap₂, ◌∙◌, subst, arith, length, set, get_or, slice_get, is_some, nat_lt, nat_eq, if◌then◌else◌, eqb-true, eq-eqb, true≢false}
+use Rattle.std.proofs.Common.{◌≡◌, ℕ, zero, suc, ◌+◌, ◌<◌, ◌≤◌, ◌⊎◌, inl, inr, Bool, true, false, not, ◌&&◌, List, [], ◌∷◌, ◌++◌, Option, Some, None, refl, sym, ap, ap₂, ◌∙◌, subst, arith, length, set, get_or, slice_get, is_some, nat_lt, nat_eq, if◌then◌else◌, eqb-true, eq-eqb, true≢false, Result, Ok, Err, MatchResult}
 use Rattle.std.proofs.lemmas.Bool.{cases_Bool, and_parts}
 use Rattle.std.proofs.lemmas.Option.{slice_get_read}
-use Rattle.std.proofs.lemmas.List.{get_or-set_same, get_or-set_other, length-set}
+use Rattle.std.proofs.lemmas.List.{get_or-set_same, get_or-set_other, length-set, set-get_or}
 use Rattle.std.specs.Prelude.{slice_index_or, slice_index}
 use mathlib.Core.Path.{fun_ext}
 use Rattle.tora_frame.specs.FrameParts.{FrameParts}
@@ -22,7 +22,7 @@ use Rattle.tora_sim.specs.Keyed.{IsFirst}
 use Rattle.tora_sim.specs.Links.{LinkView}
 use Rattle.tora_sim.specs.Nodes.{NodeView, is_of, after_item}
 use Rattle.tora_sim.specs.Store.{SimState, state_of, world_of, IsStore, IsNodeOf, node_at, seat_in, items_in, counts_in, arms_in}
-use Rattle.tora_sim.specs.Steps.{IsDone, IsRefused}
+use Rattle.tora_sim.specs.Steps.{IsDone, IsRefused, Does}
 use Rattle.tora_sim.proofs.Stores.{IsSameNode, node_there, node_changes, node_stays, node_stays_by, store_set_node}
 use Rattle.tora_sim.proofs.Opens.{effect_is, refused_for}
 
@@ -116,8 +116,21 @@ module _ (t : Topology) (times : Times) (clock : ℕ) (nodes : List NodeView) (l
   unfolding effect_by
   need_effect d = refl
 
-  pub need_done : (d : ℕ) (y : NodeView) → nat_lt (length x.items) 1024 ≡ true → y ≡ after_item x x.count clock (Tells.Need d) → IsDone w (Happens.Need n d) (world_of (state_of t times clock (set nodes i y) links ds))
-  need_done d y e f = record {
+  -- where there is no memory the node stays as it is
+  pub same_nodes : (y : NodeView) → y ≡ x → set nodes i y ≡ nodes
+  same_nodes y e = ap (set nodes i) (e ∙ read) ∙ set-get_or nodes i x
+
+  -- what putting an item leaves
+  abbrev pub IsPut : ℕ → What → NodeView → Result (Unit {0}) SimError → Type 0
+  IsPut seat what y r = MatchResult r (λ _. y ≡ after_item x seat clock what) (λ e. (e ≡ Refused.Memory) × (y ≡ x))
+
+  pub put_store : (seat : ℕ) (what : What) (y : NodeView) (r : Result (Unit {0}) SimError) → seat < 9 → IsPut seat what y r → IsStore (state_of t times clock (set nodes i y) links ds)
+  put_store seat what y (Ok u) lt f = subst (λ z. IsStore (state_of t times clock (set nodes i z) links ds)) (sym f) (item_store seat what lt)
+  put_store seat what y (Err e) lt f = subst (λ z. IsStore (state_of t times clock z links ds)) (sym (same_nodes y f.1)) h
+
+  pub need_does : (d : ℕ) (y : NodeView) (r : Result (Unit {0}) SimError) → nat_lt (length x.items) 1024 ≡ true → IsPut x.count (Tells.Need d) y r →
+      Does (state_of t times clock nodes links ds) (Happens.Need n d) r (state_of t times clock (set nodes i y) links ds)
+  need_does d y (Ok u) e f = record {
     accepted = need_accepted d e;
     world =
         ap (λ z. world_of (state_of t times clock (set nodes i z) links ds)) f
@@ -125,6 +138,7 @@ module _ (t : Topology) (times : Times) (clock : ℕ) (nodes : List NodeView) (l
         ∙ ap (λ m. with_item w n m clock (Tells.Need d)) (of_node.count ∙ ap (λ m. length (neighbours_of t m)) named)
         ∙ sym (effect_is w (Happens.Need n d) (need_accepted d e) ∙ need_effect d);
   }
-
-  pub need_store : (d : ℕ) (y : NodeView) → y ≡ after_item x x.count clock (Tells.Need d) → IsStore (state_of t times clock (set nodes i y) links ds)
-  need_store d y f = subst (λ z. IsStore (state_of t times clock (set nodes i z) links ds)) (sym f) (item_store x.count (Tells.Need d) of_node.room)
+  need_does d y (Err m) e f = record {
+    cause = inl (f.0, need_accepted d e);
+    world = ap (λ z. world_of (state_of t times clock z links ds)) (same_nodes y f.1);
+  }
