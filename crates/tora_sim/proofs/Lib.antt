@@ -4,3 +4,5 @@ pub mod Stores
 pub mod Ticks
 pub mod Opens
 pub mod Needs
+pub mod Sends
+pub mod Receives

@@ -1,5 +1,5 @@
 -- What the simulator stores, and the world that it is.
-use Rattle.std.specs.Prelude.{◌≡◌, ℕ, ◌<◌, ◌≤◌, Bool, true, false, is_some, List, [], ◌∷◌, length, slice_get, slice_index, Option, Some, None, find}
+use Rattle.std.specs.Prelude.{◌≡◌, ℕ, zero, suc, ◌<◌, ◌≤◌, Bool, true, false, is_some, List, [], ◌∷◌, length, slice_get, slice_index, Option, Some, None, find}
 use Rattle.tora_frame.specs.FrameParts.{FrameParts}
 use Rattle.tora_arq.specs.declared.Times.{Times}
 use Rattle.tora_arq.specs.Settings.{settings_of, IsTimes}
@@ -117,3 +117,8 @@ pub record IsStore (s : SimState) : Type 0 where
   pub each_node : EachOf (IsNodeOf s.topology) s.nodes
   pub each_link : EachOf (IsLinkOf s.topology s.times) s.links
   pub each_datagram : EachOf (IsOfLink s.topology) s.datagrams
+
+-- the datagram of a number from 1 on
+abbrev pub numbered : ℕ → List FrameParts → Option FrameParts
+numbered zero datagrams = None
+numbered (suc place) datagrams = slice_get datagrams place

@@ -1,6 +1,9 @@
 //! The simulator.
-ghost use Rattle.std.specs.Prelude.{◌≡◌};
+ghost use Rattle.std.specs.Prelude.{◌≡◌, ◌<◌, vec_len, vec_capacity};
 ghost use Rattle.tora_world.specs.declared.Event.TheVariants.{Tick, Open, Pull, Need, Transmit, Deliver, Pump};
+ghost use Rattle.tora_world.specs.World.{with_datagram, what_of};
+ghost use Rattle.tora_sim.specs.Nodes.{sending_of};
+ghost use Rattle.tora_sim.specs.Store.{numbered};
 ghost use Rattle.tora_sim.specs.Steps.{Does};
 
 use crate::SimError;
@@ -8,7 +11,7 @@ use crate::links::{LinkSlot, place, tick};
 use crate::nodes::{NodeSlot, Sending, place as node_place};
 use crate::topology::Topology;
 use std::marker::Model;
-use tora_arq::Times;
+use tora_arq::{LinkEvent, Times, data_frames_are_what_was_submitted};
 use tora_frame::Frame;
 use tora_height::Id;
 use tora_seat::What;
@@ -91,4 +94,107 @@ impl Sim {
         let seat = self.nodes[home].count();
         self.nodes[home].put_item(seat, self.clock, What::Need(d))
     }
+
+    /// The first frame due of an end goes out, unless the send is armed to lose it.
+    pub(crate) fn transmit(&mut self, n: Id, k: Id) -> Result<(), SimError>
+        ensures { Does self.old (Transmit n k) result self.new }
+    {
+        let Some(at) = place(&self.links, n, k) else {
+            return Err(SimError::NoNode);
+        };
+        if !self.links[at].has_frame_due(self.clock) {
+            return Err(SimError::NotPossible);
+        }
+        let Some(home) = node_place(&self.nodes, n) else {
+            return Err(SimError::NoNode);
+        };
+        if self.datagrams.reserve(1).is_err() {
+            return Err(SimError::Memory);
+        }
+        data_frames_are_what_was_submitted();
+        let Some(frame) = self.links[at].send(self.clock) else {
+            return Err(SimError::NotPossible);
+        };
+        note_sent(&mut self.nodes[home], &mut self.datagrams, frame);
+        Ok(())
+    }
+
+    /// An event of an end goes into its node's lane.
+    pub(crate) fn pump(&mut self, n: Id, k: Id) -> Result<(), SimError>
+        ensures { Does self.old (Pump n k) result self.new }
+    {
+        let Some(at) = place(&self.links, n, k) else {
+            return Err(SimError::NoNode);
+        };
+        let Some(event) = self.links[at].next_event() else {
+            return Err(SimError::NotPossible);
+        };
+        let Some(home) = node_place(&self.nodes, n) else {
+            return Err(SimError::NoNode);
+        };
+        if self.nodes[home].waiting() >= MOST_ITEMS {
+            return Err(SimError::NotPossible);
+        }
+        let seat = self.links[at].seat();
+        if let Err(error) = self.nodes[home].put_item(seat, self.clock, what_of(event)) {
+            return Err(error);
+        }
+        self.links[at].take_event();
+        Ok(())
+    }
+
+    /// A datagram is handed to its receiver, unless the receive is armed to fail.
+    pub(crate) fn deliver(&mut self, i: u64) -> Result<(), SimError>
+        ensures { Does self.old (Deliver i) result self.new }
+    {
+        let Some(frame) = numbered(&self.datagrams, i) else {
+            return Err(SimError::NoDatagram);
+        };
+        let header = frame.header();
+        let Some(home) = node_place(&self.nodes, header.receiver) else {
+            return Err(SimError::NoDatagram);
+        };
+        if self.nodes[home].receive() {
+            self.nodes[home].arm_receive(false);
+            return Ok(());
+        }
+        let Some(at) = place(&self.links, header.receiver, header.sender) else {
+            return Err(SimError::NoDatagram);
+        };
+        self.links[at].receive(&frame, self.clock);
+        Ok(())
+    }
+}
+
+/// What a link event tells the core.
+fn what_of(event: LinkEvent) -> What
+    ensures { result ≡ what_of event }
+{
+    match event {
+        LinkEvent::Up(life) => What::Up(life),
+        LinkEvent::Deliver(life, packet) => What::Packet(life, packet),
+        LinkEvent::Down(life, reason) => What::Down(life, reason),
+    }
+}
+
+/// The datagram of a number from 1 on.
+fn numbered(datagrams: &[Frame], i: u64) -> Option<Frame>
+    ensures { result ≡ numbered i datagrams.now }
+{
+    let place = usize::try_from(i).ok()?.checked_sub(1)?;
+    datagrams.get(place).copied()
+}
+
+/// Notes a datagram that a node sent, unless the send is armed to lose it; the arm is used.
+fn note_sent(node: &mut NodeSlot, datagrams: &mut Vec<Frame>, frame: Frame)
+    requires { vec_len datagrams.old < vec_capacity datagrams.old }
+    ensures node { node.new ≡ record node.old { sending = Sending.Goes } }
+    ensures datagrams { datagrams.new.items ≡ with_datagram (sending_of node.old.sending) datagrams.old.items frame }
+{
+    match node.sending() {
+        Sending::Goes => datagrams.push_reserved(frame),
+        Sending::IsLost => {}
+        Sending::IsGone => datagrams.push_reserved(frame),
+    }
+    node.arm_sending(Sending::Goes);
 }
