@@ -6,3 +6,4 @@ pub mod Opens
 pub mod Needs
 pub mod Sends
 pub mod Receives
+pub mod Pumps

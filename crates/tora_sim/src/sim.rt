@@ -178,8 +178,8 @@ fn what_of(event: LinkEvent) -> What
 }
 
 /// The datagram of a number from 1 on.
-fn numbered(datagrams: &[Frame], i: u64) -> Option<Frame>
-    ensures { result ≡ numbered i datagrams.now }
+fn numbered(datagrams: &Vec<Frame>, i: u64) -> Option<Frame>
+    ensures { result ≡ numbered i datagrams.now.items }
 {
     let place = usize::try_from(i).ok()?.checked_sub(1)?;
     datagrams.get(place).copied()
