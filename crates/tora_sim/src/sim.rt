@@ -136,11 +136,13 @@ impl Sim {
             return Err(SimError::NotPossible);
         }
         let seat = self.links[at].seat();
-        if let Err(error) = self.nodes[home].put_item(seat, self.clock, what_of(event)) {
-            return Err(error);
+        match self.nodes[home].put_item(seat, self.clock, what_of(event)) {
+            Ok(()) => {
+                self.links[at].take_event();
+                Ok(())
+            }
+            Err(error) => Err(error),
         }
-        self.links[at].take_event();
-        Ok(())
     }
 
     /// A datagram is handed to its receiver, unless the receive is armed to fail.
