@@ -5,3 +5,6 @@ pub mod FactSteps
 pub mod FactCalls
 pub mod FactLists
 pub mod FactRuns
+pub mod PollLemmas
+pub mod RefusalLemmas
+pub mod PeerLemmas

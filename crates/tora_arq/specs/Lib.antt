@@ -7,3 +7,5 @@ pub mod EndRange
 pub mod StateView
 pub mod LinkFacts
 pub mod LinkRuns
+pub mod PeerUpdates
+pub mod Polls

@@ -1,6 +1,8 @@
 -- Lives of a link.
 use Rattle.std.specs.Prelude.{ℕ, Bool, ◌==◌, ◌&&◌}
 use Rattle.tora_arq.specs.declared.Life.{Life}
+use Rattle.tora_arq.specs.declared.LinkEvent.{LinkEvent}
+use Rattle.tora_arq.specs.declared.LinkEvent.TheVariants.{Up, Deliver, Down}
 use Rattle.tora_arq.specs.declared.Reason.{Reason}
 use Rattle.tora_arq.specs.declared.Reason.TheVariants.{Silent, NewPeer, Full, Cut, Spent}
 
@@ -9,6 +11,16 @@ life_of own peer = record { own = own; peer = peer }
 
 abbrev pub is_same_life : Life → Life → Bool
 is_same_life a b = (a.own == b.own) && (a.peer == b.peer)
+
+-- the same life, as the other end writes it
+abbrev pub reversed : Life → Life
+reversed life = record { own = life.peer; peer = life.own }
+
+-- the life that an event is of
+abbrev pub event_life : LinkEvent → Life
+event_life (Up life) = life
+event_life (Deliver life packet) = life
+event_life (Down life reason) = life
 
 -- the number of a reason, as texts print it
 abbrev pub reason_number : Reason → ℕ

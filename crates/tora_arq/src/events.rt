@@ -16,7 +16,7 @@ pub const EVENT_PLACES: usize = 64;
 const PLACES_OF_A_FRAME: usize = 34;
 
 /// Events in the order in which they came, 64 at most.
-#[derive(Drop)]
+#[derive(Debug, Drop)]
 pub struct EventQueue {
     ring: HeapCircularBuffer<LinkEvent>,
 }

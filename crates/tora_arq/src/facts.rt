@@ -2,20 +2,24 @@
 //!
 //! Each is said of one call, at any state, and of whole runs of calls from a new end on. They hold for a window of any
 //! size.
-ghost use Rattle.std.specs.Prelude.{◌≡◌, ◌≢◌, ℕ, ◌<◌, ◌≤◌, ◌⊎◌, List, [], ◌∷◌, ◌++◌, map, length};
+ghost use Rattle.std.specs.Prelude.{◌≡◌, ◌≢◌, ℕ, ◌+◌, ◌<◌, ◌≤◌, ◌⊎◌, false, List, [], ◌∷◌, ◌++◌, map, length, Contains};
 ghost use Rattle.std.specs.List.{AllByRecursion};
 ghost use Rattle.tora_packet.specs.declared.Packet.{Packet};
 ghost use Rattle.tora_frame.specs.FrameParts.{FrameParts};
 ghost use Rattle.tora_arq.specs.declared.Life.{Life};
 ghost use Rattle.tora_arq.specs.declared.Reason.TheVariants as Because;
 ghost use Rattle.tora_arq.specs.declared.LinkEvent.TheVariants.{Deliver};
+ghost use Rattle.tora_arq.specs.declared.Verdict.TheVariants as Is;
+ghost use Rattle.tora_arq.specs.declared.TheConstants.Times.{STANDARD};
 ghost use Rattle.tora_arq.specs.declared.SubmitError.TheVariants as Refusal;
 ghost use Rattle.tora_arq.specs.declared.state.Phase.TheVariants.{Unbound, Bound};
 ghost use Rattle.tora_arq.specs.Settings.{Settings, IsTimes};
 ghost use Rattle.tora_arq.specs.SendQueue.{untried};
-ghost use Rattle.tora_arq.specs.LinkEnd.{EndState, first_end, bound_life, after_end, after_tick, submit_answer, after_submit, after_cut, frame_due, after_transmit};
+ghost use Rattle.tora_arq.specs.LinkEnd.{EndState, first_end, bound_life, after_end, after_tick, submit_answer, after_submit, after_cut, frame_due, after_transmit, is_update_of_another, verdict_of, after_frame};
 ghost use Rattle.tora_arq.specs.LinkFacts.{LinkCall, EveryCall, frame_sent_by, event_given_by, events_left, events_queued, packet_submitted, IsEnd, OpensWith, StaysOrCloses, WasBoundOrBinds, WasUnboundOrOpens, IsFrameSent, IsQueueOf, IsBodyOf, IsPacketAt, AreHeld, CallTells, packets_delivered, DeliversNext, list_of, AreEventsBetween, Leads, AreOverByDown, AreRising, Acknowledges};
 ghost use Rattle.tora_arq.specs.LinkRuns.{EveryRun, EveryBoundRun, CameAt, CountCame, AreAllTold, times_bound, AreFromFirst, IsFrameOfRun, IsSameAtEachTry};
+ghost use Rattle.tora_arq.specs.PeerUpdates.{AreEventsOfPeer, IsOfPeer};
+ghost use Rattle.tora_arq.specs.Polls.{after_polls, frames_polled};
 
 /// Every call keeps of an end that what was transmitted was submitted, that no more is held than the window, and that
 /// nothing is left of a life that is over. Own profile.
@@ -110,4 +114,44 @@ pub fn acknowledged_counts_come_from_the_peer()
         → Acknowledges s life call e after) }
     ensures came { EveryBoundRun (λ s run life.
         (run.state.acknowledged ≡ 0) ⊎ CountCame s run.frames life run.state.acknowledged) }
+{}
+
+/// No packet that is held, delivered or polled is an update of another node than the peer. Own profile.
+pub fn updates_are_of_the_peer()
+    ensures first { (s : Settings) → IsOfPeer s first_end }
+    ensures next { EveryCall (λ s e call after. IsOfPeer s e → IsOfPeer s after) }
+    ensures queued { EveryCall (λ s e call after. (life : Life) (packet : Packet) → IsOfPeer s e
+        → Contains (events_queued s e call) (Deliver life packet) → is_update_of_another s.peer packet ≡ false) }
+    ensures given { EveryCall (λ s e call after. (life : Life) (packet : Packet) → IsOfPeer s e
+        → event_given_by e call ≡ Some (Deliver life packet) → is_update_of_another s.peer packet ≡ false) }
+    ensures run { EveryRun (λ s run. IsOfPeer s run.state) }
+    ensures events { EveryRun (λ s run. AreEventsOfPeer s.peer run.events) }
+{}
+
+/// A frame that is foreign, stale, or not looked at changes nothing. Own profile.
+pub fn refused_frames_change_nothing()
+    ensures foreign { (s : Settings) (e : EndState) (frame : FrameParts) (now : ℕ)
+        → verdict_of s e frame now ≡ Is.Foreign → after_frame s e frame now ≡ e }
+    ensures busy { (s : Settings) (e : EndState) (frame : FrameParts) (now : ℕ)
+        → verdict_of s e frame now ≡ Is.Busy → after_frame s e frame now ≡ e }
+    ensures stale { (s : Settings) (e : EndState) (frame : FrameParts) (now : ℕ)
+        → verdict_of s e frame now ≡ Is.Stale → after_frame s e frame now ≡ e }
+{}
+
+/// At one tick an end gives at most two frames more than its window, and then none: a HELLO, a DATA frame for each packet
+/// within the window, and an ACK. Own profile.
+pub fn polls_of_a_tick_end()
+    // However often it is polled.
+    ensures most { (s : Settings) (e : EndState) (now polls : ℕ) → IsTimes s.times
+        → length (frames_polled s e now polls) ≤ s.window + 2 }
+    ensures none { (s : Settings) (e : EndState) (now polls : ℕ) → IsTimes s.times → s.window + 2 ≤ polls
+        → frame_due s (after_polls s e now polls) now ≡ None }
+    // Once none is due, none is due at that tick.
+    ensures settled { (s : Settings) (e : EndState) (now polls : ℕ) → frame_due s e now ≡ None → after_polls s e now polls ≡ e }
+{}
+
+/// The times that the program uses: 10 ticks between HELLOs, 50 of silence, 5 between tries, and 8 tries. Own profile.
+pub fn standard_times()
+    ensures are { STANDARD ≡ record { hello = 10; silent = 50; retry = 5; tries = 8 } }
+    ensures valid { IsTimes STANDARD }
 {}

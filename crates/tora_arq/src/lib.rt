@@ -6,7 +6,7 @@
 #![tactic(auto)]
 
 ghost use Rattle.std.specs.Prelude.{◌≡◌};
-ghost use Rattle.tora_arq.specs.Lives.{is_same_life, reason_number};
+ghost use Rattle.tora_arq.specs.Lives.{is_same_life, reversed, event_life, reason_number};
 
 mod events;
 mod facts;
@@ -21,9 +21,11 @@ mod transmit;
 pub use facts::{
     acknowledged_counts_come_from_the_peer, calls_keep_an_end, data_frames_are_what_was_submitted,
     deliveries_are_in_order, events_of_a_life_are_in_order, lives_are_bound_once,
-    packets_are_submitted_in_the_bound_life,
+    packets_are_submitted_in_the_bound_life, polls_of_a_tick_end, refused_frames_change_nothing,
+    standard_times, updates_are_of_the_peer,
 };
 pub use link_end::LinkEnd;
+use std::fmt;
 use thiserror::Error;
 use tora_packet::Packet;
 
@@ -42,6 +44,16 @@ pub struct Life {
 }
 
 impl Life {
+    /// The life as the other end writes it.
+    pub fn reversed(self) -> Life
+        ensures { result ≡ reversed self }
+    {
+        Life {
+            own: self.peer,
+            peer: self.own,
+        }
+    }
+
     /// Whether both numbers are equal.
     fn is_same(self, other: Life) -> bool
         ensures { result ≡ is_same_life other self }
@@ -90,6 +102,20 @@ pub enum Verdict {
     Busy,
 }
 
+impl fmt::Display for Verdict {
+    /// Writes the verdict in one lowercase word.
+    fn fmt<W: fmt::Write>(&self, f: &mut fmt::Formatter<W>) -> fmt::Result {
+        f.write_str(match self {
+            Verdict::Accepted => "accepted",
+            Verdict::Repeated => "repeated",
+            Verdict::Ahead => "ahead",
+            Verdict::Stale => "stale",
+            Verdict::Foreign => "foreign",
+            Verdict::Busy => "busy",
+        })
+    }
+}
+
 /// Why a life ended. Own profile.
 #[derive(Clone, Copy, Debug, PartialEq, Eq)]
 pub enum Reason {
@@ -103,6 +129,19 @@ pub enum Reason {
     Cut,
     /// The numbers of packets were used up.
     Spent,
+}
+
+impl fmt::Display for Reason {
+    /// Writes the reason in lowercase words.
+    fn fmt<W: fmt::Write>(&self, f: &mut fmt::Formatter<W>) -> fmt::Result {
+        f.write_str(match self {
+            Reason::Silent => "silent",
+            Reason::NewPeer => "new peer",
+            Reason::Full => "full",
+            Reason::Cut => "cut",
+            Reason::Spent => "spent",
+        })
+    }
 }
 
 impl Reason {
@@ -129,6 +168,19 @@ pub enum LinkEvent {
     Deliver(Life, Packet),
     /// A life ended: the link is down.
     Down(Life, Reason),
+}
+
+impl LinkEvent {
+    /// The life that the event is of.
+    pub fn life(&self) -> Life
+        ensures { result ≡ event_life self.now }
+    {
+        match self {
+            LinkEvent::Up(life) => *life,
+            LinkEvent::Deliver(life, _) => *life,
+            LinkEvent::Down(life, _) => *life,
+        }
+    }
 }
 
 /// Why a packet is not submitted. Own profile.

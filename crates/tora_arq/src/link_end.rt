@@ -1,5 +1,5 @@
 //! A link end, as its node sees it.
-ghost use Rattle.std.specs.Prelude.{◌≡◌, ◌≢◌, ◌<◌, ◌≤◌, ◌^◌, IfOk, IsTrue, OnSome, is_some, length};
+ghost use Rattle.std.specs.Prelude.{◌≡◌, ◌≢◌, ◌<◌, ◌≤◌, ◌^◌, IfOk, IfNone, IsTrue, OnSome, is_some, length};
 ghost use Rattle.tora_arq.specs.Settings.{IsTimes, settings_of};
 ghost use Rattle.tora_arq.specs.LinkEnd.{first_end, is_closed, bound_life, after_open, verdict_of, after_frame, after_tick, submit_answer, after_submit, after_cut, first_event, after_poll_event, frame_due, after_transmit};
 ghost use Rattle.tora_arq.specs.EndRange.{IsEndState, link_end_of};
@@ -29,7 +29,7 @@ use tora_packet::Packet;
 ///
 /// Any other order is safe. Ticks are of 100 ms, and a tick that goes back counts as no time passed. Only `new` takes
 /// memory. A bound end always has a place for the event that its life ended.
-#[derive(Drop)]
+#[derive(Debug, Drop)]
 pub struct LinkEnd {
     settings: Settings,
     state: State,
@@ -85,6 +85,28 @@ impl LinkEnd {
         ensures kept { IsEndState self.now.settings self.now.state }
     {
         self.settings.peer
+    }
+
+    /// The node of this end.
+    pub fn me(&self) -> Id
+        ensures { result ≡ self.now.settings.me }
+    {
+        self.settings.me
+    }
+
+    /// The times of this end.
+    pub fn times(&self) -> Times
+        ensures { result ≡ self.now.settings.times }
+    {
+        self.settings.times
+    }
+
+    /// How many packets wait for their acknowledgement, at most 256.
+    pub fn waiting(&self) -> usize
+        ensures waiting { result ≡ length self.now.state.queue }
+        ensures within { result ≤ 256 }
+    {
+        self.state.queue.len()
     }
 
     /// The own number of the last life, 1 to 2^62, and 0 before the first.
@@ -192,6 +214,7 @@ impl LinkEnd {
     pub fn poll_transmit(&mut self, now: u64) -> Option<Frame>
         ensures frame { result ≡ frame_due self.old.settings self.old.state now }
         ensures state { self.new ≡ record self.old { state = after_transmit self.old.settings self.old.state now } }
+        ensures none { IfNone result (self.new ≡ self.old) }
     {
         self.state.poll_transmit(&self.settings, now)
     }

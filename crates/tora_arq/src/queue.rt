@@ -1,5 +1,5 @@
 //! The send queue of a link end.
-ghost use Rattle.std.specs.Prelude.{◌≡◌, ◌<◌, ◌+◌, ◌^◌, ℕ, [], ◌∷◌, ◌++◌, length, drop, slice_get, IfOk, IfNone, OnSome, IsTrue, is_some, option_map};
+ghost use Rattle.std.specs.Prelude.{◌≡◌, ◌<◌, ◌≤◌, ◌+◌, ◌^◌, ℕ, [], ◌∷◌, ◌++◌, length, drop, slice_get, IfOk, IfNone, OnSome, IsTrue, is_some, option_map};
 ghost use Rattle.tora_arq.specs.Settings.{ticks_passed};
 ghost use Rattle.tora_arq.specs.SendQueue.{untried, retried, is_retry_time, is_ready, is_given_up, has_given_up, first_due, DuePacket, due_packet};
 ghost use Rattle.tora_arq.specs.EndRange.{AreUntried};
@@ -71,7 +71,7 @@ impl QueuedPacket {
 }
 
 /// The packets that were submitted and are not acknowledged, in order, 256 at most.
-#[derive(Drop)]
+#[derive(Debug, Drop)]
 pub struct SendQueue {
     ring: HeapCircularBuffer<QueuedPacket>,
 }
@@ -98,7 +98,7 @@ impl SendQueue {
 
     pub fn len(&self) -> usize
         ensures len { result ≡ length self.now }
-        ensures within { result < 2 ^ 63 }
+        ensures within { result ≤ 256 }
     {
         self.ring.len()
     }

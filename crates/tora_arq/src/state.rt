@@ -24,7 +24,7 @@ pub enum Phase {
 }
 
 /// The state of a link end.
-#[derive(Drop)]
+#[derive(Debug, Drop)]
 pub struct State {
     pub phase: Phase,
     /// The greatest life of the peer that was noted, 0 for none.

@@ -14,6 +14,7 @@ use Rattle.tora_core.specs.declared.errors.CoreError.{CoreError}
 use Rattle.tora_core.specs.declared.errors.CoreError.TheVariants as Refusal
 use Rattle.tora_core.specs.declared.Input.{Input}
 use Rattle.tora_core.specs.declared.Input.TheVariants as In
+use Rattle.tora_core.specs.declared.TheConstants.{MOST_DESTINATIONS, MOST_NEIGHBOURS}
 use Rattle.tora_core.specs.Numbers.{has_number, ascending, has_repeat, IsAscending}
 use Rattle.tora_core.specs.View.{View, first_view, neighbours_of}
 use Rattle.tora_core.specs.Rules.{view_after}
@@ -26,11 +27,11 @@ use Rattle.tora_core.proofs.KeptLemmas.{first-kept, outcome_of-kept}
 
 -- ---- an input that is not refused
 
-not-false : (b : Bool) → not b ≡ false → b ≡ true
+pub not-false : (b : Bool) → not b ≡ false → b ≡ true
 not-false true e = refl
 not-false false e = absurd cc
 
-refused-not : (b : Bool) (e : StepError) (o : Option StepError) → (if b then Some e else o) ≡ None → (b ≡ false) × (o ≡ None)
+pub refused-not : (b : Bool) (e : StepError) (o : Option StepError) → (if b then Some e else o) ≡ None → (b ≡ false) × (o ≡ None)
 refused-not true e o h = absurd cc
 refused-not false e o h = (refl, h)
 
@@ -58,7 +59,7 @@ length-neighbours_of [] = refl
 length-neighbours_of (row ∷ rows) = ap suc (length-neighbours_of rows)
 
 -- there is room for a link that comes up
-pub room-up : (c : CoreView) (k : ℕ) → IsCore c → refusal_of c (In.LinkUp k) ≡ None → length c.up < 8
+pub room-up : (c : CoreView) (k : ℕ) → IsCore c → refusal_of c (In.LinkUp k) ≡ None → length c.up < MOST_NEIGHBOURS
 room-up c k core free =
     let is = free-up c k free in
     let shorter = part-shorter k c.up c.neighbours core.up is.0 is.1 in
@@ -72,7 +73,7 @@ can-take c (In.LinkUp k) core ok free v is =
     let name : IsNeighbour c.me k = all-has (IsNeighbour c.me) k c.neighbours core.neighbours here.0 in
     let P : List ℕ → Type 0 = λ ns. AllByRecursion (λ (n : ℕ). n ≢ k) ns in
     let none = rows-apart k v.rows (subst P (sym is.neighbours) (all-other k c.up here.1)) in
-    let few : length v.rows < 8 = let r = room-up c k core free in let e = length-neighbours_of v.rows in let g = ap length is.neighbours in omega arith in
+    let few : length v.rows < MOST_NEIGHBOURS = let r = room-up c k core free in let e = length-neighbours_of v.rows in let g = ap length is.neighbours in omega arith in
     record { kept = is.kept; may = λ _. ((name.0, (λ (e : k ≡ v.me). name.1 (e ∙ is.owner)), none), (name.0, few)) }
 can-take c (In.LinkDown k) core ok free v is = record { kept = is.kept; may = λ _. (tt, tt) }
 can-take c (In.Packet k p) core ok free v is =
@@ -109,11 +110,11 @@ views-of : (me : ℕ) (up : List ℕ) (input : Input) (now : ℕ) (views : List 
 views-of me up input now [] can is = tt
 views-of me up input now (v ∷ views) can is = (next_view-of me up input now v can.0 is.0, views-of me up input now views can.1 is.1)
 
-next_view-destination : (input : Input) (now : ℕ) (v : View) → (next_view input now v).destination ≡ v.destination
+pub next_view-destination : (input : Input) (now : ℕ) (v : View) → (next_view input now v).destination ≡ v.destination
 next_view-destination input now v =
     cond_both (concerns input v.destination) (view_after v input now) v (λ (w : View). w.destination ≡ v.destination) (λ _. (outcome_of-place v input now).destination) (λ _. refl)
 
-destinations_of-next : (input : Input) (now : ℕ) (views : List View) → destinations_of (map (next_view input now) views) ≡ destinations_of views
+pub destinations_of-next : (input : Input) (now : ℕ) (views : List View) → destinations_of (map (next_view input now) views) ≡ destinations_of views
 destinations_of-next input now [] = refl
 destinations_of-next input now (v ∷ views) = let e = next_view-destination input now v in let rest = destinations_of-next input now views in cc
 
@@ -142,7 +143,7 @@ core-kept c input now core ok free =
 
 -- ---- a new core
 
-destinations_of-first : (me : ℕ) (ds : List ℕ) → destinations_of (map (first_view me) ds) ≡ ds
+pub destinations_of-first : (me : ℕ) (ds : List ℕ) → destinations_of (map (first_view me) ds) ≡ ds
 destinations_of-first me [] = refl
 destinations_of-first me (d ∷ ds) = ap (λ (xs : List ℕ). d ∷ xs) (destinations_of-first me ds)
 
@@ -164,12 +165,12 @@ not-refused false e o h = (refl, h)
 
 pub first_core-kept : (me : ℕ) (neighbours destinations : List ℕ) → IsId me → AllByRecursion IsId neighbours → AllByRecursion IsId destinations → core_refusal me neighbours destinations ≡ None → IsCore (first_core me neighbours destinations)
 first_core-kept me neighbours destinations id ids tos free =
-    let many = nat_lt 8 (length neighbours) in
-    let one = not-refused (many || nat_lt 16 (length destinations)) Refusal.TooMany _ free in
+    let many = nat_lt MOST_NEIGHBOURS (length neighbours) in
+    let one = not-refused (many || nat_lt MOST_DESTINATIONS (length destinations)) Refusal.TooMany _ free in
     let two = not-refused (has_repeat neighbours || has_repeat destinations) Refusal.Repeated _ one.1 in
     let three = not-refused (has_number me neighbours) Refusal.OwnId None two.1 in
-    let few_neighbours : length neighbours ≤ 8 = let t = or-false-left many (nat_lt 16 (length destinations)) one.0 in grind (arith, nat_tests) in
-    let few_views : length destinations ≤ 16 = let t = or-false-right many (nat_lt 16 (length destinations)) one.0 in grind (arith, nat_tests) in
+    let few_neighbours : length neighbours ≤ MOST_NEIGHBOURS = let t = or-false-left many (nat_lt MOST_DESTINATIONS (length destinations)) one.0 in grind (arith, nat_tests) in
+    let few_views : length destinations ≤ MOST_DESTINATIONS = let t = or-false-right many (nat_lt MOST_DESTINATIONS (length destinations)) one.0 in grind (arith, nat_tests) in
     record {
       me = id;
       neighbours = all-ascending (IsNeighbour me) neighbours (both IsId (λ (k : ℕ). k ≢ me) neighbours ids (all-other me neighbours three.0));

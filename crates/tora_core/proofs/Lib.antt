@@ -15,3 +15,4 @@ pub mod ReactsTotal
 pub mod ReactsCore
 pub mod ReactsHop
 pub mod Worked
+pub mod AfterInputs

@@ -7,6 +7,7 @@ use Rattle.tora_packet.specs.declared.Packet.{Packet}
 use Rattle.tora_core.specs.declared.Input.{Input}
 use Rattle.tora_core.specs.Numbers.{IsAscending}
 use Rattle.tora_core.specs.View.{View}
+use Rattle.tora_core.specs.Rules.{view_after, packet_sent}
 use Rattle.tora_core.specs.CoreRun.{is_of, own_destination, concerns, next_view, next_packet}
 use Rattle.tora_core.specs.Kept.{destinations_of}
 use Rattle.tora_core.proofs.NumberLemmas.{same-number}
@@ -120,3 +121,10 @@ module _ (input : Input) (now d : ℕ) (own : own_destination input ≡ Some d) 
           → is_of d x ≡ true
       at rest true be f r = let same : x ≡ v = r in ap (is_of d) same ∙ be
       at rest false be f r = let s : 1 + position_or_len (is_of d) views ≡ suc (position_or_len (is_of d) views) = omega arith in rest (omega arith) (rw s at r)
+
+-- a view that the input concerns takes it
+pub view-taken : (input : Input) (now : ℕ) (v : View) → concerns input v.destination ≡ true → next_view input now v ≡ view_after v input now
+view-taken input now v is = ap (λ b. if b then view_after v input now else v) is
+
+pub packet-taken : (input : Input) (now : ℕ) (v : View) → concerns input v.destination ≡ true → next_packet input now v ≡ packet_sent v input now
+packet-taken input now v is = ap (λ b. if b then packet_sent v input now else None) is

@@ -12,6 +12,7 @@ use Rattle.tora_core.specs.declared.errors.StepError.{StepError}
 use Rattle.tora_core.specs.declared.errors.StepError.TheVariants as Fault
 use Rattle.tora_core.specs.declared.errors.CoreError.{CoreError}
 use Rattle.tora_core.specs.declared.errors.CoreError.TheVariants as Refusal
+use Rattle.tora_core.specs.declared.TheConstants.{MOST_DESTINATIONS, MOST_NEIGHBOURS}
 use Rattle.tora_core.specs.Numbers.{has_number, with_number, without_number, ascending, has_repeat}
 use Rattle.tora_core.specs.View.{View, first_view, next_hop_of}
 use Rattle.tora_core.specs.Rules.{view_after, packet_sent}
@@ -27,7 +28,7 @@ pub record CoreView : Type 0 where
 -- why a core is refused: the first cause that holds
 abbrev pub core_refusal : ℕ → List ℕ → List ℕ → Option CoreError
 core_refusal me neighbours destinations =
-    if nat_lt 8 (length neighbours) || nat_lt 16 (length destinations) then Some Refusal.TooMany
+    if nat_lt MOST_NEIGHBOURS (length neighbours) || nat_lt MOST_DESTINATIONS (length destinations) then Some Refusal.TooMany
     else if has_repeat neighbours || has_repeat destinations then Some Refusal.Repeated
     else if has_number me neighbours then Some Refusal.OwnId
     else None
@@ -54,6 +55,13 @@ abbrev pub is_from : ℕ → Packet → Bool
 is_from k (Qry d) = true
 is_from k (Upd u) = u.height.id == k
 is_from k (Clr c) = true
+
+-- why an input over the link to k is refused, where the link is to be up already or is not
+abbrev pub link_fault : CoreView → ℕ → Bool → Option StepError
+link_fault c k is_up =
+    if not (has_number k c.neighbours) then Some Fault.UnknownNeighbour
+    else if is_up then (if not (has_number k c.up) then Some Fault.NotUp else None)
+    else (if has_number k c.up then Some Fault.AlreadyUp else None)
 
 -- why an input is refused: the first cause that holds
 abbrev pub refusal_of : CoreView → Input → Option StepError

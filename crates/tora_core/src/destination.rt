@@ -1,14 +1,15 @@
 //! TORA's rules for one destination (Park and Corson 1997, section 3).
-ghost use Rattle.std.specs.Prelude.{◌≡◌, ◌==◌, ◌<◌, None, Some, IsSome, IfSome, MatchBool, option_map, pos};
+ghost use Rattle.std.specs.Prelude.{◌≡◌, ◌==◌, ◌<◌, None, Some, IfSome, MatchBool, option_map, pos};
 ghost use Rattle.tora_height.specs.Height.{IsLevel, quintuple, destination_height};
 ghost use Rattle.tora_packet.specs.PacketParts.{IsId};
 ghost use Rattle.tora_core.specs.View.{first_view, has_downstream, lacks_downstream, next_hop_of};
-ghost use Rattle.tora_core.specs.CoreRun.{entry_in, own_destination};
+ghost use Rattle.tora_core.specs.CoreRun.{entry_in};
+ghost use Rattle.tora_core.specs.declared.Input.{Input};
 ghost use Rattle.tora_core.specs.Heights.{fitted_height, fresh_time};
 ghost use Rattle.tora_core.specs.Kept.{HasRoom, IsKept, MakesPacket, MayCome};
 ghost use Rattle.tora_core.specs.Rules.{query_broadcast, update_broadcast, joined_height, after_join, new_level, after_erase, after_link_loss, after_update_loss, propagated_level, reflected_level, link_row, on_need, on_query, on_update, on_clear, on_packet, cleared_level, outcome_of, packet_of, packet_sent, view_after};
 
-use crate::Input;
+use crate::MOST_NEIGHBOURS;
 use crate::rows::{
     Row, all_at, are_null, clear_level, entry_of, erase_all, greatest_level, has_downstream,
     insert_row, is_entry_at, is_told, least_delta, least_height, next_hop, remove_row, set_entry,
@@ -44,7 +45,7 @@ pub struct Destination {
     destination: Id,
     height: Entry,
     flag: bool,
-    rows: ArrayVec<Row, 8>,
+    rows: ArrayVec<Row, MOST_NEIGHBOURS>,
     last: u64,
 }
 
@@ -119,20 +120,30 @@ impl Destination {
         next_hop(self.height, self.rows.as_slice())
     }
 
-    /// Takes a need of the destination or a packet for it, and answers the packet to every up neighbour.
-    pub fn step(&mut self, input: &Input, now: u64) -> Option<Packet>
+    /// A route to the destination is needed: answers the packet to every up neighbour. The rule for it reads no clock.
+    pub fn need(&mut self) -> Option<Packet>
         requires kept { IsKept self.old }
-        requires may { MayCome self.old input.now }
-        requires own { IsSome (own_destination input.now) }
-        ensures view { self.new ≡ view_after self.old input.now now }
-        ensures packet { result ≡ packet_sent self.old input.now now }
+        ensures view { self.new ≡ view_after self.old (Input.Need self.old.destination) 0 }
+        ensures packet { result ≡ packet_sent self.old (Input.Need self.old.destination) 0 }
     {
         let destination = self.destination;
-        let broadcast = self.react(input, now);
+        let broadcast = self.react_to_need();
         packet_to_send(destination, broadcast)
     }
 
-    /// As `step`, for the link to a neighbour that came up. The rules for it read no clock.
+    /// As `need`, for a packet of a neighbour for the destination.
+    pub fn packet(&mut self, k: Id, packet: &Packet, now: u64) -> Option<Packet>
+        requires kept { IsKept self.old }
+        requires may { MayCome self.old (Input.Packet k packet.now) }
+        ensures view { self.new ≡ view_after self.old (Input.Packet k packet.now) now }
+        ensures packet { result ≡ packet_sent self.old (Input.Packet k packet.now) now }
+    {
+        let destination = self.destination;
+        let broadcast = self.react_to_packet(k, packet, now);
+        packet_to_send(destination, broadcast)
+    }
+
+    /// As `need`, for the link to a neighbour that came up. The rules for it read no clock.
     pub fn link_up(&mut self, k: Id) -> Option<Packet>
         requires kept { IsKept self.old }
         requires may { MayCome self.old (Input.LinkUp k) }
@@ -145,7 +156,7 @@ impl Destination {
         packet_to_send(destination, broadcast)
     }
 
-    /// As `step`, for the link to a neighbour that went down.
+    /// As `need`, for the link to a neighbour that went down.
     pub fn link_down(&mut self, k: Id, now: u64) -> Option<Packet>
         requires kept { IsKept self.old }
         ensures view { self.new ≡ view_after self.old (Input.LinkDown k) now }
@@ -156,19 +167,21 @@ impl Destination {
         packet_to_send(destination, broadcast)
     }
 
-    fn react(&mut self, input: &Input, now: u64) -> Option<Broadcast>
-        requires { IsSome (own_destination input.now) }
-        ensures view { self.new ≡ (outcome_of self.old input.now now).view }
-        ensures broadcast { result ≡ (outcome_of self.old input.now now).broadcast }
+    fn react_to_need(&mut self) -> Option<Broadcast>
+        ensures view { self.new ≡ (outcome_of self.old (Input.Need self.old.destination) 0).view }
+        ensures broadcast { result ≡ (outcome_of self.old (Input.Need self.old.destination) 0).broadcast }
+    {
+        if self.is_own() { None } else { self.on_need() }
+    }
+
+    fn react_to_packet(&mut self, k: Id, packet: &Packet, now: u64) -> Option<Broadcast>
+        ensures view { self.new ≡ (outcome_of self.old (Input.Packet k packet.now) now).view }
+        ensures broadcast { result ≡ (outcome_of self.old (Input.Packet k packet.now) now).broadcast }
     {
         if self.is_own() {
-            return None;
-        }
-        match input {
-            Input::Need(_) => self.on_need(),
-            Input::Packet(k, packet) => self.on_packet(*k, packet, now),
-            Input::LinkUp(_) => unreachable!(),
-            Input::LinkDown(_) => unreachable!(),
+            None
+        } else {
+            self.on_packet(k, packet, now)
         }
     }
 

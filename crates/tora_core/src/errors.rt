@@ -10,8 +10,8 @@ pub enum CoreError {
     /// There is not enough memory.
     #[error("there is not enough memory")]
     Memory,
-    /// There are more than 8 neighbours or more than 16 destinations.
-    #[error("there are more than 8 neighbours or more than 16 destinations")]
+    /// There are more than `MOST_NEIGHBOURS` neighbours or more than `MOST_DESTINATIONS` destinations.
+    #[error("there are too many neighbours or too many destinations")]
     TooMany,
     /// A neighbour or a destination is named twice.
     #[error("a neighbour or a destination is named twice")]

@@ -8,6 +8,7 @@
 
 mod destination;
 mod errors;
+mod facts;
 mod laws;
 mod node;
 mod numbers;
@@ -18,6 +19,10 @@ mod table;
 
 use arrayvec::ArrayVec;
 pub use errors::{CoreError, StepError};
+pub use facts::{
+    inputs_are_accepted, links_follow_inputs, numbers_are_put_in_order, numbers_come_and_go,
+    other_views_stay, sends_ascend, tables_stay, up_links_are_of_neighbours,
+};
 pub use laws::{rules_are_kept, runs_are_kept};
 pub use node::Core;
 pub use relation::{
@@ -25,6 +30,12 @@ pub use relation::{
 };
 use tora_height::Id;
 use tora_packet::Packet;
+
+/// The most neighbours of a node. Own profile.
+pub const MOST_NEIGHBOURS: usize = 8;
+
+/// The most destinations of a table. Own profile.
+pub const MOST_DESTINATIONS: usize = 16;
 
 /// What a core takes in.
 #[derive(Clone, Copy, Debug, PartialEq, Eq)]
@@ -41,7 +52,7 @@ pub enum Input {
 
 /// The packets that one input broadcasts, at most one for each destination, by ascending destination. Each goes to
 /// every neighbour whose link is up after the input.
-pub type Sends = ArrayVec<Packet, 16>;
+pub type Sends = ArrayVec<Packet, MOST_DESTINATIONS>;
 
 #[cfg(test)]
 mod tests;

@@ -1,8 +1,8 @@
 //! The core of a node.
 ghost use Rattle.std.specs.Prelude.{◌≡◌, ◌<◌, ℕ, All, IfErr, IfNone, IfOk, MatchOption, None, OnErr, [], OnOk, option_copied, IsOk, string_bytes};
-ghost use Rattle.tora_core.specs.CoreRun.{core_after, core_refusal, entry_of, first_core, flag_of, height_of, hop_of, refusal_of, sends_of, view_of};
+ghost use Rattle.tora_core.specs.CoreRun.{link_fault, core_after, core_refusal, entry_of, first_core, flag_of, height_of, hop_of, refusal_of, sends_of, view_of};
 ghost use Rattle.tora_core.specs.Numbers.{has_number};
-ghost use Rattle.tora_core.specs.Kept.{IsCore, IsInput};
+ghost use Rattle.tora_core.specs.Kept.{IsCore, IsInput, destinations_of};
 ghost use Rattle.tora_core.specs.ShowText.{show_text};
 ghost use Rattle.tora_core.specs.CoreRun.{is_from, up_after};
 ghost use Rattle.arrayvec.specs.ArrayVec.{array_vec_len};
@@ -13,18 +13,12 @@ use crate::errors::{CoreError, StepError};
 use crate::numbers::{ascending, has_number, has_repeat, insert_number, remove_number};
 use crate::show::text_of;
 use crate::table::{first_views, has_destination, place_of, step};
-use crate::{Input, Sends};
+use crate::{Input, MOST_DESTINATIONS, MOST_NEIGHBOURS, Sends};
 use arrayvec::ArrayVec;
 use std::alloc::Global;
 use std::marker::Model;
 use tora_height::{Entry, Id};
 use tora_packet::Packet;
-
-/// The most neighbours of a node.
-const MOST_NEIGHBOURS: usize = 8;
-
-/// The most destinations of a table.
-const MOST_DESTINATIONS: usize = 16;
 
 /// The core of a node: its links, and its view of each destination of its table.
 ///
@@ -34,27 +28,30 @@ const MOST_DESTINATIONS: usize = 16;
 #[derive(Drop)]
 pub struct Core {
     me: Id,
-    neighbours: ArrayVec<Id, 8>,
-    up: ArrayVec<Id, 8>,
+    neighbours: ArrayVec<Id, MOST_NEIGHBOURS>,
+    up: ArrayVec<Id, MOST_NEIGHBOURS>,
+    destinations: ArrayVec<Id, MOST_DESTINATIONS>,
     views: Vec<Destination>,
 }
 
 impl Model for Core {
+    ghost use Rattle.std.specs.Prelude.{◌≡◌};
     ghost use Rattle.tora_core.specs.CoreRun.{CoreView};
-    ghost use Rattle.tora_core.specs.Kept.{IsCore};
+    ghost use Rattle.tora_core.specs.Kept.{IsCore, destinations_of};
 
     ghost Value = { CoreView };
 
     ghost view = { λ c. record { me = c.me; neighbours = c.neighbours.items; up = c.up.items; views = c.views.items } };
 
-    ghost invariant = { λ c. IsCore (record { me = c.me; neighbours = c.neighbours.items; up = c.up.items; views = c.views.items }) };
+    ghost invariant = { λ c. IsCore (record { me = c.me; neighbours = c.neighbours.items; up = c.up.items; views = c.views.items })
+        × (c.destinations.items ≡ destinations_of c.views.items) };
 }
 
 impl Core {
     /// The core of node `me`, with its configured neighbours and the destinations of its table: no link is up, and no
     /// height is known but that of `me` for itself.
     ///
-    /// There are at most 8 neighbours and 16 destinations, in any order, none of them 0; `me` may be a destination.
+    /// There are at most `MOST_NEIGHBOURS` neighbours and `MOST_DESTINATIONS` destinations, in any order, none of them 0; `me` may be a destination.
     ///
     /// # Errors
     /// In this order: `TooMany` of either list, `Repeated` within one list, `OwnId` where `me` is among the neighbours,
@@ -85,6 +82,7 @@ impl Core {
             me,
             neighbours: ascending(neighbours),
             up: ArrayVec::new(),
+            destinations: table,
             views,
         })
     }
@@ -104,6 +102,27 @@ impl Core {
         self.neighbours.as_slice()
     }
 
+    /// The destinations of the table, in ascending order.
+    pub fn destinations(&self) -> &[Id]
+        ensures { result.now ≡ destinations_of self.now.views }
+    {
+        self.destinations.as_slice()
+    }
+
+    /// The neighbours whose link is up, in ascending order.
+    pub fn up(&self) -> &[Id]
+        ensures { result.now ≡ self.now.up }
+    {
+        self.up.as_slice()
+    }
+
+    /// Whether the link to a neighbour is up; not so where it is no neighbour.
+    pub fn is_up(&self, k: Id) -> bool
+        ensures { result ≡ has_number k self.now.up }
+    {
+        has_number(k, self.up.as_slice())
+    }
+
     /// Takes an input in at a tick, and answers the packets to every up neighbour.
     ///
     /// `now` is the tick of 100 ms at which the input came. An input that is refused changes nothing. It takes no
@@ -120,17 +139,28 @@ impl Core {
         ensures sends { IfOk result (λ sends. sends.items ≡ sends_of self.old input now) }
     {
         let mut sends = ArrayVec::new();
-        self.take(&input, now, &mut sends)?;
+        self.step_into(&input, now, &mut sends)?;
         Ok(sends)
     }
 
-    /// Takes an input in at a tick, and lists the packets to every up neighbour.
-    fn take(&mut self, input: &Input, now: u64, sends: &mut Sends) -> Result<(), StepError>
-        requires { sends.old.items ≡ [] }
+    /// As `step`, for callers who keep the list: what `sends` held goes, and the packets to every up neighbour are in
+    /// it, none where the input is refused.
+    ///
+    /// # Errors
+    /// As those of `step`.
+    pub fn step_into(
+        &mut self,
+        input: &Input,
+        now: u64,
+        sends: &mut Sends,
+    ) -> Result<(), StepError>
         ensures refused { MatchOption (refusal_of self.old input.now) (IsOk result) (λ e. result ≡ Err e) }
+        ensures unchanged { OnErr result (self.new ≡ self.old) }
+        ensures none_sent { OnErr result (sends.new.items ≡ []) }
         ensures core { self.new ≡ core_after self.old input.now now }
         ensures sends { sends.new.items ≡ sends_of self.old input.now now }
     {
+        sends.clear();
         if let Some(error) = self.refusal(input) {
             return Err(error);
         }
@@ -152,35 +182,31 @@ impl Core {
                     Some(StepError::UnknownDestination)
                 }
             }
-            Input::LinkUp(k) => {
-                if !self.has_neighbour(*k) {
-                    Some(StepError::UnknownNeighbour)
-                } else if self.is_up(*k) {
-                    Some(StepError::AlreadyUp)
-                } else {
-                    None
-                }
-            }
-            Input::LinkDown(k) => {
-                if !self.has_neighbour(*k) {
-                    Some(StepError::UnknownNeighbour)
-                } else if !self.is_up(*k) {
-                    Some(StepError::NotUp)
-                } else {
-                    None
-                }
-            }
+            Input::LinkUp(k) => self.fault_of_link(*k, false),
+            Input::LinkDown(k) => self.fault_of_link(*k, true),
             Input::Packet(k, packet) => {
-                if !self.has_neighbour(*k) {
-                    Some(StepError::UnknownNeighbour)
-                } else if !self.is_up(*k) {
-                    Some(StepError::NotUp)
-                } else if !is_from(*k, packet) {
+                let fault = self.fault_of_link(*k, true);
+                if fault.is_none() && !is_from(*k, packet) {
                     Some(StepError::WrongSender)
                 } else {
-                    None
+                    fault
                 }
             }
+        }
+    }
+
+    /// Why an input over the link to `k` is refused, if it is, where the link is to be up already or is not.
+    fn fault_of_link(&self, k: Id, is_up: bool) -> Option<StepError>
+        ensures { result ≡ link_fault self.now k is_up }
+    {
+        if !self.has_neighbour(k) {
+            Some(StepError::UnknownNeighbour)
+        } else if is_up && !self.is_up(k) {
+            Some(StepError::NotUp)
+        } else if !is_up && self.is_up(k) {
+            Some(StepError::AlreadyUp)
+        } else {
+            None
         }
     }
 
@@ -188,12 +214,6 @@ impl Core {
         ensures { result ≡ has_number k self.now.neighbours }
     {
         has_number(k, self.neighbours.as_slice())
-    }
-
-    fn is_up(&self, k: Id) -> bool
-        ensures { result ≡ has_number k self.now.up }
-    {
-        has_number(k, self.up.as_slice())
     }
 
     /// The view of a destination.
@@ -253,8 +273,8 @@ impl Core {
 }
 
 /// Notes a link that came up or went down.
-fn note(input: &Input, up: &mut ArrayVec<Id, 8>)
-    requires { (k : ℕ) → input.now ≡ Input.LinkUp k → array_vec_len up.old < 8 }
+fn note(input: &Input, up: &mut ArrayVec<Id, MOST_NEIGHBOURS>)
+    requires { (k : ℕ) → input.now ≡ Input.LinkUp k → array_vec_len up.old < MOST_NEIGHBOURS }
     ensures { up.new.items ≡ up_after up.old.items input.now }
 {
     match input {

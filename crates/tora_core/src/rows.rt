@@ -6,6 +6,7 @@ ghost use Rattle.tora_height.specs.Height.{IsLevel};
 ghost use Rattle.tora_core.specs.View.{heights_of, are_null, is_downstream, lower_of, least_height, lower_row_of, higher_level_of, greatest_level, lower_delta_of, least_delta, is_at, all_told, told_row, row_with_entry, is_told, with_entry, erased_row, all_erased, cleared_row, all_cleared, is_entry_at, with_row, without_row};
 ghost use Rattle.tora_core.specs.Heights.{time_after_all};
 
+use crate::MOST_NEIGHBOURS;
 use arrayvec::ArrayVec;
 use tora_height::{Entry, Height, Id, Level};
 
@@ -242,15 +243,15 @@ fn place_of(k: Id, rows: &[Row]) -> Option<usize>
     rows.iter().position(|row| k < row.neighbour)
 }
 
-pub fn insert_row(rows: &mut ArrayVec<Row, 8>, row: Row)
-    requires { array_vec_len rows.old < 8 }
+pub fn insert_row(rows: &mut ArrayVec<Row, MOST_NEIGHBOURS>, row: Row)
+    requires { array_vec_len rows.old < MOST_NEIGHBOURS }
     ensures { rows.new.items ≡ with_row row rows.old.items }
 {
     let at = place_of(row.neighbour, rows.as_slice()).unwrap_or(rows.len());
     rows.insert(at, row);
 }
 
-pub fn remove_row(rows: &mut ArrayVec<Row, 8>, k: Id)
+pub fn remove_row(rows: &mut ArrayVec<Row, MOST_NEIGHBOURS>, k: Id)
     ensures { rows.new.items ≡ without_row k rows.old.items }
 {
     let kept = keep_others(rows.as_mut_slice(), k);

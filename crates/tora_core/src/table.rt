@@ -9,7 +9,7 @@ ghost use Rattle.tora_core.specs.Kept.{CanTake, destinations_of};
 ghost use Rattle.tora_packet.specs.PacketParts.{IsId};
 
 use crate::destination::Destination;
-use crate::{Input, Sends};
+use crate::{Input, MOST_DESTINATIONS, Sends};
 use std::alloc::{AllocError, Global};
 use tora_height::Id;
 use tora_packet::Packet;
@@ -47,7 +47,7 @@ pub fn place_of(d: Id, views: &[Destination]) -> Option<usize>
 /// Takes an input in, and lists the packets to every up neighbour. It takes no memory.
 pub fn step(views: &mut [Destination], input: &Input, now: u64, sends: &mut Sends)
     requires may { All (CanTake input.now) views.old }
-    requires few { length views.old ≤ 16 }
+    requires few { length views.old ≤ MOST_DESTINATIONS }
     requires ascending { IsAscending (destinations_of views.old) }
     requires empty { sends.old.items ≡ [] }
     ensures views { views.new ≡ map (next_view input.now now) views.old }
@@ -56,15 +56,15 @@ pub fn step(views: &mut [Destination], input: &Input, now: u64, sends: &mut Send
     match input {
         Input::LinkUp(k) => link_up(views, *k, sends),
         Input::LinkDown(k) => link_down(views, *k, now, sends),
-        Input::Need(d) => step_own(*d, views, input, now, sends),
-        Input::Packet(_, packet) => step_own(packet.destination(), views, input, now, sends),
+        Input::Need(d) => step_need(*d, views, now, sends),
+        Input::Packet(k, packet) => step_packet(*k, packet, views, now, sends),
     }
 }
 
 /// A link that came up goes to every view.
 fn link_up(views: &mut [Destination], k: Id, sends: &mut Sends)
     requires may { All (CanTake (Input.LinkUp k)) views.old }
-    requires few { length views.old ≤ 16 }
+    requires few { length views.old ≤ MOST_DESTINATIONS }
     requires empty { sends.old.items ≡ [] }
     ensures views { views.new ≡ map (next_view (Input.LinkUp k) 0) views.old }
     ensures sends { sends.new.items ≡ filter_map (next_packet (Input.LinkUp k) 0) views.old }
@@ -77,7 +77,7 @@ fn link_up(views: &mut [Destination], k: Id, sends: &mut Sends)
 /// A link that went down goes to every view.
 fn link_down(views: &mut [Destination], k: Id, now: u64, sends: &mut Sends)
     requires may { All (CanTake (Input.LinkDown k)) views.old }
-    requires few { length views.old ≤ 16 }
+    requires few { length views.old ≤ MOST_DESTINATIONS }
     requires empty { sends.old.items ≡ [] }
     ensures views { views.new ≡ map (next_view (Input.LinkDown k) now) views.old }
     ensures sends { sends.new.items ≡ filter_map (next_packet (Input.LinkDown k) now) views.old }
@@ -87,35 +87,37 @@ fn link_down(views: &mut [Destination], k: Id, now: u64, sends: &mut Sends)
     }
 }
 
-/// A need or a packet goes to the view of its destination alone.
-fn step_own(d: Id, views: &mut [Destination], input: &Input, now: u64, sends: &mut Sends)
-    requires may { All (CanTake input.now) views.old }
-    requires own { own_destination input.now ≡ Some d }
+/// A need goes to the view of its destination alone. The rule for it reads no clock: `now` is any tick.
+fn step_need(d: Id, views: &mut [Destination], now: u64, sends: &mut Sends)
+    requires may { All (CanTake (Input.Need d)) views.old }
     requires ascending { IsAscending (destinations_of views.old) }
     requires empty { sends.old.items ≡ [] }
-    ensures views { views.new ≡ map (next_view input.now now) views.old }
-    ensures sends { sends.new.items ≡ filter_map (next_packet input.now now) views.old }
+    ensures views { views.new ≡ map (next_view (Input.Need d) now) views.old }
+    ensures sends { sends.new.items ≡ filter_map (next_packet (Input.Need d) now) views.old }
 {
     let Some(place) = place_of(d, views) else {
         return;
     };
-    list(step_one(&mut views[place], input, now), sends);
+    list(views[place].need(), sends);
 }
 
-/// Takes an input in that concerns the view.
-fn step_one(view: &mut Destination, input: &Input, now: u64) -> Option<Packet>
-    requires may { CanTake input.now view.old }
-    requires concerned { concerns input.now view.old.destination ≡ true }
-    requires own { IsSome (own_destination input.now) }
-    ensures view { view.new ≡ next_view input.now now view.old }
-    ensures packet { result ≡ next_packet input.now now view.old }
+/// A packet goes to the view of its destination alone.
+fn step_packet(k: Id, packet: &Packet, views: &mut [Destination], now: u64, sends: &mut Sends)
+    requires may { All (CanTake (Input.Packet k packet.now)) views.old }
+    requires ascending { IsAscending (destinations_of views.old) }
+    requires empty { sends.old.items ≡ [] }
+    ensures views { views.new ≡ map (next_view (Input.Packet k packet.now) now) views.old }
+    ensures sends { sends.new.items ≡ filter_map (next_packet (Input.Packet k packet.now) now) views.old }
 {
-    view.step(input, now)
+    let Some(place) = place_of(packet.destination(), views) else {
+        return;
+    };
+    list(views[place].packet(k, packet, now), sends);
 }
 
 /// Lists a packet, where there is one.
 fn list(packet: Option<Packet>, sends: &mut Sends)
-    requires { array_vec_len sends.old < 16 }
+    requires { array_vec_len sends.old < MOST_DESTINATIONS }
     ensures { sends.new.items ≡ sends.old.items ++ cons_option packet [] }
 {
     if let Some(packet) = packet {

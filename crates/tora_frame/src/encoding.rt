@@ -1,8 +1,10 @@
 //! Frames to bytes.
-ghost use Rattle.std.specs.Prelude.{◌≡◌, ◌+◌, ◌≤◌, ◌++◌, length};
+ghost use Rattle.std.specs.Prelude.{◌≡◌, ℕ, ◌+◌, ◌≤◌, ◌++◌, length};
 ghost use Rattle.arrayvec.specs.ArrayVec.{array_vec_len};
 ghost use Rattle.tora_frame.specs.FrameGrammar.{SpellsFrame, frame_spelling, header_spelling, packet_length};
-ghost use Rattle.tora_frame.specs.FrameParts.{frame_of};
+ghost use Rattle.tora_packet.specs.PacketParts.{UpdateParts};
+ghost use Rattle.tora_frame.specs.declared.parts.Header.{Header};
+ghost use Rattle.tora_frame.specs.FrameParts.{FrameParts, frame_of};
 
 use crate::layout::{ACK, DATA, HELLO, VERSION};
 use crate::{Body, Frame, Header};
@@ -83,3 +85,11 @@ pub fn encode(frame: &Frame) -> ArrayVec<u8, LONGEST_FRAME>
         Body::Ack(count) => ack_bytes(header, *count),
     }
 }
+
+/// No frame has more bytes than `LONGEST_FRAME`, which are those of a DATA frame with an update. Own profile.
+pub fn longest_frame()
+    ensures is { LONGEST_FRAME ≡ 76 }
+    ensures most { (frame : FrameParts) → length (frame_spelling frame) ≤ LONGEST_FRAME }
+    ensures reached { (header : Header) (number count : ℕ) (update : UpdateParts)
+        → length (frame_spelling (frame_of header (Body.Data number count (Packet.Upd update)))) ≡ LONGEST_FRAME }
+{}

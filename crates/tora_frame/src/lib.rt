@@ -14,7 +14,7 @@ mod layout;
 mod parts;
 
 pub use decoding::{decode, one_frame_spelling};
-pub use encoding::{LONGEST_FRAME, encode};
+pub use encoding::{LONGEST_FRAME, encode, longest_frame};
 pub use parts::{Body, Frame, GREATEST_NUMBER, Header};
 use thiserror::Error;
 use tora_packet::PacketError;

@@ -1,2 +1,4 @@
 pub mod Serving
 pub mod Offers
+pub mod Rows
+pub mod Bodies

@@ -5,8 +5,12 @@
 #![tactic(auto)]
 
 mod lanes;
+mod rows;
+mod seat;
 
 pub use lanes::OutLanes;
+pub use rows::LinkRow;
+pub use seat::CoreSeat;
 use tora_arq::{Life, Reason};
 use tora_core::StepError;
 use tora_height::Id;
@@ -66,3 +70,17 @@ pub enum Answer {
     /// The core is to end.
     Quit,
 }
+
+/// A packet of a neighbour that was handed to the core.
+#[derive(Clone, Copy, Debug, PartialEq, Eq)]
+pub struct Stepped {
+    /// The neighbour.
+    pub from: Id,
+    /// The life that it came in.
+    pub life: Life,
+    /// The packet.
+    pub packet: Packet,
+}
+
+#[cfg(test)]
+mod tests;

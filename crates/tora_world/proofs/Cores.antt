@@ -1,13 +1,13 @@
 -- Each core is what the inputs that it accepted make of it.
-use Rattle.std.proofs.Common.{◌≡◌, ℕ, zero, suc, Bool, true, false, ◌⊎◌, inl, inr, List, [], ◌∷◌, ◌++◌, length, Option, Some, None, nat_eq, if◌then◌else◌, refl, sym, ap, ap₂, ◌∙◌, subst, append_assoc, append-nil, eqb-true, eq-eqb}
+use Rattle.std.proofs.Common.{◌≡◌, ℕ, zero, suc, true, false, ◌⊎◌, inl, inr, List, [], ◌∷◌, ◌++◌, length, Option, Some, None, nat_eq, if◌then◌else◌, refl, sym, ap, ap₂, ◌∙◌, subst, append_assoc, append-nil, eqb-true}
 use Rattle.std.proofs.lemmas.Bool.{cond_both, cases_Bool}
 use Rattle.std.specs.Prelude.{slice_get, is_some}
 use Rattle.tora_packet.specs.declared.Packet.{Packet}
-use Rattle.tora_frame.specs.FrameParts.{FrameParts as Frame}
+use Rattle.tora_frame.specs.FrameParts.{FrameParts}
 use Rattle.tora_arq.specs.declared.Life.{Life}
 use Rattle.tora_arq.specs.declared.Times.{Times}
 use Rattle.tora_arq.specs.declared.LinkEvent.{LinkEvent}
-use Rattle.tora_arq.specs.LinkEnd.{EndState, frame_due, after_transmit, first_event}
+use Rattle.tora_arq.specs.LinkEnd.{frame_due, after_transmit, first_event}
 use Rattle.tora_core.specs.declared.Input.{Input}
 use Rattle.tora_core.specs.declared.Input.TheVariants as In
 use Rattle.tora_core.specs.declared.errors.StepError.{StepError}
@@ -174,12 +174,12 @@ module _ (t : Topology) (w : World) (h : AllFollow t w) where
       go (x ∷ cs) = same_cores t w (after_pull w n k (x ∷ cs)) refl refl refl h
   effect_follows c (Transmit n k) = go (frame_due (settings w n k) (w.ends n k) (c.now n k))
     where
-      go : (o : Option Frame) → AllFollow t (after_sending w n k (after_transmit (settings w n k) (w.ends n k) (c.now n k)) o)
+      go : (o : Option FrameParts) → AllFollow t (after_sending w n k (after_transmit (settings w n k) (w.ends n k) (c.now n k)) o)
       go None = h
       go (Some f) = same_cores t w (after_sending w n k (after_transmit (settings w n k) (w.ends n k) (c.now n k)) (Some f)) refl refl refl h
   effect_follows c (Deliver i) = go (datagram w i)
     where
-      go : (o : Option Frame) → AllFollow t (after_receiving w c o)
+      go : (o : Option FrameParts) → AllFollow t (after_receiving w c o)
       go None = h
       go (Some f) = cond_both (w.arms f.header.receiver).receive _ _ (AllFollow t)
           (λ _. same_cores t w (record w { arms = put_one w.arms f.header.receiver (record (w.arms f.header.receiver) { receive = false }) }) refl refl refl h)

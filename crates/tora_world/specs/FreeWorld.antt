@@ -1,5 +1,5 @@
 -- The world with any ticks and any answers.
-use Rattle.std.specs.Prelude.{◌≡◌, ℕ, List, [], ◌∷◌}
+use Rattle.std.specs.Prelude.{◌≡◌, List, [], ◌∷◌}
 use Rattle.tora_world.specs.declared.Event.{Event}
 use Rattle.tora_world.specs.World.{World, Choice, world_by, own_choice, world_after}
 

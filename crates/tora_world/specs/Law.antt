@@ -7,7 +7,7 @@ use Rattle.tora_arq.specs.declared.state.Phase.TheVariants.{Closed, Unbound, Bou
 use Rattle.tora_arq.specs.Lives.{is_same_life}
 use Rattle.tora_core.specs.CoreRun.{core_after_all}
 use Rattle.tora_world.specs.Topology.{Topology, new_core}
-use Rattle.tora_world.specs.Lists.{reversed, packets_of, Begins}
+use Rattle.tora_world.specs.Lists.{reversed, parcels_in, Begins}
 use Rattle.tora_world.specs.LinkMachine.{MachineStep, machine_after, IsMachineRun}
 use Rattle.tora_world.specs.World.{World, first_world, world_by, sent_packets, taken_packets}
 use Rattle.tora_world.specs.FreeWorld.{Schedule, after_schedule}
@@ -20,12 +20,11 @@ EveryRun Holds = (t : Topology) (times : Times) (es : Schedule) → Holds (first
 abbrev pub TakenBeginsSent : World → Type 0
 TakenBeginsSent w = (a b : ℕ) (life : Life) → Begins (taken_packets w b a (reversed life)) (sent_packets w a b life)
 
--- there is a run of the link machine with the lists of this world
-pub record IsOfMachine (w : World) : Type 0 where
-  pub steps : List MachineStep
+-- these are steps of the link machine, each of which might be made when it was made, and its lists are those of this world
+pub record IsOfMachine (steps : List MachineStep) (w : World) : Type 0 where
   pub is_run : IsMachineRun steps
-  pub sent : (n k : ℕ) (life : Life) → packets_of life (machine_after steps n k).sent ≡ sent_packets w n k life
-  pub taken : (n k : ℕ) (life : Life) → packets_of life (machine_after steps n k).taken ≡ taken_packets w n k life
+  pub sent : (n k : ℕ) → (machine_after steps n k).sent ≡ parcels_in (w.put n k)
+  pub taken : (n k : ℕ) → (machine_after steps n k).taken ≡ w.steps n k
 
 -- in some world of the run
 abbrev pub Sometime : (World → Type 0) → Schedule → World → Type 0

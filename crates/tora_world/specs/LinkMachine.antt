@@ -77,6 +77,11 @@ abbrev pub machine_after : List MachineStep → Machine
 machine_after [] = empty_machine
 machine_after (s ∷ steps) = after_machine_step (machine_after steps) s
 
+-- steps that are made, in their order, behind those before them; of the steps made the last stands first
+abbrev pub made : List MachineStep → List MachineStep → List MachineStep
+made [] before = before
+made (s ∷ steps) before = made steps (s ∷ before)
+
 -- each step might be made when it was made
 abbrev pub IsMachineRun : List MachineStep → Type 0
 IsMachineRun [] = Unit {0}

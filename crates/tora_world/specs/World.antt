@@ -1,5 +1,5 @@
 -- The simulated world: all nodes, their links and all datagrams, and what each event does.
-use Rattle.std.specs.Prelude.{ℕ, zero, suc, ◌+◌, ◌==◌, ◌&&◌, Bool, true, false, not, is_some, is_none, nat_lt, nat_le, if◌then◌else◌, List, [], ◌∷◌, ◌++◌, length, slice_get, Option, Some, None}
+use Rattle.std.specs.Prelude.{ℕ, zero, suc, ◌==◌, ◌&&◌, Bool, true, false, not, is_some, nat_lt, if◌then◌else◌, List, [], ◌∷◌, ◌++◌, length, slice_get, Option, Some, None}
 use Rattle.tora_packet.specs.declared.Packet.{Packet}
 use Rattle.tora_frame.specs.FrameParts.{FrameParts}
 use Rattle.tora_arq.specs.declared.Life.{Life}
@@ -9,7 +9,6 @@ use Rattle.tora_arq.specs.declared.LinkEvent.TheVariants as Link
 use Rattle.tora_arq.specs.Settings.{Settings, settings_of}
 use Rattle.tora_arq.specs.LinkEnd.{EndState, first_end, is_closed, after_open, after_frame, after_tick, after_submit, after_cut, first_event, after_poll_event, frame_due, after_transmit}
 use Rattle.tora_core.specs.declared.Input.{Input}
-use Rattle.tora_core.specs.CoreRun.{CoreView}
 use Rattle.tora_life.specs.declared.state.DiskCall.TheVariants as Disk
 use Rattle.tora_life.specs.declared.state.DiskCall.{DiskCall}
 use Rattle.tora_life.specs.State.{fresh_state, after_crash}
@@ -20,7 +19,7 @@ use Rattle.tora_seat.specs.declared.What.TheVariants as Tells
 use Rattle.tora_seat.specs.declared.Item.{Item}
 use Rattle.tora_seat.specs.declared.Cargo.{Cargo}
 use Rattle.tora_seat.specs.declared.Cargo.TheVariants as Gives
-use Rattle.tora_seat.specs.Serving.{SeatState, Offer, Parcel, Answers, Serving, put_one, serving_of, put_to, stepped_from}
+use Rattle.tora_seat.specs.Serving.{SeatState, Parcel, Answers, Serving, put_one, serving_of, put_to, stepped_from}
 use Rattle.tora_world.specs.declared.Event.{Event}
 use Rattle.tora_world.specs.declared.Event.TheVariants.{Need, Tick, Open, Pull, Transmit, Deliver, Pump, CoreTurn, Arm, Restart}
 use Rattle.tora_world.specs.declared.Call.{Call}
@@ -243,9 +242,13 @@ abbrev pub after_turn : World → Choice → ℕ → List Item → World
 after_turn w c n [] = w
 after_turn w c n (item ∷ items) = after_serving w n items (serving_of c.answers (neighbours w n) (w.seats n) item)
 
+-- there is a life file of this node for the link
+abbrev pub is_file_of : World → ℕ → ℕ → ℕ → Bool
+is_file_of w n a k = (a == n) && is_link w.topology a k
+
 -- the next such call of each life file of a node fails
 abbrev pub with_armed_files : World → ℕ → DiskCall → World
-with_armed_files w n call = record w { files = λ a k. if a == n then after_event (ArmsDisk call) (w.files a k) else w.files a k }
+with_armed_files w n call = record w { files = λ a k. if is_file_of w n a k then after_event (ArmsDisk call) (w.files a k) else w.files a k }
 
 abbrev pub after_arming : World → ℕ → Call → World
 after_arming w n Fails.SendLost = record w { arms = put_one w.arms n (record (w.arms n) { sending = IsLost }) }
@@ -264,7 +267,7 @@ abbrev pub after_restart : World → ℕ → Option (List ℕ) → World
 after_restart w n torn = record w {
   seats = put_one w.seats n (first_seat w.topology n);
   ends = λ a k. if a == n then first_end else w.ends a k;
-  files = λ a k. if a == n then reopened torn (w.files a k) else w.files a k;
+  files = λ a k. if is_file_of w n a k then reopened torn (w.files a k) else w.files a k;
   items = put_one w.items n [];
   counts = put_one w.counts n (λ seat. 0);
   cargoes = put_one w.cargoes n (λ k. []);

@@ -1,9 +1,20 @@
-use Rattle.std.proofs.Common.{sym, subst}
-use Rattle.tora_arq.specs.EndRange.{IsEndState}
+use Rattle.std.proofs.Common.{◌≡◌, Option, Some, None, IfNone, refl, sym, subst, ap, ◌∙◌}
+use Rattle.tora_arq.specs.EndRange.{IsEndState, link_end_of}
 use Rattle.tora_arq.specs.StateView.{settings_in, state_in}
+use Rattle.tora_arq.proofs.FactCalls.{transmit-idle}
 use Rattle.tora_arq.proofs.RangeLemmas.{transmit_kept}
 use Rattle.tora_arq.proofs.link_end.LinkEnd.poll_transmit.Goals as goal
+
+if_none : {A : Type 0} (o : Option A) (P : Type 0) → (o ≡ None → P) → IfNone o P
+if_none None P h = h refl
+if_none (Some x) P h = tt
 
 pub invariant_of-self : goal.invariant_of-self
 invariant_of-self c =
     subst (IsEndState (settings_in c.self.inside.settings)) (sym c.poll_transmit.ensures.state) (transmit_kept (settings_in c.self.inside.settings) (state_in c.self.inside.state) c.args.now c.self.invariant)
+
+pub returns-clause-none : goal.returns-clause-none
+returns-clause-none c =
+    if_none c.poll_transmit.result _ (λ q.
+    ap (link_end_of (settings_in c.self.inside.settings)) (c.poll_transmit.ensures.state ∙ transmit-idle (settings_in c.self.inside.settings) (state_in c.self.inside.state) c.args.now (sym c.poll_transmit.ensures.frame ∙ q))
+    ∙ c.self.view_is)

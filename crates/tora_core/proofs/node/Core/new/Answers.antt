@@ -4,7 +4,7 @@ use Rattle.std.proofs.lemmas.List.Elements.{All-from_recursion, All-from_get_or,
 use Rattle.tora_packet.specs.PacketParts.{IsId}
 use Rattle.tora_core.specs.Numbers.{ascending}
 use Rattle.tora_core.proofs.NumberLemmas.{all-ascending}
-use Rattle.tora_core.proofs.CoreLemmas.{first_core-kept}
+use Rattle.tora_core.proofs.CoreLemmas.{destinations_of-first, first_core-kept}
 use Rattle.tora_core.proofs.node.Core.new.Goals as goal
 
 pub first_views-requires-clause-destinations : goal.first_views-requires-clause-destinations
@@ -20,4 +20,5 @@ invariant_of-result c =
     let tos : AllByRecursion IsId c.args.destinations.now =
     recursion_from_All IsId c.args.destinations.now (All-from_get_or IsId c.args.destinations.now 0 (λ k lt. (c.requires.destinations k 0 lt, (c.type_inv.destinations k).fits))) in
     let kept = first_core-kept c.args.me c.args.neighbours.now c.args.destinations.now (c.requires.me, c.ranges.me.fits) ids tos (sym c.core_refusal.ensures ∙ c.in_default.is) in
-    rw (c.ascending.ensures, c.new.ensures, c.in-Ok.ensures, c.as_slice.ensures.value, c.ascending-table.ensures) kept
+    rw (c.ascending.ensures, c.new.ensures, c.in-Ok.ensures, c.as_slice.ensures.value, c.ascending-table.ensures)
+    (kept, sym (destinations_of-first c.args.me (ascending c.args.destinations.now)))

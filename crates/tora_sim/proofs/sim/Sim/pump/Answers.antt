@@ -56,7 +56,7 @@ returns-in-Err c =
     (pump_starved s.topology s.times s.clock s.nodes.items s.links.items s.datagrams.items c.self.invariant c.args.n c.args.k c.in-Some.at c.index.result.now c.in-Some.ensures.first c.index.ensures c.in-Some-next_event.event (sym c.next_event.ensures ∙ c.in-Some-next_event.is)
     c.in-Some-node_place.home c.index_mut.result.now c.in-Some-node_place.ensures.first c.index_mut.ensures.value c.put_item.new.self (waits s.nodes.items c.in-Some-node_place.home c.index-2.result.now c.index_mut.result.now c.waiting.result c.in-Some-node_place.ensures.first.within c.index-2.ensures c.index_mut.ensures.value c.waiting.ensures c.if-waiting-ge-MOST_ITEMS.false) c.in-Err.ensures.1))
 
-module _ (c : goal.After-self-1) where
+module _ (c : goal.After-self-in-Ok-1) where
   link_is : c.take_event.new.self ≡ with_state c.index.result.now (after_poll_event c.index.result.now.state)
   link_is =
       c.take_event.ensures.state

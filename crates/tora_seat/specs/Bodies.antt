@@ -1,0 +1,54 @@
+-- What the parts of serving an item do, whatever the lanes answer.
+use Rattle.std.specs.Prelude.{◌≡◌, ◌+◌, ◌*◌, ◌≤◌, ℕ, Bool, false, if◌then◌else◌, List, [], ◌∷◌, ◌++◌, length, Option, None, Some}
+use Rattle.tora_packet.specs.declared.Packet.{Packet}
+use Rattle.tora_arq.specs.declared.Life.{Life}
+use Rattle.tora_core.specs.CoreRun.{CoreView}
+use Rattle.tora_core.specs.Numbers.{has_repeat}
+use Rattle.tora_seat.specs.declared.Cargo.{Cargo}
+use Rattle.tora_seat.specs.declared.Cargo.TheVariants as Gives
+use Rattle.tora_seat.specs.declared.rows.LinkRow.{LinkRow}
+use Rattle.tora_seat.specs.Serving.{Offer, Answers, Serving}
+use Rattle.tora_seat.specs.Offers.{AreOffered, Follows}
+use Rattle.tora_seat.specs.Rows.{SeatView, neighbours_of, current_of, pending_of, serving_at}
+
+-- what the type of a seat keeps: a row for each neighbour, the neighbours are different, and there is room for the inputs of an item
+pub record IsSeat (core : CoreView) (rows : List LinkRow) (room : ℕ) : Type 0 where
+  pub neighbours : neighbours_of rows ≡ core.neighbours
+  pub different : has_repeat core.neighbours ≡ false
+  pub has_room : 2 * (length core.neighbours + 1) ≤ room
+
+-- ---- one row
+
+-- a pending cut is offered to the lane at this place, and is pending no longer where it is put
+abbrev pub TriesCut : {O : Type 0} → (O → ℕ → Cargo → Bool → O → Type 0) → ℕ → LinkRow → Option Life → O → LinkRow → O → Type 0
+TriesCut did_offer place row None outs new after = (new ≡ row) × (after ≡ outs)
+TriesCut did_offer place row (Some life) outs new after =
+    (put : Bool) × did_offer outs place (Gives.Cut life) put after × (new ≡ (if put then record row { pending = None } else row))
+
+-- a packet is offered to the lane at this place in the current life, and the life is over where it is handed back
+abbrev pub SendsTo : {O : Type 0} → (O → ℕ → Cargo → Bool → O → Type 0) → ℕ → Packet → LinkRow → Option Life → O → LinkRow → O → Type 0
+SendsTo did_offer place packet row None outs new after = (new ≡ row) × (after ≡ outs)
+SendsTo did_offer place packet row (Some life) outs new after =
+    (put : Bool) × did_offer outs place (Gives.Packet life packet) put after × (new ≡ (if put then row else record row { current = None; pending = Some life }))
+
+-- ---- all rows
+
+-- an item that is being served, with these rows and these offers
+abbrev pub on_rows : Serving → List LinkRow → List Offer → Serving
+on_rows v rows offers = record v { seat = record v.seat { current = current_of rows; pending = pending_of rows }; offers = offers }
+
+-- cargoes are offered, and for all answers that these offers got, the definition leads from the rows before to those after
+pub record RowsGo {O : Type 0} (did_offer : O → ℕ → Cargo → Bool → O → Type 0) (next : Answers → List ℕ → Serving → Serving) (rows : List LinkRow) (outs : O) (new : List LinkRow) (after : O) : Type 0 where
+  pub made : List Offer
+  pub offered : AreOffered did_offer (neighbours_of rows) outs made after
+  pub same : neighbours_of new ≡ neighbours_of rows
+  pub leads : (answers : Answers) (v : Serving) (before : List Offer) → Follows answers before made → next answers (neighbours_of rows) (on_rows v rows before) ≡ on_rows v new (before ++ made)
+
+-- ---- the whole seat
+
+-- the same of a seat that serves an item of this tick
+pub record SeatGoes {O : Type 0} (did_offer : O → ℕ → Cargo → Bool → O → Type 0) (next : Answers → List ℕ → Serving → Serving) (now : ℕ) (seat : SeatView) (outs : O) (new : SeatView) (after : O) : Type 0 where
+  pub made : List Offer
+  pub offered : AreOffered did_offer seat.core.neighbours outs made after
+  pub same : new.core.neighbours ≡ seat.core.neighbours
+  pub leads : (answers : Answers) (before : List Offer) → Follows answers before made → next answers seat.core.neighbours (serving_at now seat before) ≡ serving_at now new (before ++ made)

@@ -1,0 +1,87 @@
+//! The rows of the core's seat, one for each neighbour.
+ghost use Rattle.std.specs.Prelude.{◌≡◌, ◌<◌, ◌≤◌, ℕ, List, length, false, Option};
+ghost use Rattle.tora_core.specs.Numbers.{has_number, has_repeat};
+ghost use Rattle.tora_core.specs.CoreRun.{CoreView};
+ghost use Rattle.tora_seat.specs.Serving.{after_cuts_tried, after_broadcast, after_broadcasts, first_cut};
+ghost use Rattle.tora_seat.specs.Rows.{neighbours_of, current_of, pending_of};
+ghost use Rattle.tora_seat.specs.Bodies.{TriesCut, SendsTo, RowsGo};
+
+use crate::{Cargo, OutLanes};
+use tora_arq::Life;
+use tora_core::Core;
+use tora_height::Id;
+use tora_packet::Packet;
+
+/// What the core's seat keeps of a neighbour.
+#[derive(Clone, Copy, Debug, PartialEq, Eq)]
+pub struct LinkRow {
+    /// The neighbour.
+    pub neighbour: Id,
+    /// The life that is current.
+    pub current: Option<Life>,
+    /// The life that is over and whose cut was not put yet.
+    pub pending: Option<Life>,
+}
+
+/// Tries the pending cut of a row.
+fn try_cut<O: OutLanes>(row: &mut LinkRow, place: usize, outs: &mut O)
+    requires { place < O.count outs.old }
+    ensures count { O.count outs.new ≡ O.count outs.old }
+    ensures tries { TriesCut O.did_offer place row.old row.old.pending outs.old row.new outs.new }
+{
+    if let Some(life) = row.pending {
+        if outs.offer(place, Cargo::Cut(life)) {
+            row.pending = None;
+        }
+    }
+}
+
+/// Tries each pending cut once.
+pub fn try_cuts<O: OutLanes>(rows: &mut [LinkRow], outs: &mut O)
+    requires lanes { length rows.old ≤ O.count outs.old }
+    requires different { has_repeat (neighbours_of rows.old) ≡ false }
+    ensures count { O.count outs.new ≡ O.count outs.old }
+    ensures goes { RowsGo O.did_offer after_cuts_tried rows.old outs.old rows.new outs.new }
+{
+    for (place, row) in rows.iter_mut().enumerate() {
+        try_cut(row, place, outs);
+    }
+}
+
+/// Sends a packet to the neighbour of a row with its current life; where it is handed back, the life is over.
+fn send<O: OutLanes>(row: &mut LinkRow, place: usize, packet: &Packet, outs: &mut O)
+    requires { place < O.count outs.old }
+    ensures count { O.count outs.new ≡ O.count outs.old }
+    ensures sends { SendsTo O.did_offer place packet.now row.old row.old.current outs.old row.new outs.new }
+{
+    if let Some(life) = row.current {
+        if !outs.offer(place, Cargo::Packet(life, *packet)) {
+            row.current = None;
+            row.pending = Some(life);
+        }
+    }
+}
+
+/// Sends a packet to each neighbour, in ascending order.
+fn broadcast<O: OutLanes>(rows: &mut [LinkRow], packet: &Packet, outs: &mut O)
+    requires lanes { length rows.old ≤ O.count outs.old }
+    requires different { has_repeat (neighbours_of rows.old) ≡ false }
+    ensures count { O.count outs.new ≡ O.count outs.old }
+    ensures goes { RowsGo O.did_offer (λ answers ks. after_broadcast answers packet.now ks) rows.old outs.old rows.new outs.new }
+{
+    for (place, row) in rows.iter_mut().enumerate() {
+        send(row, place, packet, outs);
+    }
+}
+
+/// Sends the packets one after another, each to every neighbour in ascending order.
+pub fn broadcast_all<O: OutLanes>(rows: &mut [LinkRow], packets: &[Packet], outs: &mut O)
+    requires lanes { length rows.old ≤ O.count outs.old }
+    requires different { has_repeat (neighbours_of rows.old) ≡ false }
+    ensures count { O.count outs.new ≡ O.count outs.old }
+    ensures goes { RowsGo O.did_offer (λ answers ks. after_broadcasts answers ks packets.now) rows.old outs.old rows.new outs.new }
+{
+    for packet in packets {
+        broadcast(rows, packet, outs);
+    }
+}

@@ -1,0 +1,422 @@
+//! The core's seat.
+ghost use Rattle.std.specs.Prelude.{◌≡◌, ◌<◌, ◌≤◌, ◌+◌, ◌*◌, ℕ, List, length, [], Option, None, Some, IfOk, IfSome, MatchOption, slice_get, map, is_some, if◌then◌else◌};
+ghost use Rattle.tora_core.specs.Numbers.{has_repeat};
+ghost use Rattle.tora_core.specs.declared.Input.TheVariants as In;
+ghost use Rattle.tora_seat.specs.Serving.{Answers, Offer, first_cut, with_current, with_pending, after_cuts_tried, after_step, after_settling, after_input, after_down, after_old_down, after_up, after_packet, after_link_item, after_other_item, after_item_of, serving_of, is_current};
+ghost use Rattle.tora_seat.specs.Offers.{AreOffered, Follows};
+ghost use Rattle.tora_seat.specs.Rows.{SeatView, neighbours_of, current_of, pending_of, state_of, serving_at, new_row, first_seat, first_cut_of};
+ghost use Rattle.tora_seat.specs.Bodies.{SeatGoes};
+
+use crate::rows::{broadcast_all, try_cuts};
+use crate::{Answer, Item, LinkRow, OutLanes, Stepped, What};
+use std::alloc::{AllocError, Global};
+use std::marker::Model;
+use tora_arq::Life;
+use tora_core::{Core, Input, Sends};
+use tora_height::Id;
+use tora_packet::Packet;
+
+/// The core of a node with what it knows of its links.
+#[derive(Drop)]
+pub struct CoreSeat {
+    core: Core,
+    rows: Vec<LinkRow>,
+    inputs: Vec<Input>,
+    sends: Sends,
+    stepped: Option<Stepped>,
+    answer: Answer,
+}
+
+impl Model for CoreSeat {
+    ghost use Rattle.std.specs.Prelude.{vec_capacity};
+    ghost use Rattle.tora_seat.specs.Rows.{SeatView};
+    ghost use Rattle.tora_seat.specs.Bodies.{IsSeat};
+
+    ghost Value = { SeatView };
+
+    ghost view = { λ s. record { core = s.core; rows = s.rows.items; inputs = s.inputs.items; stepped = s.stepped; answer = s.answer } };
+
+    ghost invariant = { λ s. IsSeat s.core s.rows.items (vec_capacity s.inputs) };
+}
+
+impl CoreSeat {
+    /// The neighbour at a place, from 0 on in ascending order.
+    fn neighbour(&self, place: usize) -> Option<Id>
+        ensures { result ≡ slice_get self.now.core.neighbours place }
+    {
+        self.core.neighbours().get(place).copied()
+    }
+
+    /// Begins to serve an item.
+    fn begin(&mut self)
+        ensures { self.new ≡ record self.old { inputs = []; stepped = None; answer = Answer.Nothing } }
+    {
+        self.inputs.clear();
+        self.stepped = None;
+        self.answer = Answer::Nothing;
+    }
+
+    /// The least neighbour whose link is up at the core without a current life.
+    fn first_cut(&self) -> Option<Id>
+        ensures { result ≡ first_cut (state_of self.now) self.now.core.neighbours }
+    {
+        first_cut(&self.core, &self.rows)
+    }
+
+    /// Steps an input, and sends what the core answers.
+    fn step<O: OutLanes>(&mut self, input: &Input, now: u64, outs: &mut O)
+        requires lanes { length self.old.core.neighbours ≤ O.count outs.old }
+        requires room { length self.old.inputs < 2 * (length self.old.core.neighbours + 1) }
+        ensures count { O.count outs.new ≡ O.count outs.old }
+        ensures stepped { length self.new.inputs ≤ length self.old.inputs + 1 }
+        ensures goes { SeatGoes O.did_offer (λ answers ks. after_step answers ks input.now now) now self.old outs.old self.new outs.new }
+    {
+        match self.core.step_into(input, now, &mut self.sends) {
+            Ok(()) => {
+                self.inputs.push_reserved(*input);
+                broadcast_all(&mut self.rows, self.sends.as_slice(), outs);
+            }
+            Err(error) => self.answer = Answer::Refused(error),
+        }
+    }
+
+    /// Steps down each neighbour whose life was cut, the least first, until none is left.
+    fn settle<O: OutLanes>(&mut self, now: u64, outs: &mut O)
+        requires lanes { length self.old.core.neighbours ≤ O.count outs.old }
+        requires room { length self.old.inputs + length self.old.core.neighbours ≤ 2 * (length self.old.core.neighbours + 1) }
+        ensures count { O.count outs.new ≡ O.count outs.old }
+        ensures stepped { length self.new.inputs ≤ length self.old.inputs + length self.old.core.neighbours }
+        ensures goes { SeatGoes O.did_offer (λ answers ks. after_settling (length ks) answers ks now) now self.old outs.old self.new outs.new }
+    {
+        let most = self.core.neighbours().len();
+        for _round in 0..most {
+            match self.first_cut() {
+                Some(k) => self.step(&Input::LinkDown(k), now, outs),
+                None => return,
+            }
+        }
+    }
+
+    /// Steps an input, and then all that follows from what it sends.
+    fn take_in<O: OutLanes>(&mut self, input: &Input, now: u64, outs: &mut O)
+        requires lanes { length self.old.core.neighbours ≤ O.count outs.old }
+        requires room { length self.old.inputs ≤ length self.old.core.neighbours + 1 }
+        ensures count { O.count outs.new ≡ O.count outs.old }
+        ensures stepped { length self.new.inputs ≤ length self.old.inputs + length self.old.core.neighbours + 1 }
+        ensures goes { SeatGoes O.did_offer (λ answers ks. after_input answers ks input.now now) now self.old outs.old self.new outs.new }
+    {
+        self.step(input, now, outs);
+        self.settle(now, outs);
+    }
+
+    /// Gives the neighbour at a place another current life.
+    fn set_current(&mut self, place: usize, k: Id, life: Option<Life>)
+        requires { slice_get self.old.core.neighbours place ≡ Some k }
+        ensures rest { self.new ≡ record self.old { rows = self.new.rows } }
+        ensures set { (now : ℕ) (before : List Offer) → with_current (serving_at now self.old before) k life ≡ serving_at now self.new before }
+    {
+        let row = &mut self.rows[place];
+        row.current = life;
+    }
+
+    /// Forgets the pending cut of the neighbour at a place.
+    fn forget_pending(&mut self, place: usize, k: Id)
+        requires { slice_get self.old.core.neighbours place ≡ Some k }
+        ensures rest { self.new ≡ record self.old { rows = self.new.rows } }
+        ensures set { (now : ℕ) (before : List Offer) → with_pending (serving_at now self.old before) k None ≡ serving_at now self.new before }
+    {
+        let row = &mut self.rows[place];
+        row.pending = None;
+    }
+
+    /// The current life of the neighbour at a place is over.
+    fn on_end<O: OutLanes>(&mut self, place: usize, k: Id, now: u64, outs: &mut O)
+        requires place { slice_get self.old.core.neighbours place ≡ Some k }
+        requires lanes { length self.old.core.neighbours ≤ O.count outs.old }
+        requires room { length self.old.inputs ≤ length self.old.core.neighbours + 1 }
+        ensures count { O.count outs.new ≡ O.count outs.old }
+        ensures stepped { length self.new.inputs ≤ length self.old.inputs + length self.old.core.neighbours + 1 }
+        ensures goes { SeatGoes O.did_offer (λ answers ks. after_down answers ks k now) now self.old outs.old self.new outs.new }
+    {
+        self.set_current(place, k, None);
+        self.take_in(&Input::LinkDown(k), now, outs);
+    }
+
+    /// The current life of the neighbour at a place is over, if there is one.
+    fn on_old_end<O: OutLanes>(&mut self, place: usize, k: Id, now: u64, outs: &mut O)
+        requires place { slice_get self.old.core.neighbours place ≡ Some k }
+        requires lanes { length self.old.core.neighbours ≤ O.count outs.old }
+        requires room { length self.old.inputs ≤ 0 }
+        ensures count { O.count outs.new ≡ O.count outs.old }
+        ensures stepped { length self.new.inputs ≤ length self.old.core.neighbours + 1 }
+        ensures goes { SeatGoes O.did_offer (λ answers ks v. after_old_down answers ks k now v (v.seat.current k)) now self.old outs.old self.new outs.new }
+    {
+        if self.current(place).is_some() {
+            self.on_end(place, k, now, outs);
+        }
+    }
+
+    /// A life of the neighbour at a place begins.
+    fn on_up<O: OutLanes>(&mut self, place: usize, k: Id, life: Life, now: u64, outs: &mut O)
+        requires place { slice_get self.old.core.neighbours place ≡ Some k }
+        requires lanes { length self.old.core.neighbours ≤ O.count outs.old }
+        requires room { length self.old.inputs ≤ 0 }
+        ensures count { O.count outs.new ≡ O.count outs.old }
+        ensures goes { SeatGoes O.did_offer (λ answers ks v. after_up answers ks k life now (after_old_down answers ks k now v (v.seat.current k))) now self.old outs.old self.new outs.new }
+    {
+        self.on_old_end(place, k, now, outs);
+        self.set_current(place, k, Some(life));
+        self.take_in(&Input::LinkUp(k), now, outs);
+    }
+
+    /// Hands a packet of the neighbour at a place to the core, where its life is current.
+    fn on_packet<O: OutLanes>(
+        &mut self,
+        place: usize,
+        k: Id,
+        life: &Life,
+        packet: &Packet,
+        now: u64,
+        outs: &mut O,
+    )
+        requires place { slice_get self.old.core.neighbours place ≡ Some k }
+        requires lanes { length self.old.core.neighbours ≤ O.count outs.old }
+        requires room { length self.old.inputs ≤ 0 }
+        requires first { self.old.stepped ≡ None }
+        ensures count { O.count outs.new ≡ O.count outs.old }
+        ensures goes { SeatGoes O.did_offer (λ answers ks v. if is_current life.now (v.seat.current k) then after_packet answers ks k life.now packet.now now v else v) now self.old outs.old self.new outs.new }
+    {
+        if is_current(life, &self.current(place)) {
+            self.note_stepped(k, life, packet);
+            self.take_in(&Input::Packet(k, *packet), now, outs);
+        }
+    }
+
+    /// Notes a packet that is handed to the core.
+    fn note_stepped(&mut self, k: Id, life: &Life, packet: &Packet)
+        ensures { self.new ≡ record self.old { stepped = Some (record { from = k; life = life.now; packet = packet.now }) } }
+    {
+        self.stepped = Some(Stepped {
+            from: k,
+            life: *life,
+            packet: *packet,
+        });
+    }
+
+    /// A life of the neighbour at a place has ended.
+    fn on_down<O: OutLanes>(
+        &mut self,
+        place: usize,
+        k: Id,
+        life: &Life,
+        now: u64,
+        outs: &mut O,
+    )
+        requires place { slice_get self.old.core.neighbours place ≡ Some k }
+        requires lanes { length self.old.core.neighbours ≤ O.count outs.old }
+        requires room { length self.old.inputs ≤ 0 }
+        ensures count { O.count outs.new ≡ O.count outs.old }
+        ensures goes { SeatGoes O.did_offer (λ answers ks v. if is_current life.now (v.seat.current k) then after_down answers ks k now v else if is_current life.now (v.seat.pending k) then with_pending v k None else v) now self.old outs.old self.new outs.new }
+    {
+        if is_current(life, &self.current(place)) {
+            self.on_end(place, k, now, outs);
+        } else if is_current(life, &self.pending(place)) {
+            self.forget_pending(place, k);
+        }
+    }
+
+    /// Takes in an item of the link to the neighbour at a place.
+    fn on_link_item<O: OutLanes>(
+        &mut self,
+        place: usize,
+        k: Id,
+        what: &What,
+        now: u64,
+        outs: &mut O,
+    )
+        requires place { slice_get self.old.core.neighbours place ≡ Some k }
+        requires lanes { length self.old.core.neighbours ≤ O.count outs.old }
+        requires room { length self.old.inputs ≤ 0 }
+        requires first { self.old.stepped ≡ None }
+        ensures count { O.count outs.new ≡ O.count outs.old }
+        ensures goes { SeatGoes O.did_offer (λ answers ks. after_link_item answers ks k now what.now) now self.old outs.old self.new outs.new }
+    {
+        match what {
+            What::Up(life) => self.on_up(place, k, *life, now, outs),
+            What::Packet(life, packet) => self.on_packet(place, k, life, packet, now, outs),
+            What::Down(life, _) => self.on_down(place, k, life, now, outs),
+            What::Need(d) => self.take_in(&Input::Need(*d), now, outs),
+            What::Beat => {}
+            What::Show => self.answer = Answer::Show,
+            What::Quit => self.answer = Answer::Quit,
+        }
+    }
+
+    /// Takes in an item of a seat that is no link.
+    fn on_other_item<O: OutLanes>(&mut self, what: &What, now: u64, outs: &mut O)
+        requires lanes { length self.old.core.neighbours ≤ O.count outs.old }
+        requires room { length self.old.inputs ≤ 0 }
+        ensures count { O.count outs.new ≡ O.count outs.old }
+        ensures goes { SeatGoes O.did_offer (λ answers ks. after_other_item answers ks now what.now) now self.old outs.old self.new outs.new }
+    {
+        match what {
+            What::Need(d) => self.take_in(&Input::Need(*d), now, outs),
+            What::Show => self.answer = Answer::Show,
+            What::Quit => self.answer = Answer::Quit,
+            What::Up(_) => {}
+            What::Packet(_, _) => {}
+            What::Down(_, _) => {}
+            What::Beat => {}
+        }
+    }
+
+    /// Tries each pending cut once.
+    fn try_cuts<O: OutLanes>(&mut self, now: u64, outs: &mut O)
+        requires lanes { length self.old.core.neighbours ≤ O.count outs.old }
+        ensures count { O.count outs.new ≡ O.count outs.old }
+        ensures rest { self.new ≡ record self.old { rows = self.new.rows } }
+        ensures goes { SeatGoes O.did_offer after_cuts_tried now self.old outs.old self.new outs.new }
+    {
+        try_cuts(&mut self.rows, outs);
+    }
+
+    /// Takes in an item.
+    fn on_item<O: OutLanes>(&mut self, item: &Item, outs: &mut O)
+        requires lanes { length self.old.core.neighbours ≤ O.count outs.old }
+        requires room { length self.old.inputs ≤ 0 }
+        requires first { self.old.stepped ≡ None }
+        ensures count { O.count outs.new ≡ O.count outs.old }
+        ensures goes { SeatGoes O.did_offer (λ answers ks. after_item_of answers ks (slice_get ks item.entry.now.seat) item.entry.now.now item.entry.now.what) item.entry.now.now self.old outs.old self.new outs.new }
+    {
+        match self.neighbour(item.seat) {
+            Some(k) => self.on_link_item(item.seat, k, &item.what, item.now, outs),
+            None => self.on_other_item(&item.what, item.now, outs),
+        }
+    }
+
+    /// The seat of a core, with no current life and nothing pending.
+    ///
+    /// # Errors
+    /// `AllocError`.
+    pub fn new(alloc: Global, core: Core) -> Result<CoreSeat, AllocError>
+        ensures { IfOk result (λ seat. seat ≡ first_seat core) }
+    {
+        let _me = core.me();
+        let most = 2 * (core.neighbours().len() + 1);
+        let rows = new_rows(alloc, core.neighbours())?;
+        let inputs = Vec::with_capacity(alloc, most)?;
+        Ok(CoreSeat {
+            core,
+            rows,
+            inputs,
+            sends: Sends::new(),
+            stepped: None,
+            answer: Answer::Nothing,
+        })
+    }
+
+    /// The core.
+    pub fn core(&self) -> &Core
+        ensures { result.now ≡ self.now.core }
+    {
+        &self.core
+    }
+
+    /// The inputs that the core accepted for the last item, in order.
+    pub fn inputs(&self) -> &[Input]
+        ensures { result.now ≡ self.now.inputs }
+    {
+        self.inputs.as_slice()
+    }
+
+    /// The packet that was handed to the core for the last item, if one was.
+    pub fn stepped(&self) -> Option<Stepped>
+        ensures { result ≡ self.now.stepped }
+    {
+        self.stepped
+    }
+
+    /// The current life of the neighbour at a place, from 0 on in ascending order; `None` where it has none, or there is
+    /// no such neighbour.
+    pub fn current(&self, place: usize) -> Option<Life>
+        ensures { MatchOption (slice_get self.now.core.neighbours place) (result ≡ None) (λ k. result ≡ current_of self.now.rows k) }
+    {
+        match row_at(&self.rows, place) {
+            Some(row) => row.current,
+            None => None,
+        }
+    }
+
+    /// The life of the neighbour at a place, from 0 on in ascending order, whose cut was not put yet; `None` where there
+    /// is none, or there is no such neighbour.
+    pub fn pending(&self, place: usize) -> Option<Life>
+        ensures { MatchOption (slice_get self.now.core.neighbours place) (result ≡ None) (λ k. result ≡ pending_of self.now.rows k) }
+    {
+        match row_at(&self.rows, place) {
+            Some(row) => row.pending,
+            None => None,
+        }
+    }
+
+    /// Serves an item: each pending cut is tried once, and then the item is taken in.
+    ///
+    /// It takes no memory and waits for nobody. There is a lane for each neighbour at least.
+    pub fn serve<O: OutLanes>(&mut self, item: &Item, outs: &mut O) -> Answer
+        requires { length self.old.core.neighbours ≤ O.count outs.old }
+        ensures count { O.count outs.new ≡ O.count outs.old }
+        ensures neighbours { self.new.core.neighbours ≡ self.old.core.neighbours }
+        ensures served { (offers : List Offer) × AreOffered O.did_offer self.old.core.neighbours outs.old offers outs.new
+            × ((answers : Answers) → Follows answers [] offers
+                → serving_of answers self.old.core.neighbours (state_of self.old) item.entry.now ≡ serving_at item.entry.now.now self.new offers) }
+        ensures answer { result ≡ self.new.answer }
+    {
+        self.begin();
+        self.try_cuts(item.now, outs);
+        self.on_item(item, outs);
+        self.answer
+    }
+}
+
+/// The row at a place.
+fn row_at(rows: &[LinkRow], place: usize) -> Option<LinkRow>
+    ensures { result ≡ slice_get rows.now place }
+{
+    rows.get(place).copied()
+}
+
+/// The neighbour of the first row whose link is up at the core without a current life.
+fn first_cut(core: &Core, rows: &[LinkRow]) -> Option<Id>
+    ensures { result ≡ first_cut_of core.now rows.now }
+{
+    rows.iter()
+        .find(|row| core.is_up(row.neighbour) && row.current.is_none())
+        .map(|row| row.neighbour)
+}
+
+/// Whether it is the current life.
+fn is_current(life: &Life, current: &Option<Life>) -> bool
+    ensures { result ≡ is_current life.now current.now }
+{
+    match current {
+        Some(other) => life.own == other.own && life.peer == other.peer,
+        None => false,
+    }
+}
+
+/// The row of a neighbour without a life.
+fn new_row(neighbour: Id) -> LinkRow
+    ensures { result ≡ new_row neighbour }
+{
+    LinkRow {
+        neighbour,
+        current: None,
+        pending: None,
+    }
+}
+
+/// The rows of these neighbours, without a life.
+fn new_rows(alloc: Global, neighbours: &[Id]) -> Result<Vec<LinkRow>, AllocError>
+    ensures { IfOk result (λ rows. rows.items ≡ map new_row neighbours.now) }
+{
+    neighbours.iter().map(|k| new_row(*k)).collect(alloc)
+}

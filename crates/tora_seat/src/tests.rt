@@ -1,0 +1,201 @@
+//! Items served over lanes that fill up.
+
+use super::*;
+use std::alloc::Global;
+use std::process::Abort;
+use std::test::Fail;
+use tora_core::{Core, Input};
+
+/// How many cargoes a lane of the tests holds.
+const ROOM: usize = 256;
+
+/// The life of the link to 2.
+const FIRST: Life = Life { own: 5, peer: 9 };
+
+/// The life of the link to 3.
+const SECOND: Life = Life { own: 1, peer: 1 };
+
+/// A cargo that was offered to the lane at a place, and whether it was put.
+#[derive(Clone, Copy, Debug, PartialEq, Eq)]
+struct Offered {
+    place: usize,
+    cargo: Cargo,
+    put: bool,
+}
+
+/// Two lanes, each with how many cargoes wait in it, and what was offered to them.
+#[derive(Drop)]
+struct TestLanes {
+    first: usize,
+    second: usize,
+    offers: Vec<Offered>,
+}
+
+impl TestLanes {
+    /// Puts a cargo into a lane, where there is room.
+    fn put(&mut self, place: usize) -> bool {
+        if place == 0 {
+            if self.first >= ROOM {
+                return false;
+            }
+            self.first += 1;
+        } else {
+            if self.second >= ROOM {
+                return false;
+            }
+            self.second += 1;
+        }
+        true
+    }
+}
+
+impl OutLanes for TestLanes {
+    ghost count = { λ _. 2 };
+
+    ghost did_offer = { λ _ _ _ _ _. Unit {0} };
+
+    fn offer(&mut self, place: usize, cargo: Cargo) -> bool {
+        let put = self.put(place);
+        let offered = Offered { place, cargo, put };
+        match self.offers.push(offered) {
+            Ok(()) => {}
+            Err(_) => {}
+        }
+        put
+    }
+}
+
+/// The query for a destination.
+fn query(rt: &impl Abort, destination: Id) -> Packet {
+    Packet::qry(destination).expect(rt, "a query")
+}
+
+/// Serves what a seat tells, and sees what is answered.
+fn serves(rt: &impl Abort, seat: &mut CoreSeat, lanes: &mut TestLanes, at: usize, what: What) {
+    assert_eq!(rt; seat.core().neighbours().len(), 2);
+    let item = Item {
+        seat: at,
+        number: 1,
+        now: 1,
+        what,
+    };
+    assert_eq!(rt; seat.serve(&item, lanes), Answer::Nothing);
+}
+
+/// Node 1 needs a route to each of 4 to 8, the link to 2 is up, and so many cargoes wait in its lane.
+fn needing(
+    rt: &impl Abort,
+    alloc: Global,
+    waiting: usize,
+) -> Result<(CoreSeat, TestLanes), Fail> {
+    let core = Core::new(alloc, 1, &[2, 3], &[4, 5, 6, 7, 8]).expect(rt, "a core");
+    let mut seat = CoreSeat::new(alloc, core)?;
+    let mut lanes = TestLanes {
+        first: 0,
+        second: 0,
+        offers: Vec::new(alloc),
+    };
+    for d in 4..9 {
+        serves(rt, &mut seat, &mut lanes, 2, What::Need(d));
+    }
+    serves(rt, &mut seat, &mut lanes, 0, What::Up(FIRST));
+    assert_eq!(rt; lanes.offers.len(), 5);
+    lanes.offers.clear();
+    lanes.first = waiting;
+    Ok((seat, lanes))
+}
+
+/// Sees that just these cargoes were offered, each with its place and whether it was put.
+fn offers(rt: &impl Abort, lanes: &TestLanes, rows: &[(usize, Cargo, bool)]) {
+    assert_eq!(rt; lanes.offers.len(), rows.len());
+    for ((place, cargo, put), offered) in rows.iter().zip(lanes.offers.iter()) {
+        let expected = Offered {
+            place: *place,
+            cargo: *cargo,
+            put: *put,
+        };
+        assert_eq!(rt; *offered, expected);
+    }
+}
+
+#[test]
+fn handed_back_packet_cuts_its_life(rt: HostRuntime) -> Result<(), Fail> {
+    let (mut seat, mut lanes) = needing(&rt, rt.alloc(), 254)?;
+    serves(&rt, &mut seat, &mut lanes, 1, What::Up(SECOND));
+    let to_2 = |d: Id| Cargo::Packet(FIRST, query(&rt, d));
+    let to_3 = |d: Id| Cargo::Packet(SECOND, query(&rt, d));
+    let expected = [
+        (0, to_2(4), true),
+        (1, to_3(4), true),
+        (0, to_2(5), true),
+        (1, to_3(5), true),
+        (0, to_2(6), false),
+        (1, to_3(6), true),
+        (1, to_3(7), true),
+        (1, to_3(8), true),
+    ];
+    offers(&rt, &lanes, &expected);
+    let inputs = [Input::LinkUp(3), Input::LinkDown(2)];
+    assert_eq!(rt; seat.inputs(), inputs.as_slice());
+    assert_eq!(rt; seat.current(0), None);
+    assert_eq!(rt; seat.pending(0), Some(FIRST));
+    assert_eq!(rt; seat.current(1), Some(SECOND));
+    lanes.offers.clear();
+    let late = What::Packet(FIRST, query(&rt, 4));
+    serves(&rt, &mut seat, &mut lanes, 0, late);
+    offers(&rt, &lanes, &[(0, Cargo::Cut(FIRST), false)]);
+    assert_eq!(rt; seat.inputs().len(), 0);
+    assert_eq!(rt; seat.stepped(), None);
+    Ok(())
+}
+
+#[test]
+fn pending_cut_is_put_once_there_is_room(rt: HostRuntime) -> Result<(), Fail> {
+    let (mut seat, mut lanes) = needing(&rt, rt.alloc(), 254)?;
+    serves(&rt, &mut seat, &mut lanes, 1, What::Up(SECOND));
+    lanes.offers.clear();
+    lanes.first = 255;
+    serves(&rt, &mut seat, &mut lanes, 2, What::Beat);
+    offers(&rt, &lanes, &[(0, Cargo::Cut(FIRST), true)]);
+    assert_eq!(rt; seat.pending(0), None);
+    lanes.offers.clear();
+    serves(&rt, &mut seat, &mut lanes, 2, What::Beat);
+    offers(&rt, &lanes, &[]);
+    Ok(())
+}
+
+#[test]
+fn life_is_cut_where_its_lane_is_short_of_room(rt: HostRuntime) -> Result<(), Fail> {
+    for waiting in 0..257 {
+        let (mut seat, mut lanes) = needing(&rt, rt.alloc(), waiting)?;
+        serves(&rt, &mut seat, &mut lanes, 1, What::Up(SECOND));
+        let put = lanes
+            .offers
+            .iter()
+            .filter(|offered| offered.place == 0 && offered.put)
+            .count();
+        assert_eq!(rt; put, 5.min(256 - waiting), "with {waiting} waiting");
+        let is_cut = seat.current(0).is_none();
+        assert_eq!(rt; is_cut, waiting > 251, "with {waiting} waiting");
+        assert_eq!(rt; seat.pending(0).is_some(), is_cut);
+        assert_eq!(rt; seat.core().is_up(2), !is_cut);
+    }
+    Ok(())
+}
+
+#[test]
+fn packet_of_the_current_life_is_handed_to_the_core(rt: HostRuntime) -> Result<(), Fail> {
+    let (mut seat, mut lanes) = needing(&rt, rt.alloc(), 0)?;
+    let packet = query(&rt, 4);
+    serves(&rt, &mut seat, &mut lanes, 0, What::Packet(FIRST, packet));
+    let stepped = Stepped {
+        from: 2,
+        life: FIRST,
+        packet,
+    };
+    assert_eq!(rt; seat.stepped(), Some(stepped));
+    assert_eq!(rt; seat.inputs(), [Input::Packet(2, packet)].as_slice());
+    serves(&rt, &mut seat, &mut lanes, 0, What::Packet(SECOND, packet));
+    assert_eq!(rt; seat.stepped(), None);
+    Ok(())
+}

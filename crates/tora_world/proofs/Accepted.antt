@@ -1,0 +1,396 @@
+-- Serving an item is refused nothing but a need.
+use Rattle.std.proofs.Common.{◌≡◌, ℕ, zero, suc, ◌<◌, ◌≤◌, Bool, true, false, true≢false, ◌&&◌, ◌||◌, ◌⊎◌, inl, inr, ⊎_elim, List, [], ◌∷◌, ◌++◌, length, Option, Some, None, nat_eq, if◌then◌else◌, refl, sym, ap, ◌∙◌, subst, append_assoc, append-nil, eqb-true, eq-eqb, arith}
+use Rattle.std.proofs.lemmas.Bool.{cond_both, cases_Bool}
+use Rattle.std.specs.Prelude.{slice_get, is_none, not}
+use Rattle.tora_packet.specs.declared.Packet.{Packet}
+use Rattle.tora_arq.specs.declared.Life.{Life}
+use Rattle.tora_core.specs.declared.Input.{Input}
+use Rattle.tora_core.specs.declared.Input.TheVariants as In
+use Rattle.tora_core.specs.declared.errors.StepError.{StepError}
+use Rattle.tora_core.specs.declared.errors.StepError.TheVariants as Fault
+use Rattle.tora_core.specs.Numbers.{has_number, without_number}
+use Rattle.tora_core.specs.CoreRun.{CoreView, is_from, refusal_of, up_after, sends_of}
+use Rattle.tora_seat.specs.declared.What.{What}
+use Rattle.tora_seat.specs.declared.What.TheVariants as Tells
+use Rattle.tora_seat.specs.declared.Answer.TheVariants as Says
+use Rattle.tora_seat.specs.declared.Item.{Item}
+use Rattle.tora_seat.specs.declared.Cargo.{Cargo}
+use Rattle.tora_seat.specs.declared.Cargo.TheVariants as Gives
+use Rattle.tora_seat.specs.Serving.{SeatState, Offer, Parcel, Step, Serving, Answers, put_one, with_current, with_pending, after_cut_tried, after_cuts_tried, after_sent, after_broadcast, after_broadcasts, accepting, after_answer, after_step, first_cut, after_settling, after_input, is_current, after_down, after_old_down, after_up, after_packet, after_link_item, after_other_item, after_item_of, begin_serving, serving_of, put_to, stepped_from}
+use Rattle.tora_world.specs.Lists.{parcel_of, Each}
+use Rattle.tora_world.specs.Refusals.{packet_in, packets_accepted, packets_in}
+use Rattle.tora_world.proofs.PacketLists.{same_true}
+use Rattle.tora_world.proofs.Events.{put_one_here, put_one_there}
+use Rattle.tora_world.proofs.EndViews.{map-append}
+use Rattle.tora_world.proofs.LinksUp.{core_accepted, same_neighbours, up_accepted, down_accepted, count_up, count_most, count_drops, first_cut_is, first_cut_none, settled_at, has-gone, has-with, has-other}
+use Rattle.tora_world.proofs.OwnHeights.{IsOwnView, IsSentBy, views_own, sends_own}
+
+accepted-push : (k : ℕ) (is : List (Input × ℕ)) (input : Input) (now : ℕ) → packets_accepted k (is ++ (input, now) ∷ []) ≡ packets_accepted k is ++ packet_in k input
+accepted-push k [] input now = append-nil (packet_in k input)
+accepted-push k ((i, t) ∷ is) input now = ap (λ xs. packet_in k i ++ xs) (accepted-push k is input now) ∙ sym (append_assoc (packet_in k i) (packets_accepted k is) (packet_in k input))
+
+pub accepted-append : (k : ℕ) (is js : List (Input × ℕ)) → packets_accepted k (is ++ js) ≡ packets_accepted k is ++ packets_accepted k js
+accepted-append k [] js = refl
+accepted-append k ((i, t) ∷ is) js = ap (λ xs. packet_in k i ++ xs) (accepted-append k is js) ∙ sym (append_assoc (packet_in k i) (packets_accepted k is) (packets_accepted k js))
+
+stepped-push : (k : ℕ) (steps : List Step) (s : Step) → stepped_from k (steps ++ s ∷ []) ≡ stepped_from k steps ++ (if nat_eq s.from k then s.parcel ∷ [] else [])
+stepped-push k [] s = append-nil (if nat_eq s.from k then s.parcel ∷ [] else [])
+stepped-push k (x ∷ steps) s =
+    ap (λ ys. (if nat_eq x.from k then x.parcel ∷ [] else []) ++ ys) (stepped-push k steps s)
+    ∙ sym (append_assoc (if nat_eq x.from k then x.parcel ∷ [] else []) (stepped_from k steps) (if nat_eq s.from k then s.parcel ∷ [] else []))
+
+each_push : {A : Type 0} (P : A → Type 0) (xs : List A) (y : A) → Each P xs → P y → Each P (xs ++ y ∷ [])
+each_push P [] y a p = (p, tt)
+each_push P (x ∷ xs) y a p = (a.0, each_push P xs y a.1 p)
+
+-- a cargo with a packet of this node
+abbrev pub IsCargoOf : ℕ → Cargo → Type 0
+IsCargoOf n (Gives.Packet life packet) = IsSentBy n packet
+IsCargoOf n (Gives.Cut life) = Unit {0}
+
+abbrev pub AreOffersOf : ℕ → List Offer → Type 0
+AreOffersOf n offers = Each (λ (o : Offer). IsCargoOf n o.cargo) offers
+
+pub put_of : (n k : ℕ) (offers : List Offer) → AreOffersOf n offers → Each (IsCargoOf n) (put_to k offers)
+put_of n k [] h = tt
+put_of n k (o ∷ offers) h = go (nat_eq o.to k && o.put) (put_of n k offers h.1)
+  where
+    go : (b : Bool) → Each (IsCargoOf n) (put_to k offers) → Each (IsCargoOf n) ((if b then o.cargo ∷ [] else []) ++ put_to k offers)
+    go true r = (h.0, r)
+    go false r = r
+
+none_life : (o : Option Life) → is_none o ≡ true → o ≡ None
+none_life None e = refl
+none_life (Some l) e = absurd (true≢false (sym e))
+
+current_is : (l : Life) (o : Option Life) → is_current l o ≡ true → o ≡ Some l
+current_is l None e = absurd (true≢false (sym e))
+current_is l (Some j) e = ap Some (sym (same_true l j e))
+
+-- a number at a place is in the list
+pub at_in : (ks : List ℕ) (i k : ℕ) → slice_get ks i ≡ Some k → has_number k ks ≡ true
+at_in [] i k e = absurd (cc)
+at_in (x ∷ xs) zero k e = let q : x ≡ k = cc in ap (λ b. b || has_number k xs) (eq-eqb x k q)
+at_in (x ∷ xs) (suc i) k e = ap (λ b. nat_eq x k || b) (at_in xs i k e) ∙ or_true (nat_eq x k)
+  where
+    or_true : (b : Bool) → (b || true) ≡ true
+    or_true true = refl
+    or_true false = refl
+
+-- the packet of a neighbour whose link is up
+packet_accepted : (c : CoreView) (k : ℕ) (packet : Packet) → has_number k c.neighbours ≡ true → has_number k c.up ≡ true → is_from k packet ≡ true → refusal_of c (In.Packet k packet) ≡ None
+packet_accepted c k packet a b d =
+    ap (λ x. if not x then Some Fault.UnknownNeighbour else if not (has_number k c.up) then Some Fault.NotUp else if not (is_from k packet) then Some Fault.WrongSender else None) a
+    ∙ ap (λ x. if not x then Some Fault.NotUp else if not (is_from k packet) then Some Fault.WrongSender else None) b
+    ∙ ap (λ x. if not x then Some Fault.WrongSender else None) d
+
+-- which neighbour is to be stepped down is told by the core and the current lives
+cuts_of : (s s' : SeatState) → s'.core ≡ s.core → s'.current ≡ s.current → (js : List ℕ) → first_cut s' js ≡ first_cut s js
+cuts_of s s' a b [] = refl
+cuts_of s s' a b (j ∷ js) =
+    ap (λ (c : CoreView). if has_number j c.up && is_none (s'.current j) then Some j else first_cut s' js) a
+    ∙ ap (λ (f : ℕ → Option Life). if has_number j s.core.up && is_none (f j) then Some j else first_cut s' js) b
+    ∙ ap (λ r. if has_number j s.core.up && is_none (s.current j) then Some j else r) (cuts_of s s' a b js)
+
+module _ (n : ℕ) (ks : List ℕ) (answers : Answers) (Excuse : Type 0) where
+  -- a core whose link to each neighbour with a current life is up, and that has refused nothing without an excuse
+  pub record Sound (v : Serving) : Type 0 where
+    pub near : (j : ℕ) → has_number j ks ≡ true → has_number j v.seat.core.neighbours ≡ true
+    pub up : (j : ℕ) (l : Life) → has_number j ks ≡ true → v.seat.current j ≡ Some l → has_number j v.seat.core.up ≡ true
+    pub silent : (e : StepError) → v.answer ≡ Says.Refused e → Excuse
+    pub agreed : (k : ℕ) → packets_accepted k v.inputs ≡ packets_in (stepped_from k v.steps)
+    pub own : Each (IsOwnView n) v.seat.core.views
+    pub sends : AreOffersOf n v.offers
+
+  -- ---- cargoes
+
+  cut_sound : (v : Serving) (k : ℕ) (o : Option Life) → Sound v → Sound (after_cut_tried answers v k o)
+  cut_sound v k None h = h
+  cut_sound v k (Some l) h =
+      cond_both (answers v.offers k) _ _ Sound
+      (λ _. record { near = h.near; up = h.up; silent = h.silent; agreed = h.agreed; own = h.own; sends = each_push (λ (o : Offer). IsCargoOf n o.cargo) v.offers (record { to = k; cargo = Gives.Cut l; put = true }) h.sends tt })
+      (λ _. record { near = h.near; up = h.up; silent = h.silent; agreed = h.agreed; own = h.own; sends = each_push (λ (o : Offer). IsCargoOf n o.cargo) v.offers (record { to = k; cargo = Gives.Cut l; put = false }) h.sends tt })
+
+  cuts_sound : (js : List ℕ) (v : Serving) → Sound v → Sound (after_cuts_tried answers js v)
+  unfolding after_cuts_tried
+  cuts_sound [] v h = h
+  cuts_sound (k ∷ js) v h = cuts_sound js (after_cut_tried answers v k (v.seat.pending k)) (cut_sound v k (v.seat.pending k) h)
+
+  -- one current life less
+  fewer_current : (f : ℕ → Option Life) (k j : ℕ) (l : Life) → put_one f k None j ≡ Some l → f j ≡ Some l
+  fewer_current f k j l e = go (cases_Bool (nat_eq j k))
+    where
+      go : (nat_eq j k ≡ true) ⊎ (nat_eq j k ≡ false) → f j ≡ Some l
+      go (inl t) = absurd (let q : None ≡ Some l = sym (ap (λ b. if b then None else f j) t) ∙ e in cc)
+      go (inr t) = sym (ap (λ b. if b then None else f j) t) ∙ e
+
+  sent_sound : (packet : Packet) → IsSentBy n packet → (v : Serving) (k : ℕ) (o : Option Life) → Sound v → Sound (after_sent answers packet v k o)
+  sent_sound packet from v k None h = h
+  sent_sound packet from v k (Some l) h =
+      cond_both (answers v.offers k) _ _ Sound
+      (λ _. record { near = h.near; up = h.up; silent = h.silent; agreed = h.agreed; own = h.own; sends = each_push (λ (o : Offer). IsCargoOf n o.cargo) v.offers (record { to = k; cargo = Gives.Packet l packet; put = true }) h.sends from })
+      (λ _. record {
+        near = h.near;
+        up = λ j i m e. h.up j i m (fewer_current v.seat.current k j i e);
+        silent = h.silent;
+        agreed = h.agreed;
+        own = h.own;
+        sends = each_push (λ (o : Offer). IsCargoOf n o.cargo) v.offers (record { to = k; cargo = Gives.Packet l packet; put = false }) h.sends from;
+      })
+
+  broadcast_sound : (packet : Packet) → IsSentBy n packet → (js : List ℕ) (v : Serving) → Sound v → Sound (after_broadcast answers packet js v)
+  unfolding after_broadcast
+  broadcast_sound packet from [] v h = h
+  broadcast_sound packet from (k ∷ js) v h = broadcast_sound packet from js (after_sent answers packet v k (v.seat.current k)) (sent_sound packet from v k (v.seat.current k) h)
+
+  broadcasts_sound : (packets : List Packet) (v : Serving) → Each (IsSentBy n) packets → Sound v → Sound (after_broadcasts answers ks packets v)
+  unfolding after_broadcasts
+  broadcasts_sound [] v from h = h
+  broadcasts_sound (packet ∷ packets) v from h = broadcasts_sound packets (after_broadcast answers packet ks v) from.1 (broadcast_sound packet from.0 ks v h)
+
+  -- broadcasts leave the core
+  sent_core : (packet : Packet) (v : Serving) (k : ℕ) (o : Option Life) → (after_sent answers packet v k o).seat.core ≡ v.seat.core
+  sent_core packet v k None = refl
+  sent_core packet v k (Some l) = cond_both (answers v.offers k) _ _ (λ (x : Serving). x.seat.core ≡ v.seat.core) (λ _. refl) (λ _. refl)
+
+  broadcast_core : (packet : Packet) (js : List ℕ) (v : Serving) → (after_broadcast answers packet js v).seat.core ≡ v.seat.core
+  unfolding after_broadcast
+  broadcast_core packet [] v = refl
+  broadcast_core packet (k ∷ js) v = broadcast_core packet js (after_sent answers packet v k (v.seat.current k)) ∙ sent_core packet v k (v.seat.current k)
+
+  broadcasts_core : (packets : List Packet) (v : Serving) → (after_broadcasts answers ks packets v).seat.core ≡ v.seat.core
+  unfolding after_broadcasts
+  broadcasts_core [] v = refl
+  broadcasts_core (packet ∷ packets) v = broadcasts_core packets (after_broadcast answers packet ks v) ∙ broadcast_core packet ks v
+
+  -- ---- inputs
+
+  -- an input that is accepted
+  step_is : (v : Serving) (input : Input) (now : ℕ) → refusal_of v.seat.core input ≡ None → after_step answers ks input now v ≡ after_broadcasts answers ks (sends_of v.seat.core input now) (accepting v input now)
+  unfolding after_step
+  step_is v input now e = ap (after_answer answers ks input now v) e
+
+  step_up : (v : Serving) (input : Input) (now : ℕ) → refusal_of v.seat.core input ≡ None → (after_step answers ks input now v).seat.core.up ≡ up_after v.seat.core.up input
+  step_up v input now e =
+      ap (λ (x : Serving). x.seat.core.up) (step_is v input now e) ∙ ap (λ (c : CoreView). c.up) (broadcasts_core (sends_of v.seat.core input now) (accepting v input now))
+      ∙ ap (λ (c : CoreView). c.up) (core_accepted v.seat.core input now e)
+
+  -- what is asked where an input is stepped: all but the links up and the packets agreed
+  record Ready (v : Serving) : Type 0 where
+    near : (j : ℕ) → has_number j ks ≡ true → has_number j v.seat.core.neighbours ≡ true
+    silent : (e : StepError) → v.answer ≡ Says.Refused e → Excuse
+    own : Each (IsOwnView n) v.seat.core.views
+    sends : AreOffersOf n v.offers
+
+  ready : (v : Serving) → Sound v → Ready v
+  ready v h = record { near = h.near; silent = h.silent; own = h.own; sends = h.sends }
+
+  accepts : (v : Serving) (input : Input) (now : ℕ) → refusal_of v.seat.core input ≡ None → Ready v →
+      ((j : ℕ) (l : Life) → has_number j ks ≡ true → v.seat.current j ≡ Some l → has_number j (up_after v.seat.core.up input) ≡ true) →
+      ((k : ℕ) → packets_accepted k v.inputs ++ packet_in k input ≡ packets_in (stepped_from k v.steps)) → Sound (after_step answers ks input now v)
+  accepts v input now ok h up agreed =
+      subst Sound (sym (step_is v input now ok))
+      (broadcasts_sound (sends_of v.seat.core input now) (accepting v input now) (sends_own n v.seat.core input now h.own)
+      (record {
+        near = λ j m. ap (λ ns. has_number j ns) (same_neighbours v.seat.core input now) ∙ h.near j m;
+        up = λ j l m e. ap (λ (c : CoreView). has_number j c.up) (core_accepted v.seat.core input now ok) ∙ up j l m e;
+        silent = h.silent;
+        agreed = λ k. accepted-push k v.inputs input now ∙ agreed k;
+        own = views_own n v.seat.core input now h.own;
+        sends = h.sends;
+      }))
+
+  -- an input without a packet
+  no_packet : (v : Serving) (input : Input) → ((k : ℕ) → packet_in k input ≡ []) → ((k : ℕ) → packets_accepted k v.inputs ≡ packets_in (stepped_from k v.steps)) → (k : ℕ) → packets_accepted k v.inputs ++ packet_in k input ≡ packets_in (stepped_from k v.steps)
+  no_packet v input none agreed k = ap (λ xs. packets_accepted k v.inputs ++ xs) (none k) ∙ append-nil (packets_accepted k v.inputs) ∙ agreed k
+
+  -- a link goes down whose life is no longer current
+  down_sound : (v : Serving) (k now : ℕ) → has_number k ks ≡ true → has_number k v.seat.core.up ≡ true → v.seat.current k ≡ None → Sound v → Sound (after_step answers ks (In.LinkDown k) now v)
+  down_sound v k now m u none h =
+      accepts v (In.LinkDown k) now (down_accepted v.seat.core k (h.near k m) u) (ready v h)
+      (λ j l i e. has-other j k v.seat.core.up (other j l e) ∙ h.up j l i e)
+      (no_packet v (In.LinkDown k) (λ j. refl) h.agreed)
+    where
+      other : (j : ℕ) (l : Life) → v.seat.current j ≡ Some l → nat_eq k j ≡ false
+      other j l e = ⊎_elim (λ (t : nat_eq k j ≡ true). absurd (let q : None ≡ Some l = sym none ∙ ap v.seat.current (eqb-true k j t) ∙ e in cc)) (λ (t : nat_eq k j ≡ false). t) (cases_Bool (nat_eq k j))
+
+  settling_sound : (most now : ℕ) (v : Serving) → Sound v → Sound (after_settling most answers ks now v)
+  unfolding after_settling
+  settling_sound zero now v h = h
+  settling_sound (suc most) now v h = go (first_cut v.seat ks) refl (λ x y. settling_sound most now x y)
+    where
+      go : (r : Option ℕ) → first_cut v.seat ks ≡ r → ((x : Serving) → Sound x → Sound (after_settling most answers ks now x)) →
+          Sound (elim r [ None ↦ v | Some j ↦ after_settling most answers ks now (after_step answers ks (In.LinkDown j) now v) ])
+      go None e again = h
+      go (Some j) e again =
+          let f = first_cut_is v.seat ks j e in
+          again (after_step answers ks (In.LinkDown j) now v) (down_sound v j now f.0 f.1 (none_life (v.seat.current j) f.2) h)
+
+  -- none is left
+  settles : (most now : ℕ) (v : Serving) → Sound v → count_up ks v.seat.core.up ≤ most → first_cut (after_settling most answers ks now v).seat ks ≡ None
+  unfolding after_settling
+  settles zero now v h le = first_cut_none v.seat ks le
+  settles (suc most) now v h le = go (first_cut v.seat ks) refl (λ x y z. settles most now x y z)
+    where
+      go : (r : Option ℕ) → first_cut v.seat ks ≡ r → ((x : Serving) → Sound x → count_up ks x.seat.core.up ≤ most → first_cut (after_settling most answers ks now x).seat ks ≡ None) →
+          first_cut (elim r as (λ _. Serving) [ None ↦ v | Some j ↦ after_settling most answers ks now (after_step answers ks (In.LinkDown j) now v) ]).seat ks ≡ None
+      go None e again = e
+      go (Some j) e again =
+          let f = first_cut_is v.seat ks j e in
+          let fewer : count_up ks (without_number j v.seat.core.up) < count_up ks v.seat.core.up = count_drops ks v.seat.core.up j f.0 f.1 in
+          let ups : (after_step answers ks (In.LinkDown j) now v).seat.core.up ≡ without_number j v.seat.core.up = step_up v (In.LinkDown j) now (down_accepted v.seat.core j (h.near j f.0) f.1) in
+          again (after_step answers ks (In.LinkDown j) now v) (down_sound v j now f.0 f.1 (none_life (v.seat.current j) f.2) h)
+          (subst (λ up. count_up ks up ≤ most) (sym ups) (omega (arith, fewer, le)))
+
+  -- a link that is down stays so
+  stays_down : (k most now : ℕ) (v : Serving) → Sound v → has_number k v.seat.core.up ≡ false → has_number k (after_settling most answers ks now v).seat.core.up ≡ false
+  unfolding after_settling
+  stays_down k zero now v h off = off
+  stays_down k (suc most) now v h off = go (first_cut v.seat ks) refl (λ x y z. stays_down k most now x y z)
+    where
+      go : (r : Option ℕ) → first_cut v.seat ks ≡ r → ((x : Serving) → Sound x → has_number k x.seat.core.up ≡ false → has_number k (after_settling most answers ks now x).seat.core.up ≡ false) →
+          has_number k (elim r as (λ _. Serving) [ None ↦ v | Some j ↦ after_settling most answers ks now (after_step answers ks (In.LinkDown j) now v) ]).seat.core.up ≡ false
+      go None e again = off
+      go (Some j) e again =
+          let f = first_cut_is v.seat ks j e in
+          let ups : (after_step answers ks (In.LinkDown j) now v).seat.core.up ≡ without_number j v.seat.core.up = step_up v (In.LinkDown j) now (down_accepted v.seat.core j (h.near j f.0) f.1) in
+          again (after_step answers ks (In.LinkDown j) now v) (down_sound v j now f.0 f.1 (none_life (v.seat.current j) f.2) h)
+          (ap (λ up. has_number k up) ups ∙ gone j)
+        where
+          gone : (j : ℕ) → has_number k (without_number j v.seat.core.up) ≡ false
+          gone j = ⊎_elim (λ (t : nat_eq j k ≡ true). subst (λ x. has_number k (without_number x v.seat.core.up) ≡ false) (sym (eqb-true j k t)) (has-gone k v.seat.core.up)) (λ (t : nat_eq j k ≡ false). has-other k j v.seat.core.up t ∙ off) (cases_Bool (nat_eq j k))
+
+  -- what an item leaves: no neighbour is to be stepped down
+  pub record Done (v : Serving) : Type 0 where
+    pub sound : Sound v
+    pub settled : first_cut v.seat ks ≡ None
+
+  input_done : (v : Serving) (input : Input) (now : ℕ) → Sound (after_step answers ks input now v) → Done (after_input answers ks input now v)
+  unfolding after_input
+  input_done v input now h =
+      let v' : Serving = after_step answers ks input now v in
+      record { sound = settling_sound (length ks) now v' h; settled = settles (length ks) now v' h (count_most ks v'.seat.core.up) }
+
+  -- a need may be refused
+  need_done : (v : Serving) (d now : ℕ) → Excuse → Sound v → Done (after_input answers ks (In.Need d) now v)
+  unfolding after_step
+  need_done v d now excuse h = input_done v (In.Need d) now (go (refusal_of v.seat.core (In.Need d)) refl)
+    where
+      go : (r : Option StepError) → refusal_of v.seat.core (In.Need d) ≡ r → Sound (after_step answers ks (In.Need d) now v)
+      go None e = accepts v (In.Need d) now e (ready v h) h.up (no_packet v (In.Need d) (λ j. refl) h.agreed)
+      go (Some error) e =
+          subst (λ r. Sound (after_answer answers ks (In.Need d) now v r)) (sym e)
+          (record { near = h.near; up = h.up; silent = λ x y. excuse; agreed = h.agreed; own = h.own; sends = h.sends })
+
+  -- the current life of a neighbour is over
+  down_step : (v : Serving) (k now : ℕ) (l : Life) → has_number k ks ≡ true → v.seat.current k ≡ Some l → Sound v → Sound (after_step answers ks (In.LinkDown k) now (with_current v k None))
+  down_step v k now l m on h =
+      down_sound (with_current v k None) k now m (h.up k l m on) (put_one_here v.seat.current k None)
+      (record { near = h.near; up = λ j i x e. h.up j i x (fewer_current v.seat.current k j i e); silent = h.silent; agreed = h.agreed; own = h.own; sends = h.sends })
+
+  down_done : (v : Serving) (k now : ℕ) (l : Life) → has_number k ks ≡ true → v.seat.current k ≡ Some l → Sound v → Done (after_down answers ks k now v)
+  down_done v k now l m on h = input_done (with_current v k None) (In.LinkDown k) now (down_step v k now l m on h)
+
+  down_off : (v : Serving) (k now : ℕ) (l : Life) → has_number k ks ≡ true → v.seat.current k ≡ Some l → Sound v → has_number k (after_down answers ks k now v).seat.core.up ≡ false
+  unfolding after_input
+  down_off v k now l m on h =
+      let v' : Serving = with_current v k None in
+      let s : Sound (after_step answers ks (In.LinkDown k) now v') = down_step v k now l m on h in
+      stays_down k (length ks) now (after_step answers ks (In.LinkDown k) now v') s
+      (ap (λ up. has_number k up) (step_up v' (In.LinkDown k) now (down_accepted v.seat.core k (h.near k m) (h.up k l m on))) ∙ has-gone k v.seat.core.up)
+
+  -- before a life comes up its link is down at the core
+  old_done : (v : Serving) (k now : ℕ) (o : Option Life) → has_number k ks ≡ true → v.seat.current k ≡ o → Done v → Sound (after_old_down answers ks k now v o) × (has_number k (after_old_down answers ks k now v o).seat.core.up ≡ false)
+  old_done v k now None m e d = (d.sound, settled_at v.seat ks k d.settled m e)
+  old_done v k now (Some l) m e d = ((down_done v k now l m e d.sound).sound, down_off v k now l m e d.sound)
+
+  up_done : (v : Serving) (k now : ℕ) (life : Life) → has_number k ks ≡ true → has_number k v.seat.core.up ≡ false → Sound v → Done (after_up answers ks k life now v)
+  up_done v k now life m off h =
+      let v' : Serving = with_current v k (Some life) in
+      input_done v' (In.LinkUp k) now
+      (accepts v' (In.LinkUp k) now (up_accepted v.seat.core k (h.near k m) off) (record { near = h.near; silent = h.silent; own = h.own; sends = h.sends })
+      (λ j l i e. has-with j k v.seat.core.up ∙ ups j l i e (cases_Bool (nat_eq j k)))
+      (no_packet v' (In.LinkUp k) (λ j. refl) h.agreed))
+    where
+      or_right : (a : Bool) → (a || true) ≡ true
+      or_right true = refl
+      or_right false = refl
+
+      ups : (j : ℕ) (l : Life) → has_number j ks ≡ true → put_one v.seat.current k (Some life) j ≡ Some l → (nat_eq j k ≡ true) ⊎ (nat_eq j k ≡ false) → (nat_eq k j || has_number j v.seat.core.up) ≡ true
+      ups j l i e (inl t) = ap (λ b. b || has_number j v.seat.core.up) (eq-eqb k j (sym (eqb-true j k t)))
+      ups j l i e (inr t) = ap (λ b. nat_eq k j || b) (h.up j l i (sym (put_one_there v.seat.current k (Some life) j t) ∙ e)) ∙ or_right (nat_eq k j)
+
+  packet_done : (v : Serving) (k now : ℕ) (life : Life) (packet : Packet) → has_number k ks ≡ true → v.seat.current k ≡ Some life → is_from k packet ≡ true → Sound v → Done (after_packet answers ks k life packet now v)
+  packet_done v k now life packet m on from h =
+      let s : Step = record { from = k; parcel = parcel_of life packet } in
+      let v' : Serving = record v { steps = v.steps ++ s ∷ [] } in
+      input_done v' (In.Packet k packet) now
+      (accepts v' (In.Packet k packet) now (packet_accepted v.seat.core k packet (h.near k m) (h.up k life m on) from) (record { near = h.near; silent = h.silent; own = h.own; sends = h.sends }) h.up
+      (λ j. ap (λ xs. xs ++ packet_in j (In.Packet k packet)) (h.agreed j) ∙ ap (λ xs. packets_in (stepped_from j v.steps) ++ xs) (one (nat_eq k j))
+      ∙ sym (map-append (λ (x : Parcel). x.packet) (stepped_from j v.steps) (if nat_eq k j then parcel_of life packet ∷ [] else [])) ∙ ap packets_in (sym (stepped-push j v.steps s))))
+    where
+      one : (b : Bool) → (if b then packet ∷ [] else []) ≡ packets_in (if b then parcel_of life packet ∷ [] else [])
+      one true = refl
+      one false = refl
+
+  link_item_done : (v : Serving) (k now : ℕ) (what : What) → has_number k ks ≡ true →
+      ((l : Life) (p : Packet) → what ≡ Tells.Packet l p → v.seat.current k ≡ Some l → is_from k p ≡ true) → ((d : ℕ) → what ≡ Tells.Need d → Excuse) → Done v → Done (after_link_item answers ks k now what v)
+  unfolding after_link_item
+  link_item_done v k now (Tells.Up l) m from excuse d =
+      let o = old_done v k now (v.seat.current k) m refl d in
+      up_done (after_old_down answers ks k now v (v.seat.current k)) k now l m o.1 o.0
+  link_item_done v k now (Tells.Packet l p) m from excuse d =
+      cond_both (is_current l (v.seat.current k)) _ _ Done
+      (λ t. let on = current_is l (v.seat.current k) t in packet_done v k now l p m on (from l p refl on) d.sound)
+      (λ _. d)
+  link_item_done v k now (Tells.Down l r) m from excuse d =
+      cond_both (is_current l (v.seat.current k)) _ _ Done
+      (λ t. down_done v k now l m (current_is l (v.seat.current k) t) d.sound)
+      (λ _. cond_both (is_current l (v.seat.pending k)) _ _ Done
+      (λ _. record { sound = record { near = d.sound.near; up = d.sound.up; silent = d.sound.silent; agreed = d.sound.agreed; own = d.sound.own; sends = d.sound.sends }; settled = cuts_of v.seat (with_pending v k None).seat refl refl ks ∙ d.settled })
+      (λ _. d))
+  link_item_done v k now (Tells.Need m) i from excuse d = need_done v m now (excuse m refl) d.sound
+  link_item_done v k now Tells.Beat m from excuse d = d
+  link_item_done v k now Tells.Show m from excuse d = record { sound = record { near = d.sound.near; up = d.sound.up; silent = λ e q. absurd (cc); agreed = d.sound.agreed; own = d.sound.own; sends = d.sound.sends }; settled = d.settled }
+  link_item_done v k now Tells.Quit m from excuse d = record { sound = record { near = d.sound.near; up = d.sound.up; silent = λ e q. absurd (cc); agreed = d.sound.agreed; own = d.sound.own; sends = d.sound.sends }; settled = d.settled }
+
+  other_item_done : (v : Serving) (now : ℕ) (what : What) → ((d : ℕ) → what ≡ Tells.Need d → Excuse) → Done v → Done (after_other_item answers ks now what v)
+  unfolding after_other_item
+  other_item_done v now (Tells.Need m) excuse d = need_done v m now (excuse m refl) d.sound
+  other_item_done v now (Tells.Up l) excuse d = d
+  other_item_done v now (Tells.Packet l p) excuse d = d
+  other_item_done v now (Tells.Down l r) excuse d = d
+  other_item_done v now Tells.Beat excuse d = d
+  other_item_done v now Tells.Show excuse d = record { sound = record { near = d.sound.near; up = d.sound.up; silent = λ e q. absurd (cc); agreed = d.sound.agreed; own = d.sound.own; sends = d.sound.sends }; settled = d.settled }
+  other_item_done v now Tells.Quit excuse d = record { sound = record { near = d.sound.near; up = d.sound.up; silent = λ e q. absurd (cc); agreed = d.sound.agreed; own = d.sound.own; sends = d.sound.sends }; settled = d.settled }
+
+  -- the cuts that are tried first change neither the core nor a current life
+  record Started (seat : SeatState) (v : Serving) : Type 0 where
+    core : v.seat.core ≡ seat.core
+    current : v.seat.current ≡ seat.current
+
+  start_cut : (seat : SeatState) (v : Serving) (j : ℕ) (o : Option Life) → Started seat v → Started seat (after_cut_tried answers v j o)
+  start_cut seat v j None s = s
+  start_cut seat v j (Some l) s = cond_both (answers v.offers j) _ _ (Started seat) (λ _. record { core = s.core; current = s.current }) (λ _. record { core = s.core; current = s.current })
+
+  start_cuts : (seat : SeatState) (js : List ℕ) (v : Serving) → Started seat v → Started seat (after_cuts_tried answers js v)
+  unfolding after_cuts_tried
+  start_cuts seat [] v s = s
+  start_cuts seat (j ∷ js) v s = start_cuts seat js (after_cut_tried answers v j (v.seat.pending j)) (start_cut seat v j (v.seat.pending j) s)
+
+  pub serving_done : (seat : SeatState) (item : Item) → Done (begin_serving seat) →
+      ((k : ℕ) (l : Life) (p : Packet) → slice_get ks item.seat ≡ Some k → item.what ≡ Tells.Packet l p → seat.current k ≡ Some l → is_from k p ≡ true) → ((d : ℕ) → item.what ≡ Tells.Need d → Excuse) → Done (serving_of answers ks seat item)
+  unfolding serving_of
+  serving_done seat item d from excuse = go (slice_get ks item.seat) refl
+    where
+      s : Started seat (after_cuts_tried answers ks (begin_serving seat))
+      s = start_cuts seat ks (begin_serving seat) (record { core = refl; current = refl })
+
+      begun : Done (after_cuts_tried answers ks (begin_serving seat))
+      begun = record { sound = cuts_sound ks (begin_serving seat) d.sound; settled = cuts_of seat (after_cuts_tried answers ks (begin_serving seat)).seat s.core s.current ks ∙ d.settled }
+
+      go : (o : Option ℕ) → slice_get ks item.seat ≡ o → Done (after_item_of answers ks o item.now item.what (after_cuts_tried answers ks (begin_serving seat)))
+      go (Some k) e =
+          link_item_done (after_cuts_tried answers ks (begin_serving seat)) k item.now item.what (at_in ks item.seat k e)
+          (λ l p w on. from k l p e w (sym (ap (λ (f : ℕ → Option Life). f k) s.current) ∙ on)) excuse begun
+      go None e = other_item_done (after_cuts_tried answers ks (begin_serving seat)) item.now item.what excuse begun

@@ -1,0 +1,190 @@
+-- The invariant of the prefix law: what is said of every end of a link, its lanes, its core's seat and its life file, beside a run of the
+-- link machine. Read it from the bottom: AllEndsFollow is the whole, FollowsMachine the part of one node and one neighbour. Timers, tries,
+-- what is owed, the window, pending cuts, answers and the core's views are not looked at.
+use Rattle.std.proofs.Common.{◌≡◌, ◌≢◌, ℕ, suc, ◌<◌, ◌≤◌, Bool, true, false, ◌&&◌, List, [], ◌∷◌, ◌++◌, length, Option, Some, None, if◌then◌else◌}
+use Rattle.tora_packet.specs.declared.Packet.{Packet}
+use Rattle.tora_frame.specs.declared.parts.Body.{Body}
+use Rattle.tora_frame.specs.declared.parts.Body.TheVariants.{Hello, Data, Ack}
+use Rattle.tora_frame.specs.FrameParts.{FrameParts}
+use Rattle.tora_arq.specs.declared.Life.{Life}
+use Rattle.tora_arq.specs.declared.LinkEvent.{LinkEvent}
+use Rattle.tora_arq.specs.declared.LinkEvent.TheVariants.{Up, Deliver, Down}
+use Rattle.tora_arq.specs.declared.state.Phase.{Phase}
+use Rattle.tora_arq.specs.declared.state.Phase.TheVariants.{Closed, Unbound, Bound}
+use Rattle.tora_arq.specs.Lives.{is_same_life, life_of}
+use Rattle.tora_arq.specs.Settings.{Settings}
+use Rattle.tora_arq.specs.LinkEnd.{EndState}
+use Rattle.tora_arq.specs.LinkFacts.{IsEnd, IsQueueOf, IsPacketAt, AreHeld}
+use Rattle.tora_life.specs.LifeRun.{LifeDisk, IsFloor}
+use Rattle.tora_seat.specs.Serving.{Parcel}
+use Rattle.tora_world.specs.Lists.{reversed, packets_of, Begins, IsIn, Each}
+use Rattle.tora_world.specs.LinkMachine.{MachineEnd, Machine, MachineStep, IsMachineRun, machine_after, IsLast}
+
+-- what comes to the core from one neighbour
+pub data Arrival : Type 0 where
+  LifeComes : (l : Life) → Arrival
+  PacketComes : (l : Life) (p : Packet) → Arrival
+  OtherComes : Arrival
+
+abbrev pub arrival_of : LinkEvent → Arrival
+arrival_of (Up l) = LifeComes l
+arrival_of (Deliver l p) = PacketComes l p
+arrival_of (Down l r) = OtherComes
+
+-- what is looked at of a node and a neighbour
+pub record EndView : Type 0 where
+  pub settings : Settings
+  pub endpoint : EndState  -- the link end, but for its events, which are among what comes
+  pub file : LifeDisk  -- its life file
+  pub current : Option Life  -- the life that is current at the core
+  pub coming : List Arrival  -- in the lane, and then the events not polled
+  pub out : List Parcel  -- in the lane out
+  pub sent : List Parcel  -- all that the core ever sent to this neighbour
+  pub taken : List Parcel  -- all that it ever took from it
+
+abbrev pub is_the_current : Life → Option Life → Bool
+is_the_current l None = false
+is_the_current l (Some j) = is_same_life l j
+
+-- a packet that comes, where its life is this one and is the current one then
+abbrev pub given : Life → Bool → Life → Packet → List Packet
+given l live j p = if live && is_same_life l j then p ∷ [] else []
+
+-- the packets of this life that the core will take, if nothing cuts it
+abbrev pub awaited : Life → Bool → List Arrival → List Packet
+awaited l live [] = []
+awaited l live (LifeComes j ∷ q) = awaited l (is_same_life l j) q
+awaited l live (PacketComes j p ∷ q) = given l live j p ++ awaited l live q
+awaited l live (OtherComes ∷ q) = awaited l live q
+
+-- whether the life is the current one after all that
+abbrev pub lives : Life → Bool → List Arrival → Bool
+lives l live [] = live
+lives l live (LifeComes j ∷ q) = lives l (is_same_life l j) q
+lives l live (PacketComes j p ∷ q) = lives l live q
+lives l live (OtherComes ∷ q) = lives l live q
+
+abbrev pub number_of : Option Life → ℕ
+number_of None = 0
+number_of (Some l) = l.own
+
+-- each life that comes is above the one before it
+abbrev pub AreRising : ℕ → List Arrival → Type 0
+AreRising n [] = Unit {0}
+AreRising n (LifeComes l ∷ q) = (n < l.own) × AreRising l.own q
+AreRising n (PacketComes l p ∷ q) = AreRising n q
+AreRising n (OtherComes ∷ q) = AreRising n q
+
+-- each life that comes up is among these
+abbrev pub ComesOf : List Life → List Arrival → Type 0
+ComesOf ls [] = Unit {0}
+ComesOf ls (LifeComes l ∷ q) = IsIn l ls × ComesOf ls q
+ComesOf ls (PacketComes l p ∷ q) = ComesOf ls q
+ComesOf ls (OtherComes ∷ q) = ComesOf ls q
+
+abbrev pub IsOf : List Life → Option Life → Type 0
+IsOf ls None = Unit {0}
+IsOf ls (Some l) = IsIn l ls
+
+-- each packet is of one of these lives
+abbrev pub AllOf : List Life → List Parcel → Type 0
+AllOf ls xs = Each (λ x. IsIn x.life ls) xs
+
+-- what was submitted to a bound end, and then what is in the lane to it, is what was sent
+pub record Queued (l : Life) (e : EndState) (out sent : List Parcel) : Type 0 where
+  pub submitted : List Packet
+  pub queue : IsQueueOf submitted e
+  pub waits : submitted ++ packets_of l out ≡ packets_of l sent
+
+-- while the core can take more of the life, all that was accepted is taken or comes
+abbrev pub Counted : Life → ℕ → Option Life → List Arrival → List Parcel → Type 0
+Counted l accepted current coming taken =
+    lives l (is_the_current l current) coming ≡ true → length (packets_of l taken ++ awaited l (is_the_current l current) coming) ≡ accepted
+
+-- a bound end: the life is bound and its number drawn; what waits was sent; what was accepted is taken or comes; what is held is what the
+-- other end sent at that place; and the other end was seen to have accepted what counts as acknowledged
+pub record InLife (l : Life) (e : EndState) (current : Option Life) (coming : List Arrival) (out sent taken other : List Parcel) (p : MachineEnd) (done : Life → ℕ → Type 0) : Type 0 where
+  pub bound : IsIn l p.bound
+  pub drawn : IsIn l.own p.drawn
+  pub queued : Queued l e out sent
+  pub counted : Counted l e.accepted current coming taken
+  pub held : AreHeld (IsPacketAt (packets_of (reversed l) other)) e.accepted e.held
+  pub told : done l e.acknowledged
+
+-- an open end that is not bound: its number is the last that was drawn, above that of each life bound
+pub record InWait (own : ℕ) (p : MachineEnd) : Type 0 where
+  pub last : IsLast own p.drawn
+  pub above : Each (λ l. l.own < own) p.bound
+  pub some : 0 < own
+
+abbrev pub InPhase : Phase → EndView → MachineEnd → List Parcel → (Life → ℕ → Type 0) → Type 0
+InPhase Closed v p other done = Unit {0}
+InPhase (Unbound own) v p other done = InWait own p
+InPhase (Bound l) v p other done = InLife l v.endpoint v.current v.coming v.out v.sent v.taken other p done
+
+-- numbers drawn and bound are no greater than the floor of the life file; the machine's lists are the world's; each packet is of a life bound
+pub record Histories (file : LifeDisk) (last : ℕ) (out sent taken : List Parcel) (p : MachineEnd) : Type 0 where
+  pub floor : ℕ
+  pub kept : IsFloor floor file  -- no later draw gives this number or a lesser one
+  pub opened : last ≤ floor
+  pub drawn : Each (λ x. x ≤ floor) p.drawn
+  pub bound : Each (λ l. l.own ≤ floor) p.bound
+  pub sent_is : p.sent ≡ sent
+  pub taken_is : p.taken ≡ taken
+  pub all_sent : AllOf p.bound sent
+  pub all_taken : AllOf p.bound taken
+  pub all_out : AllOf p.bound out
+
+-- the life that is current is the last one that came up
+abbrev pub IsLatest : Option Life → Option Life → Type 0
+IsLatest latest None = Unit {0}
+IsLatest latest (Some l) = latest ≡ Some l
+
+-- a life that is closed came up no later than the last one, and is not current
+abbrev pub IsOver : Option Life → Option Life → Life → Type 0
+IsOver latest current l = (l.own ≤ number_of latest) × (current ≢ Some l)
+
+-- what comes to the core: lives come up with rising numbers, above that of the last one; nothing was sent in a life yet to come up; a life
+-- that is closed does not come up again; and of every life, what was taken and what is awaited begins what the other end has sent
+pub record Arriving (current : Option Life) (coming : List Arrival) (sent taken other : List Parcel) (bound closed : List Life) : Type 0 where
+  pub latest : Option Life  -- the life that came up last at the core
+  pub was_bound : IsOf bound latest
+  pub now : IsLatest latest current
+  pub comes : ComesOf bound coming
+  pub rises : AreRising (number_of latest) coming
+  pub older : Each (λ x. x.life.own ≤ number_of latest) sent
+  pub over : Each (IsOver latest current) closed
+  pub chain : (l : Life) → Begins (packets_of l taken ++ awaited l (is_the_current l current) coming) (packets_of (reversed l) other)
+
+-- one end, what the machine has of it, what the other end has sent to it, and how much of each life it was seen to have accepted
+pub record FollowsMachine (v : EndView) (p : MachineEnd) (other : List Parcel) (done : Life → ℕ → Type 0) : Type 0 where
+  pub kept : IsEnd v.settings v.endpoint
+  pub histories : Histories v.file v.endpoint.last_life v.out v.sent v.taken p
+  pub arriving : Arriving v.current v.coming v.sent v.taken other p.bound p.closed
+  pub phase : InPhase v.endpoint.phase v p other done
+
+-- a frame tells what its sender has sent, and no more than it has accepted
+abbrev pub Tells : List Parcel → (Life → ℕ → Type 0) → Life → Body → Type 0
+Tells sent done l Hello = Unit {0}
+Tells sent done l (Data number count packet) = (place : ℕ) × (number ≡ suc place) × IsPacketAt (packets_of l sent) place packet × done l count
+Tells sent done l (Ack count) = done l count
+
+-- which counts were seen, of each end and life
+abbrev pub Seen : Type 1
+Seen = ℕ → ℕ → Life → ℕ → Type 0
+
+-- what is known of every datagram ever sent: its number was drawn, and its body tells no more than its sender's history
+abbrev pub Told : Machine → Seen → FrameParts → Type 0
+Told m seen f =
+    IsIn f.header.life (m f.header.sender f.header.receiver).drawn
+    × Tells (m f.header.sender f.header.receiver).sent (seen f.header.sender f.header.receiver) (life_of f.header.life f.header.heard) f.body
+
+-- as the other end writes it
+abbrev pub seen_at_other : Seen → ℕ → ℕ → Life → ℕ → Type 0
+seen_at_other seen n k l c = seen k n (reversed l) c
+
+-- the whole: the steps made are a run of the machine, every end follows it, and so does every datagram
+pub record AllEndsFollow (steps : List MachineStep) (view : ℕ → ℕ → EndView) (frames : List FrameParts) (seen : Seen) : Type 0 where
+  pub legal : IsMachineRun steps
+  pub sides : (n k : ℕ) → FollowsMachine (view n k) (machine_after steps n k) (machine_after steps k n).sent (seen_at_other seen n k)
+  pub tells : Each (Told (machine_after steps) seen) frames

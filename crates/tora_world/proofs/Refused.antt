@@ -1,0 +1,256 @@
+-- In no run is anything but a need refused.
+use Rattle.std.proofs.Common.{◌≡◌, ℕ, zero, suc, ◌≤◌, Bool, true, false, ◌⊎◌, inl, inr, List, [], ◌∷◌, ◌++◌, map, length, Option, Some, None, nat_eq, if◌then◌else◌, refl, sym, ap, ap₂, ◌∙◌, subst, append_assoc, append-nil, eqb-true, eq-eqb, arith}
+use Rattle.std.proofs.lemmas.Bool.{cond_both, cases_Bool}
+use Rattle.std.specs.Prelude.{slice_get, is_some}
+use Rattle.tora_packet.specs.declared.Packet.{Packet}
+use Rattle.tora_frame.specs.FrameParts.{FrameParts}
+use Rattle.tora_arq.specs.declared.Life.{Life}
+use Rattle.tora_arq.specs.declared.Times.{Times}
+use Rattle.tora_arq.specs.declared.LinkEvent.{LinkEvent}
+use Rattle.tora_arq.specs.LinkEnd.{frame_due, after_frame, after_transmit, first_event}
+use Rattle.tora_core.specs.declared.Input.{Input}
+use Rattle.tora_core.specs.Numbers.{has_number, ascending}
+use Rattle.tora_core.specs.CoreRun.{is_from}
+use Rattle.tora_seat.specs.declared.What.{What}
+use Rattle.tora_seat.specs.declared.What.TheVariants as Tells
+use Rattle.tora_seat.specs.declared.Item.{Item}
+use Rattle.tora_seat.specs.declared.Cargo.{Cargo}
+use Rattle.tora_seat.specs.declared.Cargo.TheVariants as Gives
+use Rattle.tora_seat.specs.Serving.{SeatState, Serving, Parcel, Answers, put_one, first_cut, begin_serving, serving_of, put_to, stepped_from}
+use Rattle.tora_world.specs.declared.Event.{Event}
+use Rattle.tora_world.specs.declared.Event.TheVariants.{Need, Tick, Open, Pull, Transmit, Deliver, Pump, CoreTurn, Arm, Restart}
+use Rattle.tora_world.specs.declared.Call.{Call}
+use Rattle.tora_world.specs.declared.Call.TheVariants as Fails
+use Rattle.tora_world.specs.Topology.{Topology, neighbours_of}
+use Rattle.tora_world.specs.Lists.{reversed, packets_of, parcels_in, Each}
+use Rattle.tora_world.specs.LinkMachine.{MachineStep, machine_after, made}
+use Rattle.tora_world.specs.MachineRun.{steps_by}
+use Rattle.tora_world.specs.World.{World, Choice, settings, neighbours, datagram, first_seat, first_world, refusal_by, with_end, after_pull, after_sending, after_receiving, after_pump, after_serving, after_turn, after_arming, after_restart, effect_by, world_by}
+use Rattle.tora_world.specs.FreeWorld.{Schedule, after_schedule}
+use Rattle.tora_world.specs.Law.{HasAccepted}
+use Rattle.tora_world.specs.Refusals.{OnlyNeedsAreRefused, packets_accepted, packets_in, SteppedAreAccepted}
+use Rattle.tora_world.specs.Layers.{LinkLaws, LifeLaws}
+use Rattle.tora_world.proofs.Invariant.{arrival_of, AllEndsFollow, Seen, seen_at_other}
+use Rattle.tora_world.proofs.Invariant.Arrival.{PacketComes}
+use Rattle.tora_world.proofs.Moves.{takes_next}
+use Rattle.tora_world.proofs.AllEnds.{more_seen}
+use Rattle.tora_world.proofs.EndViews.{arrivals_in, arrivals_of, end_views, map-append}
+use Rattle.tora_world.proofs.AllRuns.{world_follows, first_follows}
+use Rattle.tora_world.proofs.LinksUp.{has-ascending, count_up, first_cut_none}
+use Rattle.tora_world.proofs.OwnHeights.{IsOwnView, IsSentBy, first_own}
+use Rattle.tora_world.proofs.Accepted.{IsCargoOf, put_of, accepted-append, Done, serving_done}
+
+-- ---- one node
+
+-- a core between two items: its link to a neighbour is up just where a life of it is current
+record IsSeat (n : ℕ) (ks : List ℕ) (seat : SeatState) : Type 0 where
+  near : (j : ℕ) → has_number j ks ≡ true → has_number j seat.core.neighbours ≡ true
+  up : (j : ℕ) (l : Life) → has_number j ks ≡ true → seat.current j ≡ Some l → has_number j seat.core.up ≡ true
+  own : Each (IsOwnView n) seat.core.views
+  settled : first_cut seat ks ≡ None
+
+none_up : (ks : List ℕ) → count_up ks [] ≤ 0
+none_up [] = omega arith
+none_up (k ∷ ks) = let h = none_up ks in omega (arith, h)
+
+first_is : (t : Topology) (n : ℕ) → IsSeat n (neighbours_of t n) (first_seat t n)
+first_is t n = record {
+  near = λ j i. has-ascending j (neighbours_of t n) ∙ i;
+  up = λ j l i e. absurd (cc);
+  own = first_own n (ascending t.destinations);
+  settled = first_cut_none (first_seat t n) (neighbours_of t n) (none_up (neighbours_of t n));
+}
+
+begun : (n : ℕ) (ks : List ℕ) (answers : Answers) (Excuse : Type 0) (seat : SeatState) → IsSeat n ks seat → Done n ks answers Excuse (begin_serving seat)
+begun n ks answers Excuse seat h = record {
+  sound = record { near = h.near; up = h.up; silent = λ e q. absurd (cc); agreed = λ k. refl; own = h.own; sends = tt };
+  settled = h.settled;
+}
+
+-- ---- all nodes
+
+record AreNodes (w : World) : Type 0 where
+  seats : (n : ℕ) → IsSeat n (neighbours w n) (w.seats n)
+  put : (n k : ℕ) → Each (IsCargoOf n) (w.put n k)
+  agreed : SteppedAreAccepted w
+
+each_both : {A : Type 0} (P : A → Type 0) (xs ys : List A) → Each P xs → Each P ys → Each P (xs ++ ys)
+each_both P [] ys a b = b
+each_both P (x ∷ xs) ys a b = (a.0, each_both P xs ys a.1 b)
+
+-- a packet that was put is of its node
+sent_from : (n : ℕ) (l : Life) (cargoes : List Cargo) (i : ℕ) (p : Packet) → Each (IsCargoOf n) cargoes → slice_get (packets_of l (parcels_in cargoes)) i ≡ Some p → IsSentBy n p
+sent_from n l cargoes i p h e = go (packets_of l (parcels_in cargoes)) (all_of cargoes h) i e
+  where
+    one : (b : Bool) (x : Packet) (xs : List Packet) → IsSentBy n x → Each (IsSentBy n) xs → Each (IsSentBy n) ((if b then x ∷ [] else []) ++ xs)
+    one true x xs a r = (a, r)
+    one false x xs a r = r
+
+    all_of : (cs : List Cargo) → Each (IsCargoOf n) cs → Each (IsSentBy n) (packets_of l (parcels_in cs))
+    all_of [] h = tt
+    all_of (Gives.Packet life packet ∷ cs) h = one _ packet (packets_of l (parcels_in cs)) h.0 (all_of cs h.1)
+    all_of (Gives.Cut life ∷ cs) h = all_of cs h.1
+
+    go : (ps : List Packet) → Each (IsSentBy n) ps → (i : ℕ) → slice_get ps i ≡ Some p → IsSentBy n p
+    go [] h i e = absurd (cc)
+    go (x ∷ ps) h zero e = let q : x ≡ p = cc in subst (IsSentBy n) q h.0
+    go (x ∷ ps) h (suc i) e = go ps h.1 i e
+
+-- a packet that is to be taken was sent by the neighbour
+taken_from : (steps : List MachineStep) (w : World) (seen : Seen) → AllEndsFollow steps (end_views w) w.datagrams seen → AreNodes w → (n : ℕ) (item : Item) (items : List Item) → w.items n ≡ item ∷ items →
+    (k : ℕ) (l : Life) (p : Packet) → slice_get (neighbours w n) item.seat ≡ Some k → item.what ≡ Tells.Packet l p → (w.seats n).current k ≡ Some l → is_from k p ≡ true
+taken_from steps w seen g a n item items q k l p seat what on =
+    let come : (end_views w n k).coming ≡ PacketComes l p ∷ (arrivals_of (neighbours w n) k items ++ map arrival_of (w.ends n k).events) =
+    ap (λ is. arrivals_of (neighbours w n) k is ++ map arrival_of (w.ends n k).events) q
+    ∙ ap (λ r. (arrivals_in k r item.what ++ arrivals_of (neighbours w n) k items) ++ map arrival_of (w.ends n k).events) seat
+    ∙ ap (λ (x : What). (arrivals_in k (Some k) x ++ arrivals_of (neighbours w n) k items) ++ map arrival_of (w.ends n k).events) what
+    ∙ ap (λ (b : Bool). ((if b then PacketComes l p ∷ [] else []) ++ arrivals_of (neighbours w n) k items) ++ map arrival_of (w.ends n k).events) (eq-eqb k k refl) in
+    let next : slice_get (packets_of (reversed l) (machine_after steps k n).sent) (length (packets_of l (machine_after steps n k).taken)) ≡ Some p =
+    takes_next (end_views w n k) (machine_after steps n k) (machine_after steps k n).sent (seen_at_other seen n k) l p (arrivals_of (neighbours w n) k items ++ map arrival_of (w.ends n k).events) come on (g.sides n k) in
+    sent_from k (reversed l) (w.put k n) (length (packets_of l (machine_after steps n k).taken)) p (a.put k n) (subst (λ xs. slice_get (packets_of (reversed l) xs) (length (packets_of l (machine_after steps n k).taken)) ≡ Some p) (g.sides k n).histories.sent_is next)
+
+-- nothing of this changes
+same_nodes : (w w' : World) → w'.topology ≡ w.topology → w'.seats ≡ w.seats → w'.put ≡ w.put → w'.inputs ≡ w.inputs → w'.steps ≡ w.steps → AreNodes w → AreNodes w'
+same_nodes w w' a b c d e h = record {
+  seats = λ n. subst (λ t. IsSeat n (neighbours_of t n) (w'.seats n)) (sym a) (subst (λ (f : ℕ → SeatState). IsSeat n (neighbours w n) (f n)) (sym b) (h.seats n));
+  put = λ n k. subst (λ (f : ℕ → ℕ → List Cargo). Each (IsCargoOf n) (f n k)) (sym c) (h.put n k);
+  agreed = λ n k. ((h.agreed n k).0, ap (λ (f : ℕ → List (Input × ℕ)). (h.agreed n k).0 ++ packets_accepted k (f n)) d ∙ (h.agreed n k).1 ∙ ap (λ (f : ℕ → ℕ → List Parcel). packets_in (f n k)) (sym e));
+}
+
+module _ (steps : List MachineStep) (w : World) (seen : Seen) (g : AllEndsFollow steps (end_views w) w.datagrams seen) (h : AreNodes w) where
+  -- an item is served
+  served : (n : ℕ) (answers : Answers) (Excuse : Type 0) (item : Item) (items : List Item) → w.items n ≡ item ∷ items → ((d : ℕ) → item.what ≡ Tells.Need d → Excuse) →
+      Done n (neighbours w n) answers Excuse (serving_of answers (neighbours w n) (w.seats n) item)
+  served n answers Excuse item items q excuse =
+      serving_done n (neighbours w n) answers Excuse (w.seats n) item (begun n (neighbours w n) answers Excuse (w.seats n) (h.seats n)) (taken_from steps w seen g h n item items q) excuse
+
+  only_needs : OnlyNeedsAreRefused w
+  only_needs n answers item items error q e = (served n answers ((d : ℕ) × (item.what ≡ Tells.Need d)) item items q (λ d x. (d, x))).sound.silent error e
+
+  serving_nodes : (n : ℕ) (answers : Answers) (items : List Item) (v : Serving) → Done n (neighbours w n) answers (Unit {0}) v → AreNodes (after_serving w n items v)
+  serving_nodes n answers items v d = record {
+    seats = λ a. seat_at a (cases_Bool (nat_eq a n));
+    put = λ a k. cargoes_at a k (cases_Bool (nat_eq a n));
+    agreed = λ a k. agreed_at a k (cases_Bool (nat_eq a n));
+  }
+    where
+      seat_at : (a : ℕ) → (nat_eq a n ≡ true) ⊎ (nat_eq a n ≡ false) → IsSeat a (neighbours w a) (if nat_eq a n then v.seat else w.seats a)
+      seat_at a (inl t) =
+          subst (λ x. IsSeat a (neighbours w a) (if x then v.seat else w.seats a)) (sym t)
+          (subst (λ m. IsSeat m (neighbours w m) v.seat) (sym (eqb-true a n t)) (record { near = d.sound.near; up = d.sound.up; own = d.sound.own; settled = d.settled }))
+      seat_at a (inr t) = subst (λ x. IsSeat a (neighbours w a) (if x then v.seat else w.seats a)) (sym t) (h.seats a)
+
+      cargoes_at : (a k : ℕ) → (nat_eq a n ≡ true) ⊎ (nat_eq a n ≡ false) → Each (IsCargoOf a) ((if nat_eq a n then (λ k. w.put n k ++ put_to k v.offers) else w.put a) k)
+      cargoes_at a k (inl t) =
+          subst (λ x. Each (IsCargoOf a) ((if x then (λ k. w.put n k ++ put_to k v.offers) else w.put a) k)) (sym t)
+          (subst (λ m. Each (IsCargoOf m) (w.put n k ++ put_to k v.offers)) (sym (eqb-true a n t)) (each_both (IsCargoOf n) (w.put n k) (put_to k v.offers) (h.put n k) (put_of n k v.offers d.sound.sends)))
+      cargoes_at a k (inr t) = subst (λ x. Each (IsCargoOf a) ((if x then (λ k. w.put n k ++ put_to k v.offers) else w.put a) k)) (sym t) (h.put a k)
+
+      more : (k : ℕ) → (earlier : List Packet) × (earlier ++ packets_accepted k (w.inputs n ++ v.inputs) ≡ packets_in (w.steps n k ++ stepped_from k v.steps))
+      more k =
+          let x = h.agreed n k in (
+            x.0,
+            ap (λ xs. x.0 ++ xs) (accepted-append k (w.inputs n) v.inputs) ∙ sym (append_assoc x.0 (packets_accepted k (w.inputs n)) (packets_accepted k v.inputs))
+                ∙ ap₂ (λ xs ys. xs ++ ys) x.1 (d.sound.agreed k) ∙ sym (map-append (λ (y : Parcel). y.packet) (w.steps n k) (stepped_from k v.steps)),
+          )
+
+      agreed_at : (a k : ℕ) → (nat_eq a n ≡ true) ⊎ (nat_eq a n ≡ false) →
+          (earlier : List Packet) × (earlier ++ packets_accepted k (if nat_eq a n then w.inputs n ++ v.inputs else w.inputs a) ≡ packets_in ((if nat_eq a n then (λ k. w.steps n k ++ stepped_from k v.steps) else w.steps a) k))
+      agreed_at a k (inl t) =
+          subst (λ x. (earlier : List Packet) × (earlier ++ packets_accepted k (if x then w.inputs n ++ v.inputs else w.inputs a) ≡ packets_in ((if x then (λ k. w.steps n k ++ stepped_from k v.steps) else w.steps a) k))) (sym t) (more k)
+      agreed_at a k (inr t) =
+          subst (λ x. (earlier : List Packet) × (earlier ++ packets_accepted k (if x then w.inputs n ++ v.inputs else w.inputs a) ≡ packets_in ((if x then (λ k. w.steps n k ++ stepped_from k v.steps) else w.steps a) k))) (sym t) (h.agreed a k)
+
+  turn_nodes : (c : Choice) (n : ℕ) (items : List Item) → w.items n ≡ items → AreNodes (after_turn w c n items)
+  turn_nodes c n [] q = h
+  turn_nodes c n (item ∷ items) q = serving_nodes n c.answers items (serving_of c.answers (neighbours w n) (w.seats n) item) (served n c.answers (Unit {0}) item items q (λ d x. tt))
+
+  restart_nodes : (n : ℕ) (torn : Option (List ℕ)) → AreNodes (after_restart w n torn)
+  restart_nodes n torn = record {
+    seats = λ a. seat_at a (cases_Bool (nat_eq a n));
+    put = h.put;
+    agreed = λ a k. agreed_at a k (cases_Bool (nat_eq a n));
+  }
+    where
+      seat_at : (a : ℕ) → (nat_eq a n ≡ true) ⊎ (nat_eq a n ≡ false) → IsSeat a (neighbours w a) (if nat_eq a n then first_seat w.topology n else w.seats a)
+      seat_at a (inl t) =
+          subst (λ x. IsSeat a (neighbours w a) (if x then first_seat w.topology n else w.seats a)) (sym t)
+          (subst (λ m. IsSeat m (neighbours w m) (first_seat w.topology n)) (sym (eqb-true a n t)) (first_is w.topology n))
+      seat_at a (inr t) = subst (λ x. IsSeat a (neighbours w a) (if x then first_seat w.topology n else w.seats a)) (sym t) (h.seats a)
+
+      agreed_at : (a k : ℕ) → (nat_eq a n ≡ true) ⊎ (nat_eq a n ≡ false) → (earlier : List Packet) × (earlier ++ packets_accepted k (if nat_eq a n then [] else w.inputs a) ≡ packets_in (w.steps a k))
+      agreed_at a k (inl t) = subst (λ x. (earlier : List Packet) × (earlier ++ packets_accepted k (if x then [] else w.inputs a) ≡ packets_in (w.steps a k))) (sym t) (packets_in (w.steps a k), append-nil (packets_in (w.steps a k)))
+      agreed_at a k (inr t) = subst (λ x. (earlier : List Packet) × (earlier ++ packets_accepted k (if x then [] else w.inputs a) ≡ packets_in (w.steps a k))) (sym t) (h.agreed a k)
+
+  effect_nodes : (c : Choice) (event : Event) → AreNodes (effect_by c w event)
+  unfolding effect_by
+  effect_nodes c (Need m d) = same_nodes w (effect_by c w (Need m d)) refl refl refl refl refl h
+  effect_nodes c Tick = same_nodes w (effect_by c w Tick) refl refl refl refl refl h
+  effect_nodes c (Open m j) = same_nodes w (effect_by c w (Open m j)) refl refl refl refl refl h
+  effect_nodes c (Pull m j) = go (w.cargoes m j)
+    where
+      go : (cs : List Cargo) → AreNodes (after_pull w m j cs)
+      go [] = h
+      go (x ∷ cs) = same_nodes w (after_pull w m j (x ∷ cs)) refl refl refl refl refl h
+  effect_nodes c (Transmit m j) = go (frame_due (settings w m j) (w.ends m j) (c.now m j))
+    where
+      go : (r : Option FrameParts) → AreNodes (after_sending w m j (after_transmit (settings w m j) (w.ends m j) (c.now m j)) r)
+      go None = h
+      go (Some f) = same_nodes w (after_sending w m j (after_transmit (settings w m j) (w.ends m j) (c.now m j)) (Some f)) refl refl refl refl refl h
+  effect_nodes c (Deliver i) = go (datagram w i)
+    where
+      go : (r : Option FrameParts) → AreNodes (after_receiving w c r)
+      go None = h
+      go (Some f) = cond_both (w.arms f.header.receiver).receive _ _ AreNodes
+          (λ _. same_nodes w (record w { arms = put_one w.arms f.header.receiver (record (w.arms f.header.receiver) { receive = false }) }) refl refl refl refl refl h)
+          (λ _. same_nodes w (with_end w f.header.receiver f.header.sender (after_frame (settings w f.header.receiver f.header.sender) (w.ends f.header.receiver f.header.sender) f (c.now f.header.receiver f.header.sender))) refl refl refl refl refl h)
+  effect_nodes c (Pump m j) = go (first_event (w.ends m j))
+    where
+      go : (r : Option LinkEvent) → AreNodes (after_pump w c m j r)
+      go None = h
+      go (Some event) = same_nodes w (after_pump w c m j (Some event)) refl refl refl refl refl h
+  effect_nodes c (CoreTurn m) = turn_nodes c m (w.items m) refl
+  effect_nodes c (Arm m call) = go call
+    where
+      go : (x : Call) → AreNodes (after_arming w m x)
+      go Fails.SendLost = same_nodes w (after_arming w m Fails.SendLost) refl refl refl refl refl h
+      go Fails.SendGone = same_nodes w (after_arming w m Fails.SendGone) refl refl refl refl refl h
+      go Fails.Receive = same_nodes w (after_arming w m Fails.Receive) refl refl refl refl refl h
+      go Fails.Read = same_nodes w (after_arming w m Fails.Read) refl refl refl refl refl h
+      go Fails.Write = same_nodes w (after_arming w m Fails.Write) refl refl refl refl refl h
+      go Fails.Sync = same_nodes w (after_arming w m Fails.Sync) refl refl refl refl refl h
+  effect_nodes c (Restart m torn) = restart_nodes m torn
+
+  world_nodes : (c : Choice) (event : Event) → AreNodes (world_by c w event)
+  unfolding world_by
+  world_nodes c event = cond_both (is_some (refusal_by c w event)) _ _ AreNodes (λ _. h) (λ _. effect_nodes c event)
+
+-- ---- runs
+
+record Ended (w : World) : Type 0 where
+  refused : OnlyNeedsAreRefused w
+  agreed : SteppedAreAccepted w
+
+module _ (laws : LinkLaws) (lows : LifeLaws) where
+  run_ends : (es : Schedule) (steps : List MachineStep) (w : World) (seen : Seen) → ((a b : ℕ) (l : Life) → seen a b l 0) → AllEndsFollow steps (end_views w) w.datagrams seen → AreNodes w → Ended (after_schedule es w)
+  unfolding after_schedule
+  run_ends [] steps w seen z g h = record { refused = only_needs steps w seen g h; agreed = h.agreed }
+  run_ends (e ∷ es) steps w seen z g h =
+      let now : Seen = λ a b l c. seen a b l c ⊎ HasAccepted a b l c w in
+      let w' : World = world_by e.1 w e.0 in
+      let steps' : List MachineStep = made (steps_by e.1 w e.0) steps in
+      let g' : AllEndsFollow steps' (end_views w') w'.datagrams now =
+      world_follows laws lows steps w now (λ a b l. inl (z a b l)) (λ a b l j. inr (record { bound = j; accepted = omega arith })) e.1 e.0 (more_seen steps (end_views w) w.datagrams seen now (λ a b l c x. inl x) g) in
+      run_ends es steps' w' now (λ a b l. inl (z a b l)) g' (world_nodes steps w seen g h e.1 e.0)
+
+  first_nodes : (t : Topology) (times : Times) → AreNodes (first_world t times)
+  first_nodes t times = record { seats = λ n. first_is t n; put = λ n k. tt; agreed = λ n k. ([], refl) }
+
+  ends : (t : Topology) (times : Times) (es : Schedule) → Ended (after_schedule es (first_world t times))
+  ends t times es = run_ends es [] (first_world t times) (λ a b l c. c ≡ 0) (λ a b l. refl) (first_follows laws lows t times) (first_nodes t times)
+
+  pub refused_in_run : (t : Topology) (times : Times) (es : Schedule) → OnlyNeedsAreRefused (after_schedule es (first_world t times))
+  refused_in_run t times es = (ends t times es).refused
+
+  pub agreed_in_run : (t : Topology) (times : Times) (es : Schedule) → SteppedAreAccepted (after_schedule es (first_world t times))
+  agreed_in_run t times es = (ends t times es).agreed

@@ -1,0 +1,112 @@
+// The laws of all schedules. Each stands over the definitions alone: a function without parameters that does nothing.
+ghost use Rattle.std.specs.Prelude.{◌≡◌, List, [], ◌∷◌, Some, None};
+ghost use Rattle.tora_arq.specs.declared.Times.{Times};
+ghost use Rattle.tora_world.specs.declared.Event.{Event};
+ghost use Rattle.tora_world.specs.Layers.{LinkLaws, LifeLaws};
+ghost use Rattle.tora_world.specs.Topology.{Topology};
+ghost use Rattle.tora_world.specs.World.{first_world, world_after_all, sent_packets, taken_packets};
+ghost use Rattle.tora_world.specs.FreeWorld.{after_schedule, own_schedule};
+ghost use Rattle.tora_world.specs.MachineRun.{machine_steps};
+ghost use Rattle.tora_world.specs.Law.{EveryRun, TakenBeginsSent, IsOfMachine, CoresFollow, BindsOnce, AcknowledgedIsAccepted};
+ghost use Rattle.tora_world.specs.Refusals.{OnlyNeedsAreRefused, SteppedAreAccepted};
+ghost use Rattle.tora_world.specs.Gaps.{EveryEnd, IsWithoutGap, SendsInLatest, broadcast_packets};
+ghost use Rattle.tora_world.specs.LinkMachine.MachineStep.{Send, Take, Close};
+ghost use Rattle.tora_world.specs.Worked.{pair, start, life, update, meeting, met, bound_steps, restart, refusal, handed_back};
+
+use tora_arq::{
+    acknowledged_counts_come_from_the_peer, calls_keep_an_end, data_frames_are_what_was_submitted,
+    deliveries_are_in_order, events_of_a_life_are_in_order, lives_are_bound_once,
+    packets_are_submitted_in_the_bound_life,
+};
+use tora_life::drawn_life_numbers_rise;
+
+/// What the link end and the life file promise. A law of theirs is the contract of a function that does nothing, so a
+/// law that rests on it calls that function: the call brings its clauses in.
+fn layers_keep_their_laws()
+    ensures links { LinkLaws }
+    ensures files { LifeLaws }
+{
+    calls_keep_an_end();
+    lives_are_bound_once();
+    data_frames_are_what_was_submitted();
+    packets_are_submitted_in_the_bound_life();
+    deliveries_are_in_order();
+    events_of_a_life_are_in_order();
+    acknowledged_counts_come_from_the_peer();
+    drawn_life_numbers_rise();
+}
+
+/// The prefix law: the packets that a node's core has taken from a neighbour in one life of their link are a prefix of
+/// those that the neighbour's core sent in that life, in order, each once; and each core is what TORA's rules make of
+/// what it took.
+///
+/// It holds for every topology, every list of events (datagrams lost, repeated and in any order, failing calls, turns
+/// and restarts), every tick that a link end or an item is handed, and every answer of a lane.
+pub fn prefix_law()
+    // What was taken in a life begins what was sent in it.
+    ensures prefix { EveryRun (λ first es w. TakenBeginsSent w) }
+    // The steps that the run is of the link machine, event by event, are steps that the machine may make, and its
+    // lists are those of the world. So no life that was closed is sent or taken in again.
+    ensures machine { EveryRun (λ first es w. IsOfMachine (machine_steps es first []) w) }
+    // Each core is what the rules make of the inputs that it accepted since its node's last restart.
+    ensures cores { EveryRun (λ first es w. CoresFollow first.topology w) }
+    // Each end binds each pair of life numbers at most once.
+    ensures once { EveryRun (λ first es w. BindsOnce first es) }
+    // No end counts as acknowledged what the other end has not accepted.
+    ensures acknowledged { EveryRun (λ first es w. AcknowledgedIsAccepted first es w) }
+{
+    layers_keep_their_laws();
+}
+
+/// The no-gap law: while a life is current at a core, every packet that the core broadcasts is sent in that life, in
+/// order, or the life is cut in that very turn. So a full lane never drops a packet while a life goes on.
+///
+/// It holds for every run over a topology that is not refused, at every end of a link.
+pub fn no_gap_law()
+    // What was sent in the life that came up last begins what the core broadcast while its link was up, and is all of
+    // it while the life is current, and afterwards unless the life was cut.
+    ensures gapless { EveryEnd (λ t first es w n k. IsWithoutGap t first es w n k) }
+    // Nothing is sent in any other life.
+    ensures latest { EveryEnd (λ t first es w n k. SendsInLatest first es w n k) }
+{
+    layers_keep_their_laws();
+}
+
+/// Only a need is ever refused by a core of the world: every link that comes up or goes down, and every packet, is
+/// accepted where it is stepped. So the packets taken are the packets accepted.
+pub fn only_needs_are_refused()
+    // The next turn of a core is answered by a refusal only where its item is a need.
+    ensures refused { EveryRun (λ first es w. OnlyNeedsAreRefused w) }
+    // Of the packets that were ever taken from a neighbour, the last ones are those that the core has accepted from it
+    // since its node's last restart.
+    ensures accepted { EveryRun (λ first es w. SteppedAreAccepted w) }
+{
+    layers_keep_their_laws();
+}
+
+/// The simulator's own run of any events, with its clock and with lanes of 256 cargoes, is one of the runs that the
+/// laws speak of.
+pub fn simulator_runs_are_free_runs()
+    ensures { (t : Topology) (times : Times) (events : List Event)
+        → world_after_all (first_world t times) events ≡ after_schedule (own_schedule events (first_world t times)) (first_world t times) }
+{}
+
+/// Two nodes and some twenty events, computed: neither law is empty.
+pub fn worked_schedules_hold()
+    // The core of node 1 broadcasts one update and sends it in the life of its link; the core of node 2 takes it.
+    ensures broadcast { broadcast_packets pair met 1 2 ≡ update ∷ [] }
+    ensures sent { sent_packets met 1 2 life ≡ update ∷ [] }
+    ensures taken { taken_packets met 2 1 life ≡ update ∷ [] }
+    // The run is these steps of the link machine, the last standing first: a second delivery of the datagram is none.
+    ensures steps { machine_steps (own_schedule meeting start) start [] ≡ Take 2 1 life update ∷ Send 1 2 life update ∷ bound_steps }
+    // A restart of node 1 closes the life there.
+    ensures restart { machine_steps restart start [] ≡ Close 1 2 life ∷ Take 2 1 life update ∷ Send 1 2 life update ∷ bound_steps }
+    // Where the lane hands the update back, it was broadcast and not sent: the life is no longer current, its cut is
+    // pending, its link is down at the core, and the machine has closed it.
+    ensures broadcast_all_the_same { broadcast_packets pair handed_back 1 2 ≡ update ∷ [] }
+    ensures none_sent { sent_packets handed_back 1 2 life ≡ [] }
+    ensures not_current { (handed_back.seats 1).current 2 ≡ None }
+    ensures cut { (handed_back.seats 1).pending 2 ≡ Some life }
+    ensures down { (handed_back.seats 1).core.up ≡ [] }
+    ensures closed { machine_steps refusal start [] ≡ Close 1 2 life ∷ bound_steps }
+{}
