@@ -97,7 +97,7 @@ hold_keeps Is a (suc place) packet [] t h = hold_keeps Is (suc a) place packet [
 hold_keeps Is a (suc place) packet (None ∷ held) t h = hold_keeps Is (suc a) place packet held (let z : a + suc place ≡ suc a + place = omega arith in subst (λ m. Is m packet) z t) h
 hold_keeps Is a (suc place) packet (Some first ∷ held) t h = (h.0, hold_keeps Is (suc a) place packet held (let z : a + suc place ≡ suc a + place = omega arith in subst (λ m. Is m packet) z t) h.1)
 
-length-hold_at : (place : ℕ) (packet : Packet) (held : List (Option Packet)) → length (hold_at place packet held) ≤ max (suc place) (length held)
+pub length-hold_at : (place : ℕ) (packet : Packet) (held : List (Option Packet)) → length (hold_at place packet held) ≤ max (suc place) (length held)
 length-hold_at zero packet [] = omega arith
 length-hold_at zero packet (None ∷ held) = omega arith
 length-hold_at zero packet (Some first ∷ held) = omega arith

@@ -1,3 +1,4 @@
+pub mod HeldLemmas
 pub mod QueueLemmas
 pub mod ReceiveLemmas
 pub mod RangeLemmas

@@ -1,6 +1,6 @@
 -- What every call keeps of a link end.
-use Rattle.std.proofs.Common.{◌≡◌, ℕ, zero, suc, ◌+◌, ◌-◌, ◌^◌, ◌<◌, ◌≤◌, max, Bool, true, false, ◌==◌, not, nat_lt, nat_le, ◌⊎◌, inl, inr, List, [], ◌∷◌, ◌++◌, length, drop, Option, Some, None, Result, refl, sym, ap, subst, arith, length-append, length-drop}
-use Rattle.std.proofs.lemmas.Bool.{cond_both, ltb-false, leb-false, cases_order}
+use Rattle.std.proofs.Common.{◌≡◌, ℕ, zero, suc, ◌+◌, ◌-◌, ◌^◌, ◌<◌, ◌≤◌, max, Bool, true, false, ◌==◌, not, nat_lt, nat_le, List, [], ◌∷◌, ◌++◌, length, drop, Option, Some, None, Result, refl, sym, ap, subst, arith, length-append, length-drop, leb-true}
+use Rattle.std.proofs.lemmas.Bool.{cond_both, ltb-false, leb-false}
 use Rattle.tora_packet.specs.declared.Packet.{Packet}
 use Rattle.tora_frame.specs.declared.parts.Body.{Body}
 use Rattle.tora_frame.specs.declared.parts.Body.TheVariants.{Hello, Data, Ack}
@@ -20,9 +20,9 @@ use Rattle.tora_arq.specs.declared.queue.QueuedPacket.{QueuedPacket}
 use Rattle.tora_arq.specs.Lives.{life_of, is_same_life}
 use Rattle.tora_arq.specs.Settings.{Settings, settings_of, IsLink, IsTimes}
 use Rattle.tora_arq.specs.SendQueue.{untried, is_ready, DuePacket, due_behind, first_due}
-use Rattle.tora_arq.specs.LinkEnd.{EndState, first_end, after_open, after_end, after_bind, count_of, on_life_told, after_acknowledgement, after_delivery, on_data, on_matched, on_frame_in, is_foreign, is_busy, on_frame, is_silent, after_tick_in, after_tick, on_submit_in, on_submit, after_cut_in, after_cut, after_poll_event, is_hello_due, on_transmit_due, on_transmit_in, on_transmit}
+use Rattle.tora_arq.specs.LinkEnd.{EndState, first_end, after_open, after_end, after_bind, count_of, on_life_told, after_acknowledgement, after_delivery, after_release, after_hold, on_data, on_matched, on_frame_in, is_foreign, is_busy, on_frame, is_silent, after_tick_in, after_tick, on_submit_in, on_submit, after_cut_in, after_cut, after_poll_event, is_hello_due, on_transmit_due, on_transmit_in, on_transmit}
 use Rattle.tora_arq.specs.EndRange.{AreUntried, IsOwnNumber, IsPhase, IsQueue, IsEndState}
-use Rattle.tora_arq.proofs.ReceiveLemmas.{repeated_data, early_data, next_data}
+use Rattle.tora_arq.proofs.FactSteps.{length-hold_at}
 
 -- ---- the send queue
 
@@ -108,7 +108,7 @@ first_kept me peer times l t = record {
   opened = omega arith;
   waiting = no_queue WINDOW;
   delivered = omega arith;
-  none_held = refl;
+  held_within = omega arith;
   room = omega arith;
 }
 
@@ -123,7 +123,7 @@ module _ (s : Settings) where
     opened = n.1;
     waiting = no_queue s.window;
     delivered = omega arith;
-    none_held = refl;
+    held_within = omega arith;
     room = h.room;
   }
 
@@ -136,8 +136,8 @@ module _ (s : Settings) where
     noted = h.noted;
     opened = h.opened;
     waiting = record { submitted = omega (arith, h.waiting.submitted); untried = untried_none s.window };
-    delivered = h.delivered;
-    none_held = refl;
+    delivered = omega (arith, h.delivered);
+    held_within = omega arith;
     room = grown e.events (Down life reason) 64 r;
   }
 
@@ -151,7 +151,7 @@ module _ (s : Settings) where
     opened = h.opened;
     waiting = no_queue s.window;
     delivered = omega arith;
-    none_held = refl;
+    held_within = omega arith;
     room = grown e.events (Up life) 64 (omega arith);
   }
 
@@ -165,12 +165,15 @@ module _ (s : Settings) where
     opened = h.opened;
     waiting = acknowledged_queue s.window e.acknowledged count e.queue c h.waiting;
     delivered = h.delivered;
-    none_held = h.none_held;
+    held_within = h.held_within;
     room = h.room;
   }
 
-  delivery_kept : (e : EndState) (life : Life) (packet : Packet) → length e.events ≤ 31 → suc e.accepted ≤ 2 ^ 62 → IsEndState s e → IsEndState s (after_delivery e life packet [])
-  delivery_kept e life packet r n h = record {
+  -- ---- packets held and delivered
+
+  delivery_kept : (e : EndState) (life : Life) (packet : Packet) (held : List (Option Packet)) → suc (length e.events) ≤ 63 → suc e.accepted + length held ≤ 2 ^ 62 → length held ≤ s.window →
+      IsEndState s e → IsEndState s (after_delivery e life packet held)
+  delivery_kept e life packet held r n w h = record {
     link = h.link;
     times = h.times;
     window = h.window;
@@ -179,8 +182,31 @@ module _ (s : Settings) where
     opened = h.opened;
     waiting = h.waiting;
     delivered = n;
-    none_held = refl;
+    held_within = w;
     room = grown e.events (Deliver life packet) 64 (omega arith);
+  }
+
+  release_kept : (held : List (Option Packet)) (e : EndState) (life : Life) → e.held ≡ held → length e.events + length held ≤ 63 → IsEndState s e → IsEndState s (after_release life e held)
+  unfolding after_release
+  release_kept [] e life q r h = h
+  release_kept (None ∷ held) e life q r h = h
+  release_kept (Some packet ∷ held) e life q r h =
+      let n : length e.held ≡ suc (length held) = ap length q in
+      release_kept held (after_delivery e life packet held) life refl (omega (arith, r, length-append e.events (Deliver life packet ∷ [])))
+      (delivery_kept e life packet held (omega (arith, r)) (omega (arith, n, h.delivered)) (omega (arith, n, h.held_within)) h)
+
+  hold_kept : (e : EndState) (number : ℕ) (packet : Packet) → e.accepted < number → number ≤ e.accepted + s.window → number ≤ 2 ^ 62 → IsEndState s e → IsEndState s (after_hold e number packet)
+  hold_kept e number packet above within most h = record {
+    link = h.link;
+    times = h.times;
+    window = h.window;
+    in_phase = h.in_phase;
+    noted = h.noted;
+    opened = h.opened;
+    waiting = h.waiting;
+    delivered = omega (arith, length-hold_at (number - suc e.accepted) packet e.held, above, most, h.delivered);
+    held_within = omega (arith, length-hold_at (number - suc e.accepted) packet e.held, above, within, h.held_within);
+    room = h.room;
   }
 
   -- ---- a frame
@@ -195,7 +221,7 @@ module _ (s : Settings) where
     opened = h.opened;
     waiting = h.waiting;
     delivered = h.delivered;
-    none_held = h.none_held;
+    held_within = h.held_within;
     room = h.room;
   }
 
@@ -206,17 +232,18 @@ module _ (s : Settings) where
   life_told_kept e own life (Data number count packet) j n h = h
   life_told_kept e own life (Ack count) j n h = h
 
-  data_kept : (e : EndState) (life : Life) (number : ℕ) (packet : Packet) → length e.events ≤ 31 → number ≤ 2 ^ 62 → IsEndState s e → IsEndState s (on_data WINDOW e life number packet).1
-  data_kept e life number packet r n h = go (cases_order number (suc e.accepted))
-    where
-      go : (number ≡ suc e.accepted) ⊎ ((number < suc e.accepted) ⊎ (suc e.accepted < number)) → IsEndState s (on_data WINDOW e life number packet).1
-      go (inl q) =
-          subst (λ (r : Verdict × EndState). IsEndState s r.1) (sym (next_data e life number packet h.none_held q)) (delivery_kept e life packet r (omega arith) h)
-      go (inr (inl q)) = subst (λ (r : Verdict × EndState). IsEndState s r.1) (sym (repeated_data e life number packet (omega arith))) h
-      go (inr (inr q)) = subst (λ (r : Verdict × EndState). IsEndState s r.1) (sym (early_data e life number packet (omega arith))) h
+  data_kept : (e : EndState) (life : Life) (number : ℕ) (packet : Packet) → length e.events ≤ 31 → number ≤ 2 ^ 62 → IsEndState s e → IsEndState s (on_data s.window e life number packet).1
+  unfolding on_data
+  data_kept e life number packet r n h =
+      cond_both (nat_le number e.accepted) _ _ (λ (r : Verdict × EndState). IsEndState s r.1) (λ _. h) (λ late.
+      cond_both (nat_le number (e.accepted + s.window)) _ _ (λ (r : Verdict × EndState). IsEndState s r.1)
+      (λ soon.
+      let k : IsEndState s (after_hold e number packet) = hold_kept e number packet (leb-false number e.accepted late) (leb-true number (e.accepted + s.window) soon) n h in
+      release_kept (after_hold e number packet).held (after_hold e number packet) life refl (omega (arith, r, k.held_within, h.window)) k)
+      (λ _. h))
 
   matched_kept : (e : EndState) (life : Life) (binds : Bool) (now heard : ℕ) (body : Body) → length e.events ≤ 31 → IsBody heard body → IsEndState s e →
-      IsEndState s (on_matched WINDOW e life binds now body).1
+      IsEndState s (on_matched s.window e life binds now body).1
   unfolding on_matched
   matched_kept e life binds now heard Hello r b h = h
   matched_kept e life binds now heard (Data number count packet) r b h =
@@ -224,7 +251,7 @@ module _ (s : Settings) where
   matched_kept e life binds now heard (Ack count) r b h = acknowledgement_kept e count now b.count h
 
   phase_kept : (e : EndState) (f : FrameParts) (now : ℕ) (phase : Phase) → e.phase ≡ phase → length e.events ≤ 30 → IsFrame f → IsEndState s e →
-      IsEndState s (on_frame_in WINDOW e f now phase).1
+      IsEndState s (on_frame_in s.window e f now phase).1
   unfolding on_frame_in
   phase_kept e f now Closed j r t h = h
   phase_kept e f now (Unbound own) j r t h =
@@ -251,7 +278,7 @@ module _ (s : Settings) where
       cond_both (is_foreign s f) _ _ (λ (r : Verdict × EndState). IsEndState s r.1) (λ _. h) (λ _.
       cond_both (is_busy e) _ _ (λ (r : Verdict × EndState). IsEndState s r.1) (λ _. h) (λ free.
       let room : length e.events ≤ 30 = omega (arith, ltb-false (64 - length e.events) 34 free, h.room) in
-      subst (λ window. IsEndState s (on_frame_in window e f now e.phase).1) (sym h.window) (phase_kept e f now e.phase refl room t h)))
+      phase_kept e f now e.phase refl room t h))
 
   -- ---- time, packets and events
 
@@ -281,7 +308,7 @@ module _ (s : Settings) where
           untried = untried_pushed s.window e.queue packet h.waiting.untried;
         };
         delivered = h.delivered;
-        none_held = h.none_held;
+        held_within = h.held_within;
         room = h.room;
       }
 
@@ -315,7 +342,7 @@ module _ (s : Settings) where
     opened = h.opened;
     waiting = h.waiting;
     delivered = h.delivered;
-    none_held = h.none_held;
+    held_within = h.held_within;
     room = omega (arith, h.room, length-drop 1 e.events);
   }
     where
@@ -338,7 +365,7 @@ module _ (s : Settings) where
       untried = subst AreUntried (sym d.behind) h.waiting.untried;
     };
     delivered = h.delivered;
-    none_held = h.none_held;
+    held_within = h.held_within;
     room = h.room;
   }
 

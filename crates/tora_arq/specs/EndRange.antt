@@ -54,8 +54,8 @@ pub record IsRange (s : Settings) (phase : Phase) (heard last acknowledged accep
   pub noted : heard ≤ 2 ^ 62
   pub opened : last ≤ 2 ^ 62
   pub waiting : IsQueue s.window acknowledged queue
-  pub delivered : accepted ≤ 2 ^ 62
-  pub none_held : held ≡ []
+  pub delivered : accepted + length held ≤ 2 ^ 62
+  pub held_within : length held ≤ s.window
   pub room : length events ≤ 64
 
 abbrev pub IsEndState : Settings → EndState → Type 0

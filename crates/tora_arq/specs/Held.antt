@@ -9,3 +9,14 @@ hold_at zero packet (None ∷ held) = Some packet ∷ held
 hold_at zero packet (Some first ∷ held) = Some first ∷ held
 hold_at (suc place) packet [] = None ∷ hold_at place packet []
 hold_at (suc place) packet (slot ∷ held) = slot ∷ hold_at place packet held
+
+-- empty places are appended up to this many
+abbrev pub padded : ℕ → List (Option Packet) → List (Option Packet)
+padded zero held = held
+padded (suc places) [] = None ∷ padded places []
+padded (suc places) (slot ∷ held) = slot ∷ padded places held
+
+-- the packet at the first place
+abbrev pub first_held : List (Option Packet) → Option Packet
+first_held [] = None
+first_held (slot ∷ held) = slot

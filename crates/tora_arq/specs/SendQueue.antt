@@ -1,5 +1,5 @@
 -- The packets that were submitted and are not acknowledged, and which of them is due.
-use Rattle.std.specs.Prelude.{ℕ, zero, suc, Bool, false, nat_lt, nat_le, ◌==◌, ◌||◌, ◌&&◌, if◌then◌else◌, List, [], ◌∷◌, map, Option, Some, None}
+use Rattle.std.specs.Prelude.{◌≡◌, ℕ, zero, suc, ◌<◌, Bool, true, false, nat_lt, nat_le, ◌==◌, ◌||◌, ◌&&◌, if◌then◌else◌, List, [], ◌∷◌, map, slice_get, Option, Some, None}
 use Rattle.tora_packet.specs.declared.Packet.{Packet}
 use Rattle.tora_arq.specs.declared.Times.{Times}
 use Rattle.tora_arq.specs.declared.queue.QueuedPacket.{QueuedPacket}
@@ -54,3 +54,14 @@ first_due times now number (suc window) (q ∷ queue) =
     if is_ready times now q
     then Some (due_packet number (retried q now ∷ queue) q.packet)
     else due_behind q (first_due times now (suc number) window queue)
+
+-- none of the first packets, so many, is due
+abbrev pub AreLate : Times → ℕ → ℕ → List QueuedPacket → Type 0
+AreLate times now count queue = (k : ℕ) (q : QueuedPacket) → k < count → slice_get queue k ≡ Some q → is_ready times now q ≡ false
+
+-- the packet at this place is the first one due within the window
+pub record IsFirstReady (times : Times) (now window : ℕ) (queue : List QueuedPacket) (place : ℕ) (packet : QueuedPacket) : Type 0 where
+  pub within : place < window
+  pub before : AreLate times now place queue
+  pub packet_is : slice_get queue place ≡ Some packet
+  pub ready : is_ready times now packet ≡ true

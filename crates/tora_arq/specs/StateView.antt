@@ -1,5 +1,4 @@
 -- The settings and the state that the code keeps.
-use Rattle.std.specs.Prelude.{[]}
 use Rattle.tora_arq.specs.declared.settings.Settings.{Settings as CodeSettings}
 use Rattle.tora_arq.specs.declared.state.State.{State}
 use Rattle.tora_arq.specs.Settings.{Settings, settings_of}
@@ -8,7 +7,6 @@ use Rattle.tora_arq.specs.LinkEnd.{EndState}
 abbrev pub settings_in : CodeSettings → Settings
 settings_in s = settings_of s.me s.peer s.times
 
--- with a window of 1 no packet is held
 abbrev pub state_in : State → EndState
 state_in s = record {
   phase = s.phase;
@@ -18,7 +16,7 @@ state_in s = record {
   acknowledged = s.acknowledged;
   transmitted = s.transmitted;
   accepted = s.accepted;
-  held = [];
+  held = s.held;
   events = s.events;
   owes_hello = s.owes_hello;
   owes_ack = s.owes_ack;

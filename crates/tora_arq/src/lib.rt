@@ -10,6 +10,7 @@ ghost use Rattle.tora_arq.specs.Lives.{is_same_life, reversed, event_life, reaso
 
 mod events;
 mod facts;
+mod held;
 mod link_end;
 mod queue;
 mod receive;
@@ -30,7 +31,7 @@ use thiserror::Error;
 use tora_packet::Packet;
 
 /// How many packets of a life may be under way, transmitted and not acknowledged. Own profile.
-pub const WINDOW: u64 = 1;
+pub const WINDOW: u64 = 32;
 
 /// A life of a link: the numbers that its two ends drew for it, each 1 to 2^62. Own profile.
 ///

@@ -1,10 +1,10 @@
 //! The send queue of a link end.
-ghost use Rattle.std.specs.Prelude.{◌≡◌, ◌<◌, ◌≤◌, ◌+◌, ◌^◌, ℕ, [], ◌∷◌, ◌++◌, length, drop, slice_get, IfOk, IfNone, OnSome, IsTrue, is_some, option_map};
+ghost use Rattle.std.specs.Prelude.{◌≡◌, ◌<◌, ◌≤◌, ◌+◌, ◌^◌, ℕ, [], ◌∷◌, ◌++◌, length, drop, min, slice_get, Some, IfOk, IfNone, IfSome, IsTrue, MatchOption, is_some, option_map};
 ghost use Rattle.tora_arq.specs.Settings.{ticks_passed};
-ghost use Rattle.tora_arq.specs.SendQueue.{untried, retried, is_retry_time, is_ready, is_given_up, has_given_up, first_due, DuePacket, due_packet};
+ghost use Rattle.tora_arq.specs.SendQueue.{untried, retried, is_retry_time, is_ready, is_given_up, has_given_up, first_due, due_packet, AreLate, IsFirstReady};
 ghost use Rattle.tora_arq.specs.EndRange.{AreUntried};
 
-use crate::rings::{push, replace_front};
+use crate::rings::{push, set};
 use crate::settings::ticks_passed;
 use crate::{Times, WINDOW};
 use circular_buffer::HeapCircularBuffer;
@@ -70,6 +70,13 @@ impl QueuedPacket {
     }
 }
 
+/// A packet that is due, and how many packets of the send queue stand before it.
+#[derive(Clone, Copy, Debug, PartialEq, Eq)]
+pub struct Due {
+    pub place: usize,
+    pub packet: Packet,
+}
+
 /// The packets that were submitted and are not acknowledged, in order, 256 at most.
 #[derive(Debug, Drop)]
 pub struct SendQueue {
@@ -126,44 +133,74 @@ impl SendQueue {
         self.ring.clear();
     }
 
-    /// Whether a packet was transmitted as often as it may be, and long enough ago.
-    ///
-    /// Packets behind the window were never transmitted, so it looks at no more than the window.
-    #[tactic(auto, using(crate::proofs::QueueLemmas::given_up_first))]
+    /// How many packets may be under way: those behind them were never transmitted.
+    fn within_window(&self) -> usize
+        ensures { result ≡ min WINDOW (length self.now) }
+    {
+        self.ring.len().min(WINDOW as usize)
+    }
+
+    /// The packet that stands behind so many others.
+    fn packet_at(&self, place: usize) -> QueuedPacket
+        requires { place < length self.now }
+        ensures { slice_get self.now place ≡ Some result }
+    {
+        let Some(packet) = self.ring.get(place) else {
+            unreachable!()
+        };
+        *packet
+    }
+
+    /// Whether a packet was transmitted as often as it may be, and long enough ago. It looks at no more than the window.
+    #[tactic(auto, using(crate::proofs::QueueLemmas::given_up_at, crate::proofs::QueueLemmas::none_given_up_here))]
     pub fn has_given_up(&self, times: &Times, now: u64) -> bool
         requires tries { 0 < times.now.tries }
         requires untried { AreUntried (drop WINDOW self.now) }
         ensures { result ≡ has_given_up times.now now self.now }
     {
-        match self.ring.front() {
-            Some(first) => first.is_given_up(times, now),
-            None => false,
+        for place in 0..self.within_window() {
+            if self.packet_at(place).is_given_up(times, now) {
+                return true;
+            }
         }
+        false
+    }
+
+    /// The first packet due within the window, and how many stand before it. It looks at no more than the window.
+    fn first_ready(&self, times: &Times, now: u64) -> Option<(usize, QueuedPacket)>
+        ensures first { MatchOption result (AreLate times.now now WINDOW self.now) (λ r. IsFirstReady times.now now WINDOW self.now r.0 r.1) }
+        ensures room { IfSome result (λ r. r.1.tries + 1 < 2 ^ 64) }
+    {
+        for place in 0..self.within_window() {
+            let packet = self.packet_at(place);
+            if packet.is_ready(times, now) {
+                return Some((place, packet));
+            }
+        }
+        None
     }
 
     /// Whether a packet within the window is due.
-    #[tactic(auto, using(crate::proofs::QueueLemmas::due_first, crate::proofs::QueueLemmas::none_due_first, crate::proofs::QueueLemmas::none_due_empty))]
     pub fn is_due(&self, times: &Times, now: u64) -> bool
         ensures { (number : ℕ) → result ≡ is_some (first_due times.now now number WINDOW self.now) }
     {
-        match self.ring.front() {
-            Some(first) => first.is_ready(times, now),
+        match self.first_ready(times, now) {
+            Some(_) => true,
             None => false,
         }
     }
 
     /// The first packet due within the window, which counts as transmitted now.
-    #[tactic(auto, using(crate::proofs::QueueLemmas::due_first, crate::proofs::QueueLemmas::none_due_first, crate::proofs::QueueLemmas::none_due_empty))]
-    pub fn take_due(&mut self, times: &Times, now: u64) -> Option<Packet>
-        ensures due { (number : ℕ) → first_due times.now now number WINDOW self.old ≡ option_map (due_packet number self.new) result }
+    pub fn take_due(&mut self, times: &Times, now: u64) -> Option<Due>
+        ensures due { (number : ℕ) → first_due times.now now number WINDOW self.old ≡ option_map (λ d. due_packet (number + d.place) self.new d.packet) result }
         ensures none { IfNone result (self.new ≡ self.old) }
-        ensures some { OnSome result (0 < length self.old) }
+        ensures some { IfSome result (λ d. d.place < length self.old) }
     {
-        let first = *self.ring.front()?;
-        if !first.is_ready(times, now) {
+        let Some((place, first)) = self.first_ready(times, now) else {
             return None;
-        }
-        replace_front(&mut self.ring, first.retried(now));
-        Some(first.packet)
+        };
+        let packet = first.packet;
+        set(&mut self.ring, place, first.retried(now));
+        Some(Due { place, packet })
     }
 }

@@ -1,7 +1,8 @@
 //! What a link end makes of a frame.
 ghost use Rattle.std.specs.Prelude.{◌≡◌, ◌<◌, ◌≤◌, ◌+◌, ◌^◌, length};
 ghost use Rattle.tora_frame.specs.FrameParts.{IsFrame};
-ghost use Rattle.tora_arq.specs.LinkEnd.{count_of, on_life_told, on_data, on_matched, on_frame_in, on_frame};
+ghost use Rattle.tora_arq.specs.Held.{hold_at};
+ghost use Rattle.tora_arq.specs.LinkEnd.{count_of, on_life_told, after_release, on_data, on_matched, on_frame_in, on_frame};
 ghost use Rattle.tora_arq.specs.StateView.{settings_in, state_in};
 
 use crate::settings::Settings;
@@ -43,29 +44,52 @@ impl State {
         }
     }
 
-    /// A packet of the bound life.
-    #[tactic(auto, using(crate::proofs::ReceiveLemmas::repeated_data, crate::proofs::ReceiveLemmas::next_data, crate::proofs::ReceiveLemmas::early_data))]
-    fn on_data(&mut self, life: Life, number: u64, packet: Packet) -> Verdict
-        requires room { length self.old.events < 64 }
+    /// Holds a packet at a place, and delivers what is held up to the first gap.
+    fn hold(&mut self, life: Life, place: usize, packet: Packet)
+        requires place { place < WINDOW }
+        requires room { length self.old.events ≤ 31 }
         requires accepted { self.old.accepted ≤ 2 ^ 62 }
+        requires held { length self.old.held ≤ WINDOW }
+        ensures { state_in self.new ≡ after_release life (record (state_in self.old) { held = hold_at place packet self.old.held }) (hold_at place packet self.old.held) }
+    {
+        self.held.hold(place, packet);
+        self.release(life);
+    }
+
+    /// A packet of the bound life.
+    #[tactic(auto, using(crate::proofs::ReceiveLemmas::repeated_data, crate::proofs::ReceiveLemmas::far_data))]
+    fn on_data(&mut self, life: Life, number: u64, packet: Packet) -> Verdict
+        requires room { length self.old.events ≤ 31 }
+        requires accepted { self.old.accepted ≤ 2 ^ 62 }
+        requires held { length self.old.held ≤ WINDOW }
         ensures verdict { result ≡ (on_data WINDOW (state_in self.old) life number packet).0 }
         ensures state { state_in self.new ≡ (on_data WINDOW (state_in self.old) life number packet).1 }
     {
         if number <= self.accepted {
             return Verdict::Repeated;
         }
-        if number > self.accepted + 1 {
+        let place = number - self.accepted - 1;
+        if place >= WINDOW {
             return Verdict::Ahead;
         }
-        self.deliver(life, packet);
+        if place > 0 {
+            self.hold(life, place as usize, packet);
+            return Verdict::Ahead;
+        }
+        if self.held.is_empty() {
+            self.deliver(life, packet);
+        } else {
+            self.hold(life, 0, packet);
+        }
         Verdict::Accepted
     }
 
     /// A frame of the bound life; `binds` says that it bound it.
     #[tactic(auto, unfolding(crate::specs::LinkEnd::on_matched))]
     fn on_matched(&mut self, life: Life, binds: bool, now: u64, body: &Body) -> Verdict
-        requires room { length self.old.events < 64 }
+        requires room { length self.old.events ≤ 31 }
         requires accepted { self.old.accepted ≤ 2 ^ 62 }
+        requires held { length self.old.held ≤ WINDOW }
         ensures verdict { result ≡ (on_matched WINDOW (state_in self.old) life binds now body.now).0 }
         ensures state { state_in self.new ≡ (on_matched WINDOW (state_in self.old) life binds now body.now).1 }
     {
@@ -119,6 +143,7 @@ impl State {
     fn on_bound_frame(&mut self, life: Life, frame: &Frame, now: u64) -> Verdict
         requires room { length self.old.events ≤ 30 }
         requires accepted { self.old.accepted ≤ 2 ^ 62 }
+        requires held { length self.old.held ≤ WINDOW }
         ensures verdict { result ≡ (on_frame_in WINDOW (state_in self.old) frame.now now (Phase.Bound life)).0 }
         ensures state { state_in self.new ≡ (on_frame_in WINDOW (state_in self.old) frame.now now (Phase.Bound life)).1 }
     {
@@ -140,6 +165,7 @@ impl State {
     #[tactic(auto, unfolding(crate::specs::LinkEnd::on_frame, crate::specs::LinkEnd::on_frame_in))]
     pub fn on_frame(&mut self, settings: &Settings, frame: &Frame, now: u64) -> Verdict
         requires accepted { self.old.accepted ≤ 2 ^ 62 }
+        requires held { length self.old.held ≤ WINDOW }
         ensures verdict { result ≡ (on_frame (settings_in settings.now) (state_in self.old) frame.now now).0 }
         ensures state { state_in self.new ≡ (on_frame (settings_in settings.now) (state_in self.old) frame.now now).1 }
         ensures valid { IsFrame frame.now }

@@ -1,5 +1,5 @@
 //! Writes to rings that have room.
-ghost use Rattle.std.specs.Prelude.{◌≡◌, ◌<◌, ◌∷◌, ◌++◌, [], length, drop};
+ghost use Rattle.std.specs.Prelude.{◌≡◌, ◌<◌, ◌∷◌, ◌++◌, [], length, slice_set};
 ghost use Rattle.circular_buffer.specs.Buffer.{buffer};
 
 use circular_buffer::HeapCircularBuffer;
@@ -14,14 +14,13 @@ pub fn push<T: Drop>(ring: &mut HeapCircularBuffer<T>, item: T)
     };
 }
 
-/// Puts an item in the place of the first one.
-pub fn replace_front<T: Drop>(ring: &mut HeapCircularBuffer<T>, item: T)
-    requires { 0 < length ring.old.items }
-    ensures { ring.new ≡ buffer (item ∷ drop 1 ring.old.items) ring.old.capacity }
+/// Puts an item in the place of another one.
+pub fn set<T: Drop>(ring: &mut HeapCircularBuffer<T>, place: usize, item: T)
+    requires { place < length ring.old.items }
+    ensures { ring.new ≡ buffer (slice_set ring.old.items place item) ring.old.capacity }
 {
-    prove!(ring.len() <= ring.capacity());
-    ring.pop_front();
-    let Ok(()) = ring.try_push_front(item) else {
+    let Some(slot) = ring.get_mut(place) else {
         unreachable!()
     };
+    *slot = item;
 }

@@ -1,10 +1,11 @@
 //! The state of a link end, and what each call makes of it.
-ghost use Rattle.std.specs.Prelude.{◌≡◌, ◌<◌, ◌≤◌, ◌+◌, ◌^◌, [], length, IfOk, IsOk, MatchOption};
-ghost use Rattle.tora_arq.specs.LinkEnd.{after_open, after_end, after_bind, after_acknowledgement, after_delivery, first_end, is_silent, after_tick, on_submit, after_cut};
+ghost use Rattle.std.specs.Prelude.{◌≡◌, ◌<◌, ◌≤◌, ◌+◌, ◌^◌, length, IfOk, IsOk, MatchOption};
+ghost use Rattle.tora_arq.specs.LinkEnd.{after_open, after_end, after_bind, after_acknowledgement, after_delivery, after_release, first_end, is_silent, after_tick, on_submit, after_cut};
 ghost use Rattle.tora_arq.specs.EndRange.{IsEndState, IsPhase};
 ghost use Rattle.tora_arq.specs.StateView.{settings_in, state_in};
 
 use crate::events::EventQueue;
+use crate::held::HeldPackets;
 use crate::queue::{QUEUE_PLACES, SendQueue};
 use crate::settings::{Settings, ticks_passed};
 use crate::{Life, LinkEvent, Reason, SubmitError};
@@ -39,6 +40,8 @@ pub struct State {
     pub transmitted: u64,
     /// How many packets of the peer were delivered.
     pub accepted: u64,
+    /// The packets of the peer that came early.
+    pub held: HeldPackets,
     /// The events that were not polled.
     pub events: EventQueue,
     pub owes_hello: bool,
@@ -55,6 +58,7 @@ impl State {
         ensures { IfOk result (λ s. state_in s ≡ first_end) }
     {
         let queue = SendQueue::new(alloc)?;
+        let held = HeldPackets::new(alloc)?;
         let events = EventQueue::new(alloc)?;
         Ok(State {
             phase: Phase::Closed,
@@ -64,6 +68,7 @@ impl State {
             acknowledged: 0,
             transmitted: 0,
             accepted: 0,
+            held,
             events,
             owes_hello: false,
             owes_ack: false,
@@ -79,6 +84,7 @@ impl State {
     {
         self.phase = Phase::Closed;
         self.queue.clear();
+        self.held.clear();
         self.events.push(LinkEvent::Down(life, reason));
         self.owes_hello = false;
         self.owes_ack = false;
@@ -96,6 +102,7 @@ impl State {
         self.acknowledged = 0;
         self.transmitted = 0;
         self.accepted = 0;
+        self.held.clear();
         self.events.push(LinkEvent::Up(life));
         self.owes_hello = self.owes_hello || is_changed;
     }
@@ -114,10 +121,21 @@ impl State {
     pub fn deliver(&mut self, life: Life, packet: Packet)
         requires room { length self.old.events < 64 }
         requires number { self.old.accepted + 1 < 2 ^ 64 }
-        ensures { state_in self.new ≡ after_delivery (state_in self.old) life packet [] }
+        ensures { state_in self.new ≡ after_delivery (state_in self.old) life packet self.old.held }
     {
         self.accepted += 1;
         self.events.push(LinkEvent::Deliver(life, packet));
+    }
+
+    /// Delivers the packets that are held, up to the first gap.
+    pub fn release(&mut self, life: Life)
+        requires room { length self.old.events + length self.old.held < 64 }
+        requires number { self.old.accepted + length self.old.held < 2 ^ 64 }
+        ensures { state_in self.new ≡ after_release life (state_in self.old) self.old.held }
+    {
+        while let Some(packet) = self.held.take_first() {
+            self.deliver(life, packet);
+        }
     }
 
     /// Begins a life with an own number.
@@ -131,6 +149,7 @@ impl State {
         self.acknowledged = 0;
         self.transmitted = 0;
         self.accepted = 0;
+        self.held.clear();
         self.owes_hello = true;
         self.owes_ack = false;
         self.last_hello = None;

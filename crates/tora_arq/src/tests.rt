@@ -61,6 +61,15 @@ fn tells(rt: &impl Abort, end: &mut LinkEnd, events: &[LinkEvent]) {
     assert_eq!(rt; end.poll_event(), None);
 }
 
+/// Polls the events, and sees that they deliver just the packets with these numbers, first to last.
+fn tells_packets(rt: &impl Abort, end: &mut LinkEnd, life: Life, first: u64, last: u64) {
+    for number in first..=last {
+        let event = LinkEvent::Deliver(life, query(rt, number));
+        assert_eq!(rt; end.poll_event(), Some(event));
+    }
+    assert_eq!(rt; end.poll_event(), None);
+}
+
 /// Polls the frames due at a tick, and sees that they carry just this, in the life {5, 9}.
 fn sends(rt: &impl Abort, end: &mut LinkEnd, now: u64, bodies: &[Body]) {
     for body in bodies {
@@ -86,8 +95,18 @@ fn end_of(rt: &impl Abort, alloc: Global, me: Id, peer: Id, life: u64) -> LinkEn
     requires other { me ≢ peer }
     requires life { life ≤ 2 ^ 62 }
 {
-    let mut end = LinkEnd::new(alloc, me, peer, Times::STANDARD).expect(rt, "memory");
-    assert_eq!(rt; end.peer(), peer);
+    end_with(rt, alloc, me, peer, life, Times::STANDARD)
+}
+
+fn end_with(rt: &impl Abort, alloc: Global, me: Id, peer: Id, life: u64, times: Times) -> LinkEnd
+    requires me { 0 < me }
+    requires peer { 0 < peer }
+    requires other { me ≢ peer }
+    requires life { life ≤ 2 ^ 62 }
+{
+    assert!(rt; times.hello > 0 && times.silent > 0 && times.retry > 0 && times.tries > 0);
+    let mut end = LinkEnd::new(alloc, me, peer, times).expect(rt, "memory");
+    assert_eq!(rt; (end.me(), end.peer(), end.times()), (me, peer, times));
     opened(rt, &mut end, life);
     end
 }
@@ -134,10 +153,94 @@ fn data_is_delivered_once_in_order(rt: HostRuntime) -> Result<(), Fail> {
         (9, 5, Sent::Data(2), Verdict::Repeated),
     ];
     takes(&rt, &mut end, &rows);
-    let first = LinkEvent::Deliver(LIFE, query(&rt, 1));
-    let second = LinkEvent::Deliver(LIFE, query(&rt, 2));
-    tells(&rt, &mut end, &[first, second]);
-    sends(&rt, &mut end, 0, &[Body::Ack(2)]);
+    tells_packets(&rt, &mut end, LIFE, 1, 3);
+    sends(&rt, &mut end, 0, &[Body::Ack(3)]);
+    Ok(())
+}
+
+/// The two ends of a link, bound to {5, 9} and {9, 5} at tick 0; all HELLOs are sent and all events are polled.
+struct Link {
+    one: LinkEnd,
+    two: LinkEnd,
+}
+
+fn bound_link(rt: &impl Abort, alloc: Global, times: Times) -> Link {
+    let mut one = end_with(rt, alloc, 1, 2, 5, times);
+    let mut two = end_with(rt, alloc, 2, 1, 9, times);
+    greets(rt, &mut one, &mut two, 5, 0);
+    greets(rt, &mut two, &mut one, 9, 5);
+    greets(rt, &mut one, &mut two, 5, 9);
+    tells(rt, &mut one, &[LinkEvent::Up(LIFE)]);
+    tells(rt, &mut two, &[LinkEvent::Up(LIFE.reversed())]);
+    Link { one, two }
+}
+
+/// Hands the frames due at a tick from one end to the other, each with the verdict that it gets.
+fn hands(rt: &impl Abort, from: &mut LinkEnd, to: &mut LinkEnd, now: u64, verdicts: &[Verdict]) {
+    for verdict in verdicts {
+        let frame = from.poll_transmit(now).expect(rt, "a frame");
+        assert_eq!(rt; to.on_frame(&frame, now), *verdict, "{frame:?}");
+    }
+    assert_eq!(rt; from.poll_transmit(now), None);
+}
+
+#[test]
+fn window_delivers_in_order_after_a_loss(rt: HostRuntime) -> Result<(), Fail> {
+    let Link { mut one, mut two } = bound_link(&rt, rt.alloc(), Times::STANDARD);
+    for number in [1, 2, 3] {
+        assert_eq!(&rt; one.submit(LIFE, query(&rt, number)), Ok(()));
+    }
+    let lost = one.poll_transmit(0).expect(&rt, "a frame");
+    assert_eq!(&rt; *lost.body(), Body::Data(1, 0, query(&rt, 1)));
+    hands(
+        &rt,
+        &mut one,
+        &mut two,
+        0,
+        &[Verdict::Ahead, Verdict::Ahead],
+    );
+    tells(&rt, &mut two, &[]);
+    hands(&rt, &mut two, &mut one, 0, &[Verdict::Repeated]);
+    let again = [Verdict::Accepted, Verdict::Repeated, Verdict::Repeated];
+    hands(&rt, &mut one, &mut two, 5, &again);
+    tells_packets(&rt, &mut two, LIFE.reversed(), 1, 3);
+    hands(&rt, &mut two, &mut one, 5, &[Verdict::Accepted]);
+    assert_eq!(&rt; one.waiting(), 0);
+    Ok(())
+}
+
+#[test]
+fn packets_are_held_up_to_the_window(rt: HostRuntime) -> Result<(), Fail> {
+    let mut end = bound_end(&rt, rt.alloc());
+    for number in 2..=33 {
+        takes(&rt, &mut end, &[(9, 5, Sent::Data(number), Verdict::Ahead)]);
+    }
+    takes(&rt, &mut end, &[(9, 5, Sent::Data(1), Verdict::Accepted)]);
+    tells_packets(&rt, &mut end, LIFE, 1, 32);
+    takes(&rt, &mut end, &[(9, 5, Sent::Data(33), Verdict::Accepted)]);
+    tells_packets(&rt, &mut end, LIFE, 33, 33);
+    Ok(())
+}
+
+/// A DATA frame of the life {5, 9} from 2 to 1 with this number, and the query for a destination.
+fn data(rt: &impl Abort, number: u64, destination: u64) -> Frame {
+    let header = *frame(rt, 9, 5, Sent::Hello).header();
+    assert!(rt; header.heard > 0 && number > 0 && number <= GREATEST_NUMBER);
+    Frame::data(header, number, 0, query(rt, destination))
+}
+
+#[test]
+fn packet_held_first_stays(rt: HostRuntime) -> Result<(), Fail> {
+    let mut end = bound_end(&rt, rt.alloc());
+    for (number, destination, verdict) in [
+        (2, 7, Verdict::Ahead),
+        (2, 8, Verdict::Ahead),
+        (1, 6, Verdict::Accepted),
+    ] {
+        let data = data(&rt, number, destination);
+        assert_eq!(&rt; end.on_frame(&data, 0), verdict);
+    }
+    tells_packets(&rt, &mut end, LIFE, 6, 7);
     Ok(())
 }
 
@@ -193,15 +296,21 @@ fn acknowledged_packets_leave_the_queue(rt: HostRuntime) -> Result<(), Fail> {
         assert_eq!(&rt; end.submit(LIFE, query(&rt, number)), Ok(()));
     }
     takes(&rt, &mut end, &[(9, 5, Sent::Ack(1), Verdict::Foreign)]);
-    sends(&rt, &mut end, 0, &[Body::Data(1, 0, query(&rt, 1))]);
+    let both = [
+        Body::Data(1, 0, query(&rt, 1)),
+        Body::Data(2, 0, query(&rt, 2)),
+    ];
+    sends(&rt, &mut end, 0, &both);
     let rows = [
         (9, 5, Sent::Ack(0), Verdict::Repeated),
-        (9, 5, Sent::Ack(2), Verdict::Foreign),
+        (9, 5, Sent::Ack(3), Verdict::Foreign),
         (9, 5, Sent::Ack(1), Verdict::Accepted),
         (9, 5, Sent::Ack(1), Verdict::Repeated),
     ];
+    assert_eq!(&rt; end.waiting(), 2);
     takes(&rt, &mut end, &rows);
-    sends(&rt, &mut end, 0, &[Body::Data(2, 0, query(&rt, 2))]);
+    assert_eq!(&rt; end.waiting(), 1);
+    sends(&rt, &mut end, 5, &[Body::Data(2, 0, query(&rt, 2))]);
     Ok(())
 }
 
@@ -308,5 +417,18 @@ fn clock_that_goes_back_counts_as_no_time(rt: HostRuntime) -> Result<(), Fail> {
     sends(&rt, &mut end, 0, &[]);
     end.on_tick(u64::MAX);
     assert_eq!(&rt; end.life(), Some(LIFE));
+    Ok(())
+}
+
+#[test]
+fn an_end_is_printed(rt: HostRuntime) -> Result<(), Fail> {
+    let end = end_of(&rt, rt.alloc(), 1, 2, 5);
+    let text = format!(in rt.alloc(); "{end:?}")?;
+    assert!(&rt;
+        text.as_str()
+            .starts_with("LinkEnd { settings: Settings { me: 1, peer: 2,")
+    );
+    let words = format!(in rt.alloc(); "{} {}", Reason::NewPeer, Verdict::Ahead)?;
+    assert_eq!(&rt; words.as_str(), "new peer ahead");
     Ok(())
 }

@@ -6,10 +6,11 @@ ghost use Rattle.tora_arq.specs.SendQueue.{first_due};
 ghost use Rattle.tora_arq.specs.LinkEnd.{is_hello_due, frame_sent, after_hello, on_transmit_due, on_transmit};
 ghost use Rattle.tora_arq.specs.EndRange.{IsEndState};
 ghost use Rattle.tora_arq.specs.StateView.{settings_in, state_in};
+ghost use Rattle.tora_arq.specs.declared.TheConstants.{WINDOW};
 
+use crate::Life;
 use crate::settings::{Settings, ticks_passed};
 use crate::state::{Phase, State};
-use crate::{Life, WINDOW};
 use tora_frame::{Body, Frame, Header};
 
 impl Settings {
@@ -68,11 +69,11 @@ impl State {
     {
         let header = settings.header(life.own, life.peer);
         let accepted = self.accepted;
-        if let Some(packet) = self.queue.take_due(&settings.times, now) {
-            let number = self.acknowledged + 1;
+        if let Some(due) = self.queue.take_due(&settings.times, now) {
+            let number = self.acknowledged + 1 + due.place as u64;
             self.transmitted = self.transmitted.max(number);
             self.owes_ack = false;
-            return Some(Frame::data(header, number, accepted, packet));
+            return Some(Frame::data(header, number, accepted, due.packet));
         }
         if self.owes_ack {
             self.owes_ack = false;

@@ -7,3 +7,4 @@ pub mod Needs
 pub mod Sends
 pub mod Receives
 pub mod Pumps
+pub mod Runs

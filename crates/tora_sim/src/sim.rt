@@ -4,9 +4,9 @@ ghost use Rattle.tora_world.specs.declared.Event.TheVariants.{Tick, Open, Pull, 
 ghost use Rattle.tora_world.specs.World.{with_datagram, what_of};
 ghost use Rattle.tora_sim.specs.Nodes.{sending_of};
 ghost use Rattle.tora_sim.specs.Store.{numbered};
-ghost use Rattle.tora_sim.specs.Steps.{Does};
+ghost use Rattle.tora_sim.specs.Steps.{Does, IsRun, AreRun, Runs};
 
-use crate::SimError;
+use crate::{Event, SimError};
 use crate::links::{LinkSlot, place, tick};
 use crate::nodes::{NodeSlot, Sending, place as node_place};
 use crate::topology::Topology;
@@ -164,6 +164,45 @@ impl Sim {
             return Err(SimError::NoDatagram);
         };
         self.links[at].receive(&frame, self.clock);
+        Ok(())
+    }
+
+    /// Lets one event happen.
+    ///
+    /// The simulator runs no turn of a core, no arm and no restart yet.
+    ///
+    /// # Errors
+    /// `NoNode` where there is no such node or link, `NoDatagram` where there is no such datagram, `NotPossible` where
+    /// the event is not possible now, and `Memory` last. The world is then as before.
+    pub fn step(&mut self, event: &Event) -> Result<(), SimError>
+        requires { IsRun event.now }
+        ensures { Does self.old event.now result self.new }
+    {
+        match event {
+            Event::Need(n, d) => self.need(*n, *d),
+            Event::Tick => self.tick(),
+            Event::Open(n, k) => self.open(*n, *k),
+            Event::Pull(n, k) => self.pull(*n, *k),
+            Event::Transmit(n, k) => self.transmit(*n, *k),
+            Event::Deliver(i) => self.deliver(*i),
+            Event::Pump(n, k) => self.pump(*n, *k),
+            Event::CoreTurn(_) => unreachable!(),
+            Event::Arm(_, _) => unreachable!(),
+            Event::Restart(_, _) => unreachable!(),
+        }
+    }
+
+    /// Lets events happen, one after another, up to the first that is refused.
+    ///
+    /// # Errors
+    /// Those of `step`. The world is then as after the events before the refused one.
+    pub fn run(&mut self, events: &[Event]) -> Result<(), SimError>
+        requires { AreRun events.now }
+        ensures { Runs self.old events.now result self.new }
+    {
+        for event in events {
+            self.step(event)?;
+        }
         Ok(())
     }
 }

@@ -60,7 +60,7 @@ module _ (c : goal.After-self-in-Ok-1) where
   link_is : c.take_event.new.self ≡ with_state c.index.result.now (after_poll_event c.index.result.now.state)
   link_is =
       c.take_event.ensures.state
-      ∙ ap (λ (x : LinkView). with_state x (after_poll_event x.state)) (same_read c.self.inside.links.items c.in-Some.at c.index_mut-2.result.now c.index.result.now c.in-Some.ensures.first.within c.index_mut-2.ensures.value c.index.ensures)
+      ∙ ap (λ (x : LinkView). with_state x (after_poll_event x.state)) (same_read c.self.inside.links.items c.in-Some.at c.index_mut-in-Ok.result.now c.index.result.now c.in-Some.ensures.first.within c.index_mut-in-Ok.ensures.value c.index.ensures)
 
   node_is : c.put_item.new.self ≡ after_item c.index_mut.result.now c.index.result.now.seat c.self.inside.clock (what_of c.in-Some-next_event.event)
   node_is =
