@@ -8,3 +8,4 @@ pub mod Sends
 pub mod Receives
 pub mod Pumps
 pub mod Runs
+pub mod Arms

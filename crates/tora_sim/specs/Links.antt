@@ -1,5 +1,5 @@
 -- A link end as it is stored.
-use Rattle.std.specs.Prelude.{ℕ, ◌==◌, ◌&&◌, ◌<◌, ◌≡◌, ◌⊎◌, suc, Bool, List, [], ◌∷◌, Option, None, Some, drop}
+use Rattle.std.specs.Prelude.{ℕ, ◌==◌, ◌&&◌, ◌<◌, ◌≡◌, ◌⊎◌, suc, Bool, List, [], ◌∷◌, Option, None, Some, drop, if◌then◌else◌}
 use Rattle.tora_sim.specs.Keyed.{IsOrdered}
 use Rattle.std.specs.Ordering.{nat_cmp, ordering_then}
 use Rattle.std.specs.declared.cmp.Ordering.{Ordering}
@@ -59,3 +59,6 @@ compared n k link = ordering_then (nat_cmp link.node n) (nat_cmp link.peer k)
 
 abbrev pub ticked : ℕ → LinkView → LinkView
 ticked now link = with_state link (after_tick link.settings link.state now)
+
+abbrev pub armed_of : ℕ → DiskCall → LinkView → LinkView
+armed_of n call link = if link.node == n then after_arm link call else link

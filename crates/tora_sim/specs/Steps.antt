@@ -20,7 +20,7 @@ pub record IsRefused (w : World) (event : Event) (error : SimError) (after : Wor
 abbrev pub Does : SimState → Event → Result (Unit {0}) SimError → SimState → Type 0
 Does before event result after = MatchResult result (λ _. IsDone (world_of before) event (world_of after)) (λ error. IsRefused (world_of before) event error (world_of after))
 
--- the events that the simulator runs so far: no turn of a core, no arm, no restart
+-- the events that the simulator runs so far: no turn of a core, no restart
 abbrev pub IsRun : Event → Type 0
 IsRun (Need n d) = Unit {0}
 IsRun Tick = Unit {0}
@@ -30,7 +30,7 @@ IsRun (Transmit n k) = Unit {0}
 IsRun (Deliver i) = Unit {0}
 IsRun (Pump n k) = Unit {0}
 IsRun (CoreTurn n) = ⊥
-IsRun (Arm n call) = ⊥
+IsRun (Arm n call) = Unit {0}
 IsRun (Restart n torn) = ⊥
 
 abbrev pub AreRun : List Event → Type 0

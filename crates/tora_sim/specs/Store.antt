@@ -6,6 +6,10 @@ use Rattle.tora_arq.specs.Settings.{settings_of, IsTimes}
 use Rattle.tora_arq.specs.LinkEnd.{EndState, first_end}
 use Rattle.tora_life.specs.State.{fresh_state}
 use Rattle.tora_life.specs.LifeRun.{LifeDisk, opened}
+use Rattle.tora_life.specs.declared.state.DiskCall.{DiskCall}
+use Rattle.tora_life.specs.declared.state.DiskCall.TheVariants as Disk
+use Rattle.tora_world.specs.declared.Call.{Call}
+use Rattle.tora_world.specs.declared.Call.TheVariants as Fails
 use Rattle.tora_seat.specs.declared.Item.{Item}
 use Rattle.tora_seat.specs.declared.Cargo.{Cargo}
 use Rattle.tora_seat.specs.Serving.{SeatState}
@@ -122,3 +126,9 @@ pub record IsStore (s : SimState) : Type 0 where
 abbrev pub numbered : ℕ → List FrameParts → Option FrameParts
 numbered zero datagrams = None
 numbered (suc place) datagrams = slice_get datagrams place
+
+-- a failing call of the disk, as an arm
+abbrev pub call_of : DiskCall → Call
+call_of Disk.Read = Fails.Read
+call_of Disk.Write = Fails.Write
+call_of Disk.Sync = Fails.Sync

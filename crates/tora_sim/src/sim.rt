@@ -1,19 +1,21 @@
 //! The simulator.
-ghost use Rattle.std.specs.Prelude.{◌≡◌, ◌<◌, vec_len, vec_capacity};
-ghost use Rattle.tora_world.specs.declared.Event.TheVariants.{Tick, Open, Pull, Need, Transmit, Deliver, Pump};
+ghost use Rattle.std.specs.Prelude.{◌≡◌, ◌<◌, true, vec_len, vec_capacity};
+ghost use Rattle.tora_world.specs.declared.Event.TheVariants.{Tick, Open, Pull, Need, Transmit, Deliver, Pump, Arm};
 ghost use Rattle.tora_world.specs.World.{with_datagram, what_of};
 ghost use Rattle.tora_sim.specs.Nodes.{sending_of};
-ghost use Rattle.tora_sim.specs.Store.{numbered};
+ghost use Rattle.tora_sim.specs.Store.{numbered, call_of};
+ghost use Rattle.tora_world.specs.Topology.{is_node};
 ghost use Rattle.tora_sim.specs.Steps.{Does, IsRun, AreRun, Runs};
 
-use crate::{Event, SimError};
-use crate::links::{LinkSlot, place, tick};
+use crate::{Call, Event, SimError};
+use crate::links::{LinkSlot, arm, place, tick};
 use crate::nodes::{NodeSlot, Sending, place as node_place};
 use crate::topology::Topology;
 use std::marker::Model;
 use tora_arq::{LinkEvent, Times, data_frames_are_what_was_submitted};
 use tora_frame::Frame;
 use tora_height::Id;
+use tora_life::DiskCall;
 use tora_seat::What;
 
 /// The most items that wait for a core.
@@ -167,9 +169,44 @@ impl Sim {
         Ok(())
     }
 
+    /// A call of a node is made to fail.
+    pub(crate) fn arm(&mut self, n: Id, call: Call) -> Result<(), SimError>
+        ensures { Does self.old (Arm n call) result self.new }
+    {
+        let Some(home) = node_place(&self.nodes, n) else {
+            return Err(SimError::NoNode);
+        };
+        match call {
+            Call::SendLost => {
+                self.nodes[home].arm_sending(Sending::IsLost);
+                Ok(())
+            }
+            Call::SendGone => {
+                self.nodes[home].arm_sending(Sending::IsGone);
+                Ok(())
+            }
+            Call::Receive => {
+                self.nodes[home].arm_receive(true);
+                Ok(())
+            }
+            Call::Read => self.arm_files(n, DiskCall::Read),
+            Call::Write => self.arm_files(n, DiskCall::Write),
+            Call::Sync => self.arm_files(n, DiskCall::Sync),
+        }
+    }
+
+    /// The next such call of each life file of a node fails.
+    fn arm_files(&mut self, n: Id, call: DiskCall) -> Result<(), SimError>
+        requires { is_node self.old.topology n ≡ true }
+        ensures { Does self.old (Arm n (call_of call)) result self.new }
+    {
+        arm(&mut self.links, n, call);
+        Ok(())
+    }
+
     /// Lets one event happen.
     ///
-    /// The simulator runs no turn of a core, no arm and no restart yet.
+    /// The simulator runs no turn of a core and no restart yet.
     ///
     /// # Errors
     /// `NoNode` where there is no such node or link, `NoDatagram` where there is no such datagram, `NotPossible` where
@@ -187,7 +224,7 @@ impl Sim {
             Event::Deliver(i) => self.deliver(*i),
             Event::Pump(n, k) => self.pump(*n, *k),
             Event::CoreTurn(_) => unreachable!(),
-            Event::Arm(_, _) => unreachable!(),
+            Event::Arm(n, call) => self.arm(*n, *call),
             Event::Restart(_, _) => unreachable!(),
         }
     }
