@@ -1,6 +1,6 @@
 -- Calls that are made to fail.
-use Rattle.std.proofs.Common.{◌≡◌, ℕ, zero, suc, ◌<◌, ◌⊎◌, inl, inr, Bool, true, false, ◌&&◌, List, [], ◌∷◌, map, Option, Some, None, refl, sym, ap, ap₂, ◌∙◌, subst, arith, length, set, slice_get, is_some, cond, option_map, if◌then◌else◌, nat_eq, eqb-true, true≢false}
-use Rattle.std.proofs.lemmas.Bool.{cases_Bool, and_parts}
+use Rattle.std.proofs.Common.{◌≡◌, ℕ, zero, suc, ◌<◌, Bool, true, false, ◌&&◌, List, [], ◌∷◌, map, Option, Some, None, refl, sym, ap, ap₂, ◌∙◌, subst, arith, length, set, slice_get, is_some, cond, option_map, if◌then◌else◌, nat_eq, eqb-true, true≢false}
+use Rattle.std.proofs.lemmas.Bool.{and_parts}
 use Rattle.std.specs.Prelude.{slice_index_or}
 use mathlib.Core.Path.{fun_ext}
 use Rattle.tora_frame.specs.FrameParts.{FrameParts}
@@ -14,15 +14,14 @@ use Rattle.tora_world.specs.declared.Call.TheVariants as Fails
 use Rattle.tora_world.specs.declared.Event.TheVariants as Happens
 use Rattle.tora_world.specs.declared.SimError.TheVariants as Refused
 use Rattle.tora_world.specs.Topology.{Topology, is_node, is_link}
-use Rattle.tora_world.specs.World.{World, Arms, refusal_of, effect_by, world_after, own_choice, unless_possible, after_arming, with_armed_files}
-use Rattle.tora_world.specs.World.Sending.{Goes, IsLost, IsGone}
+use Rattle.tora_world.specs.World.{World, refusal_of, effect_by, world_after, unless_possible, after_arming, with_armed_files}
 use Rattle.tora_seat.specs.Serving.{put_one}
 use Rattle.tora_sim.specs.declared.nodes.Sending.{Sending as DeclaredSending}
 use Rattle.tora_sim.specs.declared.nodes.Sending.TheVariants as Sends
 use Rattle.tora_sim.specs.Keyed.{IsFirst}
 use Rattle.tora_sim.specs.Links.{LinkView, is_at, after_arm, armed_of}
 use Rattle.tora_sim.specs.Nodes.{NodeView, is_of, sending_of}
-use Rattle.tora_sim.specs.Store.{SimState, state_of, world_of, IsStore, IsLinkOf, link_at, end_in, file_in, lane_in, put_in, node_at, seat_in, items_in, counts_in, arms_in, call_of}
+use Rattle.tora_sim.specs.Store.{state_of, world_of, IsStore, IsLinkOf, link_at, end_in, file_in, lane_in, put_in, node_at, seat_in, items_in, counts_in, arms_in, call_of}
 use Rattle.tora_sim.specs.Steps.{IsDone}
 use Rattle.tora_sim.specs.Links as Links
 use Rattle.tora_sim.proofs.Stores.{is_found, each_map, ordered_map, IsSameNode, node_changes, node_stays, node_stays_by, store_set_node}

@@ -1,5 +1,5 @@
 -- Items that are found by a test which at most one of them passes.
-use Rattle.std.proofs.Common.{◌≡◌, ℕ, zero, suc, ◌<◌, ◌≤◌, ◌≢◌, Bool, true, false, ◌⊎◌, inl, inr, List, [], ◌∷◌, length, get_or, set, slice_get, Option, Some, None, refl, sym, ap, ◌∙◌, subst, arith, cond, find, is_some, eqb-true, eq-eqb, Ok, Err, Result, IfSome, IfNone, ltb}
+use Rattle.std.proofs.Common.{◌≡◌, ℕ, zero, suc, ◌<◌, ◌≤◌, Bool, true, false, ◌⊎◌, inl, inr, List, [], ◌∷◌, length, get_or, set, slice_get, Some, None, refl, sym, ap, ◌∙◌, subst, arith, cond, find, eqb-true, eq-eqb, Ok, Err, Result, IfSome, IfNone, ltb}
 use borrow.Author.Tests.{ltb-true, ltb-false}
 use Rattle.std.specs.Result.{result_ok}
 use Rattle.std.proofs.lemmas.Bool.Decides.{nat_tests}
@@ -8,10 +8,10 @@ use Rattle.std.specs.Ordering.{nat_cmp, ordering_then, ordering_index}
 use Rattle.std.specs.declared.cmp.Ordering.{Ordering}
 use Rattle.std.specs.declared.cmp.Ordering.TheVariants.{Less, Equal, Greater}
 use Rattle.std.specs.List.Sorted.{IsNonDecreasingBy, IsBinarySearchResult, IsSearchInRange}
-use Rattle.tora_sim.specs.Keyed.{IsFirst, IsOrdered}
+use Rattle.tora_sim.specs.Keyed.{IsFirst}
 use Rattle.tora_sim.specs.Nodes as Nodes
 use Rattle.tora_sim.specs.Nodes.{NodeView, is_of}
-use Rattle.tora_sim.specs.Links.{LinkView, is_at, ComesBefore, AreRising, compared}
+use Rattle.tora_sim.specs.Links.{LinkView, is_at, AreRising, compared}
 
 -- ---- the first item that passes
 

@@ -4,9 +4,9 @@ use Rattle.tora_packet.specs.declared.Packet.{Packet}
 use Rattle.tora_frame.specs.FrameParts.{FrameParts}
 use Rattle.tora_arq.specs.declared.Life.{Life}
 use Rattle.tora_arq.specs.Settings.{Settings}
-use Rattle.tora_arq.specs.LinkEnd.{EndState, after_frame, after_tick, after_submit, after_cut, after_poll_event, after_transmit}
-use Rattle.tora_arq.specs.LinkFacts.{LinkCall, EveryCall, OpensWith, after_call, IsPossible}
-use Rattle.tora_arq.specs.LinkFacts.LinkCall.{Frame, Tick, Submit, PollEvent, Transmit, Cut}
+use Rattle.tora_arq.specs.LinkEnd.{EndState, after_frame, after_tick, after_submit, after_cut, after_transmit}
+use Rattle.tora_arq.specs.LinkFacts.{EveryCall, OpensWith}
+use Rattle.tora_arq.specs.LinkFacts.LinkCall.{Frame, Tick, Submit, Transmit, Cut}
 use Rattle.tora_life.specs.LifeRun.{LifeDisk}
 use Rattle.tora_seat.specs.declared.Cargo.{Cargo}
 use Rattle.tora_seat.specs.declared.Cargo.TheVariants as Gives

@@ -1,6 +1,6 @@
 -- An item more in the lane of a node.
-use Rattle.std.proofs.Common.{◌≡◌, ℕ, zero, suc, ◌+◌, ◌<◌, ◌≤◌, ◌⊎◌, inl, inr, Bool, true, false, not, ◌&&◌, List, [], ◌∷◌, ◌++◌, Option, Some, None, refl, sym, ap, ap₂, ◌∙◌, subst, arith, length, set, get_or, slice_get, is_some, nat_lt, nat_eq, if◌then◌else◌, eqb-true, eq-eqb, true≢false, Result, Ok, Err, MatchResult}
-use Rattle.std.proofs.lemmas.Bool.{cases_Bool, and_parts}
+use Rattle.std.proofs.Common.{◌≡◌, ℕ, suc, ◌<◌, ◌⊎◌, inl, inr, Bool, true, false, ◌&&◌, List, [], ◌∷◌, ◌++◌, Some, None, refl, sym, ap, ap₂, ◌∙◌, subst, length, set, slice_get, is_some, nat_lt, nat_eq, if◌then◌else◌, eqb-true, eq-eqb, true≢false, Result, Ok, Err, MatchResult}
+use Rattle.std.proofs.lemmas.Bool.{cases_Bool}
 use Rattle.std.proofs.lemmas.Option.{slice_get_read}
 use Rattle.std.proofs.lemmas.List.{get_or-set_same, get_or-set_other, length-set, set-get_or}
 use Rattle.std.specs.Prelude.{slice_index_or, slice_index}
@@ -11,18 +11,17 @@ use Rattle.tora_seat.specs.declared.What.{What}
 use Rattle.tora_seat.specs.declared.What.TheVariants as Tells
 use Rattle.tora_seat.specs.declared.Item.{Item}
 use Rattle.tora_seat.specs.Serving.{SeatState, put_one}
-use Rattle.tora_world.specs.declared.Event.{Event}
 use Rattle.tora_world.specs.declared.Event.TheVariants as Happens
 use Rattle.tora_world.specs.declared.SimError.{SimError}
 use Rattle.tora_world.specs.declared.SimError.TheVariants as Refused
 use Rattle.tora_world.specs.LinkMachine.{put_at}
-use Rattle.tora_world.specs.Topology.{Topology, is_node, is_link, neighbours_of}
-use Rattle.tora_world.specs.World.{World, Arms, refusal_of, effect_by, world_by, world_after, own_choice, unless_possible, with_item, has_room}
+use Rattle.tora_world.specs.Topology.{Topology, is_node, neighbours_of}
+use Rattle.tora_world.specs.World.{World, Arms, refusal_of, effect_by, own_choice, unless_possible, with_item, has_room}
 use Rattle.tora_sim.specs.Keyed.{IsFirst}
 use Rattle.tora_sim.specs.Links.{LinkView}
 use Rattle.tora_sim.specs.Nodes.{NodeView, is_of, after_item}
-use Rattle.tora_sim.specs.Store.{SimState, state_of, world_of, IsStore, IsNodeOf, node_at, seat_in, items_in, counts_in, arms_in}
-use Rattle.tora_sim.specs.Steps.{IsDone, IsRefused, Does}
+use Rattle.tora_sim.specs.Store.{state_of, world_of, IsStore, IsNodeOf, node_at, seat_in, items_in, counts_in, arms_in}
+use Rattle.tora_sim.specs.Steps.{IsRefused, Does}
 use Rattle.tora_sim.proofs.Stores.{IsSameNode, node_there, node_changes, node_stays, node_stays_by, store_set_node}
 use Rattle.tora_sim.proofs.Opens.{effect_is, refused_for}
 
@@ -73,8 +72,10 @@ module _ (t : Topology) (times : Times) (clock : ℕ) (nodes : List NodeView) (l
       where
         v : ℕ
         v = suc (slice_index x.counts seat)
+
         value : suc (counts_in (node_at nodes n) seat) ≡ suc (slice_index x.counts seat)
         value = ap (λ o. suc (counts_in o seat)) is_there
+
         go : (a b : ℕ) → (nat_eq a n ≡ true) ⊎ (nat_eq a n ≡ false) → (nat_eq b seat ≡ true) ⊎ (nat_eq b seat ≡ false) →
             put_one (λ m. counts_in (node_at nodes m)) n (counts_in (Some new)) a b ≡ put_at (λ m. counts_in (node_at nodes m)) n seat (suc (counts_in (node_at nodes n) seat)) a b
         go a b (inl p) (inl q) =
@@ -96,7 +97,7 @@ module _ (t : Topology) (times : Times) (clock : ℕ) (nodes : List NodeView) (l
     item_world =
         let seats = node_stays_by n nodes i x new first node_place same_node (seat_in t) refl in
         let items = node_changes n nodes i x new first node_place same_node items_in
-            ∙ ap (λ o. put_one (λ a. items_in (node_at nodes a)) n (items_in o ++ record { seat = seat; number = suc (counts_in o seat); now = clock; what = what } ∷ [])) (sym is_there) in
+        ∙ ap (λ o. put_one (λ a. items_in (node_at nodes a)) n (items_in o ++ record { seat = seat; number = suc (counts_in o seat); now = clock; what = what } ∷ [])) (sym is_there) in
         let counts = node_changes n nodes i x new first node_place same_node counts_in ∙ counted in
         let arms = node_stays n nodes i x new first node_place same_node arms_in refl in
         nodes_same w seats items counts arms

@@ -1,5 +1,5 @@
 -- Events at one link end.
-use Rattle.std.proofs.Common.{◌≡◌, ℕ, zero, suc, ◌+◌, ◌<◌, ◌≤◌, ◌⊎◌, inl, inr, Bool, true, false, not, List, [], ◌∷◌, ◌++◌, Option, Some, None, refl, sym, ap, ap₂, ◌∙◌, subst, arith, length, drop, set, slice_get, is_some, nat_lt, if◌then◌else◌}
+use Rattle.std.proofs.Common.{◌≡◌, ℕ, zero, suc, ◌<◌, ◌≤◌, inr, Bool, true, false, not, List, [], ◌∷◌, Some, None, refl, sym, ap, ap₂, ◌∙◌, subst, arith, length, drop, set, slice_get, is_some, if◌then◌else◌}
 use Rattle.std.proofs.lemmas.Option.{slice_get_read}
 use Rattle.std.proofs.lemmas.List.{drop_all, get_or_default}
 use Rattle.std.specs.Prelude.{slice_index_or}
@@ -14,12 +14,12 @@ use Rattle.tora_world.specs.declared.Event.TheVariants.{Open, Pull}
 use Rattle.tora_world.specs.declared.SimError.{SimError}
 use Rattle.tora_world.specs.declared.SimError.TheVariants as Refused
 use Rattle.tora_world.specs.LinkMachine.{put_at}
-use Rattle.tora_world.specs.Topology.{Topology, is_node, is_link}
+use Rattle.tora_world.specs.Topology.{Topology, is_link}
 use Rattle.tora_world.specs.World.{World, refusal_of, effect_by, world_by, world_after, own_choice, unless_possible, open_with, after_cargo, after_pull, is_empty}
 use Rattle.tora_sim.specs.Keyed.{IsFirst}
 use Rattle.tora_sim.specs.Links.{LinkView, is_at, after_open_at, after_pull_at, waiting}
 use Rattle.tora_sim.specs.Nodes.{NodeView}
-use Rattle.tora_sim.specs.Store.{SimState, state_of, world_of, IsStore, link_at, end_in, file_in, lane_in, put_in}
+use Rattle.tora_sim.specs.Store.{state_of, world_of, IsStore, link_at, end_in, file_in, lane_in, put_in}
 use Rattle.tora_sim.specs.Steps.{IsDone, IsRefused}
 use Rattle.tora_sim.proofs.Stores.{IsSameLink, link_there, link_changes, link_stays, store_set}
 
@@ -84,9 +84,9 @@ module _ (t : Topology) (times : Times) (clock : ℕ) (nodes : List NodeView) (l
       let same : IsSameLink x new = record { node = refl; peer = refl; seat = refl; settings = refl } in
       let effect = effect_is w (Open n k) (open_possible true e) in
       let ends = link_changes n k links i x new first at_place same end_in
-          ∙ ap (λ o. put_at (λ a b. end_in (link_at links a b)) n k (open_with (end_in o) clock (drawn_by DrawsNumber (file_in o)))) (sym end_there) in
+      ∙ ap (λ o. put_at (λ a b. end_in (link_at links a b)) n k (open_with (end_in o) clock (drawn_by DrawsNumber (file_in o)))) (sym end_there) in
       let files = link_changes n k links i x new first at_place same file_in
-          ∙ ap (λ o. put_at (λ a b. file_in (link_at links a b)) n k (after_event DrawsNumber (file_in o))) (sym end_there) in
+      ∙ ap (λ o. put_at (λ a b. file_in (link_at links a b)) n k (after_event DrawsNumber (file_in o))) (sym end_there) in
       let lanes = link_stays n k links i x new first at_place same lane_in refl in
       let puts = link_stays n k links i x new first at_place same put_in refl in
       links_same w ends files lanes puts ∙ sym effect
@@ -115,7 +115,7 @@ module _ (t : Topology) (times : Times) (clock : ℕ) (nodes : List NodeView) (l
       let lane : lane_in (link_at links n k) ≡ cargo ∷ drop (suc x.pulled) x.put = ap lane_in end_there ∙ front in
       let effect = effect_is w (Pull n k) (pull_possible true (ap (λ (xs : List Cargo). not (is_empty xs)) front)) ∙ ap (after_pull w n k) lane in
       let ends = link_changes n k links i x new first at_place same end_in
-          ∙ ap (λ o. put_at (λ a b. end_in (link_at links a b)) n k (after_cargo (end_in o) cargo)) (sym end_there) in
+      ∙ ap (λ o. put_at (λ a b. end_in (link_at links a b)) n k (after_cargo (end_in o) cargo)) (sym end_there) in
       let files = link_stays n k links i x new first at_place same file_in refl in
       let lanes = link_changes n k links i x new first at_place same lane_in in
       let puts = link_stays n k links i x new first at_place same put_in refl in

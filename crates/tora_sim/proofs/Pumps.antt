@@ -1,13 +1,12 @@
 -- An event of a link end goes into its node's lane.
-use Rattle.std.proofs.Common.{◌≡◌, ℕ, zero, suc, ◌<◌, ◌⊎◌, inl, inr, Bool, true, false, not, ◌&&◌, List, [], ◌∷◌, Option, Some, None, refl, sym, ap, ap₂, ◌∙◌, subst, arith, length, set, slice_get, is_some, nat_lt, if◌then◌else◌, eqb-true, Result, Ok, Err}
+use Rattle.std.proofs.Common.{◌≡◌, ℕ, ◌<◌, inl, Bool, true, false, not, ◌&&◌, List, [], ◌∷◌, Some, None, refl, sym, ap, ap₂, ◌∙◌, subst, length, set, slice_get, nat_lt, eqb-true}
 use Rattle.std.proofs.lemmas.Bool.{and_parts}
 use Rattle.std.specs.Prelude.{slice_index_or}
 use Rattle.tora_frame.specs.FrameParts.{FrameParts}
 use Rattle.tora_arq.specs.declared.Times.{Times}
 use Rattle.tora_arq.specs.declared.LinkEvent.{LinkEvent}
-use Rattle.tora_arq.specs.LinkEnd.{EndState, first_event, after_poll_event}
+use Rattle.tora_arq.specs.LinkEnd.{first_event, after_poll_event}
 use Rattle.tora_world.specs.declared.Event.TheVariants as Happens
-use Rattle.tora_world.specs.declared.SimError.{SimError}
 use Rattle.tora_world.specs.declared.SimError.TheVariants as Refused
 use Rattle.tora_world.specs.LinkMachine.{put_at}
 use Rattle.tora_world.specs.Topology.{Topology, neighbours_of}
@@ -15,7 +14,7 @@ use Rattle.tora_world.specs.World.{World, refusal_of, effect_by, world_after, ow
 use Rattle.tora_sim.specs.Keyed.{IsFirst}
 use Rattle.tora_sim.specs.Links.{LinkView, is_at, with_state}
 use Rattle.tora_sim.specs.Nodes.{NodeView, is_of, after_item}
-use Rattle.tora_sim.specs.Store.{SimState, state_of, world_of, IsStore, link_at, end_in, file_in, lane_in, put_in}
+use Rattle.tora_sim.specs.Store.{state_of, world_of, IsStore, link_at, end_in, file_in, lane_in, put_in}
 use Rattle.tora_sim.specs.Steps.{IsDone, IsRefused}
 use Rattle.tora_sim.proofs.Stores.{IsSameLink, link_changes, link_stays, store_set}
 use Rattle.tora_sim.proofs.Opens.{effect_is, refused_for, links_same, at_place, at_end, end_there}
@@ -85,7 +84,7 @@ module _ (t : Topology) (times : Times) (clock : ℕ) (nodes : List NodeView) (l
     pumped_world : nat_lt (length y.items) 1024 ≡ true → world_of (state_of t times clock (set nodes j (after_item y x.seat clock (what_of event))) (set links i polled) ds) ≡ world_after w (Happens.Pump n k)
     pumped_world q =
         let ends = link_changes n k links i x polled first at same end_in
-            ∙ ap (λ o. put_at (λ a b. end_in (link_at links a b)) n k (after_poll_event (end_in o))) (sym there) in
+        ∙ ap (λ o. put_at (λ a b. end_in (link_at links a b)) n k (after_poll_event (end_in o))) (sym there) in
         let files = link_stays n k links i x polled first at same file_in refl in
         let lanes = link_stays n k links i x polled first at same lane_in refl in
         let puts = link_stays n k links i x polled first at same put_in refl in

@@ -1,23 +1,23 @@
 -- A datagram is handed to its receiver.
-use Rattle.std.proofs.Common.{◌≡◌, ℕ, zero, suc, ◌<◌, ◌⊎◌, inl, inr, Bool, true, false, List, [], ◌∷◌, Option, Some, None, refl, sym, ap, ap₂, ◌∙◌, subst, arith, length, set, slice_get, is_some, if◌then◌else◌, eqb-true, true≢false}
+use Rattle.std.proofs.Common.{◌≡◌, ℕ, zero, suc, true, false, List, Option, Some, None, refl, sym, ap, ap₂, ◌∙◌, subst, set, slice_get, is_some, if◌then◌else◌, eqb-true, true≢false}
 use Rattle.std.proofs.lemmas.Bool.{and_parts}
 use Rattle.std.specs.Prelude.{slice_index_or}
 use Rattle.tora_frame.specs.FrameParts.{FrameParts}
 use Rattle.tora_arq.specs.declared.Times.{Times}
 use Rattle.tora_arq.specs.Settings.{Settings, settings_of}
-use Rattle.tora_arq.specs.LinkEnd.{EndState, after_frame}
+use Rattle.tora_arq.specs.LinkEnd.{after_frame}
 use Rattle.tora_world.specs.declared.Event.TheVariants as Happens
 use Rattle.tora_world.specs.declared.SimError.TheVariants as Refused
 use Rattle.tora_world.specs.LinkMachine.{put_at}
 use Rattle.tora_world.specs.Topology.{Topology, is_node, is_link}
-use Rattle.tora_world.specs.World.{World, Arms, refusal_of, effect_by, world_after, own_choice, with_end, after_receiving, datagram}
+use Rattle.tora_world.specs.World.{World, refusal_of, effect_by, world_after, own_choice, with_end, after_receiving, datagram}
 use Rattle.tora_seat.specs.Serving.{put_one}
 use Rattle.tora_sim.specs.Keyed.{IsFirst}
 use Rattle.tora_sim.specs.Links.{LinkView, is_at, with_state}
 use Rattle.tora_sim.specs.Nodes.{NodeView, is_of}
-use Rattle.tora_sim.specs.Store.{SimState, state_of, world_of, numbered, IsStore, IsOfLink, IsLinkOf, EachOf, link_at, end_in, file_in, lane_in, put_in, node_at, seat_in, items_in, counts_in, arms_in}
+use Rattle.tora_sim.specs.Store.{state_of, world_of, numbered, IsStore, link_at, end_in, file_in, lane_in, put_in, node_at, seat_in, items_in, counts_in, arms_in}
 use Rattle.tora_sim.specs.Steps.{IsDone, IsRefused}
-use Rattle.tora_sim.proofs.Stores.{IsFound, is_found, IsSameLink, IsSameNode, link_changes, link_stays, store_set, node_changes, node_stays, node_stays_by, store_set_node}
+use Rattle.tora_sim.proofs.Stores.{is_found, IsSameLink, IsSameNode, link_changes, link_stays, store_set, node_changes, node_stays, node_stays_by, store_set_node}
 use Rattle.tora_sim.proofs.Opens.{effect_is, refused_for, links_same, at_place, end_there}
 use Rattle.tora_sim.proofs.Needs.{nodes_same, node_place, is_there}
 
@@ -82,7 +82,7 @@ module _ (t : Topology) (times : Times) (clock : ℕ) (nodes : List NodeView) (l
           let items = node_stays n nodes j y disarmed first' at' same' items_in refl in
           let counts = node_stays n nodes j y disarmed first' at' same' counts_in refl in
           let arms = node_changes n nodes j y disarmed first' at' same' arms_in
-              ∙ ap (λ o. put_one (λ a. arms_in (node_at nodes a)) n (record (arms_in o) { receive = false })) (sym there') in
+          ∙ ap (λ o. put_one (λ a. arms_in (node_at nodes a)) n (record (arms_in o) { receive = false })) (sym there') in
           nodes_same w seats items counts arms
           ∙ sym (effect ∙ ap (λ b. if b then record w { arms = put_one w.arms n (record (w.arms n) { receive = false }) } else with_end w n f.header.sender (after_frame (settings_of n f.header.sender times) (w.ends n f.header.sender) f clock)) (ap (λ o. (arms_in o).receive) there' ∙ armed))
 
@@ -119,7 +119,7 @@ module _ (t : Topology) (times : Times) (clock : ℕ) (nodes : List NodeView) (l
         received_world : y.receive ≡ false → world_of (state_of t times clock nodes (set links m received) ds) ≡ world_after w (Happens.Deliver i)
         received_world armed =
             let ends = link_changes n k links m x received first at same end_in
-                ∙ ap₂ (λ (s : Settings) o. put_at (λ a b. end_in (link_at links a b)) n k (after_frame s (end_in o) f clock)) set_for (sym there) in
+            ∙ ap₂ (λ (s : Settings) o. put_at (λ a b. end_in (link_at links a b)) n k (after_frame s (end_in o) f clock)) set_for (sym there) in
             let files = link_stays n k links m x received first at same file_in refl in
             let lanes = link_stays n k links m x received first at same lane_in refl in
             let puts = link_stays n k links m x received first at same put_in refl in

@@ -1,8 +1,8 @@
 -- Events, one after another.
-use Rattle.std.proofs.Common.{◌≡◌, ℕ, zero, suc, ◌+◌, ◌<◌, ◌⊎◌, inl, inr, List, [], ◌∷◌, length, drop, get_or, refl, sym, ap, ◌∙◌, subst, arith}
+use Rattle.std.proofs.Common.{ℕ, zero, suc, ◌<◌, inl, inr, List, [], ◌∷◌, length, get_or, refl, subst, arith}
 use Rattle.tora_world.specs.declared.Event.{Event}
 use Rattle.tora_world.specs.declared.SimError.{SimError}
-use Rattle.tora_world.specs.World.{World, refusal_of, world_after}
+use Rattle.tora_world.specs.World.{World}
 use Rattle.tora_sim.specs.Steps.{IsDone, IsRefused, IsRun, AreRun, AllAreDone, StopsWith}
 
 -- what the rest of the events does is what all of them do

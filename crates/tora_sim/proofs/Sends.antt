@@ -1,11 +1,9 @@
 -- The first frame due goes out.
-use Rattle.std.proofs.Common.{◌≡◌, ℕ, zero, suc, ◌<◌, ◌⊎◌, inl, inr, Bool, true, false, List, [], ◌∷◌, ◌++◌, Option, Some, None, refl, sym, ap, ap₂, ◌∙◌, subst, arith, length, set, slice_get, is_some, if◌then◌else◌, eqb-true, eq-eqb, true≢false}
+use Rattle.std.proofs.Common.{◌≡◌, ℕ, inl, Bool, true, false, List, Some, None, refl, sym, ap, ap₂, ◌∙◌, subst, set, slice_get, is_some, eqb-true, true≢false}
 use Rattle.std.proofs.lemmas.Bool.{and_parts}
 use Rattle.std.specs.Prelude.{slice_index_or}
-use Rattle.tora_packet.specs.declared.Packet.{Packet}
 use Rattle.tora_frame.specs.FrameParts.{FrameParts}
 use Rattle.tora_arq.specs.declared.Times.{Times}
-use Rattle.tora_arq.specs.declared.Life.{Life}
 use Rattle.tora_arq.specs.declared.state.Phase.{Phase}
 use Rattle.tora_arq.specs.declared.state.Phase.TheVariants.{Closed, Unbound, Bound}
 use Rattle.tora_arq.specs.Settings.{Settings, settings_of}
@@ -16,14 +14,14 @@ use Rattle.tora_world.specs.declared.Event.TheVariants as Happens
 use Rattle.tora_world.specs.declared.SimError.TheVariants as Refused
 use Rattle.tora_world.specs.LinkMachine.{put_at}
 use Rattle.tora_world.specs.Topology.{Topology, is_node, is_link}
-use Rattle.tora_world.specs.World.{World, Arms, refusal_of, effect_by, world_after, own_choice, unless_possible, after_sending, with_datagram, Sending as Sent}
+use Rattle.tora_world.specs.World.{World, refusal_of, effect_by, world_after, unless_possible, after_sending, with_datagram, Sending as Sent}
 use Rattle.tora_world.specs.World.Sending.{Goes, IsLost, IsGone}
 use Rattle.tora_seat.specs.Serving.{put_one}
 use Rattle.tora_sim.specs.declared.nodes.Sending.TheVariants as Sends
 use Rattle.tora_sim.specs.Keyed.{IsFirst}
 use Rattle.tora_sim.specs.Links.{LinkView, is_at, with_state}
 use Rattle.tora_sim.specs.Nodes.{NodeView, is_of, sending_of}
-use Rattle.tora_sim.specs.Store.{SimState, state_of, world_of, IsStore, IsOfLink, EachOf, link_at, end_in, file_in, lane_in, put_in, node_at, seat_in, items_in, counts_in, arms_in}
+use Rattle.tora_sim.specs.Store.{state_of, world_of, IsStore, IsOfLink, link_at, end_in, file_in, lane_in, put_in, node_at, seat_in, items_in, counts_in, arms_in}
 use Rattle.tora_sim.specs.Steps.{IsDone, IsRefused}
 use Rattle.tora_sim.proofs.Stores.{IsSameLink, IsSameNode, link_changes, link_stays, store_set, node_changes, node_stays, node_stays_by, store_set_node, store_push}
 use Rattle.tora_sim.proofs.Opens.{effect_is, refused_for, links_same, at_place, at_end, end_there}
@@ -103,7 +101,7 @@ module _ (t : Topology) (times : Times) (clock : ℕ) (nodes : List NodeView) (l
     sent_world : world_of (state_of t times clock (set nodes j disarmed) (set links i sent) datagrams) ≡ world_after w (Happens.Transmit n k)
     sent_world =
         let ends = link_changes n k links i x sent first at same end_in
-            ∙ ap₂ (λ (s : Settings) o. put_at (λ a b. end_in (link_at links a b)) n k (after_transmit s (end_in o) clock)) set_for (sym there) in
+        ∙ ap₂ (λ (s : Settings) o. put_at (λ a b. end_in (link_at links a b)) n k (after_transmit s (end_in o) clock)) set_for (sym there) in
         let files = link_stays n k links i x sent first at same file_in refl in
         let lanes = link_stays n k links i x sent first at same lane_in refl in
         let puts = link_stays n k links i x sent first at same put_in refl in
@@ -111,7 +109,7 @@ module _ (t : Topology) (times : Times) (clock : ℕ) (nodes : List NodeView) (l
         let items = node_stays n nodes j y disarmed first' at' same' items_in refl in
         let counts = node_stays n nodes j y disarmed first' at' same' counts_in refl in
         let arms = node_changes n nodes j y disarmed first' at' same' arms_in
-            ∙ ap (λ o. put_one (λ a. arms_in (node_at nodes a)) n (record (arms_in o) { sending = Goes })) (sym there') in
+        ∙ ap (λ o. put_one (λ a. arms_in (node_at nodes a)) n (record (arms_in o) { sending = Goes })) (sym there') in
         let w' = world_of (state_of t times clock nodes links datagrams) in
         let u = world_of (state_of t times clock (set nodes j disarmed) links datagrams) in
         links_same u ends files lanes puts
@@ -146,6 +144,7 @@ module _ (t : Topology) (times : Times) (clock : ℕ) (nodes : List NodeView) (l
         of_link =
             let b = goes_between law x.settings x.state clock f due in
             ap₂ (λ p q. is_link t p q) (b.1 ∙ ap (λ (s : Settings). s.peer) set_for ∙ sym ends_of_it.1) (b.0 ∙ ap (λ (s : Settings). s.me) set_for ∙ sym ends_of_it.0) ∙ (h.each_link i x at).back
+
         kept : (s : Sent) → IsStore (state_of t times clock nodes links (with_datagram s ds f))
         kept Goes = store_push t times clock nodes links ds f of_link h
         kept IsLost = h

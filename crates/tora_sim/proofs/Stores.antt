@@ -1,5 +1,5 @@
 -- What is stored, and the functions that it is, after a change of one link end or one node.
-use Rattle.std.proofs.Common.{◌≡◌, ℕ, zero, suc, ◌<◌, ◌≤◌, Bool, true, false, ◌&&◌, ◌⊎◌, inl, inr, List, [], ◌∷◌, ◌++◌, map, length, get_or, set, slice_get, Option, Some, None, refl, sym, ap, ap₂, ◌∙◌, subst, arith, cond, find, is_some, option_map, if◌then◌else◌, nat_eq, eqb-true, eq-eqb, true≢false}
+use Rattle.std.proofs.Common.{◌≡◌, ℕ, zero, suc, ◌<◌, Bool, true, false, ◌&&◌, ◌⊎◌, inl, inr, List, [], ◌∷◌, ◌++◌, map, length, get_or, set, slice_get, Option, Some, None, refl, sym, ap, ap₂, ◌∙◌, subst, arith, cond, find, is_some, if◌then◌else◌, nat_eq, eqb-true, eq-eqb, true≢false}
 use Rattle.std.proofs.lemmas.Bool.{cases_Bool, and_parts}
 use Rattle.std.proofs.lemmas.Bool.Decides.{nat_tests}
 use Rattle.std.proofs.lemmas.List.{get_or-set_same, get_or-set_other, length-set, length-map}
@@ -15,7 +15,7 @@ use Rattle.tora_seat.specs.Serving.{put_one}
 use Rattle.tora_sim.specs.Keyed.{IsFirst, IsOrdered}
 use Rattle.tora_sim.specs.Links.{LinkView, is_at}
 use Rattle.tora_sim.specs.Nodes.{NodeView, is_of}
-use Rattle.tora_sim.specs.Store.{SimState, state_of, IsStore, IsLinkOf, IsNodeOf, IsOfLink, EachOf, link_at, node_at}
+use Rattle.tora_sim.specs.Store.{state_of, IsStore, IsLinkOf, IsNodeOf, IsOfLink, EachOf, link_at, node_at}
 use Rattle.tora_sim.specs.Links as Links
 use Rattle.tora_sim.specs.Nodes as Nodes
 use Rattle.tora_sim.proofs.Keys.{found, found_after, other_after}
@@ -78,16 +78,22 @@ ordered_set {A} Before xs i x new e s h a b d lt within = go (cases_Bool (nat_eq
   where
     inside : b < length xs
     inside = subst (λ m. b < m) (length-set xs i new) within
+
     at : i < length xs
     at = slice_get_within xs i x e
+
     other : (j : ℕ) → nat_eq j i ≡ false → get_or (set xs i new) j d ≡ get_or xs j d
     other j q = get_or-set_other xs i j new d (λ same. true≢false (sym (eq-eqb j i same) ∙ q))
+
     same : (j : ℕ) → nat_eq j i ≡ true → get_or (set xs i new) j d ≡ new
     same j q = subst (λ m. get_or (set xs i new) m d ≡ new) (sym (eqb-true j i q)) (get_or-set_same xs i new d at)
+
     was : (j : ℕ) → nat_eq j i ≡ true → get_or xs j d ≡ x
     was j q = subst (λ m. get_or xs m d ≡ x) (sym (eqb-true j i q)) (get_or_from_slice_get xs i x d e)
+
     before : Before (get_or xs a d) (get_or xs b d)
     before = h a b d lt inside
+
     go : (nat_eq a i ≡ true) ⊎ (nat_eq a i ≡ false) → (nat_eq b i ≡ true) ⊎ (nat_eq b i ≡ false) → Before (get_or (set xs i new) a d) (get_or (set xs i new) b d)
     go (inl p) (inl q) = absurd (let u = eqb-true a i p in let v = eqb-true b i q in omega arith)
     go (inl p) (inr q) =
@@ -137,6 +143,7 @@ module _ (n k : ℕ) (links : List LinkView) (i : ℕ) (x new : LinkView) (first
     where
       q : (x.node ≡ n) × (x.peer ≡ k)
       q = let h = and_parts _ _ here in (eqb-true x.node n h.0, eqb-true x.peer k h.1)
+
       go : ((nat_eq a n && nat_eq b k) ≡ true) ⊎ ((nat_eq a n && nat_eq b k) ≡ false) → link_at (set links i new) a b ≡ put_at (link_at links) n k (Some new) a b
       go (inl t) =
           let w = and_parts _ _ t in

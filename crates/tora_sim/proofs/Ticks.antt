@@ -1,20 +1,20 @@
 -- Every end is ticked.
-use Rattle.std.proofs.Common.{◌≡◌, ℕ, suc, ◌+◌, ◌⊎◌, inl, inr, Bool, true, false, List, [], ◌∷◌, map, Option, Some, None, refl, sym, ap, ap₂, ◌∙◌, subst, arith, cond, find, is_some, option_map, eqb-true, slice_get}
-use Rattle.std.proofs.lemmas.Bool.{cases_Bool, and_parts}
+use Rattle.std.proofs.Common.{◌≡◌, ℕ, suc, ◌+◌, Bool, true, false, List, [], ◌∷◌, map, Option, Some, None, refl, sym, ap, ap₂, ◌∙◌, subst, arith, cond, is_some, option_map, eqb-true}
+use Rattle.std.proofs.lemmas.Bool.{and_parts}
 use mathlib.Core.Path.{fun_ext}
 use Rattle.tora_frame.specs.FrameParts.{FrameParts}
 use Rattle.tora_arq.specs.declared.Times.{Times}
 use Rattle.tora_arq.specs.Settings.{Settings, settings_of}
-use Rattle.tora_arq.specs.LinkEnd.{EndState, first_end, after_tick}
+use Rattle.tora_arq.specs.LinkEnd.{EndState, after_tick}
 use Rattle.tora_world.specs.declared.Event.TheVariants.{Tick}
 use Rattle.tora_world.specs.Topology.{Topology}
-use Rattle.tora_world.specs.World.{World, effect_by, world_by, world_after}
+use Rattle.tora_world.specs.World.{effect_by, world_by, world_after}
 use Rattle.tora_sim.specs.Links.{LinkView, is_at, ticked}
 use Rattle.tora_sim.specs.Nodes.{NodeView}
-use Rattle.tora_sim.specs.Store.{SimState, state_of, world_of, IsStore, IsLinkOf, EachOf, link_at, end_in, file_in, lane_in, put_in}
+use Rattle.tora_sim.specs.Store.{state_of, world_of, IsStore, IsLinkOf, link_at, end_in, file_in, lane_in, put_in}
 use Rattle.tora_sim.specs.Steps.{IsDone}
 use Rattle.tora_sim.specs.Links as Links
-use Rattle.tora_sim.proofs.Stores.{IsFound, is_found, each_map, ordered_map}
+use Rattle.tora_sim.proofs.Stores.{is_found, each_map, ordered_map}
 
 link_map : (now n k : ℕ) (links : List LinkView) → link_at (map (ticked now) links) n k ≡ option_map (ticked now) (link_at links n k)
 link_map now n k [] = refl

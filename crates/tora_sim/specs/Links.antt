@@ -1,5 +1,5 @@
 -- A link end as it is stored.
-use Rattle.std.specs.Prelude.{ℕ, ◌==◌, ◌&&◌, ◌<◌, ◌≡◌, ◌⊎◌, suc, Bool, List, [], ◌∷◌, Option, None, Some, drop, if◌then◌else◌}
+use Rattle.std.specs.Prelude.{ℕ, ◌==◌, ◌&&◌, ◌<◌, ◌≡◌, ◌⊎◌, suc, Bool, List, Option, None, Some, drop, if◌then◌else◌}
 use Rattle.tora_sim.specs.Keyed.{IsOrdered}
 use Rattle.std.specs.Ordering.{nat_cmp, ordering_then}
 use Rattle.std.specs.declared.cmp.Ordering.{Ordering}
@@ -10,7 +10,7 @@ use Rattle.tora_life.specs.LifeRun.{LifeDisk, after_event, drawn_by}
 use Rattle.tora_life.specs.LifeRun.LifeEvent.{Draw as DrawsNumber, Arm as ArmsDisk}
 use Rattle.tora_life.specs.declared.state.DiskCall.{DiskCall}
 use Rattle.tora_seat.specs.declared.Cargo.{Cargo}
-use Rattle.tora_world.specs.World.{open_with, after_cargo, reopened}
+use Rattle.tora_world.specs.World.{open_with, after_cargo}
 
 pub record LinkView : Type 0 where
   pub node : ℕ

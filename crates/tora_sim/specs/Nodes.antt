@@ -1,5 +1,5 @@
 -- A node as it is stored.
-use Rattle.std.specs.Prelude.{◌≡◌, ℕ, suc, ◌==◌, ◌<◌, Bool, List, [], ◌∷◌, ◌++◌, set, slice_index}
+use Rattle.std.specs.Prelude.{ℕ, suc, ◌==◌, ◌<◌, Bool, List, [], ◌∷◌, ◌++◌, set, slice_index}
 use Rattle.tora_core.specs.CoreRun.{CoreView}
 use Rattle.tora_seat.specs.declared.What.{What}
 use Rattle.tora_seat.specs.declared.Item.{Item}

@@ -1,8 +1,8 @@
 -- What the simulator stores, and the world that it is.
-use Rattle.std.specs.Prelude.{◌≡◌, ℕ, zero, suc, ◌<◌, ◌≤◌, Bool, true, false, is_some, List, [], ◌∷◌, length, slice_get, slice_index, Option, Some, None, find}
+use Rattle.std.specs.Prelude.{◌≡◌, ℕ, zero, suc, ◌<◌, true, false, is_some, List, [], length, slice_get, slice_index, Option, Some, None, find}
 use Rattle.tora_frame.specs.FrameParts.{FrameParts}
 use Rattle.tora_arq.specs.declared.Times.{Times}
-use Rattle.tora_arq.specs.Settings.{settings_of, IsTimes}
+use Rattle.tora_arq.specs.Settings.{settings_of}
 use Rattle.tora_arq.specs.LinkEnd.{EndState, first_end}
 use Rattle.tora_life.specs.State.{fresh_state}
 use Rattle.tora_life.specs.LifeRun.{LifeDisk, opened}

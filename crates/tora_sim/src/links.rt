@@ -181,9 +181,7 @@ fn search(links: &[LinkSlot], n: Id, k: Id) -> Option<usize>
     ensures first { IfSome result (λ i. IsFirst (is_at n k) links.now i) }
     ensures none { IfNone result (find (is_at n k) links.now ≡ None) }
 {
-    links
-        .binary_search_by_key(&(n, k), |link| link.key())
-        .ok()
+    links.binary_search_by_key(&(n, k), |link| link.key()).ok()
 }
 
 /// Ticks every end.

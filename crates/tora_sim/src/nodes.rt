@@ -102,7 +102,12 @@ impl NodeSlot {
         let Some(number) = self.counts[seat].checked_add(1) else {
             return Err(SimError::Memory);
         };
-        let item = Item { seat, number, now, what };
+        let item = Item {
+            seat,
+            number,
+            now,
+            what,
+        };
         if self.items.push_back(item).is_err() {
             return Err(SimError::Memory);
         }
@@ -125,7 +130,5 @@ fn search(nodes: &[NodeSlot], n: Id) -> Option<usize>
     ensures first { IfSome result (λ i. IsFirst (is_of n) nodes.now i) }
     ensures none { IfNone result (find (is_of n) nodes.now ≡ None) }
 {
-    nodes
-        .binary_search_by_key(&n, |node| node.key())
-        .ok()
+    nodes.binary_search_by_key(&n, |node| node.key()).ok()
 }

@@ -7,10 +7,10 @@ ghost use Rattle.tora_sim.specs.Store.{numbered, call_of};
 ghost use Rattle.tora_world.specs.Topology.{is_node};
 ghost use Rattle.tora_sim.specs.Steps.{Does, IsRun, AreRun, Runs};
 
-use crate::{Call, Event, SimError};
 use crate::links::{LinkSlot, arm, place, tick};
 use crate::nodes::{NodeSlot, Sending, place as node_place};
 use crate::topology::Topology;
+use crate::{Call, Event, SimError};
 use std::marker::Model;
 use tora_arq::{LinkEvent, Times, data_frames_are_what_was_submitted};
 use tora_frame::Frame;

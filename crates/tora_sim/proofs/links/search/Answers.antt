@@ -1,7 +1,7 @@
-use Rattle.std.proofs.Common.{ℕ, List, Option, IfSome, IfNone, None, find, ◌≡◌, sym, subst, rules}
+use Rattle.std.proofs.Common.{ℕ, Option, IfSome, IfNone, None, find, ◌≡◌, sym, subst, rules}
 use Rattle.std.proofs.lemmas.List.Sorted.{answers_always}
 use Rattle.tora_sim.specs.Keyed.{IsFirst}
-use Rattle.tora_sim.specs.Links.{LinkView, is_at, compared}
+use Rattle.tora_sim.specs.Links.{LinkView, is_at}
 use Rattle.tora_sim.proofs.Keys.{placed, not_placed}
 use Rattle.tora_sim.proofs.links.search.Goals as goal
 

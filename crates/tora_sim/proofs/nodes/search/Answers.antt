@@ -1,4 +1,4 @@
-use Rattle.std.proofs.Common.{ℕ, List, Option, IfSome, IfNone, None, find, ◌≡◌, sym, subst, rules}
+use Rattle.std.proofs.Common.{ℕ, Option, IfSome, IfNone, None, find, ◌≡◌, sym, subst, rules}
 use Rattle.std.proofs.lemmas.List.Sorted.{answers_always}
 use Rattle.tora_sim.specs.Keyed.{IsFirst}
 use Rattle.tora_sim.specs.Nodes.{NodeView, is_of}

@@ -2,7 +2,6 @@ use Rattle.std.proofs.Common.{◌≡◌, ap, ap₂, sym, ◌∙◌, subst, arith
 use Rattle.tora_sim.specs.Files.{disk_of}
 use Rattle.std.proofs.lemmas.Option.{slice_get_read}
 use Rattle.std.specs.Prelude.{slice_get}
-use Rattle.tora_arq.specs.LinkEnd.{EndState}
 use Rattle.tora_arq.specs.EndRange.{LinkEndView}
 use Rattle.tora_seat.specs.declared.Cargo.{Cargo}
 use Rattle.tora_world.specs.World.{after_cargo}
@@ -12,9 +11,11 @@ use Rattle.tora_sim.proofs.links.LinkSlot.pull.Goals as goal
 
 pub invariant_of-self : goal.invariant_of-self
 invariant_of-self c =
-    let end = c.self.inside.end in
-    (stays_drawn end.state (after_cargo end.state c.index.result.now) c.give.new.end.state _ (ap (λ (e : LinkEndView). e.state) c.give.ensures)
-    (cargo_stays c.lives_are_bound_once.ensures.number end.settings end.state c.index.result.now) c.self.invariant.0, (let w : c.self.inside.pulled < length c.self.inside.put.items = subst (λ (v : LinkView). v.pulled < length v.put) (sym c.self.view_is) c.requires in omega arith))
+    let end = c.self.inside.end in (
+      stays_drawn end.state (after_cargo end.state c.index.result.now) c.give.new.end.state _ (ap (λ (e : LinkEndView). e.state) c.give.ensures)
+          (cargo_stays c.lives_are_bound_once.ensures.number end.settings end.state c.index.result.now) c.self.invariant.0,
+      (let w : c.self.inside.pulled < length c.self.inside.put.items = subst (λ (v : LinkView). v.pulled < length v.put) (sym c.self.view_is) c.requires in omega arith),
+    )
 
 pub returns : goal.returns
 returns c =

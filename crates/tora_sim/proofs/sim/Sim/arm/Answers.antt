@@ -1,4 +1,4 @@
-use Rattle.std.proofs.Common.{◌≡◌, true, ℕ, List, Some, is_some, sym, subst, ap, ◌∙◌}
+use Rattle.std.proofs.Common.{◌≡◌, true, subst}
 use Rattle.std.specs.Prelude.{slice_set}
 use Rattle.tora_world.specs.declared.Event.TheVariants.{Arm}
 use Rattle.tora_world.specs.Topology.{is_node}

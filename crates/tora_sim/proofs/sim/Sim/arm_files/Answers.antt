@@ -1,4 +1,4 @@
-use Rattle.std.proofs.Common.{◌≡◌, true, sym, subst, ap, ◌∙◌}
+use Rattle.std.proofs.Common.{◌≡◌, true, sym, subst}
 use Rattle.tora_world.specs.declared.Event.TheVariants.{Arm}
 use Rattle.tora_world.specs.Topology.{is_node}
 use Rattle.tora_sim.specs.Store.{SimState, state_of, world_of, call_of}

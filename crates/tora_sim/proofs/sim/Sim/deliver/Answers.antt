@@ -1,14 +1,14 @@
-use Rattle.std.proofs.Common.{◌≡◌, true, false, Some, None, ap, sym, ◌∙◌, subst, find}
+use Rattle.std.proofs.Common.{◌≡◌, true, None, ap, sym, ◌∙◌, subst, find}
 use Rattle.std.specs.Prelude.{slice_set}
 use Rattle.tora_frame.specs.declared.parts.Header.{Header}
 use Rattle.tora_world.specs.declared.Event.TheVariants.{Deliver}
 use Rattle.tora_sim.specs.Keyed.{IsFirst}
 use Rattle.tora_sim.specs.Links.{is_at}
 use Rattle.tora_sim.specs.Nodes.{NodeView, is_of}
-use Rattle.tora_sim.specs.Store.{SimState, state_of, world_of, numbered}
+use Rattle.tora_sim.specs.Store.{SimState, state_of, world_of}
 use Rattle.tora_sim.specs.Steps.{IsDone}
 use Rattle.tora_sim.proofs.Opens.{same_read}
-use Rattle.tora_sim.proofs.Receives.{home_is_there, link_is_there, failed_done, failed_store, received_done, received_store}
+use Rattle.tora_sim.proofs.Receives.{home_is_there, failed_done, failed_store, received_done, received_store}
 use Rattle.tora_sim.proofs.sim.Sim.deliver.Goals as goal
 
 pub returns-in_default-node_place : goal.returns-in_default-node_place

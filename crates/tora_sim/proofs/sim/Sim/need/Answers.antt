@@ -1,4 +1,4 @@
-use Rattle.std.proofs.Common.{◌≡◌, ◌<◌, ◌≤◌, length, nat_lt, true, false, arith, MatchResult, ap, sym, ◌∙◌, subst}
+use Rattle.std.proofs.Common.{◌≡◌, ◌<◌, ◌≤◌, length, nat_lt, true, arith, MatchResult, ap, sym, ◌∙◌, subst}
 use Rattle.std.specs.Prelude.{slice_set}
 use Rattle.std.proofs.lemmas.Bool.{lt-ltb, le-ltb}
 use Rattle.tora_world.specs.declared.Event.TheVariants.{Need}
@@ -6,7 +6,7 @@ use Rattle.tora_world.specs.declared.SimError.TheVariants as Refused
 use Rattle.tora_seat.specs.declared.What.TheVariants as Tells
 use Rattle.tora_sim.specs.Nodes.{NodeView, after_item}
 use Rattle.tora_sim.specs.Store.{SimState, state_of, world_of}
-use Rattle.tora_sim.specs.Steps.{IsDone, IsRefused, Does}
+use Rattle.tora_sim.specs.Steps.{IsRefused, Does}
 use Rattle.tora_sim.proofs.Opens.{same_read}
 use Rattle.tora_sim.proofs.Needs.{need_refused, put_store, need_does, of_node, IsPut}
 use Rattle.tora_sim.proofs.sim.Sim.need.Goals as goal

@@ -1,4 +1,4 @@
-use Rattle.std.proofs.Common.{◌≡◌, ap, sym, ◌∙◌, subst}
+use Rattle.std.proofs.Common.{ap, sym, ◌∙◌, subst}
 use Rattle.tora_world.specs.declared.Event.TheVariants.{Open}
 use Rattle.tora_world.specs.declared.SimError.TheVariants as Refused
 use Rattle.tora_arq.specs.LinkEnd.{is_closed}

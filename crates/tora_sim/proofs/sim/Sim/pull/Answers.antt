@@ -1,4 +1,4 @@
-use Rattle.std.proofs.Common.{◌≡◌, ◌<◌, ◌≤◌, length, nat_lt, true, false, ap, sym, ◌∙◌, subst}
+use Rattle.std.proofs.Common.{◌<◌, length, sym, ◌∙◌, subst}
 use Rattle.std.specs.Prelude.{slice_set}
 use borrow.Author.Tests.{ltb-true, ltb-false}
 use Rattle.tora_world.specs.declared.Event.TheVariants.{Pull}

@@ -1,7 +1,7 @@
-use Rattle.std.proofs.Common.{◌≡◌, ◌<◌, ◌≤◌, length, nat_lt, true, false, Some, None, ap, ap₂, sym, ◌∙◌, subst, arith, List, ℕ}
+use Rattle.std.proofs.Common.{◌≡◌, ◌<◌, ◌≤◌, length, nat_lt, true, ap, ap₂, sym, ◌∙◌, subst, arith, List, ℕ}
 use Rattle.std.specs.Prelude.{slice_set, slice_index_or}
 use Rattle.std.proofs.lemmas.Bool.{lt-ltb, le-ltb}
-use Rattle.tora_arq.specs.LinkEnd.{first_event, after_poll_event}
+use Rattle.tora_arq.specs.LinkEnd.{after_poll_event}
 use Rattle.tora_world.specs.declared.Event.TheVariants.{Pump}
 use Rattle.tora_world.specs.declared.SimError.{SimError}
 use Rattle.tora_world.specs.declared.SimError.TheVariants as Refused

@@ -1,12 +1,11 @@
-use Rattle.std.proofs.Common.{◌≡◌, length, true, false, List, Some, None, is_some, ap, ap₂, sym, ◌∙◌, subst}
+use Rattle.std.proofs.Common.{◌≡◌, List, Some, ap, sym, ◌∙◌, subst}
 use Rattle.std.specs.Prelude.{slice_set}
 use Rattle.tora_frame.specs.FrameParts.{FrameParts}
-use Rattle.tora_arq.specs.LinkEnd.{frame_due, after_transmit}
+use Rattle.tora_arq.specs.LinkEnd.{frame_due}
 use Rattle.tora_world.specs.declared.Event.TheVariants.{Transmit}
 use Rattle.tora_world.specs.declared.SimError.TheVariants as Refused
 use Rattle.tora_world.specs.World.{with_datagram}
-use Rattle.tora_sim.specs.Links.{LinkView, with_state}
-use Rattle.tora_sim.specs.Nodes.{NodeView, sending_of}
+use Rattle.tora_sim.specs.Nodes.{sending_of}
 use Rattle.tora_sim.specs.Store.{SimState, state_of, world_of}
 use Rattle.tora_sim.specs.Steps.{IsDone, IsRefused}
 use Rattle.tora_sim.proofs.Opens.{same_read}
