@@ -58,6 +58,13 @@ impl EventQueue {
         push(&mut self.ring, event);
     }
 
+    /// The first event.
+    pub fn first(&self) -> Option<LinkEvent>
+        ensures { result ≡ slice_get self.now 0 }
+    {
+        self.ring.front().copied()
+    }
+
     /// Removes the first event.
     pub fn pop(&mut self) -> Option<LinkEvent>
         ensures value { result ≡ slice_get self.old 0 }

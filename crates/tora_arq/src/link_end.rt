@@ -1,5 +1,5 @@
 //! A link end, as its node sees it.
-ghost use Rattle.std.specs.Prelude.{◌≡◌, ◌≢◌, ◌<◌, ◌≤◌, ◌^◌, IfOk, IfNone, IsTrue, OnSome, length};
+ghost use Rattle.std.specs.Prelude.{◌≡◌, ◌≢◌, ◌<◌, ◌≤◌, ◌^◌, IfOk, IfNone, IsTrue, OnSome, is_some, length};
 ghost use Rattle.tora_arq.specs.Settings.{IsTimes, settings_of};
 ghost use Rattle.tora_arq.specs.LinkEnd.{first_end, is_closed, bound_life, after_open, verdict_of, after_frame, after_tick, submit_answer, after_submit, after_cut, first_event, after_poll_event, frame_due, after_transmit};
 ghost use Rattle.tora_arq.specs.EndRange.{IsEndState, link_end_of};
@@ -184,12 +184,26 @@ impl LinkEnd {
         self.state.submit(life, packet)
     }
 
+    /// The next event, if one waits. It stays.
+    pub fn next_event(&self) -> Option<LinkEvent>
+        ensures { result ≡ first_event self.now.state }
+    {
+        self.state.events.first()
+    }
+
     /// Takes the next event, if one waits.
     pub fn poll_event(&mut self) -> Option<LinkEvent>
         ensures event { result ≡ first_event self.old.state }
         ensures state { self.new ≡ record self.old { state = after_poll_event self.old.state } }
     {
         self.state.events.pop()
+    }
+
+    /// Whether a frame is due.
+    pub fn has_frame_due(&self, now: u64) -> bool
+        ensures { result ≡ is_some (frame_due self.now.settings self.now.state now) }
+    {
+        self.state.is_frame_due(&self.settings, now)
     }
 
     /// Takes the first frame due, which counts as sent; `None` only where none is due.

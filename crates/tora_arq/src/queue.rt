@@ -1,5 +1,5 @@
 //! The send queue of a link end.
-ghost use Rattle.std.specs.Prelude.{◌≡◌, ◌<◌, ◌≤◌, ◌+◌, ◌^◌, ℕ, [], ◌∷◌, ◌++◌, length, drop, min, slice_get, Some, IfOk, IfNone, IfSome, IsTrue, MatchOption, option_map};
+ghost use Rattle.std.specs.Prelude.{◌≡◌, ◌<◌, ◌≤◌, ◌+◌, ◌^◌, ℕ, [], ◌∷◌, ◌++◌, length, drop, min, slice_get, Some, IfOk, IfNone, IfSome, IsTrue, MatchOption, is_some, option_map};
 ghost use Rattle.tora_arq.specs.Settings.{ticks_passed};
 ghost use Rattle.tora_arq.specs.SendQueue.{untried, retried, is_retry_time, is_ready, is_given_up, has_given_up, first_due, due_packet, AreLate, IsFirstReady};
 ghost use Rattle.tora_arq.specs.EndRange.{AreUntried};
@@ -178,6 +178,16 @@ impl SendQueue {
             }
         }
         None
+    }
+
+    /// Whether a packet within the window is due.
+    pub fn is_due(&self, times: &Times, now: u64) -> bool
+        ensures { (number : ℕ) → result ≡ is_some (first_due times.now now number WINDOW self.now) }
+    {
+        match self.first_ready(times, now) {
+            Some(_) => true,
+            None => false,
+        }
     }
 
     /// The first packet due within the window, which counts as transmitted now.

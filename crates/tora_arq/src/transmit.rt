@@ -1,5 +1,5 @@
 //! The frames that a link end has to send.
-ghost use Rattle.std.specs.Prelude.{◌≡◌, ◌<◌, ◌≤◌, ◌+◌, ◌^◌, suc, length};
+ghost use Rattle.std.specs.Prelude.{◌≡◌, ◌<◌, ◌≤◌, ◌+◌, ◌^◌, suc, is_some, length};
 ghost use Rattle.tora_frame.specs.FrameParts.{IsHeader, IsLifeNumber};
 ghost use Rattle.tora_arq.specs.Settings.{IsLink};
 ghost use Rattle.tora_arq.specs.SendQueue.{first_due};
@@ -80,6 +80,26 @@ impl State {
             return Some(Frame::ack(header, accepted));
         }
         None
+    }
+
+    /// Whether a packet is due, or an ACK is owed.
+    fn is_body_due(&self, settings: &Settings, now: u64) -> bool
+        ensures { (life : Life) → result ≡ is_some (on_transmit_due (settings_in settings.now) (state_in self.now) life
+            (first_due settings.now.times now (suc self.now.acknowledged) WINDOW self.now.queue)).0 }
+    {
+        self.queue.is_due(&settings.times, now) || self.owes_ack
+    }
+
+    /// Whether a frame is due.
+    #[tactic(auto, unfolding(crate::specs::LinkEnd::on_transmit, crate::specs::LinkEnd::on_transmit_in))]
+    pub fn is_frame_due(&self, settings: &Settings, now: u64) -> bool
+        ensures { result ≡ is_some (on_transmit (settings_in settings.now) (state_in self.now) now).0 }
+    {
+        match self.phase {
+            Phase::Closed => false,
+            Phase::Unbound(_) => self.is_hello_due(settings, now),
+            Phase::Bound(_) => self.is_hello_due(settings, now) || self.is_body_due(settings, now),
+        }
     }
 
     /// The first frame due.

@@ -1,0 +1,154 @@
+-- Items that are found by a test which at most one of them passes.
+use Rattle.std.proofs.Common.{◌≡◌, ℕ, zero, suc, ◌<◌, ◌≤◌, Bool, true, false, ◌⊎◌, inl, inr, List, [], ◌∷◌, length, get_or, set, slice_get, Some, None, refl, sym, ap, ◌∙◌, subst, arith, cond, find, eqb-true, eq-eqb, Ok, Err, Result, IfSome, IfNone, ltb}
+use borrow.Author.Tests.{ltb-true, ltb-false}
+use Rattle.std.specs.Result.{result_ok}
+use Rattle.std.proofs.lemmas.Bool.Decides.{nat_tests}
+use Rattle.std.proofs.lemmas.Bool.{cases_Bool, and_parts}
+use Rattle.std.specs.Ordering.{nat_cmp, ordering_then, ordering_index}
+use Rattle.std.specs.declared.cmp.Ordering.{Ordering}
+use Rattle.std.specs.declared.cmp.Ordering.TheVariants.{Less, Equal, Greater}
+use Rattle.std.specs.List.Sorted.{IsNonDecreasingBy, IsBinarySearchResult, IsSearchInRange}
+use Rattle.tora_sim.specs.Keyed.{IsFirst}
+use Rattle.tora_sim.specs.Nodes as Nodes
+use Rattle.tora_sim.specs.Nodes.{NodeView, is_of}
+use Rattle.tora_sim.specs.Links.{LinkView, is_at, AreRising, compared}
+
+-- ---- the first item that passes
+
+module _ {A : Type 0} where
+  rest : (p : A → Bool) (x : A) (xs : List A) (i : ℕ) → IsFirst p (x ∷ xs) (suc i) → IsFirst p xs i
+  rest p x xs i h = record { within = omega (arith, h.within); here = h.here; before = λ j d lt. h.before (suc j) d (omega (arith, lt)) }
+
+  pub found : (p : A → Bool) (xs : List A) (i : ℕ) (x : A) → IsFirst p xs i → slice_get xs i ≡ Some x → find p xs ≡ Some x
+  found p [] i x h e = absurd (omega (arith, h.within))
+  found p (y ∷ ys) zero x h e = ap (λ b. cond b (Some y) (find p ys)) (h.here y) ∙ e
+  found p (y ∷ ys) (suc i) x h e = ap (λ b. cond b (Some y) (find p ys)) (h.before zero y (omega arith)) ∙ found p ys i x (rest p y ys i h) e
+
+  pub found_after : (p : A → Bool) (xs : List A) (i : ℕ) (new : A) → IsFirst p xs i → p new ≡ true → find p (set xs i new) ≡ Some new
+  found_after p [] i new h e = absurd (omega (arith, h.within))
+  found_after p (y ∷ ys) zero new h e = ap (λ b. cond b (Some new) (find p ys)) e
+  found_after p (y ∷ ys) (suc i) new h e = ap (λ b. cond b (Some y) (find p (set ys i new))) (h.before zero y (omega arith)) ∙ found_after p ys i new (rest p y ys i h) e
+
+  -- a test that neither the old nor the new item passes finds what it found
+  pub other_after : (q : A → Bool) (xs : List A) (i : ℕ) (x new : A) → slice_get xs i ≡ Some x → q x ≡ false → q new ≡ false → find q (set xs i new) ≡ find q xs
+  other_after q [] i x new e a b = refl
+  other_after q (y ∷ ys) zero x new e a b =
+      let y_is : y ≡ x = cc in
+      ap (λ c. cond c (Some new) (find q ys)) b ∙ sym (ap (λ c. cond c (Some y) (find q ys)) (ap q y_is ∙ a))
+  other_after q (y ∷ ys) (suc i) x new e a b = ap (λ r. cond (q y) (Some y) r) (other_after q ys i x new e a b)
+
+  pub none_found : (p : A → Bool) (xs : List A) → ((j : ℕ) (d : A) → j < length xs → p (get_or xs j d) ≡ false) → find p xs ≡ None
+  none_found p [] h = refl
+  none_found p (x ∷ xs) h = ap (λ b. cond b (Some x) (find p xs)) (h zero x (omega arith)) ∙ none_found p xs (λ j d lt. h (suc j) d (omega (arith, lt)))
+
+-- ---- ends of links by node and peer
+
+equal_numbers : (a b c d : ℕ) → ordering_then (nat_cmp a b) (nat_cmp c d) ≡ Equal → (a ≡ b) × (c ≡ d)
+equal_numbers a b c d e = (grind (arith, nat_tests), grind (arith, nat_tests))
+
+place_here : (n k : ℕ) (link : LinkView) → compared n k link ≡ Equal → is_at n k link ≡ true
+place_here n k link e = let h = equal_numbers link.node n link.peer k e in grind (arith, nat_tests)
+
+less_elsewhere : (a b c d : ℕ) → ordering_then (nat_cmp a b) (nat_cmp c d) ≡ Less → (a ≡ b) → (c ≡ d) → ⊥
+less_elsewhere a b c d e p q = grind (arith, nat_tests)
+
+greater_elsewhere : (a b c d : ℕ) → ordering_then (nat_cmp a b) (nat_cmp c d) ≡ Greater → (a ≡ b) → (c ≡ d) → ⊥
+greater_elsewhere a b c d e p q = grind (arith, nat_tests)
+
+elsewhere : (n k : ℕ) (link : LinkView) → ((link.node ≡ n) → (link.peer ≡ k) → ⊥) → is_at n k link ≡ false
+elsewhere n k link h = elim (cases_Bool (is_at n k link)) [ inl e ↦ absurd (let p = and_parts _ _ e in h (eqb-true link.node n p.0) (eqb-true link.peer k p.1)) | inr e ↦ e ]
+
+before_index : (n k a b c d : ℕ) → (a < c) ⊎ ((a ≡ c) × (b < d)) → ordering_index (ordering_then (nat_cmp a n) (nat_cmp b k)) ≤ ordering_index (ordering_then (nat_cmp c n) (nat_cmp d k))
+before_index n k a b c d (inl h) = grind (arith, nat_tests)
+before_index n k a b c d (inr h) = grind (arith, nat_tests)
+
+le_cases : (i j : ℕ) → i ≤ j → (i ≡ j) ⊎ (i < j)
+le_cases i j le = elim (cases_Bool (ltb i j)) [ inl e ↦ inr (ltb-true i j e) | inr e ↦ inl (let more = ltb-false i j e in omega arith) ]
+
+lt_cases : (j i : ℕ) → (j < i) ⊎ (i ≤ j)
+lt_cases j i = elim (cases_Bool (ltb j i)) [ inl e ↦ inl (ltb-true j i e) | inr e ↦ inr (ltb-false j i e) ]
+
+indexes_rise : (n k : ℕ) (links : List LinkView) → AreRising links → IsNonDecreasingBy (λ y. ordering_index (compared n k y)) links
+indexes_rise n k links h i j d le lt = elim (le_cases i j le) [
+  | inl e ↦ subst (λ m. ordering_index (compared n k (get_or links i d)) ≤ ordering_index (compared n k (get_or links m d))) e (omega arith)
+  | inr less ↦ before_index n k (get_or links i d).node (get_or links i d).peer (get_or links j d).node (get_or links j d).peer (h i j d less lt)
+]
+
+pub place_first : (n k : ℕ) (links : List LinkView) (i : ℕ) → AreRising links → i < length links → ((d : LinkView) → compared n k (get_or links i d) ≡ Equal) → IsFirst (is_at n k) links i
+place_first n k links i h lt e = record {
+  within = lt;
+  here = λ d. place_here n k (get_or links i d) (e d);
+  before = λ j d less. elsewhere n k (get_or links j d) (λ a b.
+      let at = equal_numbers (get_or links i d).node n (get_or links i d).peer k (e d) in
+      elim (h j i d less lt) [ inl x ↦ (let p = at.0 in let q : (get_or links j d).node < (get_or links i d).node = x in absurd (omega arith)) | inr x ↦ (let p = at.1 in let q = x.1 in absurd (omega arith)) ]);
+}
+
+pub place_none : (n k : ℕ) (links : List LinkView) (i : ℕ) → AreRising links → IsBinarySearchResult (compared n k) links (Err i) → find (is_at n k) links ≡ None
+place_none n k links i h e =
+    let parts = e (indexes_rise n k links h) in
+    none_found (is_at n k) links (λ j d lt. elsewhere n k (get_or links j d) (λ a b.
+    elim (lt_cases j i) [
+      | inl less ↦ less_elsewhere (get_or links j d).node n (get_or links j d).peer k (parts.0 j d (omega arith) less) a b
+      | inr more ↦ greater_elsewhere (get_or links j d).node n (get_or links j d).peer k (parts.1 j d more lt) a b
+    ]))
+
+pub placed : (n k : ℕ) (links : List LinkView) (r : Result ℕ ℕ) → AreRising links → IsSearchInRange r (length links) → IsBinarySearchResult (compared n k) links r → IfSome (result_ok r) (IsFirst (is_at n k) links)
+placed n k links (Ok i) h lt e = place_first n k links i h lt e
+placed n k links (Err i) h lt e = tt
+
+pub not_placed : (n k : ℕ) (links : List LinkView) (r : Result ℕ ℕ) → AreRising links → IsBinarySearchResult (compared n k) links r → IfNone (result_ok r) (find (is_at n k) links ≡ None)
+not_placed n k links (Ok i) h e = tt
+not_placed n k links (Err i) h e = place_none n k links i h e
+
+-- ---- nodes
+
+abbrev ordered : ℕ → NodeView → Ordering
+ordered n node = nat_cmp node.node n
+
+node_equal : (a n : ℕ) → nat_cmp a n ≡ Equal → a ≡ n
+node_equal a n e = grind (arith, nat_tests)
+
+node_less : (a n : ℕ) → nat_cmp a n ≡ Less → a ≡ n → ⊥
+node_less a n e p = grind (arith, nat_tests)
+
+node_greater : (a n : ℕ) → nat_cmp a n ≡ Greater → a ≡ n → ⊥
+node_greater a n e p = grind (arith, nat_tests)
+
+node_index : (n a b : ℕ) → a < b → ordering_index (nat_cmp a n) ≤ ordering_index (nat_cmp b n)
+node_index n a b lt = grind (arith, nat_tests)
+
+node_elsewhere : (n : ℕ) (node : NodeView) → (node.node ≡ n → ⊥) → is_of n node ≡ false
+node_elsewhere n node h = elim (cases_Bool (is_of n node)) [ inl e ↦ absurd (h (eqb-true node.node n e)) | inr e ↦ e ]
+
+node_indexes : (n : ℕ) (nodes : List NodeView) → Nodes.AreRising nodes → IsNonDecreasingBy (λ y. ordering_index (ordered n y)) nodes
+node_indexes n nodes h i j d le lt = elim (le_cases i j le) [
+  | inl e ↦ subst (λ m. ordering_index (ordered n (get_or nodes i d)) ≤ ordering_index (ordered n (get_or nodes m d))) e (omega arith)
+  | inr less ↦ node_index n (get_or nodes i d).node (get_or nodes j d).node (h i j d less lt)
+]
+
+node_first : (n : ℕ) (nodes : List NodeView) (i : ℕ) → Nodes.AreRising nodes → i < length nodes → ((d : NodeView) → ordered n (get_or nodes i d) ≡ Equal) → IsFirst (is_of n) nodes i
+node_first n nodes i h lt e = record {
+  within = lt;
+  here = λ d. eq-eqb (get_or nodes i d).node n (node_equal (get_or nodes i d).node n (e d));
+  before = λ j d less. node_elsewhere n (get_or nodes j d) (λ a.
+      let p = node_equal (get_or nodes i d).node n (e d) in
+      let q : (get_or nodes j d).node < (get_or nodes i d).node = h j i d less lt in
+      absurd (omega arith));
+}
+
+node_none : (n : ℕ) (nodes : List NodeView) (i : ℕ) → Nodes.AreRising nodes → IsBinarySearchResult (ordered n) nodes (Err i) → find (is_of n) nodes ≡ None
+node_none n nodes i h e =
+    let parts = e (node_indexes n nodes h) in
+    none_found (is_of n) nodes (λ j d lt. node_elsewhere n (get_or nodes j d) (λ a.
+    elim (lt_cases j i) [
+      | inl less ↦ node_less (get_or nodes j d).node n (parts.0 j d (omega arith) less) a
+      | inr more ↦ node_greater (get_or nodes j d).node n (parts.1 j d more lt) a
+    ]))
+
+pub node_placed : (n : ℕ) (nodes : List NodeView) (r : Result ℕ ℕ) → Nodes.AreRising nodes → IsSearchInRange r (length nodes) → IsBinarySearchResult (ordered n) nodes r → IfSome (result_ok r) (IsFirst (is_of n) nodes)
+node_placed n nodes (Ok i) h lt e = node_first n nodes i h lt e
+node_placed n nodes (Err i) h lt e = tt
+
+pub node_not_placed : (n : ℕ) (nodes : List NodeView) (r : Result ℕ ℕ) → Nodes.AreRising nodes → IsBinarySearchResult (ordered n) nodes r → IfNone (result_ok r) (find (is_of n) nodes ≡ None)
+node_not_placed n nodes (Ok i) h e = tt
+node_not_placed n nodes (Err i) h e = node_none n nodes i h e

@@ -1,0 +1,11 @@
+pub mod Lasts
+pub mod Keys
+pub mod Stores
+pub mod Ticks
+pub mod Opens
+pub mod Needs
+pub mod Sends
+pub mod Receives
+pub mod Pumps
+pub mod Runs
+pub mod Arms

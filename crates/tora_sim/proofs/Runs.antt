@@ -1,0 +1,31 @@
+-- Events, one after another.
+use Rattle.std.proofs.Common.{ℕ, zero, suc, ◌<◌, inl, inr, List, [], ◌∷◌, length, get_or, refl, subst, arith}
+use Rattle.tora_world.specs.declared.Event.{Event}
+use Rattle.tora_world.specs.declared.SimError.{SimError}
+use Rattle.tora_world.specs.World.{World}
+use Rattle.tora_sim.specs.Steps.{IsDone, IsRefused, IsRun, AreRun, AllAreDone, StopsWith}
+
+-- what the rest of the events does is what all of them do
+pub record GoesOn (start : World) (events : List Event) (w : World) (rest : List Event) : Type 0 where
+  pub done : (after : World) → AllAreDone w rest after → AllAreDone start events after
+  pub stops : (error : SimError) (after : World) → StopsWith w rest error after → StopsWith start events error after
+
+pub begin : (w : World) (events : List Event) → GoesOn w events w events
+begin w events = record { done = λ after h. h; stops = λ error after h. h }
+
+pub goes_on : (start : World) (events : List Event) (w : World) (event : Event) (rest : List Event) (next : World) → GoesOn start events w (event ∷ rest) → IsDone w event next → GoesOn start events next rest
+goes_on start events w event rest next h d = record {
+  done = λ after q. h.done after (d.accepted, subst (λ v. AllAreDone v rest after) d.world q);
+  stops = λ error after q. h.stops error after (inr (d.accepted, subst (λ v. StopsWith v rest error after) d.world q));
+}
+
+pub ends : (start : World) (events : List Event) (w : World) → GoesOn start events w [] → AllAreDone start events w
+ends start events w h = h.done w refl
+
+pub stopped : (start : World) (events : List Event) (w : World) (event : Event) (rest : List Event) (error : SimError) (after : World) → GoesOn start events w (event ∷ rest) → IsRefused w event error after → StopsWith start events error after
+stopped start events w event rest error after h r = h.stops error after (inl r)
+
+pub run_at : (events : List Event) (i : ℕ) (d : Event) → i < length events → AreRun events → IsRun (get_or events i d)
+run_at [] i d lt h = absurd (omega arith)
+run_at (e ∷ events) zero d lt h = h.0
+run_at (e ∷ events) (suc i) d lt h = run_at events i d (omega arith) h.1

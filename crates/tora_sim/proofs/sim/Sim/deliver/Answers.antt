@@ -1,0 +1,61 @@
+use Rattle.std.proofs.Common.{◌≡◌, true, None, ap, sym, ◌∙◌, subst, find}
+use Rattle.std.specs.Prelude.{slice_set}
+use Rattle.tora_frame.specs.declared.parts.Header.{Header}
+use Rattle.tora_world.specs.declared.Event.TheVariants.{Deliver}
+use Rattle.tora_sim.specs.Keyed.{IsFirst}
+use Rattle.tora_sim.specs.Links.{is_at}
+use Rattle.tora_sim.specs.Nodes.{NodeView, is_of}
+use Rattle.tora_sim.specs.Store.{SimState, state_of, world_of}
+use Rattle.tora_sim.specs.Steps.{IsDone}
+use Rattle.tora_sim.proofs.Opens.{same_read}
+use Rattle.tora_sim.proofs.Receives.{home_is_there, failed_done, failed_store, received_done, received_store}
+use Rattle.tora_sim.proofs.sim.Sim.deliver.Goals as goal
+
+pub returns-in_default-node_place : goal.returns-in_default-node_place
+returns-in_default-node_place c =
+    let s = c.self.inside in
+    absurd (home_is_there s.topology s.times s.clock s.nodes.items s.links.items s.datagrams.items c.self.invariant c.args.i c.in-Some.frame (sym c.in-Some.ensures)
+    (subst (λ (hd : Header). find (is_of hd.receiver) s.nodes.items ≡ None) c.header-header.ensures.value c.in_default-node_place.ensures.none))
+
+module _ (c : goal.After-self-1) where
+  first : IsFirst (is_of c.in-Some.frame.header.receiver) c.self.inside.nodes.items c.in-Some-node_place.home
+  first = subst (λ (hd : Header). IsFirst (is_of hd.receiver) c.self.inside.nodes.items c.in-Some-node_place.home) c.header-header.ensures.value c.in-Some-node_place.ensures.first
+
+  armed : c.index_mut.result.now.receive ≡ true
+  armed =
+      ap (λ (y : NodeView). y.receive) (same_read c.self.inside.nodes.items c.in-Some-node_place.home c.index_mut.result.now c.index.result.now first.within c.index_mut.ensures.value c.index.ensures)
+      ∙ sym c.receive.ensures ∙ c.if-receive.true
+
+pub invariant_of-self : goal.invariant_of-self
+invariant_of-self c =
+    let s = c.self.inside in
+    failed_store s.topology s.times s.clock s.nodes.items s.links.items s.datagrams.items c.self.invariant c.args.i c.in-Some.frame (sym c.in-Some.ensures)
+    c.in-Some-node_place.home c.index_mut.result.now (first c) c.index_mut.ensures.value c.arm_receive.new.self c.arm_receive.ensures
+
+pub returns-then-receive : goal.returns-then-receive
+returns-then-receive c =
+    let s = c.self.inside in
+    subst (λ (before : SimState). IsDone (world_of before) (Deliver c.args.i) (world_of (state_of s.topology s.times s.clock (slice_set s.nodes.items c.in-Some-node_place.home c.arm_receive.new.self) s.links.items s.datagrams.items))) c.self.view_is
+    (failed_done s.topology s.times s.clock s.nodes.items s.links.items s.datagrams.items c.self.invariant c.args.i c.in-Some.frame (sym c.in-Some.ensures)
+    c.in-Some-node_place.home c.index_mut.result.now (first c) c.index_mut.ensures.value c.arm_receive.new.self (armed c) c.arm_receive.ensures)
+
+module _ (c : goal.After-self-2-1) where
+  home_first : IsFirst (is_of c.in-Some.frame.header.receiver) c.self.inside.nodes.items c.in-Some-node_place.home
+  home_first = subst (λ (hd : Header). IsFirst (is_of hd.receiver) c.self.inside.nodes.items c.in-Some-node_place.home) c.header-header.ensures.value c.in-Some-node_place.ensures.first
+
+  end_first : IsFirst (is_at c.in-Some.frame.header.receiver c.in-Some.frame.header.sender) c.self.inside.links.items c.in-Some-place.at
+  end_first = subst (λ (hd : Header). IsFirst (is_at hd.receiver hd.sender) c.self.inside.links.items c.in-Some-place.at) c.header-header.ensures.value c.in-Some-place.ensures.first
+
+pub invariant_of-self-2 : goal.invariant_of-self-2
+invariant_of-self-2 c =
+    let s = c.self.inside in
+    received_store s.topology s.times s.clock s.nodes.items s.links.items s.datagrams.items c.self.invariant c.args.i c.in-Some.frame (sym c.in-Some.ensures)
+    c.in-Some-node_place.home c.index.result.now (home_first c) c.index.ensures c.in-Some-place.at c.index_mut-2.result.now (end_first c) c.index_mut-2.ensures.value c.receive-2.new.self c.receive-2.ensures
+
+pub returns : goal.returns
+returns c =
+    let s = c.self.inside in
+    subst (λ (before : SimState). IsDone (world_of before) (Deliver c.args.i) (world_of (state_of s.topology s.times s.clock s.nodes.items (slice_set s.links.items c.in-Some-place.at c.receive-2.new.self) s.datagrams.items))) c.self.view_is
+    (received_done s.topology s.times s.clock s.nodes.items s.links.items s.datagrams.items c.self.invariant c.args.i c.in-Some.frame (sym c.in-Some.ensures)
+    c.in-Some-node_place.home c.index.result.now (home_first c) c.index.ensures c.in-Some-place.at c.index_mut-2.result.now (end_first c) c.index_mut-2.ensures.value c.receive-2.new.self
+    (sym c.receive.ensures ∙ c.if-receive.false) c.receive-2.ensures)

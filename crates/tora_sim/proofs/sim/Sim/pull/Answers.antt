@@ -1,0 +1,37 @@
+use Rattle.std.proofs.Common.{◌<◌, length, sym, ◌∙◌, subst}
+use Rattle.std.specs.Prelude.{slice_set}
+use borrow.Author.Tests.{ltb-true, ltb-false}
+use Rattle.tora_world.specs.declared.Event.TheVariants.{Pull}
+use Rattle.tora_world.specs.declared.SimError.TheVariants as Refused
+use Rattle.tora_sim.specs.Links.{LinkView}
+use Rattle.tora_sim.specs.Store.{SimState, state_of, world_of}
+use Rattle.tora_sim.specs.Steps.{IsDone, IsRefused}
+use Rattle.tora_sim.proofs.Opens.{pull_refused, pull_done, pull_store, same_read}
+use Rattle.tora_sim.proofs.sim.Sim.pull.Goals as goal
+
+pub returns-then-not-has_cargo : goal.returns-then-not-has_cargo
+returns-then-not-has_cargo c =
+    let s = c.self.inside in
+    subst (λ (w : SimState). IsRefused (world_of w) (Pull c.args.n c.args.k) Refused.NotPossible (world_of w)) c.self.view_is
+    (pull_refused s.topology s.times s.clock s.nodes.items s.links.items s.datagrams.items c.self.invariant c.args.n c.args.k c.in-Some.at c.index.result.now c.in-Some.ensures.first c.index.ensures
+    (ltb-false c.index.result.now.pulled (length c.index.result.now.put) (sym c.has_cargo.ensures ∙ c.if-not-has_cargo.true)))
+
+module _ (c : goal.After-self-1) where
+  waits : c.index_mut.result.now.pulled < length c.index_mut.result.now.put
+  waits =
+      subst (λ (x : LinkView). x.pulled < length x.put)
+      (same_read c.self.inside.links.items c.in-Some.at c.index.result.now c.index_mut.result.now c.in-Some.ensures.first.within c.index.ensures c.index_mut.ensures.value)
+      (ltb-true c.index.result.now.pulled (length c.index.result.now.put) (sym c.has_cargo.ensures ∙ c.if-not-has_cargo.false))
+
+pub invariant_of-self : goal.invariant_of-self
+invariant_of-self c =
+    let s = c.self.inside in
+    pull_store s.topology s.times s.clock s.nodes.items s.links.items s.datagrams.items c.self.invariant c.args.n c.args.k c.in-Some.at c.index_mut.result.now c.in-Some.ensures.first c.index_mut.ensures.value
+    c.pull.new.self (waits c) c.pull.ensures
+
+pub returns : goal.returns
+returns c =
+    let s = c.self.inside in
+    subst (λ (before : SimState). IsDone (world_of before) (Pull c.args.n c.args.k) (world_of (state_of s.topology s.times s.clock s.nodes.items (slice_set s.links.items c.in-Some.at c.pull.new.self) s.datagrams.items))) c.self.view_is
+    (pull_done s.topology s.times s.clock s.nodes.items s.links.items s.datagrams.items c.self.invariant c.args.n c.args.k c.in-Some.at c.index_mut.result.now c.in-Some.ensures.first c.index_mut.ensures.value
+    c.pull.new.self (waits c) c.pull.ensures)

@@ -1,0 +1,19 @@
+-- The life file of a link end.
+use Rattle.std.specs.Prelude.{ℕ, ◌≤◌, List, [], ◌∷◌, Option, None, Some}
+use Rattle.tora_life.specs.LifeRun.{LifeDisk}
+use Rattle.tora_life.specs.LifeRun.LifeDisk.{Opened, Unopened}
+use Rattle.tora_sim.specs.declared.files.FileSlot.{FileSlot}
+use Rattle.tora_sim.specs.declared.files.FileSlot.TheVariants as Slot
+
+abbrev pub disk_of : FileSlot → LifeDisk
+disk_of (Slot.Opened file) = Opened file.numbers file.disk.state
+disk_of (Slot.Unopened disk) = Unopened disk.state
+
+abbrev pub list_of : {A : Type 0} → Option A → List A
+list_of None = []
+list_of (Some x) = x ∷ []
+
+-- a number is at most the last one that the file drew, where the file is open
+abbrev pub IsDrawn : ℕ → LifeDisk → Type 0
+IsDrawn number (Opened numbers s) = number ≤ numbers.drawn
+IsDrawn number (Unopened s) = Unit {0}

@@ -1,0 +1,64 @@
+-- A link end as it is stored.
+use Rattle.std.specs.Prelude.{ℕ, ◌==◌, ◌&&◌, ◌<◌, ◌≡◌, ◌⊎◌, suc, Bool, List, Option, None, Some, drop, if◌then◌else◌}
+use Rattle.tora_sim.specs.Keyed.{IsOrdered}
+use Rattle.std.specs.Ordering.{nat_cmp, ordering_then}
+use Rattle.std.specs.declared.cmp.Ordering.{Ordering}
+use Rattle.tora_arq.specs.Settings.{Settings}
+use Rattle.tora_arq.specs.LinkEnd.{EndState, after_tick}
+use Rattle.tora_arq.specs.EndRange.{LinkEndView}
+use Rattle.tora_life.specs.LifeRun.{LifeDisk, after_event, drawn_by}
+use Rattle.tora_life.specs.LifeRun.LifeEvent.{Draw as DrawsNumber, Arm as ArmsDisk}
+use Rattle.tora_life.specs.declared.state.DiskCall.{DiskCall}
+use Rattle.tora_seat.specs.declared.Cargo.{Cargo}
+use Rattle.tora_world.specs.World.{open_with, after_cargo}
+
+pub record LinkView : Type 0 where
+  pub node : ℕ
+  pub peer : ℕ
+  pub seat : ℕ  -- the place of the peer among the node's neighbours
+  pub settings : Settings  -- of the link end
+  pub state : EndState
+  pub file : LifeDisk
+  pub put : List Cargo  -- all cargoes that were ever put into the lane to the peer
+  pub pulled : ℕ  -- how many of them are no longer in the lane
+
+abbrev pub link_of : ℕ → ℕ → ℕ → LinkEndView → LifeDisk → List Cargo → ℕ → LinkView
+link_of node peer seat end file put pulled = record { node = node; peer = peer; seat = seat; settings = end.settings; state = end.state; file = file; put = put; pulled = pulled }
+
+-- the end of node n towards k
+abbrev pub is_at : ℕ → ℕ → LinkView → Bool
+is_at n k link = (link.node == n) && (link.peer == k)
+
+-- what waits in the lane
+abbrev pub waiting : LinkView → List Cargo
+waiting link = drop link.pulled link.put
+
+abbrev pub with_state : LinkView → EndState → LinkView
+with_state link e = record link { state = e }
+
+abbrev pub after_open_at : LinkView → ℕ → LinkView
+after_open_at link now = record link { state = open_with link.state now (drawn_by DrawsNumber link.file); file = after_event DrawsNumber link.file }
+
+abbrev pub after_arm : LinkView → DiskCall → LinkView
+after_arm link call = record link { file = after_event (ArmsDisk call) link.file }
+
+-- a cargo of the lane is submitted, or cuts
+abbrev pub after_pull_at : LinkView → Option Cargo → LinkView
+after_pull_at link None = link
+after_pull_at link (Some cargo) = record link { state = after_cargo link.state cargo; pulled = suc link.pulled }
+
+-- by ascending node and then peer
+abbrev pub ComesBefore : LinkView → LinkView → Type 0
+ComesBefore x y = (x.node < y.node) ⊎ ((x.node ≡ y.node) × (x.peer < y.peer))
+
+abbrev pub AreRising : List LinkView → Type 0
+AreRising links = IsOrdered ComesBefore links
+
+abbrev pub compared : ℕ → ℕ → LinkView → Ordering
+compared n k link = ordering_then (nat_cmp link.node n) (nat_cmp link.peer k)
+
+abbrev pub ticked : ℕ → LinkView → LinkView
+ticked now link = with_state link (after_tick link.settings link.state now)
+
+abbrev pub armed_of : ℕ → DiskCall → LinkView → LinkView
+armed_of n call link = if link.node == n then after_arm link call else link

@@ -1,0 +1,43 @@
+-- A node as it is stored.
+use Rattle.std.specs.Prelude.{ℕ, suc, ◌==◌, ◌<◌, Bool, List, [], ◌∷◌, ◌++◌, set, slice_index}
+use Rattle.tora_core.specs.CoreRun.{CoreView}
+use Rattle.tora_seat.specs.declared.What.{What}
+use Rattle.tora_seat.specs.declared.Item.{Item}
+use Rattle.tora_world.specs.World.{Sending as SendingOfWorld}
+use Rattle.tora_world.specs.World.Sending.{Goes, IsLost, IsGone}
+use Rattle.tora_sim.specs.declared.nodes.Sending.{Sending}
+use Rattle.tora_sim.specs.declared.nodes.Sending.TheVariants as Sends
+use Rattle.tora_sim.specs.Keyed.{IsOrdered}
+
+pub record NodeView : Type 0 where
+  pub node : ℕ
+  pub count : ℕ  -- of its neighbours
+  pub core : CoreView
+  pub items : List Item  -- the lane into the core
+  pub counts : List ℕ  -- how many items each seat has put
+  pub sending : Sending
+  pub receive : Bool
+
+abbrev pub node_of : ℕ → ℕ → CoreView → List Item → List ℕ → Sending → Bool → NodeView
+node_of node count core items counts sending receive = record { node = node; count = count; core = core; items = items; counts = counts; sending = sending; receive = receive }
+
+abbrev pub sending_of : Sending → SendingOfWorld
+sending_of Sends.Goes = Goes
+sending_of Sends.IsLost = IsLost
+sending_of Sends.IsGone = IsGone
+
+abbrev pub is_of : ℕ → NodeView → Bool
+is_of n node = node.node == n
+
+abbrev pub ComesBefore : NodeView → NodeView → Type 0
+ComesBefore x y = x.node < y.node
+
+abbrev pub AreRising : List NodeView → Type 0
+AreRising nodes = IsOrdered ComesBefore nodes
+
+-- an item more in the lane
+abbrev pub after_item : NodeView → ℕ → ℕ → What → NodeView
+after_item node seat now what = record node {
+  items = node.items ++ record { seat = seat; number = suc (slice_index node.counts seat); now = now; what = what } ∷ [];
+  counts = set node.counts seat (suc (slice_index node.counts seat));
+}

@@ -1,0 +1,51 @@
+-- Events that are done or refused.
+use Rattle.std.specs.Prelude.{◌≡◌, ◌⊎◌, List, [], ◌∷◌, Result, MatchResult, Some, None}
+use Rattle.tora_world.specs.declared.Event.{Event}
+use Rattle.tora_world.specs.declared.Event.TheVariants.{Need, Tick, Open, Pull, Transmit, Deliver, Pump, CoreTurn, Arm, Restart}
+use Rattle.tora_world.specs.declared.SimError.{SimError}
+use Rattle.tora_world.specs.declared.SimError.TheVariants as Refused
+use Rattle.tora_world.specs.World.{World, refusal_of, world_after}
+use Rattle.tora_sim.specs.Store.{SimState, world_of}
+
+-- the event is not refused, and leaves this world
+pub record IsDone (w : World) (event : Event) (after : World) : Type 0 where
+  pub accepted : refusal_of w event ≡ None
+  pub world : after ≡ world_after w event
+
+-- the event leaves the world as it was: it is refused for this cause, or is not refused and there is no memory
+pub record IsRefused (w : World) (event : Event) (error : SimError) (after : World) : Type 0 where
+  pub cause : ((error ≡ Refused.Memory) × (refusal_of w event ≡ None)) ⊎ (refusal_of w event ≡ Some error)
+  pub world : after ≡ w
+
+abbrev pub Does : SimState → Event → Result (Unit {0}) SimError → SimState → Type 0
+Does before event result after = MatchResult result (λ _. IsDone (world_of before) event (world_of after)) (λ error. IsRefused (world_of before) event error (world_of after))
+
+-- the events that the simulator runs so far: no turn of a core, no restart
+abbrev pub IsRun : Event → Type 0
+IsRun (Need n d) = Unit {0}
+IsRun Tick = Unit {0}
+IsRun (Open n k) = Unit {0}
+IsRun (Pull n k) = Unit {0}
+IsRun (Transmit n k) = Unit {0}
+IsRun (Deliver i) = Unit {0}
+IsRun (Pump n k) = Unit {0}
+IsRun (CoreTurn n) = ⊥
+IsRun (Arm n call) = Unit {0}
+IsRun (Restart n torn) = ⊥
+
+abbrev pub AreRun : List Event → Type 0
+AreRun [] = Unit {0}
+AreRun (event ∷ events) = IsRun event × AreRun events
+
+-- no event is refused, and the last one leaves this world
+abbrev pub AllAreDone : World → List Event → World → Type 0
+AllAreDone w [] after = after ≡ w
+AllAreDone w (event ∷ events) after = (refusal_of w event ≡ None) × AllAreDone (world_after w event) events after
+
+-- the first event that is not done leaves the world that the ones before it left
+abbrev pub StopsWith : World → List Event → SimError → World → Type 0
+StopsWith w [] error after = ⊥
+StopsWith w (event ∷ events) error after = IsRefused w event error after ⊎ ((refusal_of w event ≡ None) × StopsWith (world_after w event) events error after)
+
+abbrev pub Runs : SimState → List Event → Result (Unit {0}) SimError → SimState → Type 0
+Runs before events result after = MatchResult result (λ _. AllAreDone (world_of before) events (world_of after)) (λ error. StopsWith (world_of before) events error (world_of after))

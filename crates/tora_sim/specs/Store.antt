@@ -1,0 +1,134 @@
+-- What the simulator stores, and the world that it is.
+use Rattle.std.specs.Prelude.{◌≡◌, ℕ, zero, suc, ◌<◌, true, false, is_some, List, [], length, slice_get, slice_index, Option, Some, None, find}
+use Rattle.tora_frame.specs.FrameParts.{FrameParts}
+use Rattle.tora_arq.specs.declared.Times.{Times}
+use Rattle.tora_arq.specs.Settings.{settings_of}
+use Rattle.tora_arq.specs.LinkEnd.{EndState, first_end}
+use Rattle.tora_life.specs.State.{fresh_state}
+use Rattle.tora_life.specs.LifeRun.{LifeDisk, opened}
+use Rattle.tora_life.specs.declared.state.DiskCall.{DiskCall}
+use Rattle.tora_life.specs.declared.state.DiskCall.TheVariants as Disk
+use Rattle.tora_world.specs.declared.Call.{Call}
+use Rattle.tora_world.specs.declared.Call.TheVariants as Fails
+use Rattle.tora_seat.specs.declared.Item.{Item}
+use Rattle.tora_seat.specs.declared.Cargo.{Cargo}
+use Rattle.tora_seat.specs.Serving.{SeatState}
+use Rattle.tora_world.specs.Topology.{Topology, is_node, is_link, neighbours_of}
+use Rattle.tora_world.specs.World.{World, Arms, first_seat, place_of}
+use Rattle.tora_world.specs.World.Sending.{Goes}
+use Rattle.tora_sim.specs.Links.{LinkView, is_at, waiting}
+use Rattle.tora_sim.specs.Nodes.{NodeView, is_of, sending_of}
+use Rattle.tora_sim.specs.Links as Links
+use Rattle.tora_sim.specs.Nodes as Nodes
+
+pub record SimState : Type 0 where
+  pub topology : Topology
+  pub times : Times
+  pub clock : ℕ
+  pub nodes : List NodeView  -- in ascending order
+  pub links : List LinkView  -- in ascending order of node and then peer
+  pub datagrams : List FrameParts
+
+abbrev pub state_of : Topology → Times → ℕ → List NodeView → List LinkView → List FrameParts → SimState
+state_of topology times clock nodes links datagrams = record { topology = topology; times = times; clock = clock; nodes = nodes; links = links; datagrams = datagrams }
+
+-- ---- what is stored of a node or link, and what the first world has where there is none
+
+abbrev pub seat_in : Topology → ℕ → Option NodeView → SeatState
+seat_in t n None = first_seat t n
+seat_in t n (Some node) = record { core = node.core; current = λ k. None; pending = λ k. None }
+
+abbrev pub items_in : Option NodeView → List Item
+items_in None = []
+items_in (Some node) = node.items
+
+abbrev pub counts_in : Option NodeView → ℕ → ℕ
+counts_in None = λ seat. 0
+counts_in (Some node) = λ seat. slice_index node.counts seat
+
+abbrev pub arms_in : Option NodeView → Arms
+arms_in None = record { sending = Goes; receive = false }
+arms_in (Some node) = record { sending = sending_of node.sending; receive = node.receive }
+
+abbrev pub end_in : Option LinkView → EndState
+end_in None = first_end
+end_in (Some link) = link.state
+
+abbrev pub file_in : Option LinkView → LifeDisk
+file_in None = opened (fresh_state [])
+file_in (Some link) = link.file
+
+abbrev pub lane_in : Option LinkView → List Cargo
+lane_in None = []
+lane_in (Some link) = waiting link
+
+abbrev pub put_in : Option LinkView → List Cargo
+put_in None = []
+put_in (Some link) = link.put
+
+abbrev pub node_at : List NodeView → ℕ → Option NodeView
+node_at nodes n = find (is_of n) nodes
+
+abbrev pub link_at : List LinkView → ℕ → ℕ → Option LinkView
+link_at links n k = find (is_at n k) links
+
+-- the world that is stored
+abbrev pub world_of : SimState → World
+world_of s = record {
+  topology = s.topology;
+  times = s.times;
+  clock = s.clock;
+  seats = λ n. seat_in s.topology n (node_at s.nodes n);
+  ends = λ n k. end_in (link_at s.links n k);
+  files = λ n k. file_in (link_at s.links n k);
+  items = λ n. items_in (node_at s.nodes n);
+  counts = λ n. counts_in (node_at s.nodes n);
+  cargoes = λ n k. lane_in (link_at s.links n k);
+  arms = λ n. arms_in (node_at s.nodes n);
+  datagrams = s.datagrams;
+  put = λ n k. put_in (link_at s.links n k);
+  inputs = λ n. [];
+  steps = λ n k. [];
+}
+
+-- ---- what every simulator keeps
+
+pub record IsLinkOf (t : Topology) (times : Times) (link : LinkView) : Type 0 where
+  pub settings : link.settings ≡ settings_of link.node link.peer times
+  pub seat : link.seat ≡ place_of link.peer (neighbours_of t link.node)
+  pub room : link.seat < 9
+  pub home : is_node t link.node ≡ true
+  pub back : is_link t link.peer link.node ≡ true
+
+-- holds of each item
+abbrev pub EachOf : {A : Type 0} → (A → Type 0) → List A → Type 0
+EachOf {A} P xs = (i : ℕ) (x : A) → slice_get xs i ≡ Some x → P x
+
+pub record IsNodeOf (t : Topology) (node : NodeView) : Type 0 where
+  pub count : node.count ≡ length (neighbours_of t node.node)
+  pub room : node.count < 9
+  pub seats : length node.counts ≡ 9
+
+-- a datagram came over a link, from its sender to its receiver
+abbrev pub IsOfLink : Topology → FrameParts → Type 0
+IsOfLink t f = is_link t f.header.receiver f.header.sender ≡ true
+
+pub record IsStore (s : SimState) : Type 0 where
+  pub nodes : (n : ℕ) → is_node s.topology n ≡ is_some (node_at s.nodes n)
+  pub links : (n k : ℕ) → is_link s.topology n k ≡ is_some (link_at s.links n k)
+  pub rising_nodes : Nodes.AreRising s.nodes
+  pub rising_links : Links.AreRising s.links
+  pub each_node : EachOf (IsNodeOf s.topology) s.nodes
+  pub each_link : EachOf (IsLinkOf s.topology s.times) s.links
+  pub each_datagram : EachOf (IsOfLink s.topology) s.datagrams
+
+-- the datagram of a number from 1 on
+abbrev pub numbered : ℕ → List FrameParts → Option FrameParts
+numbered zero datagrams = None
+numbered (suc place) datagrams = slice_get datagrams place
+
+-- a failing call of the disk, as an arm
+abbrev pub call_of : DiskCall → Call
+call_of Disk.Read = Fails.Read
+call_of Disk.Write = Fails.Write
+call_of Disk.Sync = Fails.Sync

@@ -1,0 +1,12 @@
+//! A simulated world of nodes, links and datagrams.
+#![tactic(auto)]
+
+mod files;
+mod links;
+mod nodes;
+mod sim;
+mod topology;
+
+pub use sim::Sim;
+pub use topology::Topology;
+pub use tora_world::{Call, Event, SimError};

@@ -1,0 +1,215 @@
+//! The link ends of all nodes, one behind the other.
+ghost use Rattle.std.specs.Prelude.{◌≡◌, ◌<◌, ◌≤◌, ◌+◌, ℕ, ⊤, IsTrue, IfSome, IfNone, None, MatchOption, find, length, map, is_some, nat_lt, slice_get};
+ghost use Rattle.tora_arq.specs.LinkEnd.{is_closed, after_frame, after_tick, frame_due, after_transmit, first_event, after_poll_event};
+ghost use Rattle.tora_world.specs.World.{after_cargo};
+ghost use Rattle.tora_sim.specs.Links.{with_state, after_open_at, after_arm, after_pull_at, is_at, AreRising, ticked, armed_of};
+ghost use Rattle.tora_sim.specs.Keyed.{IsFirst};
+
+use crate::files::FileSlot;
+use std::marker::Model;
+use tora_arq::{LinkEnd, LinkEvent, lives_are_bound_once};
+use tora_frame::Frame;
+use tora_height::Id;
+use tora_life::DiskCall;
+use tora_seat::Cargo;
+
+/// The end of a link at one node, with its life file and the lane from the node's core to it.
+#[derive(Drop)]
+pub struct LinkSlot {
+    node: Id,
+    peer: Id,
+    /// The place of the peer among the node's neighbours.
+    seat: usize,
+    end: LinkEnd,
+    file: FileSlot,
+    /// All cargoes that were ever put into the lane.
+    put: Vec<Cargo>,
+    /// How many of them are no longer in the lane.
+    pulled: usize,
+}
+
+impl Model for LinkSlot {
+    ghost use Rattle.std.specs.Prelude.{◌≤◌, length};
+    ghost use Rattle.tora_sim.specs.Files.{disk_of, IsDrawn};
+    ghost use Rattle.tora_sim.specs.Links.{LinkView, link_of};
+
+    ghost Value = { LinkView };
+
+    ghost view = { λ s. link_of s.node s.peer s.seat s.end (disk_of s.file) s.put.items s.pulled };
+
+    ghost invariant = { λ s. IsDrawn s.end.state.last_life (disk_of s.file) × (s.pulled ≤ length s.put.items) };
+}
+
+impl LinkSlot {
+    /// Its node and its peer, by which the ends are in order.
+    fn key(&self) -> (Id, Id)
+        ensures { result ≡ (self.now.node, self.now.peer) }
+    {
+        (self.node, self.peer)
+    }
+
+    /// The place of the peer among the node's neighbours.
+    pub fn seat(&self) -> usize
+        ensures { result ≡ self.now.seat }
+    {
+        self.seat
+    }
+
+    /// Whether the end has to be opened.
+    pub fn is_closed(&self) -> bool
+        ensures { result ≡ is_closed self.now.state }
+    {
+        self.end.is_closed()
+    }
+
+    /// The next event of the end, which stays.
+    pub fn next_event(&self) -> Option<LinkEvent>
+        ensures { result ≡ first_event self.now.state }
+    {
+        self.end.next_event()
+    }
+
+    /// Whether a frame is due.
+    pub fn has_frame_due(&self, now: u64) -> bool
+        ensures { result ≡ is_some (frame_due self.now.settings self.now.state now) }
+    {
+        self.end.has_frame_due(now)
+    }
+
+    /// Ticks the end.
+    pub fn tick(&mut self, now: u64)
+        ensures { self.new ≡ with_state self.old (after_tick self.old.settings self.old.state now) }
+    {
+        lives_are_bound_once();
+        self.end.on_tick(now);
+    }
+
+    /// Takes the first frame due.
+    pub fn send(&mut self, now: u64) -> Option<Frame>
+        ensures frame { result ≡ frame_due self.old.settings self.old.state now }
+        ensures state { self.new ≡ with_state self.old (after_transmit self.old.settings self.old.state now) }
+    {
+        lives_are_bound_once();
+        self.end.poll_transmit(now)
+    }
+
+    /// Takes a frame in.
+    pub fn receive(&mut self, frame: &Frame, now: u64)
+        ensures { self.new ≡ with_state self.old (after_frame self.old.settings self.old.state frame.now now) }
+    {
+        lives_are_bound_once();
+        self.end.on_frame(frame, now);
+    }
+
+    /// Takes the first event.
+    pub fn take_event(&mut self) -> Option<LinkEvent>
+        ensures event { result ≡ first_event self.old.state }
+        ensures state { self.new ≡ with_state self.old (after_poll_event self.old.state) }
+    {
+        lives_are_bound_once();
+        self.end.poll_event()
+    }
+
+    /// Draws a number, and opens the closed end with it, if one is drawn.
+    pub fn open(&mut self, now: u64)
+        requires { IsTrue (is_closed self.old.state) }
+        ensures { self.new ≡ after_open_at self.old now }
+    {
+        if let Some(number) = self.file.draw() {
+            self.end.open(number, now);
+        }
+    }
+
+    /// The next such call of the life file fails.
+    pub fn arm(&mut self, call: DiskCall)
+        ensures { self.new ≡ after_arm self.old call }
+    {
+        self.file.arm(call);
+    }
+
+    /// The next such call of the life file fails, where the end is one of node `n`.
+    fn arm_of(&mut self, n: Id, call: DiskCall)
+        ensures { self.new ≡ armed_of n call self.old }
+    {
+        if self.node == n {
+            self.file.arm(call);
+        }
+    }
+
+    /// Whether a cargo waits in the lane.
+    pub fn has_cargo(&self) -> bool
+        ensures { result ≡ nat_lt self.now.pulled (length self.now.put) }
+    {
+        self.pulled < self.put.len()
+    }
+
+    /// Takes a cargo of the lane, and submits its packet or cuts its life.
+    pub fn pull(&mut self)
+        requires { self.old.pulled < length self.old.put }
+        ensures { self.new ≡ after_pull_at self.old (slice_get self.old.put self.old.pulled) }
+    {
+        lives_are_bound_once();
+        let cargo = self.put[self.pulled];
+        self.pulled += 1;
+        give(&mut self.end, &cargo);
+    }
+}
+
+/// Submits the packet of a cargo, or cuts its life.
+fn give(end: &mut LinkEnd, cargo: &Cargo)
+    ensures { end.new ≡ record end.old { state = after_cargo end.old.state cargo.now } }
+{
+    match cargo {
+        Cargo::Packet(life, packet) => {
+            let _ = end.submit(*life, *packet);
+        }
+        Cargo::Cut(life) => end.cut(*life),
+    }
+}
+
+/// The place of the end of node `n` towards `k`.
+pub fn place(links: &Vec<LinkSlot>, n: Id, k: Id) -> Option<usize>
+    requires { AreRising links.now.items }
+    ensures first { IfSome result (λ i. IsFirst (is_at n k) links.now.items i) }
+    ensures none { IfNone result (find (is_at n k) links.now.items ≡ None) }
+{
+    search(links, n, k)
+}
+
+fn search(links: &[LinkSlot], n: Id, k: Id) -> Option<usize>
+    requires { AreRising links.now }
+    ensures first { IfSome result (λ i. IsFirst (is_at n k) links.now i) }
+    ensures none { IfNone result (find (is_at n k) links.now ≡ None) }
+{
+    links.binary_search_by_key(&(n, k), |link| link.key()).ok()
+}
+
+/// Ticks every end.
+pub fn tick(links: &mut Vec<LinkSlot>, now: u64)
+    ensures { links.new.items ≡ map (ticked now) links.old.items }
+{
+    tick_each(links, now);
+}
+
+fn tick_each(links: &mut [LinkSlot], now: u64)
+    ensures { links.new ≡ map (ticked now) links.old }
+{
+    for link in links.iter_mut() {
+        link.tick(now);
+    }
+}
+
+/// The next such call of each life file of node `n` fails.
+pub fn arm(links: &mut Vec<LinkSlot>, n: Id, call: DiskCall)
+    ensures { links.new.items ≡ map (armed_of n call) links.old.items }
+{
+    arm_each(links, n, call);
+}
+
+fn arm_each(links: &mut [LinkSlot], n: Id, call: DiskCall)
+    ensures { links.new ≡ map (armed_of n call) links.old }
+{
+    for link in links.iter_mut() {
+        link.arm_of(n, call);
+    }
+}

@@ -1,0 +1,134 @@
+//! The nodes: the core of each, and the lane into it.
+ghost use Rattle.std.specs.Prelude.{◌≡◌, ◌<◌, ◌≤◌, ℕ, None, Some, IfSome, IfNone, MatchResult, find, length, slice_index};
+ghost use Rattle.tora_sim.specs.Keyed.{IsFirst};
+ghost use Rattle.tora_sim.specs.Nodes.{NodeView, is_of, AreRising, after_item};
+
+use crate::SimError;
+use std::collections::VecDeque;
+use std::marker::Model;
+use tora_core::Core;
+use tora_height::Id;
+use tora_seat::{Item, What};
+
+/// What becomes of the next datagram that a node sends.
+#[derive(Clone, Copy, Debug, PartialEq, Eq)]
+pub enum Sending {
+    Goes,
+    IsLost,
+    IsGone,
+}
+
+/// A node, with the lane into its core.
+#[derive(Drop)]
+pub struct NodeSlot {
+    node: Id,
+    /// How many neighbours it has.
+    count: usize,
+    core: Core,
+    items: VecDeque<Item>,
+    /// How many items each seat has put since the node's last restart.
+    counts: [u64; 9],
+    sending: Sending,
+    /// Whether the next datagram for it is not handed over.
+    receive: bool,
+}
+
+impl Model for NodeSlot {
+    ghost use Rattle.tora_sim.specs.Nodes.{NodeView, node_of};
+
+    ghost Value = { NodeView };
+
+    ghost view = { λ s. node_of s.node s.count s.core s.items.items s.counts s.sending s.receive };
+}
+
+impl NodeSlot {
+    /// Its number, by which the nodes are in order.
+    fn key(&self) -> Id
+        ensures { result ≡ self.now.node }
+    {
+        self.node
+    }
+
+    /// How many neighbours it has.
+    pub fn count(&self) -> usize
+        ensures { result ≡ self.now.count }
+    {
+        self.count
+    }
+
+    /// How many items wait for the core.
+    pub fn waiting(&self) -> usize
+        ensures { result ≡ length self.now.items }
+    {
+        self.items.len()
+    }
+
+    /// What becomes of the next datagram that it sends.
+    pub fn sending(&self) -> Sending
+        ensures { result ≡ self.now.sending }
+    {
+        self.sending
+    }
+
+    /// Arms its next send.
+    pub fn arm_sending(&mut self, sending: Sending)
+        ensures { self.new ≡ record self.old { sending = sending } }
+    {
+        self.sending = sending;
+    }
+
+    /// Whether the next datagram for it is not handed over.
+    pub fn receive(&self) -> bool
+        ensures { result ≡ self.now.receive }
+    {
+        self.receive
+    }
+
+    /// Arms its next receive, or disarms it.
+    pub fn arm_receive(&mut self, receive: bool)
+        ensures { self.new ≡ record self.old { receive = receive } }
+    {
+        self.receive = receive;
+    }
+
+    /// Puts an item into the lane.
+    ///
+    /// # Errors
+    /// `Memory`, which changes nothing: also where the seat has put 2^64 - 1 items.
+    pub fn put_item(&mut self, seat: usize, now: u64, what: What) -> Result<(), SimError>
+        requires { seat < 9 }
+        ensures { MatchResult result (λ _. self.new ≡ after_item self.old seat now what) (λ e. (e ≡ SimError.Memory) × (self.new ≡ self.old)) }
+    {
+        let Some(number) = self.counts[seat].checked_add(1) else {
+            return Err(SimError::Memory);
+        };
+        let item = Item {
+            seat,
+            number,
+            now,
+            what,
+        };
+        if self.items.push_back(item).is_err() {
+            return Err(SimError::Memory);
+        }
+        self.counts[seat] = number;
+        Ok(())
+    }
+}
+
+/// The place of a node.
+pub fn place(nodes: &Vec<NodeSlot>, n: Id) -> Option<usize>
+    requires { AreRising nodes.now.items }
+    ensures first { IfSome result (λ i. IsFirst (is_of n) nodes.now.items i) }
+    ensures none { IfNone result (find (is_of n) nodes.now.items ≡ None) }
+{
+    search(nodes, n)
+}
+
+fn search(nodes: &[NodeSlot], n: Id) -> Option<usize>
+    requires { AreRising nodes.now }
+    ensures first { IfSome result (λ i. IsFirst (is_of n) nodes.now i) }
+    ensures none { IfNone result (find (is_of n) nodes.now ≡ None) }
+{
+    nodes.binary_search_by_key(&n, |node| node.key()).ok()
+}

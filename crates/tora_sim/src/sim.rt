@@ -1,0 +1,278 @@
+//! The simulator.
+ghost use Rattle.std.specs.Prelude.{◌≡◌, ◌<◌, true, vec_len, vec_capacity};
+ghost use Rattle.tora_world.specs.declared.Event.TheVariants.{Tick, Open, Pull, Need, Transmit, Deliver, Pump, Arm};
+ghost use Rattle.tora_world.specs.World.{with_datagram, what_of};
+ghost use Rattle.tora_sim.specs.Nodes.{sending_of};
+ghost use Rattle.tora_sim.specs.Store.{numbered, call_of};
+ghost use Rattle.tora_world.specs.Topology.{is_node};
+ghost use Rattle.tora_sim.specs.Steps.{Does, IsRun, AreRun, Runs};
+
+use crate::links::{LinkSlot, arm, place, tick};
+use crate::nodes::{NodeSlot, Sending, place as node_place};
+use crate::topology::Topology;
+use crate::{Call, Event, SimError};
+use std::marker::Model;
+use tora_arq::{LinkEvent, Times, data_frames_are_what_was_submitted};
+use tora_frame::Frame;
+use tora_height::Id;
+use tora_life::DiskCall;
+use tora_seat::What;
+
+/// The most items that wait for a core.
+const MOST_ITEMS: usize = 1024;
+
+/// A simulated world.
+#[derive(Drop)]
+pub struct Sim {
+    topology: Topology,
+    times: Times,
+    clock: u64,
+    nodes: Vec<NodeSlot>,
+    links: Vec<LinkSlot>,
+    datagrams: Vec<Frame>,
+}
+
+impl Model for Sim {
+    ghost use Rattle.tora_sim.specs.Store.{SimState, IsStore, state_of};
+
+    ghost Value = { SimState };
+
+    ghost view = { λ s. state_of s.topology s.times s.clock s.nodes.items s.links.items s.datagrams.items };
+
+    ghost invariant = { λ s. IsStore (state_of s.topology s.times s.clock s.nodes.items s.links.items s.datagrams.items) };
+}
+
+impl Sim {
+    /// The clock goes on, and every end is ticked.
+    pub(crate) fn tick(&mut self) -> Result<(), SimError>
+        ensures { Does self.old Tick result self.new }
+    {
+        let Some(now) = self.clock.checked_add(1) else {
+            return Err(SimError::Memory);
+        };
+        tick(&mut self.links, now);
+        self.clock = now;
+        Ok(())
+    }
+
+    /// A closed end is opened with a number of its life file.
+    pub(crate) fn open(&mut self, n: Id, k: Id) -> Result<(), SimError>
+        ensures { Does self.old (Open n k) result self.new }
+    {
+        let Some(at) = place(&self.links, n, k) else {
+            return Err(SimError::NoNode);
+        };
+        if !self.links[at].is_closed() {
+            return Err(SimError::NotPossible);
+        }
+        self.links[at].open(self.clock);
+        Ok(())
+    }
+
+    /// A cargo of a lane is submitted, or cuts.
+    pub(crate) fn pull(&mut self, n: Id, k: Id) -> Result<(), SimError>
+        ensures { Does self.old (Pull n k) result self.new }
+    {
+        let Some(at) = place(&self.links, n, k) else {
+            return Err(SimError::NoNode);
+        };
+        if !self.links[at].has_cargo() {
+            return Err(SimError::NotPossible);
+        }
+        self.links[at].pull();
+        Ok(())
+    }
+
+    /// The need of a destination goes into a node's lane.
+    pub(crate) fn need(&mut self, n: Id, d: Id) -> Result<(), SimError>
+        ensures { Does self.old (Need n d) result self.new }
+    {
+        let Some(home) = node_place(&self.nodes, n) else {
+            return Err(SimError::NoNode);
+        };
+        if self.nodes[home].waiting() >= MOST_ITEMS {
+            return Err(SimError::NotPossible);
+        }
+        let seat = self.nodes[home].count();
+        self.nodes[home].put_item(seat, self.clock, What::Need(d))
+    }
+
+    /// The first frame due of an end goes out, unless the send is armed to lose it.
+    pub(crate) fn transmit(&mut self, n: Id, k: Id) -> Result<(), SimError>
+        ensures { Does self.old (Transmit n k) result self.new }
+    {
+        let Some(at) = place(&self.links, n, k) else {
+            return Err(SimError::NoNode);
+        };
+        if !self.links[at].has_frame_due(self.clock) {
+            return Err(SimError::NotPossible);
+        }
+        let Some(home) = node_place(&self.nodes, n) else {
+            return Err(SimError::NoNode);
+        };
+        if self.datagrams.reserve(1).is_err() {
+            return Err(SimError::Memory);
+        }
+        data_frames_are_what_was_submitted();
+        let Some(frame) = self.links[at].send(self.clock) else {
+            return Err(SimError::NotPossible);
+        };
+        note_sent(&mut self.nodes[home], &mut self.datagrams, frame);
+        Ok(())
+    }
+
+    /// An event of an end goes into its node's lane.
+    pub(crate) fn pump(&mut self, n: Id, k: Id) -> Result<(), SimError>
+        ensures { Does self.old (Pump n k) result self.new }
+    {
+        let Some(at) = place(&self.links, n, k) else {
+            return Err(SimError::NoNode);
+        };
+        let Some(event) = self.links[at].next_event() else {
+            return Err(SimError::NotPossible);
+        };
+        let Some(home) = node_place(&self.nodes, n) else {
+            return Err(SimError::NoNode);
+        };
+        if self.nodes[home].waiting() >= MOST_ITEMS {
+            return Err(SimError::NotPossible);
+        }
+        let seat = self.links[at].seat();
+        match self.nodes[home].put_item(seat, self.clock, what_of(event)) {
+            Ok(()) => {
+                self.links[at].take_event();
+                Ok(())
+            }
+            Err(error) => Err(error),
+        }
+    }
+
+    /// A datagram is handed to its receiver, unless the receive is armed to fail.
+    pub(crate) fn deliver(&mut self, i: u64) -> Result<(), SimError>
+        ensures { Does self.old (Deliver i) result self.new }
+    {
+        let Some(frame) = numbered(&self.datagrams, i) else {
+            return Err(SimError::NoDatagram);
+        };
+        let header = frame.header();
+        let Some(home) = node_place(&self.nodes, header.receiver) else {
+            return Err(SimError::NoDatagram);
+        };
+        if self.nodes[home].receive() {
+            self.nodes[home].arm_receive(false);
+            return Ok(());
+        }
+        let Some(at) = place(&self.links, header.receiver, header.sender) else {
+            return Err(SimError::NoDatagram);
+        };
+        self.links[at].receive(&frame, self.clock);
+        Ok(())
+    }
+
+    /// A call of a node is made to fail.
+    pub(crate) fn arm(&mut self, n: Id, call: Call) -> Result<(), SimError>
+        ensures { Does self.old (Arm n call) result self.new }
+    {
+        let Some(home) = node_place(&self.nodes, n) else {
+            return Err(SimError::NoNode);
+        };
+        match call {
+            Call::SendLost => {
+                self.nodes[home].arm_sending(Sending::IsLost);
+                Ok(())
+            }
+            Call::SendGone => {
+                self.nodes[home].arm_sending(Sending::IsGone);
+                Ok(())
+            }
+            Call::Receive => {
+                self.nodes[home].arm_receive(true);
+                Ok(())
+            }
+            Call::Read => self.arm_files(n, DiskCall::Read),
+            Call::Write => self.arm_files(n, DiskCall::Write),
+            Call::Sync => self.arm_files(n, DiskCall::Sync),
+        }
+    }
+
+    /// The next such call of each life file of a node fails.
+    fn arm_files(&mut self, n: Id, call: DiskCall) -> Result<(), SimError>
+        requires { is_node self.old.topology n ≡ true }
+        ensures { Does self.old (Arm n (call_of call)) result self.new }
+    {
+        arm(&mut self.links, n, call);
+        Ok(())
+    }
+
+    /// Lets one event happen.
+    ///
+    /// The simulator runs no turn of a core and no restart yet.
+    ///
+    /// # Errors
+    /// `NoNode` where there is no such node or link, `NoDatagram` where there is no such datagram, `NotPossible` where
+    /// the event is not possible now, and `Memory` last. The world is then as before.
+    pub fn step(&mut self, event: &Event) -> Result<(), SimError>
+        requires { IsRun event.now }
+        ensures { Does self.old event.now result self.new }
+    {
+        match event {
+            Event::Need(n, d) => self.need(*n, *d),
+            Event::Tick => self.tick(),
+            Event::Open(n, k) => self.open(*n, *k),
+            Event::Pull(n, k) => self.pull(*n, *k),
+            Event::Transmit(n, k) => self.transmit(*n, *k),
+            Event::Deliver(i) => self.deliver(*i),
+            Event::Pump(n, k) => self.pump(*n, *k),
+            Event::CoreTurn(_) => unreachable!(),
+            Event::Arm(n, call) => self.arm(*n, *call),
+            Event::Restart(_, _) => unreachable!(),
+        }
+    }
+
+    /// Lets events happen, one after another, up to the first that is refused.
+    ///
+    /// # Errors
+    /// Those of `step`. The world is then as after the events before the refused one.
+    pub fn run(&mut self, events: &[Event]) -> Result<(), SimError>
+        requires { AreRun events.now }
+        ensures { Runs self.old events.now result self.new }
+    {
+        for event in events {
+            self.step(event)?;
+        }
+        Ok(())
+    }
+}
+
+/// What a link event tells the core.
+fn what_of(event: LinkEvent) -> What
+    ensures { result ≡ what_of event }
+{
+    match event {
+        LinkEvent::Up(life) => What::Up(life),
+        LinkEvent::Deliver(life, packet) => What::Packet(life, packet),
+        LinkEvent::Down(life, reason) => What::Down(life, reason),
+    }
+}
+
+/// The datagram of a number from 1 on.
+fn numbered(datagrams: &Vec<Frame>, i: u64) -> Option<Frame>
+    ensures { result ≡ numbered i datagrams.now.items }
+{
+    let place = usize::try_from(i).ok()?.checked_sub(1)?;
+    datagrams.get(place).copied()
+}
+
+/// Notes a datagram that a node sent, unless the send is armed to lose it; the arm is used.
+fn note_sent(node: &mut NodeSlot, datagrams: &mut Vec<Frame>, frame: Frame)
+    requires { vec_len datagrams.old < vec_capacity datagrams.old }
+    ensures node { node.new ≡ record node.old { sending = Sending.Goes } }
+    ensures datagrams { datagrams.new.items ≡ with_datagram (sending_of node.old.sending) datagrams.old.items frame }
+{
+    match node.sending() {
+        Sending::Goes => datagrams.push_reserved(frame),
+        Sending::IsLost => {}
+        Sending::IsGone => datagrams.push_reserved(frame),
+    }
+    node.arm_sending(Sending::Goes);
+}
