@@ -1,12 +1,11 @@
 -- What the changes of rows change.
 use Rattle.std.proofs.Common.{◌≡◌, ◌≢◌, ◌↔◌, ◌⊎◌, inl, inr, refl, ap, sym, subst, ◌∙◌, ℕ, ℤ, ◌==◌, Bool, true, false, not, ◌&&◌, List, [], ◌∷◌, map, Option, Some, None, nat_lt}
-use Rattle.std.specs.Prelude.{Contains, IfSome, fold, filter, option_map, if◌then◌else◌}
+use Rattle.std.specs.Prelude.{fold, option_map, if◌then◌else◌}
 use Rattle.std.proofs.lemmas.Bool.{cond_both}
 use Rattle.tora_height.specs.declared.Level.{Level}
 use Rattle.tora_height.specs.Height.{Quintuple, level_of}
-use Rattle.tora_height.specs.HeightOrder.{IsLower}
 use Rattle.tora_core.specs.declared.rows.Row.{Row}
-use Rattle.tora_core.specs.View.{View, all_cleared, all_erased, all_told, cleared_row, downstream_rows, erased_row, greatest_level, heights_of, is_at, is_downstream, is_entry_at, known_heights, least_delta, lower_row_of, next_hop_of, row_with_entry, told_row, with_entry, with_row, without_row}
+use Rattle.tora_core.specs.View.{View, all_cleared, all_erased, all_told, cleared_row, downstream_rows, erased_row, greatest_level, is_at, is_downstream, is_entry_at, known_heights, least_delta, lower_row_of, next_hop_of, row_with_entry, told_row, with_entry, with_row, without_row}
 use Rattle.tora_core.specs.Reacts.{HasNoDownstream, IsDownstream, IsEntry, IsKnown, IsTold, IsUp, KnowsNone}
 use Rattle.tora_core.proofs.NumberLemmas.{same-number, other-number, not-same}
 use Rattle.tora_core.proofs.ReactsWords.{IsAmong, among-Contains, Contains-among, among-known, known-among, at-level, level-at, greatest-none, greatest-is_reached, delta-some, least-delta, is-same, lower-down}
@@ -88,6 +87,7 @@ come-up v new k = (λ i. to (has-come Any new v.rows k (up-has (record v { rows 
     to : HasRow Any v.rows k ⊎ ((new.neighbour ≡ k) × Any new) → IsUp v k ⊎ (new.neighbour ≡ k)
     to (inl i) = inl (has-up v k i)
     to (inr i) = inr i.0
+
     from : IsUp v k ⊎ (new.neighbour ≡ k) → HasRow Any v.rows k ⊎ ((new.neighbour ≡ k) × Any new)
     from (inl i) = inl (up-has v k i)
     from (inr i) = inr (i, tt)
@@ -99,6 +99,7 @@ come-entry v new k h =
     to : HasRow (Tells h) v.rows k ⊎ ((new.neighbour ≡ k) × Tells h new) → IsEntry v k h ⊎ ((new.neighbour ≡ k) × (new.entry ≡ Some h))
     to (inl i) = inl (has-entry v k h i)
     to (inr i) = inr i
+
     from : IsEntry v k h ⊎ ((new.neighbour ≡ k) × (new.entry ≡ Some h)) → HasRow (Tells h) v.rows k ⊎ ((new.neighbour ≡ k) × Tells h new)
     from (inl i) = inl (entry-has v k h i)
     from (inr i) = inr i
@@ -110,6 +111,7 @@ come-told v new k =
     to : HasRow Told v.rows k ⊎ ((new.neighbour ≡ k) × Told new) → IsTold v k ⊎ ((new.neighbour ≡ k) × (new.told ≡ true))
     to (inl i) = inl (has-told v k i)
     to (inr i) = inr i
+
     from : IsTold v k ⊎ ((new.neighbour ≡ k) × (new.told ≡ true)) → HasRow Told v.rows k ⊎ ((new.neighbour ≡ k) × Told new)
     from (inl i) = inl (told-has v k i)
     from (inr i) = inr i
@@ -136,19 +138,22 @@ go-has P j k rows i apart =
     (i.0, filter-among (is_other j) rows i.0 i.1 (ap not (not-same i.0.neighbour j (λ (e : i.0.neighbour ≡ j). apart (sym i.2 ∙ e)))), i.2, i.3)
 
 pub go-up : (v : View) (j k : ℕ) → IsUp (record v { rows = without_row j v.rows }) k ↔ (IsUp v k × (k ≢ j))
-go-up v j k =
-    (λ i. let x = has-go Any j k v.rows (up-has (record v { rows = without_row j v.rows }) k i) in (has-up v k x.0, x.1),
-    λ i. has-up (record v { rows = without_row j v.rows }) k (go-has Any j k v.rows (up-has v k i.0) i.1))
+go-up v j k = (
+  λ i. let x = has-go Any j k v.rows (up-has (record v { rows = without_row j v.rows }) k i) in (has-up v k x.0, x.1),
+  λ i. has-up (record v { rows = without_row j v.rows }) k (go-has Any j k v.rows (up-has v k i.0) i.1),
+)
 
 pub go-entry : (v : View) (j k : ℕ) (h : Quintuple) → IsEntry (record v { rows = without_row j v.rows }) k h ↔ (IsEntry v k h × (k ≢ j))
-go-entry v j k h =
-    (λ i. let x = has-go (Tells h) j k v.rows (entry-has (record v { rows = without_row j v.rows }) k h i) in (has-entry v k h x.0, x.1),
-    λ i. has-entry (record v { rows = without_row j v.rows }) k h (go-has (Tells h) j k v.rows (entry-has v k h i.0) i.1))
+go-entry v j k h = (
+  λ i. let x = has-go (Tells h) j k v.rows (entry-has (record v { rows = without_row j v.rows }) k h i) in (has-entry v k h x.0, x.1),
+  λ i. has-entry (record v { rows = without_row j v.rows }) k h (go-has (Tells h) j k v.rows (entry-has v k h i.0) i.1),
+)
 
 pub go-told : (v : View) (j k : ℕ) → IsTold (record v { rows = without_row j v.rows }) k ↔ (IsTold v k × (k ≢ j))
-go-told v j k =
-    (λ i. let x = has-go Told j k v.rows (told-has (record v { rows = without_row j v.rows }) k i) in (has-told v k x.0, x.1),
-    λ i. has-told (record v { rows = without_row j v.rows }) k (go-has Told j k v.rows (told-has v k i.0) i.1))
+go-told v j k = (
+  λ i. let x = has-go Told j k v.rows (told-has (record v { rows = without_row j v.rows }) k i) in (has-told v k x.0, x.1),
+  λ i. has-told (record v { rows = without_row j v.rows }) k (go-has Told j k v.rows (told-has v k i.0) i.1),
+)
 
 -- ---- rows that are changed
 
@@ -173,26 +178,30 @@ module _ (f : Row → Row) (same : (row : Row) → (f row).neighbour ≡ row.nei
   map-to P Q keep rows k i = (f i.0, to-map f i.0 rows i.1, same i.0 ∙ i.2, keep i.0 i.3)
 
   pub same-up : (v : View) (k : ℕ) → IsUp (record v { rows = map f v.rows }) k ↔ IsUp v k
-  same-up v k =
-      (λ i. has-up v k (map-from Any Any (λ row _. tt) v.rows k (up-has (record v { rows = map f v.rows }) k i)),
-      λ i. has-up (record v { rows = map f v.rows }) k (map-to Any Any (λ row _. tt) v.rows k (up-has v k i)))
+  same-up v k = (
+    λ i. has-up v k (map-from Any Any (λ row _. tt) v.rows k (up-has (record v { rows = map f v.rows }) k i)),
+    λ i. has-up (record v { rows = map f v.rows }) k (map-to Any Any (λ row _. tt) v.rows k (up-has v k i)),
+  )
 
   pub same-entry : ((row : Row) → (f row).entry ≡ row.entry) → (v : View) (k : ℕ) (h : Quintuple) → IsEntry (record v { rows = map f v.rows }) k h ↔ IsEntry v k h
-  same-entry keep v k h =
-      (λ i. has-entry v k h (map-from (Tells h) (Tells h) (λ row e. sym (keep row) ∙ e) v.rows k (entry-has (record v { rows = map f v.rows }) k h i)),
-      λ i. has-entry (record v { rows = map f v.rows }) k h (map-to (Tells h) (Tells h) (λ row e. keep row ∙ e) v.rows k (entry-has v k h i)))
+  same-entry keep v k h = (
+    λ i. has-entry v k h (map-from (Tells h) (Tells h) (λ row e. sym (keep row) ∙ e) v.rows k (entry-has (record v { rows = map f v.rows }) k h i)),
+    λ i. has-entry (record v { rows = map f v.rows }) k h (map-to (Tells h) (Tells h) (λ row e. keep row ∙ e) v.rows k (entry-has v k h i)),
+  )
 
   pub same-told : ((row : Row) → (f row).told ≡ row.told) → (v : View) (k : ℕ) → IsTold (record v { rows = map f v.rows }) k ↔ IsTold v k
-  same-told keep v k =
-      (λ i. has-told v k (map-from Told Told (λ row e. sym (keep row) ∙ e) v.rows k (told-has (record v { rows = map f v.rows }) k i)),
-      λ i. has-told (record v { rows = map f v.rows }) k (map-to Told Told (λ row e. keep row ∙ e) v.rows k (told-has v k i)))
+  same-told keep v k = (
+    λ i. has-told v k (map-from Told Told (λ row e. sym (keep row) ∙ e) v.rows k (told-has (record v { rows = map f v.rows }) k i)),
+    λ i. has-told (record v { rows = map f v.rows }) k (map-to Told Told (λ row e. keep row ∙ e) v.rows k (told-has v k i)),
+  )
 
 -- ---- telling
 
 pub told-told : (v : View) (k : ℕ) → IsTold (record v { rows = all_told v.rows }) k ↔ IsUp v k
-told-told v k =
-    (λ i. has-up v k (map-from told_row (λ row. refl) Told Any (λ row _. tt) v.rows k (told-has (record v { rows = all_told v.rows }) k i)),
-    λ i. has-told (record v { rows = all_told v.rows }) k (map-to told_row (λ row. refl) Told Any (λ row _. refl) v.rows k (up-has v k i)))
+told-told v k = (
+  λ i. has-up v k (map-from told_row (λ row. refl) Told Any (λ row _. tt) v.rows k (told-has (record v { rows = all_told v.rows }) k i)),
+  λ i. has-told (record v { rows = all_told v.rows }) k (map-to told_row (λ row. refl) Told Any (λ row _. refl) v.rows k (up-has v k i)),
+)
 
 -- ---- taking an entry
 
@@ -216,9 +225,10 @@ took-to j g h row (inl x) = ap (λ b. (if b then record row { entry = Some g } e
 took-to j g h row (inr x) = ap (λ b. (if b then record row { entry = Some g } else row).entry) (is-same row.neighbour j x.0) ∙ ap Some x.1
 
 pub take-entry : (v : View) (j k : ℕ) (g h : Quintuple) → IsEntry (record v { rows = with_entry j g v.rows }) k h ↔ ((IsEntry v k h × (k ≢ j)) ⊎ (IsUp v k × (k ≡ j) × (g ≡ h)))
-take-entry v j k g h =
-    (λ i. to (map-from (row_with_entry j g) (entry-number j g) (Tells h) (Took j g h) (took-from j g h) v.rows k (entry-has (record v { rows = with_entry j g v.rows }) k h i)),
-    λ i. has-entry (record v { rows = with_entry j g v.rows }) k h (map-to (row_with_entry j g) (entry-number j g) (Tells h) (Took j g h) (took-to j g h) v.rows k (from i)))
+take-entry v j k g h = (
+  λ i. to (map-from (row_with_entry j g) (entry-number j g) (Tells h) (Took j g h) (took-from j g h) v.rows k (entry-has (record v { rows = with_entry j g v.rows }) k h i)),
+  λ i. has-entry (record v { rows = with_entry j g v.rows }) k h (map-to (row_with_entry j g) (entry-number j g) (Tells h) (Took j g h) (took-to j g h) v.rows k (from i)),
+)
   where
     to : HasRow (Took j g h) v.rows k → (IsEntry v k h × (k ≢ j)) ⊎ (IsUp v k × (k ≡ j) × (g ≡ h))
     to i = at i.3
@@ -226,6 +236,7 @@ take-entry v j k g h =
         at : Took j g h i.0 → (IsEntry v k h × (k ≢ j)) ⊎ (IsUp v k × (k ≡ j) × (g ≡ h))
         at (inl x) = inl (has-entry v k h (i.0, i.1, i.2, x.0), λ (e : k ≡ j). x.1 (i.2 ∙ e))
         at (inr x) = inr (has-up v k (i.0, i.1, i.2, tt), sym i.2 ∙ x.0, x.1)
+
     from : (IsEntry v k h × (k ≢ j)) ⊎ (IsUp v k × (k ≡ j) × (g ≡ h)) → HasRow (Took j g h) v.rows k
     from (inl x) = let i = entry-has v k h x.0 in (i.0, i.1, i.2, inl (i.3, λ (e : i.0.neighbour ≡ j). x.1 (sym i.2 ∙ e)))
     from (inr x) = let i = up-has v k x.0 in (i.0, i.1, i.2, inr (i.2 ∙ x.1, x.2))
@@ -250,11 +261,12 @@ spared-to : (d : ℕ) (h : Quintuple) (row : Row) → Spared d h row → Tells h
 spared-to d h row x = ap (λ b. (if b then row else record row { entry = None }).entry) (is-same row.neighbour d x.1) ∙ x.0
 
 pub erase-entry : (v : View) (d k : ℕ) (h : Quintuple) → IsEntry (record v { rows = all_erased d v.rows }) k h ↔ (IsEntry v k h × (k ≡ d))
-erase-entry v d k h =
-    (λ i. let x = map-from (erased_row d) (erased-number d) (Tells h) (Spared d h) (spared-from d h) v.rows k (entry-has (record v { rows = all_erased d v.rows }) k h i) in
-    (has-entry v k h (x.0, x.1, x.2, x.3.0), sym x.2 ∙ x.3.1),
-    λ i. let x = entry-has v k h i.0 in
-    has-entry (record v { rows = all_erased d v.rows }) k h (map-to (erased_row d) (erased-number d) (Tells h) (Spared d h) (spared-to d h) v.rows k (x.0, x.1, x.2, (x.3, x.2 ∙ i.1))))
+erase-entry v d k h = (
+  λ i. let x = map-from (erased_row d) (erased-number d) (Tells h) (Spared d h) (spared-from d h) v.rows k (entry-has (record v { rows = all_erased d v.rows }) k h i) in
+      (has-entry v k h (x.0, x.1, x.2, x.3.0), sym x.2 ∙ x.3.1),
+  λ i. let x = entry-has v k h i.0 in
+      has-entry (record v { rows = all_erased d v.rows }) k h (map-to (erased_row d) (erased-number d) (Tells h) (Spared d h) (spared-to d h) v.rows k (x.0, x.1, x.2, (x.3, x.2 ∙ i.1))),
+)
 
 -- ---- clearing
 
@@ -283,23 +295,27 @@ left-to d level h row x =
     none : (b : Bool) → (b && false) ≡ false
     none true = refl
     none false = refl
+
     off : (b : Bool) → is_at level h ≡ b → level_of h ≢ level → b ≡ false
     off true t apart = absurd (apart (at-level level h t))
     off false t apart = refl
+
     at : (row.neighbour ≡ d) ⊎ (level_of h ≢ level) → (not (row.neighbour == d) && is_at level h) ≡ false
     at (inl is) = ap (λ b. not b && is_at level h) (is-same row.neighbour d is)
     at (inr apart) = ap (λ b. not (row.neighbour == d) && b) (off (is_at level h) refl apart) ∙ none (not (row.neighbour == d))
 
 pub clear-entry : (v : View) (d k : ℕ) (level : Level) (h : Quintuple) → IsEntry (record v { rows = all_cleared d level v.rows }) k h ↔ (IsEntry v k h × ((k ≡ d) ⊎ (level_of h ≢ level)))
-clear-entry v d k level h =
-    (λ i. let x = map-from (cleared_row d level) (cleared-number d level) (Tells h) (Left d level h) (left-from d level h) v.rows k (entry-has (record v { rows = all_cleared d level v.rows }) k h i) in
-    (has-entry v k h (x.0, x.1, x.2, x.3.0), forth x.0 x.2 x.3.1),
-    λ i. let x = entry-has v k h i.0 in
-    has-entry (record v { rows = all_cleared d level v.rows }) k h (map-to (cleared_row d level) (cleared-number d level) (Tells h) (Left d level h) (left-to d level h) v.rows k (x.0, x.1, x.2, (x.3, back x.0 x.2 i.1))))
+clear-entry v d k level h = (
+  λ i. let x = map-from (cleared_row d level) (cleared-number d level) (Tells h) (Left d level h) (left-from d level h) v.rows k (entry-has (record v { rows = all_cleared d level v.rows }) k h i) in
+      (has-entry v k h (x.0, x.1, x.2, x.3.0), forth x.0 x.2 x.3.1),
+  λ i. let x = entry-has v k h i.0 in
+      has-entry (record v { rows = all_cleared d level v.rows }) k h (map-to (cleared_row d level) (cleared-number d level) (Tells h) (Left d level h) (left-to d level h) v.rows k (x.0, x.1, x.2, (x.3, back x.0 x.2 i.1))),
+)
   where
     forth : (row : Row) → row.neighbour ≡ k → (row.neighbour ≡ d) ⊎ (level_of h ≢ level) → (k ≡ d) ⊎ (level_of h ≢ level)
     forth row e (inl f) = inl (sym e ∙ f)
     forth row e (inr f) = inr f
+
     back : (row : Row) → row.neighbour ≡ k → (k ≡ d) ⊎ (level_of h ≢ level) → (row.neighbour ≡ d) ⊎ (level_of h ≢ level)
     back row e (inl f) = inl (e ∙ f)
     back row e (inr f) = inr f
@@ -317,6 +333,7 @@ hop-none v = (λ e k i. at (fold lower_row_of None (downstream_rows v)) refl e k
         let has : row.entry ≡ Some h = i.1.3 in
         let down : is_down v row ≡ true = subst (λ (o : Option Quintuple). is_downstream v.height o ≡ true) (sym has) (lower-down v.height h i.2) in
         lowest-none (downstream_rows v) row is (filter-among (is_down v) v.rows row (among-Contains v.rows row i.1.1) down)
+
     back : (o : Option ℕ) → next_hop_of v ≡ o → HasNoDownstream v → o ≡ None
     back None e none = refl
     back (Some k) e none = let hop = hop-is v k e in absurd (none k (hop.entry, hop.known, hop.downstream))

@@ -12,7 +12,9 @@ ghost use Rattle.tora_core.specs.Kept.{HasRoom, IsKept, MakesPacket, MayCome};
 ghost use Rattle.tora_core.specs.Rules.{query_broadcast, update_broadcast, joined_height, after_join, new_level, after_erase, after_link_loss, after_update_loss, propagated_level, reflected_level, link_row, on_need, on_query, on_update, on_clear, on_packet, cleared_level, outcome_of, packet_of, packet_sent, view_after};
 
 use crate::links::Links;
-use crate::rows::{Row, all_at, entry_of, greatest_level, is_entry_at, least_delta, time_after_all};
+use crate::rows::{
+    Row, all_at, entry_of, greatest_level, is_entry_at, least_delta, time_after_all,
+};
 use std::marker::Model;
 use tora_height::{Direction, Entry, Height, Id, Level};
 use tora_packet::{Clear, Packet, Query, Update};

@@ -148,12 +148,7 @@ impl Core {
     ///
     /// # Errors
     /// As those of `step`.
-    pub fn step_into(
-        &mut self,
-        input: &Input,
-        now: u64,
-        sends: &mut Sends,
-    ) -> Result<(), StepError>
+    pub fn step_into(&mut self, input: &Input, now: u64, sends: &mut Sends) -> Result<(), StepError>
         ensures refused { MatchOption (refusal_of self.old input.now) (IsOk result) (λ e. result ≡ Err e) }
         ensures unchanged { OnErr result (self.new ≡ self.old) }
         ensures none_sent { OnErr result (sends.new.items ≡ []) }

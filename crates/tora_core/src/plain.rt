@@ -165,7 +165,13 @@ impl PlainView {
     fn join(&mut self) -> Option<Told> {
         self.height = match self.least() {
             None => None,
-            Some(low) => fit(low.tau, low.oid, low.r, low.delta.saturating_add(1), self.me),
+            Some(low) => fit(
+                low.tau,
+                low.oid,
+                low.r,
+                low.delta.saturating_add(1),
+                self.me,
+            ),
         };
         self.flag = false;
         self.tell()
@@ -234,7 +240,13 @@ impl PlainView {
             return None;
         };
         if !self.all_at(&most) {
-            self.height = fit(most.tau, most.oid, most.r, most.delta.saturating_sub(1), self.me);
+            self.height = fit(
+                most.tau,
+                most.oid,
+                most.r,
+                most.delta.saturating_sub(1),
+                self.me,
+            );
             return self.tell();
         }
         if most.r == 0 {
@@ -378,7 +390,11 @@ impl Plain {
             views.push(PlainView {
                 me,
                 destination: *destination,
-                height: if *destination == me { Some(zero(me)) } else { None },
+                height: if *destination == me {
+                    Some(zero(me))
+                } else {
+                    None
+                },
                 flag: false,
                 rows: Vec::new(alloc),
                 last: 0,
@@ -399,7 +415,11 @@ impl Plain {
         let (k, wants_up) = match input {
             Input::Need(d) => {
                 let known = self.views.iter().any(|view| view.destination == *d);
-                return if known { None } else { Some(StepError::UnknownDestination) };
+                return if known {
+                    None
+                } else {
+                    Some(StepError::UnknownDestination)
+                };
             }
             Input::LinkUp(k) => (*k, false),
             Input::LinkDown(k) => (*k, true),

@@ -122,13 +122,7 @@ fn link_down(views: &mut [Destination], k: Id, place: usize, now: u64, sends: &m
 }
 
 /// A need goes to the view of its destination alone. The rule for it reads no clock: `now` is any tick.
-fn step_need(
-    d: Id,
-    views: &mut [Destination],
-    destinations: &[Id],
-    now: u64,
-    sends: &mut Sends,
-)
+fn step_need(d: Id, views: &mut [Destination], destinations: &[Id], now: u64, sends: &mut Sends)
     requires may { All (CanTake (Input.Need d)) views.old }
     requires ascending { IsAscending destinations.now }
     requires names { destinations.now ≡ destinations_of views.old }

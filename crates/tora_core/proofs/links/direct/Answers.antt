@@ -1,12 +1,7 @@
-use Rattle.std.proofs.Common.{◌≡◌, ◌≢◌, ◌∙◌, refl, sym, ap, subst, ℕ, ◌+◌, ◌<◌, ◌≤◌, Bool, true, false, List, [], Option, Some, None, nat_lt, length, lit<, arith}
-use Rattle.std.specs.Prelude.{IfSome, slice_index_or, slice_set, if◌then◌else◌}
-use Rattle.std.specs.List.{insert, remove, position_or_len, refill}
+use Rattle.std.proofs.Common.{◌≡◌, ◌∙◌, sym, ap, ℕ, ◌+◌, ◌<◌, ◌≤◌, Bool, true, false, length, arith}
+use Rattle.std.specs.Prelude.{slice_index_or, slice_set, if◌then◌else◌}
 use Rattle.tora_height.specs.declared.Direction.{Direction}
-use Rattle.tora_core.specs.declared.rows.Row.{Row}
-use Rattle.tora_core.specs.Links.{AreKept, IsLeastPlace, IsOnlyPlace, LinkTable, with_entry_at}
-use Rattle.tora_core.specs.View.{neighbours_of, with_entry, with_row, without_row}
-use Rattle.tora_core.specs.View.{is_downstream}
-use Rattle.tora_core.specs.Links.{directions_of, downstream_in, is_down}
+use Rattle.tora_core.specs.Links.{downstream_in, is_down}
 use Rattle.tora_core.proofs.LinkLemmas.{directions-next, downstream-next, one_if}
 use Rattle.std.proofs.Common.{take}
 use Rattle.std.proofs.Math.ListN.{length-set}
@@ -31,7 +26,7 @@ loop-i-preserved c =
     let few = c.loop-i.invariant.few in
     let sum : (c.if-is_down.downstream ≡ downstream_in own (take (i + 1) rows)) × (c.if-is_down.downstream ≤ i + 1) =
     elim c.if-is_down.branch [
-      then-is_down w ↦ (let e = more true (sym c.is_down.ensures ∙ w.if-is_down.true) in let f = w.downstream-is in (f ∙ sym e, omega arith))
+      | then-is_down w ↦ (let e = more true (sym c.is_down.ensures ∙ w.if-is_down.true) in let f = w.downstream-is in (f ∙ sym e, omega arith))
       | else-is_down w ↦ (let e = more false (sym c.is_down.ensures ∙ w.if-is_down.false) in let f = w.downstream-is in let z : c.loop-i.downstream + 0 ≡ c.loop-i.downstream = omega arith in (f ∙ sym z ∙ sym e, omega arith))
     ] in
     record {

@@ -1,4 +1,4 @@
-use Rattle.std.proofs.Common.{◌≡◌, ◌∙◌, sym, subst, take, ◌+◌, true, false, ℕ, Option}
+use Rattle.std.proofs.Common.{◌∙◌, sym, subst, take, ◌+◌, ℕ, Option}
 use Rattle.tora_core.specs.Links.{IsLeastPlace}
 use Rattle.tora_core.proofs.LinkLemmas.{least-in_first, least-next_lower, least-next_same}
 use Rattle.tora_core.proofs.links.place_of_least.Goals as goal
@@ -12,6 +12,6 @@ loop-i-preserved c =
     let rows = c.args.rows.now in
     let P : Option ℕ → Type 0 = λ l. IsLeastPlace l (take (c.loop-i.i + 1) rows) in
     elim c.if-is_lower.branch [
-      then-is_lower w ↦ subst P (sym w.least-is) (least-next_lower c.loop-i.least c.loop-i.i rows c.loop-i-test.true c.loop-i.invariant (sym c.is_lower.ensures ∙ w.if-is_lower.true))
+      | then-is_lower w ↦ subst P (sym w.least-is) (least-next_lower c.loop-i.least c.loop-i.i rows c.loop-i-test.true c.loop-i.invariant (sym c.is_lower.ensures ∙ w.if-is_lower.true))
       | else-is_lower w ↦ subst P (sym w.least-is) (least-next_same c.loop-i.least c.loop-i.i rows c.loop-i-test.true c.loop-i.invariant (sym c.is_lower.ensures ∙ w.if-is_lower.false))
     ]

@@ -1,10 +1,9 @@
-use Rattle.std.proofs.Common.{◌≡◌, ◌≢◌, ◌∙◌, refl, sym, ap, subst, ℕ, ◌+◌, ◌<◌, ◌≤◌, Bool, true, false, List, [], Option, Some, None, nat_lt, length, lit<, arith}
-use Rattle.std.specs.Prelude.{IfSome, slice_index_or, slice_set, if◌then◌else◌}
-use Rattle.std.specs.List.{insert, remove, position_or_len, refill}
+use Rattle.std.proofs.Common.{◌≡◌, ◌∙◌, refl, sym, ap, subst, ℕ, ◌+◌, ◌≤◌, Option, nat_lt, length, lit<, arith}
+use Rattle.std.specs.Prelude.{if◌then◌else◌}
+use Rattle.std.specs.List.{insert, position_or_len}
 use Rattle.tora_height.specs.declared.Direction.{Direction}
-use Rattle.tora_core.specs.declared.rows.Row.{Row}
-use Rattle.tora_core.specs.Links.{AreKept, IsLeastPlace, IsOnlyPlace, LinkTable, with_entry_at}
-use Rattle.tora_core.specs.View.{neighbours_of, with_entry, with_row, without_row}
+use Rattle.tora_core.specs.Links.{IsLeastPlace, LinkTable}
+use Rattle.tora_core.specs.View.{with_row}
 use Rattle.tora_core.proofs.LinkLemmas.{kept-few, kept-insert, least-in, least-insert, in-longer, place-within, not-some, table-is, with_row-insert}
 use Rattle.tora_core.specs.Links.{IsNull, is_down}
 use Rattle.tora_core.proofs.links.Links.insert.Goals.{then-is_some, else-is_some}
@@ -39,12 +38,12 @@ invariant_of-self c =
     let le : c.args.place ≤ length rows = let within = place-within (λ other. nat_lt c.args.row.neighbour other.neighbour) rows in omega arith in
     let least : IsLeastPlace c.if-is_some.self (insert rows c.args.place c.args.row) =
     elim c.if-is_some.branch [
-      then-is_some w ↦ subst (λ (l : Option ℕ). IsLeastPlace l (insert rows c.args.place c.args.row)) (sym w.self-is)
-      (subst (IsLeastPlace w.place_of_least-self-inside.result) (w.as_slice.ensures.value ∙ c.insert.ensures.items) w.place_of_least-self-inside.ensures)
+      | then-is_some w ↦ subst (λ (l : Option ℕ). IsLeastPlace l (insert rows c.args.place c.args.row)) (sym w.self-is)
+          (subst (IsLeastPlace w.place_of_least-self-inside.result) (w.as_slice.ensures.value ∙ c.insert.ensures.items) w.place_of_least-self-inside.ensures)
       | else-is_some w ↦
-      (let null : IsNull c.args.row = not-some c.args.row.entry (sym c.is_some.ensures ∙ w.if-is_some.false) in
-      subst (λ (l : Option ℕ). IsLeastPlace l (insert rows c.args.place c.args.row)) (sym w.self-is ∙ refl)
-      (subst (λ (l : Option ℕ). IsLeastPlace l (insert rows c.args.place c.args.row)) (sym w.moved_up-self-inside.ensures) (least-insert c.args.place c.self.inside.least c.args.row rows le null c.self.invariant.least_is)))
+          (let null : IsNull c.args.row = not-some c.args.row.entry (sym c.is_some.ensures ∙ w.if-is_some.false) in
+          subst (λ (l : Option ℕ). IsLeastPlace l (insert rows c.args.place c.args.row)) (sym w.self-is ∙ refl)
+          (subst (λ (l : Option ℕ). IsLeastPlace l (insert rows c.args.place c.args.row)) (sym w.moved_up-self-inside.ensures) (least-insert c.args.place c.self.inside.least c.args.row rows le null c.self.invariant.least_is)))
     ] in
     rw (c.insert.ensures.items, c.insert-2.ensures.items, c.status-direction.ensures)
     (kept-insert c.self.inside.own rows c.self.inside.directions.items c.self.inside.downstream c.self.inside.least c.args.place c.args.row c.recounted-self-inside.result c.if-is_some.self

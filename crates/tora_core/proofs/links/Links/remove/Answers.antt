@@ -1,10 +1,9 @@
-use Rattle.std.proofs.Common.{◌≡◌, ◌≢◌, ◌∙◌, refl, sym, ap, subst, ℕ, ◌+◌, ◌<◌, ◌≤◌, Bool, true, false, List, [], Option, Some, None, nat_lt, length, lit<, arith}
-use Rattle.std.specs.Prelude.{IfSome, slice_index_or, slice_set, if◌then◌else◌}
-use Rattle.std.specs.List.{insert, remove, position_or_len, refill}
-use Rattle.tora_height.specs.declared.Direction.{Direction}
+use Rattle.std.proofs.Common.{◌≡◌, ◌∙◌, sym, ap, subst, ℕ, ◌<◌, List, Option, Some, length, lit<, arith}
+use Rattle.std.specs.Prelude.{slice_index_or}
+use Rattle.std.specs.List.{remove}
 use Rattle.tora_core.specs.declared.rows.Row.{Row}
-use Rattle.tora_core.specs.Links.{AreKept, IsLeastPlace, IsOnlyPlace, LinkTable, with_entry_at}
-use Rattle.tora_core.specs.View.{neighbours_of, with_entry, with_row, without_row}
+use Rattle.tora_core.specs.Links.{IsLeastPlace, IsOnlyPlace, LinkTable}
+use Rattle.tora_core.specs.View.{neighbours_of, without_row}
 use Rattle.tora_core.proofs.LinkLemmas.{before-counted, kept-few, kept-lengths, kept-remove, least-remove, null-remove, only-here, only-remove, only-within, table-is}
 use Rattle.tora_core.specs.Links.{IsLeastAt}
 use Rattle.tora_core.proofs.links.Links.remove.Goals.{in-None, in-Some+then-least-place, in-Some+else-least-place}
@@ -63,14 +62,14 @@ invariant_of-self c =
     let lt : c.args.place < length rows = only-within c.args.k c.args.place rows only in
     let least : IsLeastPlace c.match-self.self (remove rows c.args.place) =
     elim c.match-self.branch [
-      in-None w ↦ subst (λ (l : Option ℕ). IsLeastPlace l (remove rows c.args.place)) (sym w.self-is) (null-remove c.args.place rows lt (subst (λ (l : Option ℕ). IsLeastPlace l rows) w.in-None.is c.self.invariant.least_is))
+      | in-None w ↦ subst (λ (l : Option ℕ). IsLeastPlace l (remove rows c.args.place)) (sym w.self-is) (null-remove c.args.place rows lt (subst (λ (l : Option ℕ). IsLeastPlace l rows) w.in-None.is c.self.invariant.least_is))
       | in-Some+then-least-place w ↦ subst (λ (l : Option ℕ). IsLeastPlace l (remove rows c.args.place)) (sym w.self-is)
-      (subst (IsLeastPlace w.place_of_least.result) (w.as_slice-then-least-place.ensures.value ∙ c.remove.ensures.items) w.place_of_least.ensures)
+          (subst (IsLeastPlace w.place_of_least.result) (w.as_slice-then-least-place.ensures.value ∙ c.remove.ensures.items) w.place_of_least.ensures)
       | in-Some+else-least-place w ↦
-      (let is : IsLeastPlace (Some w.in-Some.least) rows = subst (λ (l : Option ℕ). IsLeastPlace l rows) w.in-Some.is c.self.invariant.least_is in
-      let found = least-remove c.args.place w.in-Some.least is.0 rows w.if-least-place.false lt is.1 in
-      subst (λ (l : Option ℕ). IsLeastPlace l (remove rows c.args.place)) (sym w.self-is)
-      (is.0, subst (λ (n : ℕ). IsLeastAt n is.0 (remove rows c.args.place)) (sym w.moved_down.ensures) found))
+          (let is : IsLeastPlace (Some w.in-Some.least) rows = subst (λ (l : Option ℕ). IsLeastPlace l rows) w.in-Some.is c.self.invariant.least_is in
+          let found = least-remove c.args.place w.in-Some.least is.0 rows w.if-least-place.false lt is.1 in
+          subst (λ (l : Option ℕ). IsLeastPlace l (remove rows c.args.place)) (sym w.self-is)
+          (is.0, subst (λ (n : ℕ). IsLeastAt n is.0 (remove rows c.args.place)) (sym w.moved_down.ensures) found))
     ] in
     rw (c.remove.ensures.items, c.remove-before.ensures.items)
     (kept-remove c.self.inside.own rows c.self.inside.directions.items c.self.inside.downstream c.self.inside.least c.args.place c.remove-before.result c.recounted-self-inside.result c.match-self.self

@@ -1,10 +1,10 @@
-use Rattle.std.proofs.Common.{◌≡◌, ◌≢◌, ◌∙◌, refl, sym, ap, subst, ℕ, ◌+◌, ◌<◌, ◌≤◌, Bool, true, false, List, [], Option, Some, None, nat_lt, length, lit<, arith}
+use Rattle.std.proofs.Common.{◌≡◌, ◌∙◌, sym, ap, subst, ℕ, ◌+◌, ◌<◌, List, Option, Some, length, arith}
 use Rattle.std.specs.Prelude.{IfSome, slice_index_or, slice_set, if◌then◌else◌}
-use Rattle.std.specs.List.{insert, remove, position_or_len, refill}
+use Rattle.std.specs.List.{refill}
 use Rattle.tora_height.specs.declared.Direction.{Direction}
 use Rattle.tora_core.specs.declared.rows.Row.{Row}
-use Rattle.tora_core.specs.Links.{AreKept, IsLeastPlace, IsOnlyPlace, LinkTable, with_entry_at}
-use Rattle.tora_core.specs.View.{neighbours_of, with_entry, with_row, without_row}
+use Rattle.tora_core.specs.Links.{IsLeastPlace, IsOnlyPlace, LinkTable, with_entry_at}
+use Rattle.tora_core.specs.View.{neighbours_of, with_entry}
 use Rattle.tora_core.proofs.LinkLemmas.{before-counted, kept-few, kept-lengths, kept-set, only-here, only-set, only-within, refill-same, table-is}
 use Rattle.tora_height.specs.HeightOrder.{link_status}
 use Rattle.tora_core.specs.Links.{is_down}
@@ -83,14 +83,14 @@ invariant_of-self c =
     ∙ ap (slice_set c.self.inside.directions.items c.args.place) c.status-direction.ensures in
     let least : IsLeastPlace c.match-least.self (with_entry_at c.args.place c.args.height rows) =
     elim c.match-least.branch [
-      in-None w ↦ subst (λ (l : Option ℕ). IsLeastPlace l (with_entry_at c.args.place c.args.height rows)) (sym w.self-is)
-      (subst (IsLeastPlace w.place_of_least-self-inside.result) (w.as_slice-in-None.ensures.value ∙ told ∙ entries) w.place_of_least-self-inside.ensures)
+      | in-None w ↦ subst (λ (l : Option ℕ). IsLeastPlace l (with_entry_at c.args.place c.args.height rows)) (sym w.self-is)
+          (subst (IsLeastPlace w.place_of_least-self-inside.result) (w.as_slice-in-None.ensures.value ∙ told ∙ entries) w.place_of_least-self-inside.ensures)
       | in-Some w ↦
-      (let known : IfSome c.least_with-least.result (λ i. IsLeastPlace (Some i) (with_entry_at c.args.place c.args.height rows)) =
-      subst (λ (xs : List Row). IfSome c.least_with-least.result (λ i. IsLeastPlace (Some i) (with_entry_at c.args.place c.args.height xs))) c.as_slice-2.ensures.value c.least_with-least.ensures in
-      let found : IsLeastPlace (Some w.in-Some.place) (with_entry_at c.args.place c.args.height rows) =
-      subst (λ (l : Option ℕ). IfSome l (λ i. IsLeastPlace (Some i) (with_entry_at c.args.place c.args.height rows))) w.in-Some.is known in
-      subst (λ (l : Option ℕ). IsLeastPlace l (with_entry_at c.args.place c.args.height rows)) (sym w.self-is) found)
+          (let known : IfSome c.least_with-least.result (λ i. IsLeastPlace (Some i) (with_entry_at c.args.place c.args.height rows)) =
+          subst (λ (xs : List Row). IfSome c.least_with-least.result (λ i. IsLeastPlace (Some i) (with_entry_at c.args.place c.args.height xs))) c.as_slice-2.ensures.value c.least_with-least.ensures in
+          let found : IsLeastPlace (Some w.in-Some.place) (with_entry_at c.args.place c.args.height rows) =
+          subst (λ (l : Option ℕ). IfSome l (λ i. IsLeastPlace (Some i) (with_entry_at c.args.place c.args.height rows))) w.in-Some.is known in
+          subst (λ (l : Option ℕ). IsLeastPlace l (with_entry_at c.args.place c.args.height rows)) (sym w.self-is) found)
     ] in
     rw (told, written, entries, directed)
     (kept-set c.self.inside.own rows c.self.inside.directions.items c.self.inside.downstream c.self.inside.least c.args.place c.args.height before c.recounted-self-inside.result c.match-least.self
