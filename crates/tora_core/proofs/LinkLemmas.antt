@@ -1,7 +1,7 @@
 -- What is kept of rows, after each change.
-use Rattle.std.proofs.Common.{◌≡◌, ◌≢◌, refl, ap, sym, subst, ◌∙◌, ℕ, zero, suc, ◌+◌, ◌<◌, ◌≤◌, ◌-◌, ◌==◌, Bool, true, false, not, ◌||◌, ◌&&◌, List, [], ◌∷◌, ◌++◌, map, take, drop, length, Option, Some, None, is_none, is_some, nat_lt, arith}
+use Rattle.std.proofs.Common.{◌≡◌, ◌≢◌, refl, ap, sym, subst, ◌∙◌, ℕ, zero, suc, ◌+◌, ◌<◌, ◌≤◌, ◌-◌, ◌==◌, Bool, true, false, not, ◌||◌, ◌&&◌, List, [], ◌∷◌, ◌++◌, take, drop, length, Option, Some, None, is_none, is_some, nat_lt, arith}
 use Rattle.std.specs.Prelude.{if◌then◌else◌, filter, fold, option_map, IfSome, slice_set, slice_index_or}
-use Rattle.std.specs.List.{AllByRecursion, cons_option, insert, remove, list_any, list_all, position_or_len, refill}
+use Rattle.std.specs.List.{AllByRecursion, cons_option, insert, remove, list_any, position_or_len, refill}
 use Rattle.std.specs.Ordering.{is_lt}
 use Rattle.std.specs.declared.cmp.Ordering.{Ordering}
 use Rattle.std.specs.declared.cmp.Ordering.TheVariants.{Less, Equal, Greater}
@@ -15,7 +15,7 @@ use Rattle.tora_height.specs.declared.Direction.{Direction}
 use Rattle.tora_height.specs.Height.{Quintuple}
 use Rattle.tora_height.specs.HeightOrder.{direction_by, height_cmp, link_status}
 use Rattle.tora_core.specs.declared.rows.Row.{Row}
-use Rattle.tora_core.specs.View.{all_told, are_null, heights_of, is_downstream, least_height, lower_of, lower_row_of, neighbours_of, row_with_entry, with_entry, with_row, without_row, is_told, told_row}
+use Rattle.tora_core.specs.View.{all_told, are_null, heights_of, is_downstream, least_height, lower_of, lower_row_of, neighbours_of, with_entry, with_row, without_row, is_told, told_row}
 use Rattle.tora_core.specs.Links.{AreKept, IsLeastAt, IsLeastPlace, IsNotBelow, IsNull, IsOnlyPlace, LinkTable, directions_of, downstream_in, entry_at, is_above, is_down, low_of, with_entry_at}
 use Rattle.tora_core.proofs.NumberLemmas.{not-same}
 use Rattle.tora_core.proofs.ReactsWords.{below-above, lt-not_gt, not-below}

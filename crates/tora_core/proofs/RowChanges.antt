@@ -1,12 +1,11 @@
 -- What the changes of rows change.
 use Rattle.std.proofs.Common.{◌≡◌, ◌≢◌, ◌↔◌, ◌⊎◌, inl, inr, refl, ap, sym, subst, ◌∙◌, ℕ, ℤ, ◌==◌, Bool, true, false, not, ◌&&◌, List, [], ◌∷◌, map, Option, Some, None, nat_lt}
-use Rattle.std.specs.Prelude.{Contains, IfSome, fold, filter, option_map, if◌then◌else◌}
+use Rattle.std.specs.Prelude.{fold, option_map, if◌then◌else◌}
 use Rattle.std.proofs.lemmas.Bool.{cond_both}
 use Rattle.tora_height.specs.declared.Level.{Level}
 use Rattle.tora_height.specs.Height.{Quintuple, level_of}
-use Rattle.tora_height.specs.HeightOrder.{IsLower}
 use Rattle.tora_core.specs.declared.rows.Row.{Row}
-use Rattle.tora_core.specs.View.{View, all_cleared, all_erased, all_told, cleared_row, downstream_rows, erased_row, greatest_level, heights_of, is_at, is_downstream, is_entry_at, known_heights, least_delta, lower_row_of, next_hop_of, row_with_entry, told_row, with_entry, with_row, without_row}
+use Rattle.tora_core.specs.View.{View, all_cleared, all_erased, all_told, cleared_row, downstream_rows, erased_row, greatest_level, is_at, is_downstream, is_entry_at, known_heights, least_delta, lower_row_of, next_hop_of, row_with_entry, told_row, with_entry, with_row, without_row}
 use Rattle.tora_core.specs.Reacts.{HasNoDownstream, IsDownstream, IsEntry, IsKnown, IsTold, IsUp, KnowsNone}
 use Rattle.tora_core.proofs.NumberLemmas.{same-number, other-number, not-same}
 use Rattle.tora_core.proofs.ReactsWords.{IsAmong, among-Contains, Contains-among, among-known, known-among, at-level, level-at, greatest-none, greatest-is_reached, delta-some, least-delta, is-same, lower-down}

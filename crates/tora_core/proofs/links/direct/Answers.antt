@@ -1,12 +1,7 @@
-use Rattle.std.proofs.Common.{◌≡◌, ◌≢◌, ◌∙◌, refl, sym, ap, subst, ℕ, ◌+◌, ◌<◌, ◌≤◌, Bool, true, false, List, [], Option, Some, None, nat_lt, length, lit<, arith}
-use Rattle.std.specs.Prelude.{IfSome, slice_index_or, slice_set, if◌then◌else◌}
-use Rattle.std.specs.List.{insert, remove, position_or_len, refill}
+use Rattle.std.proofs.Common.{◌≡◌, ◌∙◌, sym, ap, ℕ, ◌+◌, ◌<◌, ◌≤◌, Bool, true, false, length, arith}
+use Rattle.std.specs.Prelude.{slice_index_or, slice_set, if◌then◌else◌}
 use Rattle.tora_height.specs.declared.Direction.{Direction}
-use Rattle.tora_core.specs.declared.rows.Row.{Row}
-use Rattle.tora_core.specs.Links.{AreKept, IsLeastPlace, IsOnlyPlace, LinkTable, with_entry_at}
-use Rattle.tora_core.specs.View.{neighbours_of, with_entry, with_row, without_row}
-use Rattle.tora_core.specs.View.{is_downstream}
-use Rattle.tora_core.specs.Links.{directions_of, downstream_in, is_down}
+use Rattle.tora_core.specs.Links.{downstream_in, is_down}
 use Rattle.tora_core.proofs.LinkLemmas.{directions-next, downstream-next, one_if}
 use Rattle.std.proofs.Common.{take}
 use Rattle.std.proofs.Math.ListN.{length-set}

@@ -1,6 +1,6 @@
-use Rattle.std.proofs.Common.{◌≡◌, ◌≢◌, ◌∙◌, refl, sym, ap, subst, ℕ, ◌+◌, ◌<◌, ◌≤◌, Bool, true, false, List, [], Option, Some, None, is_none, nat_lt, length, arith}
-use Rattle.tora_core.specs.Links.{IsLeastAt, IsLeastPlace, IsOnlyPlace, LinkTable, downstream_in, directions_of, entry_at, is_down, low_of}
-use Rattle.tora_core.specs.View.{are_null, heights_of, is_downstream, is_told, least_height, neighbours_of}
+use Rattle.std.proofs.Common.{◌≡◌, ◌∙◌, sym, ap, subst, ℕ, true, Option, Some, None}
+use Rattle.tora_core.specs.Links.{IsLeastPlace}
+use Rattle.tora_core.specs.View.{is_downstream}
 use Rattle.tora_core.specs.declared.rows.Row.{Row}
 use Rattle.tora_height.specs.Height.{Quintuple}
 use Rattle.tora_core.proofs.LinkLemmas.{least-entry, least-set_first, least-set_lower, least-set_higher, least-within}

@@ -1,4 +1,4 @@
-use Rattle.std.proofs.Common.{◌≡◌, ◌∙◌, sym, subst, take, ◌+◌, true, false, ℕ, Option}
+use Rattle.std.proofs.Common.{◌∙◌, sym, subst, take, ◌+◌, ℕ, Option}
 use Rattle.tora_core.specs.Links.{IsLeastPlace}
 use Rattle.tora_core.proofs.LinkLemmas.{least-in_first, least-next_lower, least-next_same}
 use Rattle.tora_core.proofs.links.place_of_least.Goals as goal

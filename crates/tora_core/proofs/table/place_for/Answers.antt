@@ -1,6 +1,5 @@
-use Rattle.std.proofs.Common.{◌≡◌, ◌∙◌, sym, ap, subst, ℕ, ◌==◌, nat_lt, Option, length}
+use Rattle.std.proofs.Common.{◌∙◌, ap, ℕ, nat_lt, Option, length}
 use Rattle.std.specs.Prelude.{unwrap_or}
-use Rattle.std.specs.List.{position_or_len}
 use Rattle.tora_core.proofs.RowPlaces.{place-or-length}
 use Rattle.tora_core.proofs.table.place_for.Goals as goal
 

@@ -1,4 +1,4 @@
-use Rattle.std.proofs.Common.{◌≡◌, ◌∙◌, sym, ap, ℕ, List, nat_lt, length, ◌<◌}
+use Rattle.std.proofs.Common.{◌∙◌, sym, ap, ℕ, List, nat_lt}
 use Rattle.std.specs.Prelude.{slice_index_or}
 use Rattle.std.specs.List.{position_or_len}
 use Rattle.tora_core.specs.View.{View}

@@ -1,13 +1,13 @@
-use Rattle.std.proofs.Common.{◌≡◌, ◌∙◌, sym, ap, subst, refl, ℕ, ◌==◌, true, List, [], ◌++◌, Option}
+use Rattle.std.proofs.Common.{◌≡◌, ◌∙◌, sym, ap, subst, refl, ℕ, ◌==◌, List, [], ◌++◌, Option}
 use Rattle.tora_packet.specs.declared.Packet.{Packet}
-use Rattle.std.specs.Prelude.{slice_index_or, slice_set, if◌then◌else◌}
+use Rattle.std.specs.Prelude.{slice_index_or}
 use Rattle.std.specs.List.{cons_option, position}
 use Rattle.tora_core.specs.Numbers.{IsAscending}
 use Rattle.tora_core.proofs.RowPlaces.{names-views}
 use Rattle.tora_core.specs.declared.Input.TheVariants as In
 use Rattle.tora_core.specs.View.{View}
 use Rattle.tora_core.specs.Rules.{view_after, packet_sent}
-use Rattle.tora_core.specs.CoreRun.{is_of, concerns, next_packet, next_view}
+use Rattle.tora_core.specs.CoreRun.{is_of, next_packet, next_view}
 use Rattle.tora_core.proofs.OwnViews.{place-Some, none-passes, concerned, found, views-none, sends-none, views-at, sends-at, view-taken, packet-taken}
 use Rattle.tora_core.proofs.table.step_need.Goals as goal
 

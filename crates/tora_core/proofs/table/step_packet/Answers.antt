@@ -1,6 +1,6 @@
 use Rattle.std.proofs.Common.{◌≡◌, ◌∙◌, sym, ap, subst, length, ◌<◌, ℕ, ◌==◌, true, List, [], ◌++◌, Option, Some}
 use Rattle.tora_packet.specs.declared.Packet.{Packet}
-use Rattle.std.specs.Prelude.{slice_index_or, slice_set, if◌then◌else◌}
+use Rattle.std.specs.Prelude.{slice_index_or}
 use Rattle.std.specs.List.{cons_option, position}
 use Rattle.tora_core.specs.Numbers.{IsAscending}
 use Rattle.tora_core.proofs.RowPlaces.{names-views}

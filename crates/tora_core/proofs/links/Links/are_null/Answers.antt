@@ -1,4 +1,4 @@
-use Rattle.std.proofs.Common.{◌≡◌, ◌∙◌, sym, ap, ℕ, Option, is_none}
+use Rattle.std.proofs.Common.{◌∙◌, sym, ap, ℕ, Option, is_none}
 use Rattle.tora_core.specs.View.{are_null}
 use Rattle.tora_core.specs.Links.{LinkTable}
 use Rattle.tora_core.proofs.LinkLemmas.{nulls}

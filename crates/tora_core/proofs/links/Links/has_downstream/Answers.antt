@@ -1,7 +1,7 @@
-use Rattle.std.proofs.Common.{◌≡◌, ◌≢◌, ◌∙◌, refl, sym, ap, subst, ℕ, ◌+◌, ◌<◌, ◌≤◌, Bool, true, false, List, [], Option, Some, None, is_none, nat_lt, length, arith}
+use Rattle.std.proofs.Common.{◌∙◌, ap, nat_lt}
 use Rattle.std.specs.List.{list_any}
-use Rattle.tora_core.specs.Links.{IsLeastAt, IsLeastPlace, IsOnlyPlace, LinkTable, downstream_in, directions_of, entry_at, is_down, low_of}
-use Rattle.tora_core.specs.View.{are_null, heights_of, is_downstream, is_told, least_height, neighbours_of}
+use Rattle.tora_core.specs.Links.{LinkTable}
+use Rattle.tora_core.specs.View.{is_downstream}
 use Rattle.tora_core.proofs.LinkLemmas.{any-down}
 use Rattle.tora_core.proofs.links.Links.has_downstream.Goals as goal
 

@@ -1,10 +1,9 @@
-use Rattle.std.proofs.Common.{◌≡◌, ◌≢◌, ◌∙◌, refl, sym, ap, subst, ℕ, ◌+◌, ◌<◌, ◌≤◌, Bool, true, false, List, [], Option, Some, None, nat_lt, length, lit<, arith}
-use Rattle.std.specs.Prelude.{IfSome, slice_index_or, slice_set, if◌then◌else◌}
-use Rattle.std.specs.List.{insert, remove, position_or_len, refill}
+use Rattle.std.proofs.Common.{◌≡◌, ◌∙◌, refl, sym, ap, subst, ℕ, ◌+◌, ◌≤◌, Option, nat_lt, length, lit<, arith}
+use Rattle.std.specs.Prelude.{if◌then◌else◌}
+use Rattle.std.specs.List.{insert, position_or_len}
 use Rattle.tora_height.specs.declared.Direction.{Direction}
-use Rattle.tora_core.specs.declared.rows.Row.{Row}
-use Rattle.tora_core.specs.Links.{AreKept, IsLeastPlace, IsOnlyPlace, LinkTable, with_entry_at}
-use Rattle.tora_core.specs.View.{neighbours_of, with_entry, with_row, without_row}
+use Rattle.tora_core.specs.Links.{IsLeastPlace, LinkTable}
+use Rattle.tora_core.specs.View.{with_row}
 use Rattle.tora_core.proofs.LinkLemmas.{kept-few, kept-insert, least-in, least-insert, in-longer, place-within, not-some, table-is, with_row-insert}
 use Rattle.tora_core.specs.Links.{IsNull, is_down}
 use Rattle.tora_core.proofs.links.Links.insert.Goals.{then-is_some, else-is_some}

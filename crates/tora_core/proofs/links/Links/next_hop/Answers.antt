@@ -1,9 +1,7 @@
-use Rattle.std.proofs.Common.{◌≡◌, ◌≢◌, ◌∙◌, refl, sym, ap, subst, ℕ, ◌+◌, ◌<◌, ◌≤◌, Bool, true, false, List, [], Option, Some, None, is_none, nat_lt, length, arith}
-use Rattle.std.specs.Prelude.{IfSome, is_some, slice_index_or}
-use Rattle.tora_core.specs.Links.{IsLeastAt, IsLeastPlace, IsOnlyPlace, LinkTable, downstream_in, directions_of, entry_at, is_down, low_of}
-use Rattle.tora_core.specs.View.{are_null, heights_of, is_downstream, is_told, least_height, neighbours_of}
+use Rattle.std.proofs.Common.{◌≡◌, ◌≢◌, ◌∙◌, sym, ap, subst, ℕ, List, Option, Some, None}
+use Rattle.std.specs.Prelude.{slice_index_or}
+use Rattle.tora_core.specs.Links.{IsLeastPlace, LinkTable, downstream_in}
 use Rattle.tora_core.specs.declared.rows.Row.{Row}
-use Rattle.tora_height.specs.Height.{Quintuple}
 use Rattle.tora_core.proofs.LinkLemmas.{hop_in, hop-null, hop-some, hop-none, least-within}
 use Rattle.tora_core.proofs.links.Links.next_hop.Goals as goal
 

@@ -1,10 +1,9 @@
-use Rattle.std.proofs.Common.{◌≡◌, ◌≢◌, ◌∙◌, refl, sym, ap, subst, ℕ, ◌+◌, ◌<◌, ◌≤◌, Bool, true, false, List, [], Option, Some, None, nat_lt, length, lit<, arith}
-use Rattle.std.specs.Prelude.{IfSome, slice_index_or, slice_set, if◌then◌else◌}
-use Rattle.std.specs.List.{insert, remove, position_or_len, refill}
-use Rattle.tora_height.specs.declared.Direction.{Direction}
+use Rattle.std.proofs.Common.{◌≡◌, ◌∙◌, sym, ap, subst, ℕ, ◌<◌, List, Option, Some, length, lit<, arith}
+use Rattle.std.specs.Prelude.{slice_index_or}
+use Rattle.std.specs.List.{remove}
 use Rattle.tora_core.specs.declared.rows.Row.{Row}
-use Rattle.tora_core.specs.Links.{AreKept, IsLeastPlace, IsOnlyPlace, LinkTable, with_entry_at}
-use Rattle.tora_core.specs.View.{neighbours_of, with_entry, with_row, without_row}
+use Rattle.tora_core.specs.Links.{IsLeastPlace, IsOnlyPlace, LinkTable}
+use Rattle.tora_core.specs.View.{neighbours_of, without_row}
 use Rattle.tora_core.proofs.LinkLemmas.{before-counted, kept-few, kept-lengths, kept-remove, least-remove, null-remove, only-here, only-remove, only-within, table-is}
 use Rattle.tora_core.specs.Links.{IsLeastAt}
 use Rattle.tora_core.proofs.links.Links.remove.Goals.{in-None, in-Some+then-least-place, in-Some+else-least-place}

@@ -1,10 +1,10 @@
-use Rattle.std.proofs.Common.{◌≡◌, ◌≢◌, ◌∙◌, refl, sym, ap, subst, ℕ, ◌+◌, ◌<◌, ◌≤◌, Bool, true, false, List, [], Option, Some, None, nat_lt, length, lit<, arith}
+use Rattle.std.proofs.Common.{◌≡◌, ◌∙◌, sym, ap, subst, ℕ, ◌+◌, ◌<◌, List, Option, Some, length, arith}
 use Rattle.std.specs.Prelude.{IfSome, slice_index_or, slice_set, if◌then◌else◌}
-use Rattle.std.specs.List.{insert, remove, position_or_len, refill}
+use Rattle.std.specs.List.{refill}
 use Rattle.tora_height.specs.declared.Direction.{Direction}
 use Rattle.tora_core.specs.declared.rows.Row.{Row}
-use Rattle.tora_core.specs.Links.{AreKept, IsLeastPlace, IsOnlyPlace, LinkTable, with_entry_at}
-use Rattle.tora_core.specs.View.{neighbours_of, with_entry, with_row, without_row}
+use Rattle.tora_core.specs.Links.{IsLeastPlace, IsOnlyPlace, LinkTable, with_entry_at}
+use Rattle.tora_core.specs.View.{neighbours_of, with_entry}
 use Rattle.tora_core.proofs.LinkLemmas.{before-counted, kept-few, kept-lengths, kept-set, only-here, only-set, only-within, refill-same, table-is}
 use Rattle.tora_height.specs.HeightOrder.{link_status}
 use Rattle.tora_core.specs.Links.{is_down}
