@@ -1,6 +1,6 @@
 //! Heights and next hops as text.
 use std::fmt;
-use tora_height::{Entry, Height, Id};
+use tora_height::{Entry, Id};
 
 /// A height as `(tau,oid,r,delta,id)`, and NULL as `-`.
 #[derive(Clone, Copy)]
@@ -15,31 +15,8 @@ impl fmt::Display for HeightText {
     fn fmt<W: fmt::Write>(&self, f: &mut fmt::Formatter<W>) -> fmt::Result {
         match self.0 {
             None => write!(f, "-"),
-            Some(height) => {
-                let level = LevelText(height);
-                let delta = height.delta();
-                let id = height.id();
-                write!(f, "({level},{delta},{id})")
-            }
+            Some(height) => write!(f, "{height}"),
         }
-    }
-}
-
-/// The reference level of a height as `tau,oid,r`.
-#[derive(Clone, Copy)]
-struct LevelText(Height);
-
-impl fmt::Display for LevelText {
-    ghost use Rattle.std.specs.Prelude.{Some};
-    ghost use Rattle.tora_core.specs.ShowText.{level_text};
-
-    ghost output = { λ t. Some (level_text t.0) };
-
-    fn fmt<W: fmt::Write>(&self, f: &mut fmt::Formatter<W>) -> fmt::Result {
-        let tau = self.0.tau();
-        let oid = self.0.oid();
-        let r = self.0.r();
-        write!(f, "{tau},{oid},{r}")
     }
 }
 

@@ -1,4 +1,6 @@
 //! Nodes of several threads, in one process.
+ghost use Rattle.std.specs.Prelude.{◌<◌, ◌≤◌};
+
 use crate::*;
 use std::alloc::Global;
 use std::io::{Read, Write};
@@ -10,11 +12,86 @@ use std::test::Fail;
 use std::thread::Threads;
 use std::time::Duration;
 use std::{io, thread, time};
-use tora_life::MemDisk;
+use tora_life::{Disk, DiskError, LifeError};
 use tora_neighbour::{NodeError, UdpWire, UnixClock, Wire, WireError};
 
 /// The line of a core that has found its route.
 const FOUND: &[u8] = b"to 4 height (0,0,0,1,3) flag 0 hop 4";
+
+/// A disk of 64 bytes that never fails, and tells contracts no bytes.
+#[derive(Drop)]
+struct ByteDisk {
+    bytes: [u8; 64],
+    length: usize,
+    ghost within: { length ≤ 64 },
+}
+
+impl ByteDisk {
+    /// A disk with so many bytes of zero.
+    fn of_zeros(length: usize) -> ByteDisk
+        requires { length ≤ 64 }
+    {
+        ByteDisk {
+            bytes: [0; 64],
+            length,
+        }
+    }
+}
+
+impl Disk for ByteDisk {
+    ghost use Rattle.std.specs.Prelude.{[], false};
+    ghost use Rattle.std.proofs.Common.{rules};
+
+    ghost tells = { λ d. false };
+
+    ghost seen = { λ d. [] };
+
+    ghost may_leave = { λ d c. ⊥ };
+
+    ghost moment = { λ d. 0 };
+
+    ghost left_since = { λ d t c. ⊥ };
+
+    ghost failures = { λ d. 0 };
+
+    ghost reads = { λ d at buf answer bytes new. Unit {0} };
+
+    ghost writes = { λ d at bytes answer new. Unit {0} };
+
+    ghost syncs = { λ d answer new. Unit {0} };
+
+    ghost seen_may_stay = { Prim.search rules };
+
+    ghost counts_now = { λ d t c le now. now };
+
+    ghost only_now = { λ d c left. left };
+
+    fn read(&mut self, at: usize, buf: &mut [u8]) -> Result<usize, DiskError> {
+        let there = &self.bytes[..self.length];
+        let Some(rest) = there.get(at..) else {
+            return Ok(0);
+        };
+        let count = rest.len().min(buf.len());
+        buf[..count].copy_from_slice(&rest[..count]);
+        Ok(count)
+    }
+
+    fn write_at(&mut self, at: usize, bytes: &[u8]) -> Result<(), DiskError> {
+        if at > 64 || bytes.len() > 64 - at {
+            return Ok(());
+        }
+        let end = at + bytes.len();
+        self.bytes[at..end].copy_from_slice(bytes);
+        if end > self.length {
+            self.length = end;
+        }
+        Ok(())
+    }
+
+    fn sync(&mut self) -> Result<(), DiskError> {
+        Ok(())
+    }
+}
 
 /// What the two nodes of a test tell each other of their course.
 #[derive(Drop)]
@@ -90,7 +167,7 @@ fn run_one<R: Threads + Wait + Sync + Net + time::Clock + log::Log + Abort>(
     let mut wires = Vec::new(alloc);
     wires.push(wire).expect(rt, "memory");
     let mut disks = Vec::new(alloc);
-    disks.push(MemDisk::new()).expect(rt, "memory");
+    disks.push(ByteDisk::of_zeros(0)).expect(rt, "memory");
     let links = config.peers().len();
     assert_eq!(rt; wires.len(), links);
     assert_eq!(rt; disks.len(), links);
@@ -243,8 +320,8 @@ fn neighbours_at_once(rt: HostRuntime) -> Result<(), Fail> {
         met: &met,
     })?;
     let mut disks = Vec::new(alloc);
-    disks.push(MemDisk::new())?;
-    disks.push(MemDisk::new())?;
+    disks.push(ByteDisk::of_zeros(0))?;
+    disks.push(ByteDisk::of_zeros(0))?;
     let links = config.peers().len();
     assert_eq!(&rt; wires.len(), links);
     assert_eq!(&rt; disks.len(), links);
@@ -281,7 +358,7 @@ fn a_damaged_life_file_starts_no_thread(rt: HostRuntime) -> Result<(), Fail> {
         met: &met,
     })?;
     let mut disks = Vec::new(alloc);
-    disks.push(MemDisk::of(&[0; 33]).ok_or("a disk")?)?;
+    disks.push(ByteDisk::of_zeros(33))?;
     let links = config.peers().len();
     assert_eq!(&rt; wires.len(), links);
     assert_eq!(&rt; disks.len(), links);
@@ -298,10 +375,7 @@ fn a_damaged_life_file_starts_no_thread(rt: HostRuntime) -> Result<(), Fail> {
         &mut commands,
         &mut screen,
     );
-    assert_eq!(&rt;
-        ended.err(),
-        Some(NodeError::Life(3, tora_life::LifeError::Damaged))
-    );
+    assert_eq!(&rt; ended.err(), Some(NodeError::Life(3, LifeError::Damaged)));
     assert_eq!(&rt; first.load(Ordering::SeqCst), 0);
     Ok(())
 }
