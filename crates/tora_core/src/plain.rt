@@ -275,12 +275,7 @@ impl PlainView {
         } else {
             None
         };
-        let mut at = 0;
-        for row in self.rows.iter() {
-            if row.neighbour < k {
-                at += 1;
-            }
-        }
+        let at = self.rows.iter().filter(|row| row.neighbour < k).count();
         let row = PlainRow {
             neighbour: k,
             entry,

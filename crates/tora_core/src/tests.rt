@@ -433,7 +433,7 @@ fn any_packet(random: &mut Random, now: u64, k: Id, d: Id) -> Option<Packet> {
         1 => Some(Packet::Clr(Clear::new(d, tau.max(1), oid).ok()?)),
         choice => {
             let delta = random.up_to(6) as i32;
-            let id = if choice == 2 { k + 1 } else { k };
+            let id = if choice == 2 { k.saturating_add(1) } else { k };
             let height = if random.up_to(2) == 0 {
                 Height::new(0, 0, 0, 1 + delta, id)
             } else {
