@@ -556,38 +556,6 @@ fn failed_flushes(rt: HostRuntime) {
     }
 }
 
-/// The exit status of a command line that does not replay, or none where memory was refused.
-fn usage_status(rt: &HostRuntime, words: &[&str]) -> Option<ExitCode> {
-    let command = command(rt.alloc()).ok()?;
-    match command.try_get_matches_from(words) {
-        Ok(_) => None,
-        Err(error) if error.kind() == ErrorKind::OutOfMemory => None,
-        Err(error) => Some(usage(rt, &error)),
-    }
-}
-
-/// Help that is asked for is no fault of usage; a word that is not known is one.
-#[test]
-fn usage_statuses(rt: HostRuntime) {
-    let rows = [
-        (["tora", "--help"], ExitCode::SUCCESS),
-        (["tora", "--version"], ExitCode::SUCCESS),
-        (["tora", "walk"], ExitCode::from(2)),
-        (["tora", "--quiet"], ExitCode::from(2)),
-    ];
-    let mut refused = 0u64;
-    for (words, status) in rows {
-        match usage_status(&rt, words.as_slice()) {
-            None => refused = refused.saturating_add(1),
-            Some(found) => assert!(&rt; found == status, "at {words:?}"),
-        }
-    }
-    assert!(&rt;
-        refused <= 1,
-        "one refusal of memory at most, not {refused}"
-    );
-}
-
 /// Whether `-v` is among the words, or nothing where they are no command line.
 fn is_verbose(rt: &HostRuntime, words: &[&str]) -> Option<bool> {
     let command = command(rt.alloc()).ok()?;
