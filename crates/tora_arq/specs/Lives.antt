@@ -5,6 +5,8 @@ use Rattle.tora_arq.specs.declared.LinkEvent.{LinkEvent}
 use Rattle.tora_arq.specs.declared.LinkEvent.TheVariants.{Up, Deliver, Down}
 use Rattle.tora_arq.specs.declared.Reason.{Reason}
 use Rattle.tora_arq.specs.declared.Reason.TheVariants.{Silent, NewPeer, Full, Cut, Spent}
+use Rattle.tora_arq.specs.declared.SubmitError.{SubmitError}
+use Rattle.tora_arq.specs.declared.SubmitError.TheVariants as Refusal
 
 abbrev pub life_of : ℕ → ℕ → Life
 life_of own peer = record { own = own; peer = peer }
@@ -29,3 +31,9 @@ reason_number NewPeer = 2
 reason_number Full = 3
 reason_number Cut = 4
 reason_number Spent = 5
+
+-- the number of a refusal, as texts print it
+abbrev pub submit_error_number : SubmitError → ℕ
+submit_error_number (Refusal.WrongLife packet) = 1
+submit_error_number Refusal.Full = 2
+submit_error_number Refusal.Spent = 3

@@ -3,10 +3,26 @@
 //! TORA presupposes links whose status is sensed and over which control packets come once and in order
 //! (draft-ietf-manet-tora-spec-04). This crate gives such links over datagrams that may be lost, repeated or reordered.
 //! Own profile.
+//!
+//! ```rust
+//! let mut one = LinkEnd::new(alloc, 1, 2, Times::STANDARD)?;
+//! let mut two = LinkEnd::new(alloc, 2, 1, Times::STANDARD)?;
+//! one.open(5, 0); // the numbers of their lives, from their life files
+//! two.open(9, 0);
+//! for _ in 0..2 {
+//!     while let Some(frame) = one.poll_transmit(0) {
+//!         two.on_frame(&frame, 0);
+//!     }
+//!     while let Some(frame) = two.poll_transmit(0) {
+//!         one.on_frame(&frame, 0);
+//!     }
+//! }
+//! assert_eq!(rt; one.poll_event(), Some(LinkEvent::Up(Life { own: 5, peer: 9 })));
+//! ```
 #![tactic(auto)]
 
 ghost use Rattle.std.specs.Prelude.{◌≡◌};
-ghost use Rattle.tora_arq.specs.Lives.{is_same_life, reversed, event_life, reason_number};
+ghost use Rattle.tora_arq.specs.Lives.{is_same_life, reversed, event_life, reason_number, submit_error_number};
 
 mod events;
 mod facts;
@@ -36,7 +52,7 @@ pub const WINDOW: u64 = 32;
 /// A life of a link: the numbers that its two ends drew for it, each 1 to 2^62. Own profile.
 ///
 /// The other end writes the same life with the two numbers exchanged.
-#[derive(Clone, Copy, Debug, PartialEq, Eq)]
+#[derive(Clone, Copy, Debug, PartialEq, Eq, Hash)]
 pub struct Life {
     /// The number of this end.
     pub own: u64,
@@ -64,7 +80,7 @@ impl Life {
 }
 
 /// The times of a link end, each at least 1. Own profile.
-#[derive(Clone, Copy, Debug, PartialEq, Eq)]
+#[derive(Clone, Copy, Debug, PartialEq, Eq, Hash)]
 pub struct Times {
     /// How many ticks of 100 ms after a HELLO the next one is due.
     pub hello: u64,
@@ -86,8 +102,20 @@ impl Times {
     };
 }
 
+/// The times that the program uses.
+impl Default for Times {
+    ghost use Rattle.std.specs.Prelude.{◌≡◌};
+    ghost use Rattle.tora_arq.specs.declared.TheConstants.Times.{STANDARD};
+
+    ghost is_default = { λ t. t ≡ STANDARD };
+
+    fn default() -> Times {
+        Times::STANDARD
+    }
+}
+
 /// What a link end makes of a frame. Own profile.
-#[derive(Clone, Copy, Debug, PartialEq, Eq)]
+#[derive(Clone, Copy, Debug, PartialEq, Eq, Hash)]
 pub enum Verdict {
     /// The frame told something new, or was a HELLO of the life.
     Accepted,
@@ -118,7 +146,7 @@ impl fmt::Display for Verdict {
 }
 
 /// Why a life ended. Own profile.
-#[derive(Clone, Copy, Debug, PartialEq, Eq)]
+#[derive(Clone, Copy, Debug, PartialEq, Eq, Hash)]
 pub enum Reason {
     /// The peer was not heard, or did not acknowledge a packet.
     Silent,
@@ -161,7 +189,7 @@ impl Reason {
 }
 
 /// What a link end tells its node. Own profile.
-#[derive(Clone, Copy, Debug, PartialEq, Eq)]
+#[derive(Clone, Copy, Debug, PartialEq, Eq, Hash)]
 pub enum LinkEvent {
     /// A life was bound: the link is up.
     Up(Life),
@@ -185,7 +213,7 @@ impl LinkEvent {
 }
 
 /// Why a packet is not submitted. Own profile.
-#[derive(Clone, Copy, Debug, PartialEq, Eq, Error)]
+#[derive(Clone, Copy, Debug, PartialEq, Eq, Hash, Error)]
 pub enum SubmitError {
     /// The life is not the bound one. The packet is handed back.
     #[error("the life is not the bound one")]
@@ -198,8 +226,21 @@ pub enum SubmitError {
     Spent,
 }
 
+impl SubmitError {
+    /// The number of the error: 1 `WrongLife`, 2 `Full`, 3 `Spent`.
+    pub fn number(self) -> u8
+        ensures { result ≡ submit_error_number self }
+    {
+        match self {
+            SubmitError::WrongLife(_) => 1,
+            SubmitError::Full => 2,
+            SubmitError::Spent => 3,
+        }
+    }
+}
+
 /// Why a link end is not made. Own profile.
-#[derive(Clone, Copy, Debug, PartialEq, Eq, Error)]
+#[derive(Clone, Copy, Debug, PartialEq, Eq, Hash, Error)]
 pub enum ArqError {
     /// There is no memory for its rings.
     #[error("out of memory")]

@@ -16,7 +16,7 @@ use tora_packet::Packet;
 pub const QUEUE_PLACES: usize = 256;
 
 /// A packet that was submitted and is not acknowledged.
-#[derive(Clone, Copy, Debug, PartialEq, Eq)]
+#[derive(Clone, Copy, Debug, PartialEq, Eq, Hash)]
 pub struct QueuedPacket {
     pub packet: Packet,
     /// How many times it was transmitted.
@@ -71,7 +71,7 @@ impl QueuedPacket {
 }
 
 /// A packet that is due, and how many packets of the send queue stand before it.
-#[derive(Clone, Copy, Debug, PartialEq, Eq)]
+#[derive(Clone, Copy, Debug, PartialEq, Eq, Hash)]
 pub struct Due {
     pub place: usize,
     pub packet: Packet,

@@ -11,7 +11,7 @@ use tora_height::Id;
 use tora_packet::Packet;
 
 /// The node of a link end, the node at the other end, and its times.
-#[derive(Clone, Copy, Debug, PartialEq, Eq)]
+#[derive(Clone, Copy, Debug, PartialEq, Eq, Hash)]
 pub struct Settings {
     pub me: Id,
     pub peer: Id,

@@ -14,7 +14,7 @@ use tora_frame::GREATEST_NUMBER;
 use tora_packet::Packet;
 
 /// Whether a link end is open, and in which life. Own profile.
-#[derive(Clone, Copy, Debug, PartialEq, Eq)]
+#[derive(Clone, Copy, Debug, PartialEq, Eq, Hash)]
 pub enum Phase {
     /// Closed.
     Closed,

@@ -432,3 +432,28 @@ fn an_end_is_printed(rt: HostRuntime) -> Result<(), Fail> {
     assert_eq!(&rt; words.as_str(), "new peer ahead");
     Ok(())
 }
+
+/// Hands the frames due at tick 0 from one end to the other.
+fn exchange(from: &mut LinkEnd, to: &mut LinkEnd) {
+    for _ in 0..34 {
+        match from.poll_transmit(0) {
+            Some(frame) => {
+                let _verdict = to.on_frame(&frame, 0);
+            }
+            None => return,
+        }
+    }
+}
+
+#[test]
+fn example_of_the_documentation(rt: HostRuntime) -> Result<(), Fail> {
+    let mut one = end_of(&rt, rt.alloc(), 1, 2, 5);
+    let mut two = end_of(&rt, rt.alloc(), 2, 1, 9);
+    for _ in 0..2 {
+        exchange(&mut one, &mut two);
+        exchange(&mut two, &mut one);
+    }
+    let up = LinkEvent::Up(Life { own: 5, peer: 9 });
+    assert_eq!(&rt; one.poll_event(), Some(up));
+    Ok(())
+}

@@ -6,7 +6,7 @@ use thiserror::Error;
 use tora_core::CoreError;
 
 /// A key of a configuration. Links and destinations are counted from 1, in the order of the text.
-#[derive(Clone, Copy, Debug, PartialEq, Eq)]
+#[derive(Clone, Copy, Debug, PartialEq, Eq, Hash)]
 pub enum Place {
     /// `node`.
     Node,
@@ -45,7 +45,7 @@ impl Display for Place {
 }
 
 /// What is wrong with the value of a key.
-#[derive(Clone, Copy, Debug, PartialEq, Eq)]
+#[derive(Clone, Copy, Debug, PartialEq, Eq, Hash)]
 pub enum Reason {
     /// There is none.
     Missing,

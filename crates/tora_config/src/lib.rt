@@ -26,7 +26,7 @@ pub use reading::read_config;
 use tora_height::Id;
 
 /// A link to a neighbour, over UDP on the loopback.
-#[derive(Clone, Copy, Debug, PartialEq, Eq)]
+#[derive(Clone, Copy, Debug, PartialEq, Eq, Hash)]
 pub struct LinkConfig {
     /// The neighbour, not 0.
     pub peer: Id,

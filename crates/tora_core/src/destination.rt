@@ -20,7 +20,7 @@ use tora_height::{Direction, Entry, Height, Id, Level};
 use tora_packet::{Clear, Packet, Query, Update};
 
 /// What is broadcast of a destination.
-#[derive(Clone, Copy, Debug, PartialEq, Eq)]
+#[derive(Clone, Copy, Debug, PartialEq, Eq, Hash)]
 pub enum Broadcast {
     /// A route is required.
     Query,

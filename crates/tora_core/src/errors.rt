@@ -5,7 +5,7 @@ ghost use Rattle.tora_core.specs.Errors.{core_error_number, step_error_number};
 use thiserror::Error;
 
 /// Why there is no core, or no text of one. Own profile.
-#[derive(Clone, Copy, Debug, PartialEq, Eq, Error)]
+#[derive(Clone, Copy, Debug, PartialEq, Eq, Hash, Error)]
 pub enum CoreError {
     /// There is not enough memory.
     #[error("there is not enough memory")]
@@ -36,7 +36,7 @@ impl CoreError {
 }
 
 /// Why an input is refused, in the order in which the causes are tested. A refused input changes nothing. Own profile.
-#[derive(Clone, Copy, Debug, PartialEq, Eq, Error)]
+#[derive(Clone, Copy, Debug, PartialEq, Eq, Hash, Error)]
 pub enum StepError {
     /// The neighbour is not one of the configured ones.
     #[error("the neighbour is not configured")]

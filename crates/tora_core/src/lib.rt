@@ -4,6 +4,16 @@
 //! heights that its neighbours told. It takes inputs, each with the tick of 100 ms at which it came, and answers the
 //! packets that go to every neighbour whose link is up (Park and Corson 1997, section 3; where a query is answered and
 //! which entries a clear takes are this project's own profile). Only a new core and its text take memory.
+//!
+//! ```rust
+//! let mut core = Core::new(alloc, 3, &[2, 4], &[4])?;
+//! core.step(Input::LinkUp(2), 1)?;
+//! core.step(Input::LinkUp(4), 1)?;
+//! let sends = core.step(Input::Packet(2, Packet::qry(4)?), 2)?; // node 2 asks for a route to node 4
+//! let height = Height::new(0, 0, 0, 1, 3)?;
+//! assert_eq!(rt; sends.as_slice(), [Packet::Upd(Update::new(4, height)?)].as_slice());
+//! assert_eq!(rt; core.next_hop(4), Some(4));
+//! ```
 #![tactic(auto)]
 
 mod changes;
@@ -34,6 +44,7 @@ pub use node::Core;
 pub use relation::{
     accepted_inputs_react, rules_are_the_relation, words_are_computed, worked_rows_hold,
 };
+use std::fmt;
 use tora_height::Id;
 use tora_packet::Packet;
 
@@ -44,7 +55,7 @@ pub const MOST_NEIGHBOURS: usize = 8;
 pub const MOST_DESTINATIONS: usize = 16;
 
 /// What a core takes in.
-#[derive(Clone, Copy, Debug, PartialEq, Eq)]
+#[derive(Clone, Copy, Debug, PartialEq, Eq, Hash)]
 pub enum Input {
     /// The link to a neighbour came up.
     LinkUp(Id),
@@ -54,6 +65,35 @@ pub enum Input {
     Packet(Id, Packet),
     /// A route to a destination is needed.
     Need(Id),
+}
+
+/// An input as `up 2`, `down 2`, `need 4`, or `from 2 ` and the packet.
+impl fmt::Display for Input {
+    ghost use Rattle.std.specs.Prelude.{Some};
+    ghost use Rattle.tora_core.specs.InputText.{written_input};
+
+    ghost output = { λ input. Some (written_input input) };
+
+    fn fmt<W: fmt::Write>(&self, f: &mut fmt::Formatter<W>) -> fmt::Result {
+        match self {
+            Input::LinkUp(k) => {
+                let k = *k;
+                write!(f, "up {k}")
+            }
+            Input::LinkDown(k) => {
+                let k = *k;
+                write!(f, "down {k}")
+            }
+            Input::Packet(k, packet) => {
+                let k = *k;
+                write!(f, "from {k} {packet}")
+            }
+            Input::Need(d) => {
+                let d = *d;
+                write!(f, "need {d}")
+            }
+        }
+    }
 }
 
 /// The packets that one input broadcasts, at most one for each destination, by ascending destination. Each goes to

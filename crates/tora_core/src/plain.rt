@@ -6,7 +6,7 @@ use tora_height::{GREATEST_DELTA, GREATEST_TAU, Id};
 use tora_packet::Packet;
 
 /// The parts of a height.
-#[derive(Clone, Copy, Debug, PartialEq, Eq, PartialOrd, Ord)]
+#[derive(Clone, Copy, Debug, PartialEq, Eq, PartialOrd, Ord, Hash)]
 pub struct Parts {
     tau: u64,
     oid: u32,
@@ -16,7 +16,7 @@ pub struct Parts {
 }
 
 /// What is broadcast.
-#[derive(Clone, Copy, Debug, PartialEq, Eq)]
+#[derive(Clone, Copy, Debug, PartialEq, Eq, Hash)]
 pub enum Told {
     Query(Id),
     Update(Id, Parts),

@@ -10,7 +10,7 @@ ghost use Rattle.tora_core.specs.Links.{with_entry_at};
 use tora_height::{Entry, Height, Id, Level};
 
 /// What a node knows of one neighbour whose link is up.
-#[derive(Clone, Copy, Debug, Default, PartialEq, Eq)]
+#[derive(Clone, Copy, Debug, Default, PartialEq, Eq, Hash)]
 pub struct Row {
     pub neighbour: Id,
     /// The height that the neighbour told last, `None` for NULL.

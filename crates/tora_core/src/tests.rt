@@ -515,3 +515,32 @@ fn plain_body_answers_alike(rt: HostRuntime) -> Result<(), Fail> {
     }
     Ok(())
 }
+
+#[test]
+fn example_of_the_documentation(rt: HostRuntime) -> Result<(), Fail> {
+    let mut core = Core::new(rt.alloc(), 3, &[2, 4], &[4]).expect(&rt, "a core");
+    core.step(Input::LinkUp(2), 1).expect(&rt, "it is taken");
+    core.step(Input::LinkUp(4), 1).expect(&rt, "it is taken");
+    let sends = core
+        .step(Input::Packet(2, query(&rt)), 2)
+        .expect(&rt, "it is taken");
+    let answer = update(&rt, 0, 0, 0, 1, 3);
+    assert_eq!(&rt; sends.as_slice(), [answer].as_slice());
+    assert_eq!(&rt; core.next_hop(4), Some(4));
+    Ok(())
+}
+
+#[test]
+fn inputs_are_printed_in_words(rt: HostRuntime) -> Result<(), Fail> {
+    let rows = [
+        (Input::LinkUp(2), "up 2"),
+        (Input::LinkDown(2), "down 2"),
+        (Input::Need(4), "need 4"),
+        (Input::Packet(2, query(&rt)), "from 2 QRY 4"),
+    ];
+    for (input, text) in rows {
+        let printed = format!(in rt.alloc(); "{input}")?;
+        assert_eq!(&rt; printed.as_str(), text);
+    }
+    Ok(())
+}

@@ -3,6 +3,14 @@
 //! A frame carries the numbers of two lives of the link, its sender's and the one that the sender heard of its
 //! receiver. A HELLO carries no more, a DATA frame carries one numbered packet, and DATA and ACK carry a count of
 //! packets accepted. Numbers in bytes are in network byte order. No call of this crate takes memory.
+//!
+//! ```rust
+//! let header = Header { sender: 1, receiver: 2, life: 5, heard: 9 };
+//! let frame = Frame::ack(header, 3); // three packets of this life were accepted
+//! let bytes = encode(&frame);
+//! assert_eq!(rt; bytes.len(), 36);
+//! assert_eq!(rt; decode(&bytes), Ok(frame));
+//! ```
 #![tactic(auto)]
 
 ghost use Rattle.std.specs.Prelude.{◌≡◌};
@@ -20,7 +28,7 @@ use thiserror::Error;
 use tora_packet::PacketError;
 
 /// Why bytes spell no frame. Own profile.
-#[derive(Clone, Copy, Debug, PartialEq, Eq, Error)]
+#[derive(Clone, Copy, Debug, PartialEq, Eq, Hash, Error)]
 pub enum FrameError {
     /// The bytes end before the frame does.
     #[error("too few bytes")]

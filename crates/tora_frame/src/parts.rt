@@ -10,7 +10,7 @@ use tora_packet::Packet;
 pub const GREATEST_NUMBER: u64 = 0x4000_0000_0000_0000;
 
 /// The header of a frame: between whom it goes, and in which lives of the link. Own profile.
-#[derive(Clone, Copy, Debug, PartialEq, Eq)]
+#[derive(Clone, Copy, Debug, PartialEq, Eq, Hash)]
 pub struct Header {
     /// The node that sends the frame.
     pub sender: Id,
@@ -23,7 +23,7 @@ pub struct Header {
 }
 
 /// What a frame carries behind its header. Own profile.
-#[derive(Clone, Copy, Debug, PartialEq, Eq)]
+#[derive(Clone, Copy, Debug, PartialEq, Eq, Hash)]
 pub enum Body {
     /// Nothing: the frame only tells the lives.
     Hello,
@@ -37,7 +37,7 @@ pub enum Body {
 /// A frame of a neighbour link: its header and its body, both in their ranges. Own profile.
 ///
 /// Sender and receiver are two different nodes, and a frame that carries a count has heard a life of the receiver.
-#[derive(Clone, Copy, Debug, PartialEq, Eq)]
+#[derive(Clone, Copy, Debug, PartialEq, Eq, Hash)]
 pub struct Frame {
     header: Header,
     body: Body,

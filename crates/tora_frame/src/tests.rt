@@ -235,3 +235,18 @@ fn cut_and_changed_frames(rt: HostRuntime) -> Result<(), Fail> {
     }
     Ok(())
 }
+
+#[test]
+fn example_of_the_documentation(rt: HostRuntime) -> Result<(), Fail> {
+    let header = Header {
+        sender: 1,
+        receiver: 2,
+        life: 5,
+        heard: 9,
+    };
+    let frame = Frame::ack(header, 3);
+    let bytes = encode(&frame);
+    assert_eq!(rt; bytes.len(), 36);
+    assert_eq!(rt; decode(&bytes), Ok(frame));
+    Ok(())
+}

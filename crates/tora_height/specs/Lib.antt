@@ -1,3 +1,4 @@
 pub mod Height
 pub mod HeightOrder
 pub mod HeightText
+pub mod HeightErrors

@@ -2,12 +2,21 @@
 //!
 //! A height is a quintuple (tau, oid, r, delta, id). Its first three parts are its reference level. TORA directs each
 //! link from the higher of two heights to the lower one. No call of this crate takes memory.
+//!
+//! ```rust
+//! let own = Height::new(0, 0, 0, 2, 2)?;
+//! let neighbour = Height::new(0, 0, 0, 1, 3)?;
+//! assert!(rt; neighbour < own);
+//! assert_eq!(rt; status(Some(own), Some(neighbour)), Direction::Down);
+//! assert_eq!(rt; own.level(), neighbour.level());
+//! ```
 #![tactic(auto)]
 
 ghost use Rattle.std.specs.Prelude.{◌≡◌, ◌↔◌, ◌<◌, ◌^◌, None};
 ghost use Rattle.std.specs.Cmp.{IsTotalOrder};
 ghost use Rattle.std.specs.declared.cmp.Ordering.TheVariants.{Less, Equal};
 ghost use Rattle.tora_height.specs.Height.{Quintuple, IsHeight, height_fault};
+ghost use Rattle.tora_height.specs.HeightErrors.{height_error_number};
 ghost use Rattle.tora_height.specs.HeightOrder.{IsLower, IsLowerLevel, level_cmp, height_cmp, link_status};
 ghost use Rattle.tora_height.specs.declared.Level.{Level as AnyLevel};
 
@@ -28,7 +37,7 @@ pub const GREATEST_DELTA: i32 = 0x4000_0000;
 /// A reference level: the first three parts of a height (Park and Corson 1997, section 3.1).
 ///
 /// Levels are ordered by `tau`, then `oid`, then `r`, as the derived `Ord` has it.
-#[derive(Clone, Copy, Debug, PartialEq, Eq, PartialOrd, Ord)]
+#[derive(Clone, Copy, Debug, PartialEq, Eq, PartialOrd, Ord, Hash)]
 pub struct Level {
     /// The time tag: when the level was defined, in ticks of 100 ms, 0 to 2^62.
     pub tau: u64,
@@ -39,7 +48,7 @@ pub struct Level {
 }
 
 /// The direction of a link as a node sees it (draft-ietf-manet-tora-spec-04, section 3.3).
-#[derive(Clone, Copy, Debug, Default, PartialEq, Eq)]
+#[derive(Clone, Copy, Debug, Default, PartialEq, Eq, Hash)]
 pub enum Direction {
     /// Upstream: the neighbour is higher.
     Up,
@@ -51,7 +60,7 @@ pub enum Direction {
 }
 
 /// Why five parts are no height, in the order in which they are tested. Own profile.
-#[derive(Clone, Copy, Debug, PartialEq, Eq, Error)]
+#[derive(Clone, Copy, Debug, PartialEq, Eq, Hash, Error)]
 pub enum HeightError {
     /// `tau` is above 2^62.
     #[error("tau is above 2^62")]
@@ -67,10 +76,24 @@ pub enum HeightError {
     Id,
 }
 
+impl HeightError {
+    /// The number of the error: 1 `Tau`, 2 `Delta`, 3 `Level`, 4 `Id`.
+    pub fn number(self) -> u8
+        ensures { result ≡ height_error_number self }
+    {
+        match self {
+            HeightError::Tau => 1,
+            HeightError::Delta => 2,
+            HeightError::Level => 3,
+            HeightError::Id => 4,
+        }
+    }
+}
+
 /// A height whose parts are in range (Park and Corson 1997, section 3.1; the ranges are this project's own profile).
 ///
 /// Heights are ordered lexicographically over the five parts, as the derived `Ord` has it.
-#[derive(Clone, Copy, Debug, PartialEq, Eq, PartialOrd, Ord)]
+#[derive(Clone, Copy, Debug, PartialEq, Eq, PartialOrd, Ord, Hash)]
 pub struct Height {
     tau: u64,
     oid: u32,
@@ -286,3 +309,6 @@ pub fn ranges_are_tested()
     ensures accepted { (h : Quintuple) → IsHeight h → height_fault h ≡ None }
     ensures refused { (h : Quintuple) → h.oid < 2 ^ 32 → h.id < 2 ^ 32 → height_fault h ≡ None → IsHeight h }
 {}
+
+#[cfg(test)]
+mod tests;

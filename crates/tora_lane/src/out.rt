@@ -43,7 +43,7 @@ impl Model for OutTake {
 }
 
 /// How many cargoes went through a lane to a neighbour, and how many are left in it. Own profile.
-#[derive(Clone, Copy, Debug, PartialEq, Eq)]
+#[derive(Clone, Copy, Debug, PartialEq, Eq, Hash)]
 pub struct OutEnd {
     /// How many cargoes were sent.
     pub sent: u64,

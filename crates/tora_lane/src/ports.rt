@@ -15,7 +15,7 @@ use thiserror::Error;
 use tora_seat::{Item, What};
 
 /// The other side of the lane has ended, or the seat was used up. A port that answers it answers it for good. Own profile.
-#[derive(Clone, Copy, Debug, PartialEq, Eq, Error)]
+#[derive(Clone, Copy, Debug, PartialEq, Eq, Hash, Error)]
 #[error("the lane has ended")]
 pub struct Gone;
 
@@ -76,7 +76,7 @@ impl Model for CorePort {
 }
 
 /// What a seat has put, and what became of it. Own profile.
-#[derive(Clone, Copy, Debug, PartialEq, Eq)]
+#[derive(Clone, Copy, Debug, PartialEq, Eq, Hash)]
 pub struct Settled {
     /// The seat.
     pub seat: usize,

@@ -1,6 +1,7 @@
 pub mod Calls
 pub mod Disk
 pub mod DiskView
+pub mod Errors
 pub mod FileView
 pub mod InMemory
 pub mod LifeFile

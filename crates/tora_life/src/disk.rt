@@ -6,7 +6,7 @@ ghost use Rattle.tora_life.specs.Disk.{Holds, Torn, Follows, IsOnlyImage, Elapse
 use thiserror::Error;
 
 /// A call of a disk has failed, and is counted.
-#[derive(Clone, Copy, Debug, PartialEq, Eq, Error)]
+#[derive(Clone, Copy, Debug, PartialEq, Eq, Hash, Error)]
 #[error("a call of the disk failed")]
 pub struct DiskError;
 

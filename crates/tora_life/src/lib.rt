@@ -11,6 +11,15 @@
 //! was synced is a premise of the program that runs over it, and no clause here.
 //!
 //! The rules of the life file are this project's own profile. No call takes memory.
+//!
+//! ```rust
+//! let mut file = LifeFile::open(MemDisk::new())?;
+//! assert_eq!(rt; file.draw(), Ok(1));
+//! let mut disk = file.close();
+//! disk.crash(None); // what was not synced is lost
+//! let mut file = LifeFile::open(disk)?;
+//! assert_eq!(rt; file.draw(), Ok(17));
+//! ```
 #![tactic(auto)]
 
 mod call_record;

@@ -5,7 +5,7 @@ use crate::slots::{Slot, bound_of};
 use thiserror::Error;
 
 /// Why a life file did not open, or drew no number.
-#[derive(Clone, Copy, Debug, PartialEq, Eq, Error)]
+#[derive(Clone, Copy, Debug, PartialEq, Eq, Hash, Error)]
 pub enum LifeError {
     /// A call of the disk has failed in this call. From a draw on, the file draws no number until it is opened again.
     #[error("the disk failed")]
@@ -19,6 +19,22 @@ pub enum LifeError {
     /// The file is longer than the 32 bytes of its two slots.
     #[error("the file is longer than two slots")]
     Damaged,
+}
+
+impl LifeError {
+    ghost use Rattle.tora_life.specs.Errors.{life_error_number};
+
+    /// The number of the error: 1 `Disk`, 2 `Failed`, 3 `Spent`, 4 `Damaged`.
+    pub fn number(self) -> u8
+        ensures { result ≡ life_error_number self }
+    {
+        match self {
+            LifeError::Disk => 1,
+            LifeError::Failed => 2,
+            LifeError::Spent => 3,
+            LifeError::Damaged => 4,
+        }
+    }
 }
 
 /// The greatest number that is ever drawn, 2^62.

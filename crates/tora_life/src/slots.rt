@@ -3,7 +3,7 @@ ghost use Rattle.std.specs.Prelude.{◌≡◌};
 ghost use Rattle.tora_life.specs.LifeFile.{slot_bound, slot_of};
 
 /// Slot 0, the bytes 0 to 15, and slot 1, the bytes 16 to 31.
-#[derive(Clone, Copy, Debug, PartialEq, Eq)]
+#[derive(Clone, Copy, Debug, PartialEq, Eq, Hash)]
 pub enum Slot {
     First,
     Second,

@@ -3,7 +3,7 @@ use crate::disk::DiskError;
 use crate::tearing::tear;
 
 /// The calls of a disk.
-#[derive(Clone, Copy, Debug, PartialEq, Eq)]
+#[derive(Clone, Copy, Debug, PartialEq, Eq, Hash)]
 pub enum DiskCall {
     /// `Disk::read`.
     Read,

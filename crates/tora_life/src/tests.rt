@@ -199,3 +199,14 @@ fn each_crash(rt: HostRuntime) -> Result<(), Fail> {
     }
     Ok(())
 }
+
+#[test]
+fn example_of_the_documentation(rt: HostRuntime) -> Result<(), Fail> {
+    let mut file = opened(&rt, MemDisk::new());
+    assert_eq!(&rt; file.draw(), Ok(1));
+    let mut disk = file.close();
+    disk.crash(None);
+    let mut file = opened(&rt, disk);
+    assert_eq!(&rt; file.draw(), Ok(17));
+    Ok(())
+}

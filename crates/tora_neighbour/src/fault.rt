@@ -7,7 +7,7 @@ use tora_height::Id;
 use tora_life::LifeError;
 
 /// Why a node, or a thread of it, has ended though nobody told it to. Own profile.
-#[derive(Clone, Copy, Debug, PartialEq, Eq, Error)]
+#[derive(Clone, Copy, Debug, PartialEq, Eq, Hash, Error)]
 pub enum NodeError {
     /// There is no memory, or no thread.
     #[error("out of memory")]

@@ -6,7 +6,7 @@ use crate::wire::{Wire, WireError};
 use std::marker::Model;
 
 /// How long a fuse lets calls fail, once it has blown.
-#[derive(Clone, Copy, Debug, PartialEq, Eq)]
+#[derive(Clone, Copy, Debug, PartialEq, Eq, Hash)]
 pub enum FuseMode {
     /// One call fails.
     Once,

@@ -11,7 +11,7 @@ use std::sync::Wait;
 use tora_lane::{Cargo, Gone, What};
 
 /// What was put by a neighbour's thread, and its tick.
-#[derive(Clone, Copy, Debug, PartialEq, Eq)]
+#[derive(Clone, Copy, Debug, PartialEq, Eq, Hash)]
 pub struct Put {
     /// The tick of 100 ms at which it was put.
     pub now: u64,

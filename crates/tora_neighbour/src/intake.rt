@@ -9,7 +9,7 @@ use tora_arq::{LinkEnd, Verdict};
 use tora_frame::{FrameError, decode};
 
 /// What a link end made of a datagram.
-#[derive(Clone, Copy, Debug, PartialEq, Eq)]
+#[derive(Clone, Copy, Debug, PartialEq, Eq, Hash)]
 pub enum Intake {
     /// Its bytes spell no frame, for this reason. The end did not see it.
     Bad(FrameError),

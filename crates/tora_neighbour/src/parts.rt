@@ -35,7 +35,7 @@ pub const MOST_BYTES: usize = 2048;
 pub const MOST_FAILURES: u64 = 100;
 
 /// The hundredth call of the wire in a row has failed.
-#[derive(Clone, Copy, Debug, PartialEq, Eq)]
+#[derive(Clone, Copy, Debug, PartialEq, Eq, Hash)]
 pub struct Broken;
 
 /// Opens a closed end with the next number of its file.

@@ -9,7 +9,7 @@ use tora_frame::FrameError;
 /// How many datagrams of one link came to each verdict, and to each fault of their bytes. Own profile.
 ///
 /// Each datagram that `take_in` is given adds 1 to exactly one of the counts, which stays at 2^64 - 1 once there.
-#[derive(Clone, Copy, Debug, PartialEq, Eq)]
+#[derive(Clone, Copy, Debug, PartialEq, Eq, Hash)]
 pub struct Tally {
     accepted: u64,
     repeated: u64,
@@ -26,6 +26,18 @@ pub struct Tally {
     life: u64,
     number: u64,
     packet: u64,
+}
+
+/// A tally of no datagram.
+impl Default for Tally {
+    ghost use Rattle.std.specs.Prelude.{◌≡◌};
+    ghost use Rattle.tora_neighbour.specs.Tally.{first_tally};
+
+    ghost is_default = { λ t. t ≡ first_tally };
+
+    fn default() -> Tally {
+        Tally::new()
+    }
 }
 
 impl Tally {

@@ -17,7 +17,7 @@ use std::sync::Wait;
 use tora_life::Disk;
 
 /// What a thread counts over its turns.
-#[derive(Clone, Copy, Debug, PartialEq, Eq)]
+#[derive(Clone, Copy, Debug, PartialEq, Eq, Hash)]
 pub struct Course {
     /// How many calls of the wire have failed in a row.
     pub row: u64,

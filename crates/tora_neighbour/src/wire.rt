@@ -6,7 +6,7 @@ ghost use Rattle.tora_neighbour.specs.Datagrams.{failures_after, IsReceived};
 use thiserror::Error;
 
 /// A call of a wire has failed, and is counted.
-#[derive(Clone, Copy, Debug, PartialEq, Eq, Error)]
+#[derive(Clone, Copy, Debug, PartialEq, Eq, Hash, Error)]
 #[error("a call of the wire failed")]
 pub struct WireError;
 

@@ -1,3 +1,4 @@
 pub mod PacketParts
+pub mod PacketText
 pub mod AnyPacket
 pub mod PacketGrammar

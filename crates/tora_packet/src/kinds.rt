@@ -8,7 +8,7 @@ use std::marker::Model;
 use tora_height::{GREATEST_TAU, Height, Id};
 
 /// A query: a route to a destination is needed.
-#[derive(Clone, Copy, Debug, PartialEq, Eq)]
+#[derive(Clone, Copy, Debug, PartialEq, Eq, Hash)]
 pub struct Query {
     destination: Id,
 }
@@ -59,7 +59,7 @@ impl Query {
 }
 
 /// An update: the height of the node that sends it, for a destination that is another node.
-#[derive(Clone, Copy, Debug, PartialEq, Eq)]
+#[derive(Clone, Copy, Debug, PartialEq, Eq, Hash)]
 pub struct Update {
     destination: Id,
     height: Height,
@@ -131,7 +131,7 @@ impl Update {
 }
 
 /// A clear: the erasing of the reflected level (`tau`, `oid`, 1).
-#[derive(Clone, Copy, Debug, PartialEq, Eq)]
+#[derive(Clone, Copy, Debug, PartialEq, Eq, Hash)]
 pub struct Clear {
     destination: Id,
     tau: u64,

@@ -2,6 +2,14 @@
 //!
 //! A query (QRY) asks for a route, an update (UPD) tells a height, a clear (CLR) erases a reflected reference level
 //! after a partition. Numbers in bytes are in network byte order. No call of this crate takes memory.
+//!
+//! ```rust
+//! let height = Height::new(0, 0, 0, 1, 3)?;
+//! let packet = Packet::Upd(Update::new(4, height)?);
+//! let bytes = encode(&packet);
+//! assert_eq!(rt; bytes.len(), 32);
+//! assert_eq!(rt; decode(&bytes), Ok(packet));
+//! ```
 #![tactic(auto)]
 
 ghost use Rattle.std.specs.Prelude.{◌≡◌, ◌==◌, Ok, Err, MatchBool};
@@ -15,11 +23,12 @@ mod kinds;
 pub use decoding::{decode, one_packet_spelling};
 pub use encoding::{LONGEST_PACKET, append, encode};
 pub use kinds::{Clear, Query, Update};
+use std::fmt;
 use thiserror::Error;
 use tora_height::Id;
 
 /// Why bytes spell no packet, or parts make none. Own profile.
-#[derive(Clone, Copy, Debug, PartialEq, Eq, Error)]
+#[derive(Clone, Copy, Debug, PartialEq, Eq, Hash, Error)]
 pub enum PacketError {
     /// The bytes end before the packet does.
     #[error("too few bytes")]
@@ -58,7 +67,7 @@ impl PacketError {
 }
 
 /// A control packet (draft-ietf-manet-tora-spec-04, section 3.6; the layouts are this project's own profile).
-#[derive(Clone, Copy, Debug, PartialEq, Eq)]
+#[derive(Clone, Copy, Debug, PartialEq, Eq, Hash)]
 pub enum Packet {
     /// A route request.
     Qry(Query),
@@ -91,6 +100,34 @@ impl Packet {
             Packet::Qry(query) => query.destination(),
             Packet::Upd(update) => update.destination(),
             Packet::Clr(clear) => clear.destination(),
+        }
+    }
+}
+
+/// A packet as `QRY 4`, `UPD 4 (0,0,0,1,3)` or `CLR 4 7,3`: the destination, and the height, or the level's `tau,oid`.
+impl fmt::Display for Packet {
+    ghost use Rattle.std.specs.Prelude.{Some};
+    ghost use Rattle.tora_packet.specs.PacketText.{written_packet};
+
+    ghost output = { λ p. Some (written_packet p) };
+
+    fn fmt<W: fmt::Write>(&self, f: &mut fmt::Formatter<W>) -> fmt::Result {
+        match self {
+            Packet::Qry(query) => {
+                let d = query.destination();
+                write!(f, "QRY {d}")
+            }
+            Packet::Upd(update) => {
+                let d = update.destination();
+                let height = update.height();
+                write!(f, "UPD {d} {height}")
+            }
+            Packet::Clr(clear) => {
+                let d = clear.destination();
+                let tau = clear.tau();
+                let oid = clear.oid();
+                write!(f, "CLR {d} {tau},{oid}")
+            }
         }
     }
 }

@@ -99,3 +99,28 @@ fn the_default_packet_is_the_query_for_one(rt: HostRuntime) -> Result<(), Fail> 
     assert_eq!(rt; Ok(Packet::default()), Packet::qry(1));
     Ok(())
 }
+
+#[test]
+fn example_of_the_documentation(rt: HostRuntime) -> Result<(), Fail> {
+    let height = Height::new(0, 0, 0, 1, 3).ok().ok_or("no height")?;
+    let packet = Packet::Upd(Update::new(4, height).ok().ok_or("no update")?);
+    let bytes = encode(&packet);
+    assert_eq!(rt; bytes.len(), 32);
+    assert_eq!(rt; decode(&bytes), Ok(packet));
+    Ok(())
+}
+
+#[test]
+fn packets_are_printed_in_words(rt: HostRuntime) -> Result<(), Fail> {
+    let rows = [
+        (Packet::qry(4).ok(), "QRY 4"),
+        (update(0, 0, 0, 1, 3), "UPD 4 (0,0,0,1,3)"),
+        (clear(7, 3), "CLR 4 7,3"),
+    ];
+    for (packet, text) in rows {
+        let packet = packet.ok_or("no packet")?;
+        let printed = format!(in rt.alloc(); "{packet}")?;
+        assert_eq!(rt; printed.as_str(), text);
+    }
+    Ok(())
+}

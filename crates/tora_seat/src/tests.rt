@@ -6,6 +6,8 @@ use std::process::Abort;
 use std::test::Fail;
 use tora_core::{Core, Input};
 
+mod line;
+
 /// How many cargoes a lane of the tests holds.
 const ROOM: usize = 256;
 

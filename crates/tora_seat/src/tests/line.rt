@@ -1,0 +1,145 @@
+// The line of four nodes, 1 - 2 - 3 - 4, by items that are made by hand: what one seat offers is handed to the next one.
+use super::*;
+use tora_height::{Entry, Height};
+
+// The life of every link, as both ends write it.
+const LIFE: Life = Life { own: 1, peer: 1 };
+
+// A node of the line, with the cargoes that its seat has offered and that were not handed on.
+#[derive(Drop)]
+struct Node {
+    me: Id,
+    seat: CoreSeat,
+    lanes: TestLanes,
+}
+
+impl Node {
+    fn new(rt: &impl Abort, alloc: Global, me: Id, neighbours: &[Id]) -> Result<Node, Fail> {
+        let core = Core::new(alloc, me, neighbours, &[4]).expect(rt, "a core");
+        Ok(Node {
+            me,
+            seat: CoreSeat::new(alloc, core)?,
+            lanes: TestLanes {
+                first: 0,
+                second: 0,
+                offers: Vec::new(alloc),
+            },
+        })
+    }
+
+    // The place of a neighbour.
+    fn place(&self, rt: &impl Abort, k: Id) -> usize {
+        let neighbours = self.seat.core().neighbours();
+        neighbours
+            .iter()
+            .position(|n| *n == k)
+            .expect(rt, "a neighbour")
+    }
+
+    // Serves what a seat tells; nothing is refused.
+    fn serves(&mut self, rt: &impl Abort, seat: usize, now: u64, what: What) {
+        assert!(rt; self.seat.core().neighbours().len() <= 2);
+        let item = Item {
+            seat,
+            number: 1,
+            now,
+            what,
+        };
+        let answer = self.seat.serve(&item, &mut self.lanes);
+        assert_eq!(rt; answer, Answer::Nothing, "at node {}", self.me);
+    }
+
+    // Serves what the link to a neighbour tells.
+    fn hears(&mut self, rt: &impl Abort, from: Id, now: u64, what: What) {
+        let place = self.place(rt, from);
+        self.serves(rt, place, now, what);
+    }
+
+    // The first cargo that was offered and not handed on, and the neighbour that it is for.
+    fn gives(&mut self, rt: &impl Abort) -> Option<(Id, Cargo)> {
+        if self.lanes.offers.is_empty() {
+            return None;
+        }
+        let offered = self.lanes.offers.remove(0);
+        let k = self.seat.core().neighbours().get(offered.place).copied();
+        Some((k.expect(rt, "a neighbour"), offered.cargo))
+    }
+}
+
+// Hands on every cargo until none is left.
+fn hands_on(rt: &impl Abort, line: &mut [Node], now: u64) {
+    for _ in 0..100 {
+        for i in 0..line.len() {
+            let from = line[i].me;
+            if let Some((to, Cargo::Packet(life, packet))) = line[i].gives(rt) {
+                let node = line.iter_mut().find(|node| node.me == to);
+                let node = node.expect(rt, "a node");
+                node.hears(rt, from, now, What::Packet(life, packet));
+            }
+        }
+    }
+    assert!(rt; line.iter().all(|node| node.lanes.offers.is_empty()));
+}
+
+// The four nodes, with every link up, and the route to 4 that node 1 has asked for.
+fn joined(rt: &impl Abort, alloc: Global) -> Result<[Node; 4], Fail> {
+    let mut line = [
+        Node::new(rt, alloc, 1, &[2])?,
+        Node::new(rt, alloc, 2, &[1, 3])?,
+        Node::new(rt, alloc, 3, &[2, 4])?,
+        Node::new(rt, alloc, 4, &[3])?,
+    ];
+    for node in &mut line {
+        for seat in 0..node.seat.core().neighbours().len() {
+            node.serves(rt, seat, 0, What::Up(LIFE));
+        }
+    }
+    line[0].serves(rt, 1, 1, What::Need(4));
+    hands_on(rt, &mut line, 1);
+    Ok(line)
+}
+
+// The height of these parts.
+fn height(rt: &impl Abort, tau: u64, oid: Id, r: u8, delta: i32, id: Id) -> Entry {
+    Some(Height::new(tau, oid, r, delta, id).expect(rt, "a height"))
+}
+
+// Sees the height of each node, and its next hop.
+fn has(rt: &impl Abort, line: &[Node], rows: &[(Entry, Option<Id>)]) {
+    assert_eq!(rt; line.len(), rows.len());
+    for (node, (entry, hop)) in line.iter().zip(rows.iter()) {
+        let core = node.seat.core();
+        assert_eq!(rt; core.height(4), Some(*entry), "at node {}", node.me);
+        assert_eq!(rt; core.next_hop(4), *hop, "at node {}", node.me);
+    }
+}
+
+#[test]
+fn line_of_four_joins(rt: HostRuntime) -> Result<(), Fail> {
+    let line = joined(&rt, rt.alloc())?;
+    let rows = [
+        (height(&rt, 0, 0, 0, 3, 1), Some(2)),
+        (height(&rt, 0, 0, 0, 2, 2), Some(3)),
+        (height(&rt, 0, 0, 0, 1, 3), Some(4)),
+        (height(&rt, 0, 0, 0, 0, 4), None),
+    ];
+    has(&rt, &line, &rows);
+    Ok(())
+}
+
+// Node 3 loses its link to 4: it defines a level, 2 propagates it, 1 reflects it, 3 detects the partition and clears.
+#[test]
+fn line_of_four_detects_a_partition(rt: HostRuntime) -> Result<(), Fail> {
+    let mut line = joined(&rt, rt.alloc())?;
+    line[2].hears(&rt, 4, 7, What::Down(LIFE, Reason::Silent));
+    assert_eq!(&rt; line[2].seat.core().height(4), Some(height(&rt, 7, 3, 0, 0, 3)));
+    hands_on(&rt, &mut line, 7);
+    let rows = [
+        (None, None),
+        (None, None),
+        (None, None),
+        (height(&rt, 0, 0, 0, 0, 4), None),
+    ];
+    has(&rt, &line, &rows);
+    Ok(())
+}
