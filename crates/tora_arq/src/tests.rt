@@ -457,3 +457,17 @@ fn example_of_the_documentation(rt: HostRuntime) -> Result<(), Fail> {
     assert_eq!(&rt; one.poll_event(), Some(up));
     Ok(())
 }
+
+#[test]
+fn errors_are_printed_with_their_cause(rt: HostRuntime) -> Result<(), Fail> {
+    let rows = [
+        (SubmitError::WrongLife(query(&rt, 4)), "the life is not the bound one"),
+        (SubmitError::Full, "the send queue is full"),
+        (SubmitError::Spent, "the numbers of packets are used up"),
+    ];
+    for (error, text) in rows {
+        let printed = format!(in rt.alloc(); "{error}")?;
+        assert_eq!(&rt; printed.as_str(), text);
+    }
+    Ok(())
+}

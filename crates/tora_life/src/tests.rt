@@ -210,3 +210,18 @@ fn example_of_the_documentation(rt: HostRuntime) -> Result<(), Fail> {
     assert_eq!(&rt; file.draw(), Ok(17));
     Ok(())
 }
+
+#[test]
+fn errors_are_printed_with_their_cause(rt: HostRuntime) -> Result<(), Fail> {
+    let rows = [
+        (LifeError::Disk, "the disk failed"),
+        (LifeError::Failed, "an earlier draw failed: the file is to be opened again"),
+        (LifeError::Spent, "no number is left"),
+        (LifeError::Damaged, "the file is longer than two slots"),
+    ];
+    for (error, text) in rows {
+        let printed = format!(in rt.alloc(); "{error}")?;
+        assert_eq!(&rt; printed.as_str(), text);
+    }
+    Ok(())
+}

@@ -1,5 +1,5 @@
--- The calls of its hub and its wire that a neighbour's thread makes in whole turns, in their order.
-use Rattle.std.specs.Prelude.{◌≡◌, ◌⊎◌, ℕ, Bool, MatchBool, List, [], ◌∷◌, length, Option, Some, None, Result, Ok}
+-- The calls of its hub and its wire that a neighbour's thread makes, in their order: in whole turns, and in the last one.
+use Rattle.std.specs.Prelude.{◌≡◌, ◌⊎◌, ℕ, Bool, MatchBool, List, [], ◌∷◌, length, Option, Some, None, Result, Ok, Err}
 use Rattle.tora_frame.specs.FrameParts.{FrameParts}
 use Rattle.tora_frame.specs.FrameGrammar.{frame_spelling}
 use Rattle.tora_arq.specs.declared.LinkEvent.{LinkEvent}
@@ -8,6 +8,10 @@ use Rattle.tora_seat.specs.declared.What.{What}
 use Rattle.tora_seat.specs.declared.What.TheVariants as Says
 use Rattle.tora_lane.specs.declared.ports.Gone.{Gone}
 use Rattle.tora_neighbour.specs.declared.wire.WireError.{WireError}
+use Rattle.tora_neighbour.specs.declared.ending.Ending.{Ending}
+use Rattle.tora_neighbour.specs.declared.ending.Ending.TheVariants.{NoNumber, Broken, Refused}
+use Rattle.tora_neighbour.specs.declared.ending.BrokenAt.{BrokenAt}
+use Rattle.tora_neighbour.specs.declared.ending.BrokenAt.TheVariants.{Send, Receive}
 use Rattle.tora_neighbour.specs.Turns.{Turn}
 use Rattle.tora_neighbour.specs.Traffic.{what_of}
 
@@ -51,3 +55,28 @@ abbrev pub AreCalls : {H W : Type 0} → (H → Option Cargo → H → Type 0) �
 AreCalls take put send receive h w [] h_after w_after = (h_after ≡ h) × (w_after ≡ w)
 AreCalls {H = H} {W = W} take put send receive h w (t ∷ turns) h_after w_after =
     (h_between : H) × (w_between : W) × TurnCalls take put send receive h w t h_between w_between × AreCalls take put send receive h_between w_between turns h_after w_after
+
+-- ---- the last turn
+
+-- these events are put, one after another, and the next one is refused, if there is one
+abbrev pub PutsUpTo : {H : Type 0} → (H → ℕ → What → Result (Unit {0}) Gone → H → Type 0) → ℕ → H → List LinkEvent → Option LinkEvent → H → Type 0
+PutsUpTo put now h told None after = PutsSome put now h told after
+PutsUpTo {H = H} put now h told (Some event) after = (between : H) × PutsSome put now h told between × (gone : Gone) × put between now (what_of event) (Err gone) after
+
+-- and where none is refused the beat behind them is
+abbrev pub PutsNoMore : {H : Type 0} → (H → ℕ → What → Result (Unit {0}) Gone → H → Type 0) → ℕ → H → List LinkEvent → Option LinkEvent → H → Type 0
+PutsNoMore {H = H} put now h told None after = (between : H) × PutsSome put now h told between × (gone : Gone) × put between now Says.Beat (Err gone) after
+PutsNoMore put now h told (Some event) after = PutsUpTo put now h told (Some event) after
+
+-- the calls of a wire up to the one that breaks it
+abbrev pub ExchangesUpTo : {W : Type 0} → (W → List ℕ → Result (Unit {0}) WireError → W → Type 0) → (W → Result (Option ℕ) WireError → List ℕ → W → Type 0) → W → List FrameParts → BrokenAt → W → Type 0
+ExchangesUpTo send receive w frames Send after = SendsSome send w frames after
+ExchangesUpTo {W = W} send receive w frames Receive after = (sent : W) × SendsSome send w frames sent × ReceivesOnce receive sent after
+
+-- the calls of the last turn, by how it ends
+abbrev pub LastCalls : {H W : Type 0} → (H → Option Cargo → H → Type 0) → (H → ℕ → What → Result (Unit {0}) Gone → H → Type 0) → (W → List ℕ → Result (Unit {0}) WireError → W → Type 0) → (W → Result (Option ℕ) WireError → List ℕ → W → Type 0) → H → W → Turn → Ending → H → W → Type 0
+LastCalls take put send receive h w t (NoNumber error) h_after w_after = (h_after ≡ h) × (w_after ≡ w)
+LastCalls {H = H} take put send receive h w t (Broken at) h_after w_after =
+    (taken : H) × TakesAll take h t.cargoes taken × ExchangesUpTo send receive w t.sent at w_after × PutsUpTo put t.now taken t.told t.refused h_after
+LastCalls {H = H} {W = W} take put send receive h w t Refused h_after w_after =
+    (taken : H) × (sent : W) × TakesAll take h t.cargoes taken × SendsSome send w t.sent sent × ReceivesOnce receive sent w_after × PutsNoMore put t.now taken t.told t.refused h_after

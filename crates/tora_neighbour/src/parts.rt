@@ -12,7 +12,7 @@ ghost use Rattle.tora_neighbour.specs.Tally.{counted_in};
 ghost use Rattle.tora_neighbour.specs.Turns.{after_opening, after_cargo, after_cargoes, after_frames, after_cut_of_bound, IsOpening, AreDue, Tells};
 ghost use Rattle.tora_neighbour.specs.Traffic.{AreDrawn, Came, entry_of, what_of};
 ghost use Rattle.tora_neighbour.specs.declared.wire.WireError.{WireError};
-ghost use Rattle.tora_neighbour.specs.Calls.{TakesAll, SendsSome, ReceivesOnce, PutsSome};
+ghost use Rattle.tora_neighbour.specs.Calls.{TakesAll, SendsSome, ReceivesOnce, PutsSome, PutsUpTo};
 ghost use Rattle.tora_neighbour.specs.Causes.{IsReady, IsLifeCause};
 
 use crate::hub::Hub;
@@ -114,7 +114,7 @@ pub fn put_events<R: Wait, H: Hub>(
     ensures settings { end.new.settings ≡ end.old.settings }
     ensures takes { H.takes hub.new ≡ H.takes hub.old }
     ensures all { OnOk result ((told : List LinkEvent) × Tells end.old.state told None end.new.state × (H.puts hub.new ≡ H.puts hub.old ++ map (entry_of now) told) × PutsSome H.did_put now hub.old told hub.new) }
-    ensures some { OnErr result ((told : List LinkEvent) × (event : LinkEvent) × Tells end.old.state told (Some event) end.new.state × (H.puts hub.new ≡ H.puts hub.old ++ map (entry_of now) told)) }
+    ensures some { OnErr result ((told : List LinkEvent) × (event : LinkEvent) × Tells end.old.state told (Some event) end.new.state × (H.puts hub.new ≡ H.puts hub.old ++ map (entry_of now) told) × PutsUpTo H.did_put now hub.old told (Some event) hub.new) }
     ensures gone { OnErr result (H.gone hub.new ≡ true) }
 {
     while let Some(event) = end.poll_event() {
@@ -181,7 +181,7 @@ pub fn send_frames<R: Wait, W: Wire>(
     ensures broken { OnErr result (row.new ≡ 100) }
     ensures failures { (base : ℕ) → RoseBy row.old base (W.failures wire.old) → RoseBy row.new base (W.failures wire.new) }
     ensures all { OnOk result ((frames : List FrameParts) × AreDue end.old.settings end.old.state now frames × (frame_due end.old.settings (after_frames end.old.settings end.old.state now frames) now ≡ None) × (end.new ≡ record end.old { state = after_transmit end.old.settings (after_frames end.old.settings end.old.state now frames) now }) × (IsTrue (W.tells wire.new) → W.tries wire.new ≡ W.tries wire.old ++ map frame_spelling frames) × SendsSome W.did_send wire.old frames wire.new) }
-    ensures some { OnErr result ((frames : List FrameParts) × AreDue end.old.settings end.old.state now frames × (end.new ≡ record end.old { state = after_frames end.old.settings end.old.state now frames }) × (IsTrue (W.tells wire.new) → W.tries wire.new ≡ W.tries wire.old ++ map frame_spelling frames)) }
+    ensures some { OnErr result ((frames : List FrameParts) × AreDue end.old.settings end.old.state now frames × (end.new ≡ record end.old { state = after_frames end.old.settings end.old.state now frames }) × (IsTrue (W.tells wire.new) → W.tries wire.new ≡ W.tries wire.old ++ map frame_spelling frames) × SendsSome W.did_send wire.old frames wire.new) }
 {
     for _ in rt.forever() {
         match end.poll_transmit(now) {

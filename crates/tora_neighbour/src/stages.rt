@@ -1,18 +1,20 @@
 //! The stages of a turn: it begins, exchanges datagrams, and tells its events.
-ghost use Rattle.std.specs.Prelude.{◌≡◌, [], ◌∷◌, ◌++◌, ◌+◌, ℕ, ◌≤◌, ◌<◌, List, Option, Some, None, length, map, true, false, IsTrue, IfErr, OnOk, OnErr, if◌then◌else◌};
+ghost use Rattle.std.specs.Prelude.{◌≡◌, [], ◌∷◌, ◌++◌, ◌+◌, ℕ, ◌≤◌, ◌<◌, List, Option, Err, Some, None, length, map, true, false, IsTrue, IfErr, OnOk, OnErr, if◌then◌else◌};
 ghost use Rattle.tora_frame.specs.FrameParts.{FrameParts};
 ghost use Rattle.tora_frame.specs.FrameGrammar.{frame_spelling};
 ghost use Rattle.tora_arq.specs.declared.LinkEvent.{LinkEvent};
 ghost use Rattle.tora_arq.specs.LinkEnd.{is_closed, bound_life, after_tick};
 ghost use Rattle.tora_arq.specs.LinkFacts.{list_of};
 ghost use Rattle.tora_seat.specs.declared.Cargo.{Cargo};
+ghost use Rattle.tora_seat.specs.declared.What.TheVariants as Says;
+ghost use Rattle.tora_lane.specs.declared.ports.Gone.{Gone as AnyGone};
 ghost use Rattle.tora_neighbour.specs.Datagrams.{RoseBy};
 ghost use Rattle.tora_neighbour.specs.declared.intake.Intake.{Intake};
 ghost use Rattle.tora_neighbour.specs.Intake.{Reading};
 ghost use Rattle.tora_neighbour.specs.Tally.{counted_in};
 ghost use Rattle.tora_neighbour.specs.Turns.{after_opening, after_cargoes, after_cut_of_bound, IsOpening, Tells, is_beat_due};
 ghost use Rattle.tora_neighbour.specs.Traffic.{AreDrawn, Came, entry_of, beat_of};
-ghost use Rattle.tora_neighbour.specs.Calls.{TakesAll, SendsSome, ReceivesOnce, PutsSome, PutsBeat};
+ghost use Rattle.tora_neighbour.specs.Calls.{TakesAll, SendsSome, ReceivesOnce, PutsSome, PutsBeat, PutsUpTo, PutsNoMore, ExchangesUpTo};
 ghost use Rattle.tora_neighbour.specs.Causes.{IsReady, IsLifeCause, IsExchange};
 
 use crate::ending::BrokenAt;
@@ -43,7 +45,7 @@ pub fn begin<R: Wait, D: Disk, H: Hub>(
     ensures failed { OnOk result (file.new.numbers.failed ≡ file.old.numbers.failed) }
     ensures disk { OnOk result (D.failures file.new.disk ≡ D.failures file.old.disk) }
     ensures closed { OnErr result (IsTrue (is_closed end.old.state)) }
-    ensures same { OnErr result ((end.new ≡ end.old) × (file.new.numbers.drawn ≡ file.old.numbers.drawn) × (H.takes hub.new ≡ H.takes hub.old)) }
+    ensures same { OnErr result ((end.new ≡ end.old) × (file.new.numbers.drawn ≡ file.old.numbers.drawn) × (H.takes hub.new ≡ H.takes hub.old) × (hub.new ≡ hub.old)) }
     ensures cause { IfErr result (λ error. IsLifeCause error file.old.numbers file.new.numbers (D.failures file.old.disk) (D.failures file.new.disk)) }
 {
     lives_are_bound_once();
@@ -68,7 +70,7 @@ pub fn exchange<R: Wait, W: Wire>(
     ensures broken { OnErr result (row.new ≡ 100) }
     ensures failures { (base : ℕ) → RoseBy row.old base (W.failures wire.old) → RoseBy row.new base (W.failures wire.new) }
     ensures last { OnOk result (end.new.state.last_life ≡ end.old.state.last_life) }
-    ensures exchange { (frames : List FrameParts) × (came : Option Reading) × (intake : Option Intake) × IsExchange end.old.settings end.old.state now frames came intake result end.new.state × (end.new.settings ≡ end.old.settings) × (tally.new ≡ counted_in intake tally.old) × (IsTrue (W.tells wire.new) → W.tries wire.new ≡ W.tries wire.old ++ map frame_spelling frames) × (IsTrue (W.tells wire.new) → Came (W.coming wire.old) (list_of came) (W.coming wire.new)) × OnOk result ((sent : W) × SendsSome W.did_send wire.old frames sent × ReceivesOnce W.did_receive sent wire.new) }
+    ensures exchange { (frames : List FrameParts) × (came : Option Reading) × (intake : Option Intake) × IsExchange end.old.settings end.old.state now frames came intake result end.new.state × (end.new.settings ≡ end.old.settings) × (tally.new ≡ counted_in intake tally.old) × (IsTrue (W.tells wire.new) → W.tries wire.new ≡ W.tries wire.old ++ map frame_spelling frames) × (IsTrue (W.tells wire.new) → Came (W.coming wire.old) (list_of came) (W.coming wire.new)) × OnOk result ((sent : W) × SendsSome W.did_send wire.old frames sent × ReceivesOnce W.did_receive sent wire.new) × IfErr result (λ at. ExchangesUpTo W.did_send W.did_receive wire.old frames at wire.new) }
 {
     lives_are_bound_once();
     if let Err(_) = send_frames(rt, end, wire, row, now) {
@@ -84,7 +86,7 @@ pub fn exchange<R: Wait, W: Wire>(
 pub fn give_up<R: Wait, H: Hub>(rt: &R, end: &mut LinkEnd, hub: &mut H, now: u64)
     ensures settings { end.new.settings ≡ end.old.settings }
     ensures takes { H.takes hub.new ≡ H.takes hub.old }
-    ensures told { (told : List LinkEvent) × (refused : Option LinkEvent) × Tells (after_cut_of_bound end.old.state (bound_life end.old.state)) told refused end.new.state × (H.puts hub.new ≡ H.puts hub.old ++ map (entry_of now) told) }
+    ensures told { (told : List LinkEvent) × (refused : Option LinkEvent) × Tells (after_cut_of_bound end.old.state (bound_life end.old.state)) told refused end.new.state × (H.puts hub.new ≡ H.puts hub.old ++ map (entry_of now) told) × PutsUpTo H.did_put now hub.old told refused hub.new }
 {
     cut_bound(end);
     match put_events(rt, end, hub, now) {
@@ -105,6 +107,7 @@ pub fn put_beat<R: Wait, H: Hub>(
     ensures put { OnOk result (H.puts hub.new ≡ H.puts hub.old ++ beat_of (is_beat_due last_beat.old now) now) }
     ensures call { OnOk result (PutsBeat H.did_put now (is_beat_due last_beat.old now) hub.old hub.new) }
     ensures refused { OnErr result (H.puts hub.new ≡ H.puts hub.old) }
+    ensures last_call { OnErr result ((gone : AnyGone) × H.did_put hub.old now Says.Beat (Err gone) hub.new) }
     ensures gone { OnErr result (H.gone hub.new ≡ true) }
 {
     let due = match last_beat {
@@ -130,7 +133,7 @@ pub fn tell<R: Wait, H: Hub>(
     ensures takes { H.takes hub.new ≡ H.takes hub.old }
     ensures last { OnOk result (last_beat.new ≡ (if is_beat_due last_beat.old now then Some now else last_beat.old)) }
     ensures all { OnOk result ((told : List LinkEvent) × Tells end.old.state told None end.new.state × (H.puts hub.new ≡ H.puts hub.old ++ (map (entry_of now) told ++ beat_of (is_beat_due last_beat.old now) now)) × ((mid : H) × PutsSome H.did_put now hub.old told mid × PutsBeat H.did_put now (is_beat_due last_beat.old now) mid hub.new)) }
-    ensures some { OnErr result ((told : List LinkEvent) × (refused : Option LinkEvent) × Tells end.old.state told refused end.new.state × (H.puts hub.new ≡ H.puts hub.old ++ map (entry_of now) told)) }
+    ensures some { OnErr result ((told : List LinkEvent) × (refused : Option LinkEvent) × Tells end.old.state told refused end.new.state × (H.puts hub.new ≡ H.puts hub.old ++ map (entry_of now) told) × PutsNoMore H.did_put now hub.old told refused hub.new) }
     ensures gone { OnErr result (H.gone hub.new ≡ true) }
 {
     if let Err(gone) = put_events(rt, end, hub, now) {

@@ -4,7 +4,7 @@ ghost use Rattle.tora_neighbour.specs.Datagrams.{RoseBy};
 ghost use Rattle.tora_neighbour.specs.Tally.{counted_in};
 ghost use Rattle.tora_neighbour.specs.Turns.{Turn, IsTurn, IsLastTurn, is_beat_due, beat_after};
 ghost use Rattle.tora_neighbour.specs.Traffic.{Traffic, outside};
-ghost use Rattle.tora_neighbour.specs.Calls.{TurnCalls};
+ghost use Rattle.tora_neighbour.specs.Calls.{TurnCalls, LastCalls};
 ghost use Rattle.tora_neighbour.specs.Causes.{IsReady, IsCause};
 
 use crate::ending::Ending;
@@ -44,7 +44,7 @@ pub fn turn<R: Wait, D: Disk, W: Wire, H: Hub>(
     ensures failed { OnOk result (link.new.file.numbers.failed ≡ link.old.file.numbers.failed) }
     ensures disk { OnOk result (D.failures link.new.file.disk ≡ D.failures link.old.file.disk) }
     ensures turn { OnOk result ((t : Turn) × IsTurn link.old.end.settings link.old.end.state t link.new.end.state × (t.beat ≡ is_beat_due course.old.last_beat t.now) × (course.new.last_beat ≡ beat_after course.old.last_beat t) × (course.new.tally ≡ counted_in t.intake course.old.tally) × Traffic (outside H.puts H.takes W.tells W.coming W.tries link.old hub.old) (t ∷ []) (outside H.puts H.takes W.tells W.coming W.tries link.new hub.new) × TurnCalls H.did_take H.did_put W.did_send W.did_receive hub.old link.old.wire t hub.new link.new.wire) }
-    ensures last { IfErr result (λ ending. (t : Turn) × IsLastTurn link.old.end.settings link.old.end.state t ending link.new.end.state × (course.new.tally ≡ counted_in t.intake course.old.tally) × Traffic (outside H.puts H.takes W.tells W.coming W.tries link.old hub.old) (t ∷ []) (outside H.puts H.takes W.tells W.coming W.tries link.new hub.new)) }
+    ensures last { IfErr result (λ ending. (t : Turn) × IsLastTurn link.old.end.settings link.old.end.state t ending link.new.end.state × (course.new.tally ≡ counted_in t.intake course.old.tally) × Traffic (outside H.puts H.takes W.tells W.coming W.tries link.old hub.old) (t ∷ []) (outside H.puts H.takes W.tells W.coming W.tries link.new hub.new) × LastCalls H.did_take H.did_put W.did_send W.did_receive hub.old link.old.wire t ending hub.new link.new.wire) }
     ensures cause { IfErr result (λ ending. IsCause ending link.old.file.numbers link.new.file.numbers (D.failures link.old.file.disk) (D.failures link.new.file.disk) course.new.row (H.gone hub.new)) }
 {
     if let Err(error) = begin(rt, &mut link.end, &mut link.file, hub, now) {

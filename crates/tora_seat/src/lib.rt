@@ -36,7 +36,7 @@ use tora_height::Id;
 use tora_packet::Packet;
 
 /// What an item tells the core.
-#[derive(Clone, Copy, Debug, PartialEq, Eq)]
+#[derive(Clone, Copy, Debug, PartialEq, Eq, Hash)]
 pub enum What {
     /// A life of the link was bound.
     Up(Life),
@@ -55,7 +55,7 @@ pub enum What {
 }
 
 /// An item for the core.
-#[derive(Clone, Copy, Debug, PartialEq, Eq)]
+#[derive(Clone, Copy, Debug, PartialEq, Eq, Hash)]
 pub struct Item {
     /// The seat that it is of: that of a link, which has the place of its neighbour among the neighbours in ascending
     /// order, or behind those the seat of the commands.
@@ -69,7 +69,7 @@ pub struct Item {
 }
 
 /// What the core gives a link.
-#[derive(Clone, Copy, Debug, PartialEq, Eq)]
+#[derive(Clone, Copy, Debug, PartialEq, Eq, Hash)]
 pub enum Cargo {
     /// A packet for the neighbour in a life.
     Packet(Life, Packet),
@@ -78,7 +78,7 @@ pub enum Cargo {
 }
 
 /// What serving an item answers.
-#[derive(Clone, Copy, Debug, PartialEq, Eq)]
+#[derive(Clone, Copy, Debug, PartialEq, Eq, Hash)]
 pub enum Answer {
     /// Nothing is to be said.
     Nothing,
@@ -91,7 +91,7 @@ pub enum Answer {
 }
 
 /// A packet of a neighbour that was handed to the core.
-#[derive(Clone, Copy, Debug, PartialEq, Eq)]
+#[derive(Clone, Copy, Debug, PartialEq, Eq, Hash)]
 pub struct Stepped {
     /// The neighbour.
     pub from: Id,

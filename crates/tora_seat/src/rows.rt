@@ -13,7 +13,7 @@ use tora_height::Id;
 use tora_packet::Packet;
 
 /// What the core's seat keeps of a neighbour.
-#[derive(Clone, Copy, Debug, PartialEq, Eq)]
+#[derive(Clone, Copy, Debug, PartialEq, Eq, Hash)]
 pub struct LinkRow {
     /// The neighbour.
     pub neighbour: Id,

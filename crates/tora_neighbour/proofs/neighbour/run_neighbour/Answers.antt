@@ -58,7 +58,7 @@ returns-in-Err-clause-turns g c =
       },
       traffic_more _ _ _ h.so_far.0 (t.0 ∷ []) h.so_far.4 t.3,
       tally_more first_tally h.so_far.0 c.loop.course.tally t.0 _ h.so_far.3 t.2,
-      (c.loop.hub, c.loop.link.wire, h.so_far.5),
+      (c.loop.hub, c.loop.link.wire, h.so_far.5, t.4),
     )
 
 pub returns-in-Err-clause-cause : goal.returns-in-Err-clause-cause

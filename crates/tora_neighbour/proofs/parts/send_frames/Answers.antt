@@ -35,7 +35,14 @@ returns-in_err-try_send-in-Some-poll_transmit-clause-some g c =
     let more = sent_more c.args.end.now c.args.now c.loop.end c.poll_transmit.new.self (g.W.Wire.tells c.loop.wire) (g.W.Wire.tells c.try_send.new.wire)
     (g.W.Wire.tries c.args.wire.now) (g.W.Wire.tries c.loop.wire) (g.W.Wire.tries c.try_send.new.wire) i.0 f c.as_slice.result.now i.1 i.2 i.3
     c.in-Some-poll_transmit.ensures.frame c.in-Some-poll_transmit.ensures.state c.try_send.ensures.tells c.try_send.ensures.tried (c.as_slice.ensures.value ∙ c.encode.ensures.exact) in
-    on_err_anyway c.from_residual.result (i.0 ++ f ∷ [], more.0, more.1, more.2)
+    on_err_anyway c.from_residual.result (
+      i.0 ++ f ∷ [],
+      more.0,
+      more.1,
+      more.2,
+      sends_more g.W.Wire.did_send c.args.wire.now i.0 c.loop.wire f c.try_send.ensures.call.0 c.try_send.new.wire i.4
+          (subst (λ (bytes : List ℕ). g.W.Wire.did_send c.loop.wire bytes c.try_send.ensures.call.0 c.try_send.new.wire) (c.as_slice.ensures.value ∙ c.encode.ensures.exact) c.try_send.ensures.call.1),
+    )
 
 pub returns-in-None-poll_transmit-clause-all : goal.returns-in-None-poll_transmit-clause-all
 returns-in-None-poll_transmit-clause-all g c =

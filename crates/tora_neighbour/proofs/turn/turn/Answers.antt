@@ -15,6 +15,7 @@ returns-in-Err-clause-last g c =
       refl,
       traffic_of _ _ (idle_turn c.args.now) h.1 (c.begin.ensures.puts ∙ sym (append-nil _)) (h.2 ∙ sym (append-nil _)) (λ yes. yes) (λ yes. sym (append-nil _))
           (λ yes. record { given = []; coming_is = refl; readings_are = refl }),
+      (h.3, refl),
     )
 
 pub returns-in-Err-exchange-clause-last : goal.returns-in-Err-exchange-clause-last
@@ -29,6 +30,7 @@ returns-in-Err-exchange-clause-last g c =
       traffic_of _ _ t b.5
           (w.3 ∙ ap (λ ps. ps ++ map (entry_of c.args.now) w.0) c.begin.ensures.puts ∙ ap (λ ps. g.H.Hub.puts c.args.hub.now ++ ps) (sym (append-nil (map (entry_of c.args.now) w.0))))
           (c.give_up.ensures.takes ∙ b.6) c.exchange.ensures.tells x.6 x.7,
+      (c.begin.new.hub, b.7, x.9, w.4),
     )
 
 pub returns-in-Err-tell-clause-last : goal.returns-in-Err-tell-clause-last
@@ -43,6 +45,7 @@ returns-in-Err-tell-clause-last g c =
       traffic_of _ _ t b.5
           (w.3 ∙ ap (λ ps. ps ++ map (entry_of c.args.now) w.0) c.begin.ensures.puts ∙ ap (λ ps. g.H.Hub.puts c.args.hub.now ++ ps) (sym (append-nil (map (entry_of c.args.now) w.0))))
           (c.tell.ensures.takes ∙ b.6) c.exchange.ensures.tells x.6 x.7,
+      (c.begin.new.hub, x.8.0, b.7, x.8.1, x.8.2, w.4),
     )
 
 pub returns-clause-turn : goal.returns-clause-turn
