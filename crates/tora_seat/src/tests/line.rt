@@ -1,4 +1,6 @@
 // The line of four nodes, 1 - 2 - 3 - 4, by items that are made by hand: what one seat offers is handed to the next one.
+ghost use Rattle.std.specs.Prelude.{◌<◌, All};
+
 use super::*;
 use tora_height::{Entry, Height};
 
@@ -14,7 +16,10 @@ struct Node {
 }
 
 impl Node {
-    fn new(rt: &impl Abort, alloc: Global, me: Id, neighbours: &[Id]) -> Result<Node, Fail> {
+    fn new(rt: &impl Abort, alloc: Global, me: Id, neighbours: &[Id]) -> Result<Node, Fail>
+        requires me { 0 < me }
+        requires neighbours { All (λ k. 0 < k) neighbours.now }
+    {
         let core = Core::new(alloc, me, neighbours, &[4]).expect(rt, "a core");
         Ok(Node {
             me,
