@@ -1,5 +1,6 @@
 // The laws of all schedules. Each stands over the definitions alone: a function without parameters that does nothing.
 ghost use Rattle.std.specs.Prelude.{◌≡◌, List, [], ◌∷◌, Some, None};
+ghost use Rattle.tora_packet.specs.declared.Packet.TheVariants.{Qry};
 ghost use Rattle.tora_arq.specs.declared.Times.{Times};
 ghost use Rattle.tora_world.specs.declared.Event.{Event};
 ghost use Rattle.tora_world.specs.Layers.{LinkLaws, LifeLaws};
@@ -10,8 +11,10 @@ ghost use Rattle.tora_world.specs.MachineRun.{machine_steps};
 ghost use Rattle.tora_world.specs.Law.{EveryRun, TakenBeginsSent, IsOfMachine, CoresFollow, BindsOnce, AcknowledgedIsAccepted};
 ghost use Rattle.tora_world.specs.Refusals.{OnlyNeedsAreRefused, SteppedAreAccepted};
 ghost use Rattle.tora_world.specs.Gaps.{EveryEnd, IsWithoutGap, SendsInLatest, broadcast_packets};
-ghost use Rattle.tora_world.specs.LinkMachine.MachineStep.{Send, Take, Close};
-ghost use Rattle.tora_world.specs.Worked.{pair, start, life, update, meeting, met, bound_steps, restart, refusal, handed_back};
+ghost use Rattle.tora_world.specs.LinkMachine.MachineStep.{Draw, Bind, Send, Take, Close};
+ghost use Rattle.tora_world.specs.Lists.{reversed};
+ghost use Rattle.tora_world.specs.WorkedEvents.{ArmedCalls, Lanes, AreRefused, StartsAnew};
+ghost use Rattle.tora_world.specs.Worked.{pair, start, life, update, meeting, met, bound_steps, restart, ending, ended_steps, second_life, meeting_again, met_again, asking, start_elsewhere, refusal, handed_back};
 
 use tora_arq::{
     acknowledged_counts_come_from_the_peer, calls_keep_an_end, data_frames_are_what_was_submitted,
@@ -91,7 +94,7 @@ pub fn simulator_runs_are_free_runs()
         → world_after_all (first_world t times) events ≡ after_schedule (own_schedule events (first_world t times)) (first_world t times) }
 {}
 
-/// Two nodes and some twenty events, computed: neither law is empty.
+/// Two nodes and some forty events, computed: neither law is empty.
 pub fn worked_schedules_hold()
     // The core of node 1 broadcasts one update and sends it in the life of its link; the core of node 2 takes it.
     ensures broadcast { broadcast_packets pair met 1 2 ≡ update ∷ [] }
@@ -101,6 +104,19 @@ pub fn worked_schedules_hold()
     ensures steps { machine_steps (own_schedule meeting start) start [] ≡ Take 2 1 life update ∷ Send 1 2 life update ∷ bound_steps }
     // A restart of node 1 closes the life there.
     ensures restart { machine_steps restart start [] ≡ Close 1 2 life ∷ Take 2 1 life update ∷ Send 1 2 life update ∷ bound_steps }
+    // Then the HELLO of its new end ends the life at node 2: its core closes it. What the core of node 1 sent before
+    // that went nowhere, since no life is current there.
+    ensures ended { machine_steps (own_schedule ending start) start [] ≡ ended_steps }
+    // A second life is bound with numbers that were not drawn before, and what is sent and taken in it is apart from
+    // what was sent and taken in the first.
+    ensures again { machine_steps (own_schedule meeting_again start) start []
+        ≡ Take 2 1 (reversed second_life) update ∷ Send 1 2 second_life update ∷ Bind 2 1 2 17 ∷ Bind 1 2 17 2 ∷ Draw 2 1 2 ∷ ended_steps }
+    ensures sent_again { sent_packets met_again 1 2 second_life ≡ update ∷ [] }
+    ensures taken_again { taken_packets met_again 2 1 (reversed second_life) ≡ update ∷ [] }
+    ensures taken_before { taken_packets met_again 2 1 life ≡ update ∷ [] }
+    // In one turn a packet is taken before what is sent for it.
+    ensures asked { machine_steps (own_schedule asking start_elsewhere) start_elsewhere []
+        ≡ Send 2 1 life (Qry 3) ∷ Take 2 1 life (Qry 3) ∷ Send 1 2 life (Qry 3) ∷ bound_steps }
     // Where the lane hands the update back, it was broadcast and not sent: the life is no longer current, its cut is
     // pending, its link is down at the core, and the machine has closed it.
     ensures broadcast_all_the_same { broadcast_packets pair handed_back 1 2 ≡ update ∷ [] }
@@ -109,4 +125,17 @@ pub fn worked_schedules_hold()
     ensures cut { (handed_back.seats 1).pending 2 ≡ Some life }
     ensures down { (handed_back.seats 1).core.up ≡ [] }
     ensures closed { machine_steps refusal start [] ≡ Close 1 2 life ∷ bound_steps }
+{}
+
+/// What single events do, computed: what the laws leave open, since they hold of runs with other lanes, other clocks and
+/// calls that do not fail as well.
+pub fn worked_events_hold()
+    // Sends, receives, and writes and syncs of a life file that are armed to fail.
+    ensures armed { ArmedCalls }
+    // A lane out of a core holds 256 cargoes and the lane into it 1,024 items; items have numbers and ticks.
+    ensures lanes { Lanes }
+    // Why an event is refused.
+    ensures refused { AreRefused }
+    // A restart makes core, link ends and lanes anew, and keeps what was sent.
+    ensures anew { StartsAnew }
 {}
