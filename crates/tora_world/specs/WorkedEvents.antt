@@ -1,17 +1,15 @@
 -- What single events do, computed: armed calls, full lanes, refused events, the clock, and a restart.
-use Rattle.std.specs.Prelude.{◌≡◌, ℕ, zero, suc, ◌++◌, true, false, List, [], ◌∷◌, length, Option, Some, None}
+use Rattle.std.specs.Prelude.{◌≡◌, ℕ, zero, suc, ◌++◌, true, false, List, [], ◌∷◌, length, Some, None}
 use Rattle.tora_arq.specs.declared.state.Phase.TheVariants.{Closed}
 use Rattle.tora_arq.specs.LinkEnd.{first_end}
 use Rattle.tora_seat.specs.declared.Item.{Item}
-use Rattle.tora_seat.specs.declared.Cargo.{Cargo}
 use Rattle.tora_seat.specs.declared.Cargo.TheVariants as Gives
 use Rattle.tora_seat.specs.declared.What.TheVariants as Tells
 use Rattle.tora_world.specs.declared.Event.{Event}
 use Rattle.tora_world.specs.declared.Event.TheVariants.{Need, Tick, Open, Pull, Transmit, Deliver, Pump, CoreTurn, Arm, Restart}
 use Rattle.tora_world.specs.declared.Call.TheVariants as Fails
-use Rattle.tora_world.specs.declared.SimError.{SimError}
 use Rattle.tora_world.specs.declared.SimError.TheVariants as Refused
-use Rattle.tora_world.specs.World.{World, Arms, Goes, first_seat, sent_packets, own_answers, refusal_of, world_after_all}
+use Rattle.tora_world.specs.World.{World, Goes, first_seat, sent_packets, own_answers, refusal_of, world_after_all}
 use Rattle.tora_world.specs.Worked.{pair, start, life, update, binding}
 
 abbrev pub copies : {A : Type 0} → ℕ → A → List A

@@ -3,7 +3,7 @@ ghost use Rattle.std.specs.Prelude.{◌≡◌, List, [], ◌∷◌, Some, None};
 ghost use Rattle.tora_packet.specs.declared.Packet.TheVariants.{Qry};
 ghost use Rattle.tora_arq.specs.declared.Times.{Times};
 ghost use Rattle.tora_world.specs.declared.Event.{Event};
-ghost use Rattle.tora_world.specs.Layers.{LinkLaws, LifeLaws};
+ghost use Rattle.tora_world.specs.Layers.{LinkLaws, LifeLaws, SeatLaws};
 ghost use Rattle.tora_world.specs.Topology.{Topology};
 ghost use Rattle.tora_world.specs.World.{first_world, world_after_all, sent_packets, taken_packets};
 ghost use Rattle.tora_world.specs.FreeWorld.{after_schedule, own_schedule};
@@ -22,12 +22,14 @@ use tora_arq::{
     packets_are_submitted_in_the_bound_life,
 };
 use tora_life::drawn_life_numbers_rise;
+use tora_seat::accepted_inputs_make_the_core;
 
-/// What the link end and the life file promise. A law of theirs is the contract of a function that does nothing, so a
+/// What the link end, the life file and the seat promise. A law of theirs is the contract of a function that does nothing, so a
 /// law that rests on it calls that function: the call brings its clauses in.
 fn layers_keep_their_laws()
     ensures links { LinkLaws }
     ensures files { LifeLaws }
+    ensures seats { SeatLaws }
 {
     calls_keep_an_end();
     lives_are_bound_once();
@@ -37,6 +39,7 @@ fn layers_keep_their_laws()
     events_of_a_life_are_in_order();
     acknowledged_counts_come_from_the_peer();
     drawn_life_numbers_rise();
+    accepted_inputs_make_the_core();
 }
 
 /// The prefix law: the packets that a node's core has taken from a neighbour in one life of their link are a prefix of

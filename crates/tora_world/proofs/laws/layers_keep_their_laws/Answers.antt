@@ -29,3 +29,6 @@ returns-clause-files c = record {
   keep = c.drawn_life_numbers_rise.ensures.keep;
   crash = c.drawn_life_numbers_rise.ensures.crash;
 }
+
+pub returns-clause-seats : goal.returns-clause-seats
+returns-clause-seats c = record { runs = c.accepted_inputs_make_the_core.ensures.runs }
