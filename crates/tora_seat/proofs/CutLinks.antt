@@ -37,7 +37,7 @@ not-current life o n = ⊎_elim (λ (t : is_current life o ≡ true). absurd (n 
 
 -- ---- the least neighbour whose life was cut
 
-none-is : (o : Option Life) → is_none o ≡ true → o ≡ None
+pub none-is : (o : Option Life) → is_none o ≡ true → o ≡ None
 none-is None e = refl
 none-is (Some life) e = absurd (false≢true e)
 

@@ -12,3 +12,4 @@ pub mod Counts
 mod CutLinks
 mod RelationLeads
 mod RelationHolds
+mod CutsGoDown

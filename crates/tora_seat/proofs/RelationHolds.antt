@@ -48,7 +48,7 @@ module _ (answers : Answers) where
   broadcasts_hold ks (packet ∷ packets) v = (after_broadcast answers packet ks v, broadcast_holds packet ks v, broadcasts_hold ks packets (after_broadcast answers packet ks v))
 
   module _ (ks : List ℕ) (now : ℕ) where
-    step_holds : (v : Serving) (input : Input) → Steps ks now v input (after_step answers ks input now v)
+    pub step_holds : (v : Serving) (input : Input) → Steps ks now v input (after_step answers ks input now v)
     unfolding after_step
     step_holds v input = go (refusal_of v.seat.core input) refl
       where

@@ -127,13 +127,15 @@ step_near ks now v input (accepted {w} e h) =
     ap (λ (c : CoreView). c.neighbours) (broadcasts_core ks (sends_of v.seat.core input now) (accepting v input now) w h) ∙ same_neighbours v.seat.core input now
 
 -- a link that is cut goes down, so one link less is up
-pub step_drops : (ks : List ℕ) (now : ℕ) (v : Serving) (k : ℕ) {w : Serving} → v.seat.core.neighbours ≡ ks → IsCut ks v.seat k → Steps ks now v (In.LinkDown k) w → count_up ks w.seat.core.up < count_up ks v.seat.core.up
-step_drops ks now v k near cut (refused error e) =
-    absurd (let q : None ≡ Some error = sym (down_accepted v.seat.core k (ap (has_number k) near ∙ cut.neighbour) cut.up) ∙ e in cc)
-step_drops ks now v k near cut (accepted {w} e h) =
+pub cut_drops : (ks : List ℕ) (now : ℕ) (v : Serving) (k : ℕ) {w : Serving} → has_number k v.seat.core.neighbours ≡ true → IsCut ks v.seat k → Steps ks now v (In.LinkDown k) w → count_up ks w.seat.core.up < count_up ks v.seat.core.up
+cut_drops ks now v k near cut (refused error e) = absurd (let q : None ≡ Some error = sym (down_accepted v.seat.core k near cut.up) ∙ e in cc)
+cut_drops ks now v k near cut (accepted {w} e h) =
     let c : w.seat.core.up ≡ without_number k v.seat.core.up =
     ap (λ (c : CoreView). c.up) (broadcasts_core ks (sends_of v.seat.core (In.LinkDown k) now) (accepting v (In.LinkDown k) now) w h ∙ core_accepted v.seat.core (In.LinkDown k) now e) in
     subst (λ x. count_up ks x < count_up ks v.seat.core.up) (sym c) (count_drops ks v.seat.core.up k cut.neighbour cut.up)
+
+pub step_drops : (ks : List ℕ) (now : ℕ) (v : Serving) (k : ℕ) {w : Serving} → v.seat.core.neighbours ≡ ks → IsCut ks v.seat k → Steps ks now v (In.LinkDown k) w → count_up ks w.seat.core.up < count_up ks v.seat.core.up
+step_drops ks now v k near cut steps = cut_drops ks now v k (ap (has_number k) near ∙ cut.neighbour) cut steps
 
 go_down_near : (ks : List ℕ) (now : ℕ) (downs : List ℕ) (v w : Serving) → GoDown ks now downs v w → w.seat.core.neighbours ≡ v.seat.core.neighbours
 go_down_near ks now [] v w e = ap (λ (x : Serving). x.seat.core.neighbours) e
