@@ -9,8 +9,8 @@ use Rattle.tora_world.specs.declared.Event.{Event}
 use Rattle.tora_world.specs.declared.Event.TheVariants.{Need, Tick, Open, Pull, Transmit, Deliver, Pump, CoreTurn, Arm, Restart}
 use Rattle.tora_world.specs.declared.Call.TheVariants as Fails
 use Rattle.tora_world.specs.declared.SimError.TheVariants as Refused
-use Rattle.tora_world.specs.World.{World, Goes, first_seat, sent_packets, own_answers, refusal_of, world_after_all}
-use Rattle.tora_world.specs.Worked.{pair, start, life, update, binding}
+use Rattle.tora_world.specs.World.{World, Goes, first_seat, sent_packets, taken_packets, own_answers, refusal_of, world_after_all}
+use Rattle.tora_world.specs.Worked.{pair, start, life, update, binding, meeting}
 
 abbrev pub copies : {A : Type 0} → ℕ → A → List A
 copies zero x = []
@@ -82,7 +82,7 @@ waiting = after (binding ++ CoreTurn 1 ∷ Need 1 2 ∷ [])
 abbrev pub restarted : World
 restarted = after (binding ++ CoreTurn 1 ∷ Need 1 2 ∷ Restart 1 None ∷ [])
 
--- core, end and lanes are new; what was sent stays as it was
+-- core, end and lanes are new; what was sent and taken stays as it was
 pub record StartsAnew : Type 0 where
   pub current_before : (waiting.seats 1).current 2 ≡ Some life
   pub cargo_before : waiting.cargoes 1 2 ≡ Gives.Packet life update ∷ []
@@ -93,3 +93,5 @@ pub record StartsAnew : Type 0 where
   pub items : restarted.items 1 ≡ []
   pub counts : restarted.counts 1 1 ≡ 0
   pub sent : sent_packets restarted 1 2 life ≡ update ∷ []
+  -- and so does what was taken, where the node that took it begins anew
+  pub taken : taken_packets (after (meeting ++ Restart 2 None ∷ [])) 2 1 life ≡ update ∷ []

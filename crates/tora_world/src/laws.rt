@@ -3,7 +3,7 @@ ghost use Rattle.std.specs.Prelude.{◌≡◌, List, [], ◌∷◌, Some, None};
 ghost use Rattle.tora_packet.specs.declared.Packet.TheVariants.{Qry};
 ghost use Rattle.tora_arq.specs.declared.Times.{Times};
 ghost use Rattle.tora_world.specs.declared.Event.{Event};
-ghost use Rattle.tora_world.specs.Layers.{LinkLaws, LifeLaws, SeatLaws};
+ghost use Rattle.tora_world.specs.Layers.{LinkLaws, LifeLaws, CoreLaws, SeatLaws};
 ghost use Rattle.tora_world.specs.Topology.{Topology};
 ghost use Rattle.tora_world.specs.World.{first_world, world_after_all, sent_packets, taken_packets};
 ghost use Rattle.tora_world.specs.FreeWorld.{after_schedule, own_schedule};
@@ -21,14 +21,19 @@ use tora_arq::{
     deliveries_are_in_order, events_of_a_life_are_in_order, lives_are_bound_once,
     packets_are_submitted_in_the_bound_life,
 };
+use tora_core::{
+    inputs_are_accepted, links_follow_inputs, numbers_are_put_in_order, numbers_come_and_go,
+    tables_stay,
+};
 use tora_life::drawn_life_numbers_rise;
-use tora_seat::accepted_inputs_make_the_core;
+use tora_seat::{accepted_inputs_make_the_core, cut_links_go_down};
 
-/// What the link end, the life file and the seat promise. A law of theirs is the contract of a function that does nothing, so a
+/// What the link end, the life file, the core and its seat promise. A law of theirs is the contract of a function that does nothing, so a
 /// law that rests on it calls that function: the call brings its clauses in.
 fn layers_keep_their_laws()
     ensures links { LinkLaws }
     ensures files { LifeLaws }
+    ensures cores { CoreLaws }
     ensures seats { SeatLaws }
 {
     calls_keep_an_end();
@@ -39,7 +44,13 @@ fn layers_keep_their_laws()
     events_of_a_life_are_in_order();
     acknowledged_counts_come_from_the_peer();
     drawn_life_numbers_rise();
+    tables_stay();
+    links_follow_inputs();
+    inputs_are_accepted();
+    numbers_come_and_go();
+    numbers_are_put_in_order();
     accepted_inputs_make_the_core();
+    cut_links_go_down();
 }
 
 /// The prefix law: the packets that a node's core has taken from a neighbour in one life of their link are a prefix of
@@ -139,6 +150,6 @@ pub fn worked_events_hold()
     ensures lanes { Lanes }
     // Why an event is refused.
     ensures refused { AreRefused }
-    // A restart makes core, link ends and lanes anew, and keeps what was sent.
+    // A restart makes core, link ends and lanes anew, and keeps what was sent and taken.
     ensures anew { StartsAnew }
 {}

@@ -23,4 +23,4 @@ returns-clause-refused c = record { no_node = refl; no_link = refl; no_datagram 
 
 pub returns-clause-anew : goal.returns-clause-anew
 unfolding after_release on_data on_matched on_frame_in on_frame after_tick on_submit after_cut on_transmit_in on_transmit first_due after_join new_level after_erase after_link_loss after_update_loss slot_bound number_of slot_of after_cuts_tried after_broadcast after_broadcasts after_step after_settling after_input after_link_item after_other_item serving_of effect_by world_by after_schedule height_fault
-returns-clause-anew c = record { current_before = refl; cargo_before = refl; items_before = refl; seat = refl; endpoint = refl; cargoes = refl; items = refl; counts = refl; sent = refl }
+returns-clause-anew c = record { current_before = refl; cargo_before = refl; items_before = refl; seat = refl; endpoint = refl; cargoes = refl; items = refl; counts = refl; sent = refl; taken = refl }
