@@ -1,5 +1,5 @@
 -- The relation of serving holds of what the definition computes, whatever is answered.
-use Rattle.std.proofs.Common.{◌≡◌, ℕ, zero, suc, ◌≤◌, List, [], ◌∷◌, length, Option, Some, None, slice_get, refl, sym, ap, ◌∙◌, arith}
+use Rattle.std.proofs.Common.{◌≡◌, ℕ, zero, suc, ◌≤◌, Bool, List, [], ◌∷◌, length, Option, Some, None, slice_get, refl, sym, ap, ◌∙◌, subst, arith}
 use Rattle.std.proofs.lemmas.Bool.{cond_both}
 use Rattle.tora_packet.specs.declared.Packet.{Packet}
 use Rattle.tora_arq.specs.declared.Life.{Life}
@@ -11,7 +11,11 @@ use Rattle.tora_core.specs.CoreRun.{CoreView, refusal_of, sends_of}
 use Rattle.tora_seat.specs.declared.What.{What}
 use Rattle.tora_seat.specs.declared.What.TheVariants as Tells
 use Rattle.tora_seat.specs.declared.Item.{Item}
-use Rattle.tora_seat.specs.Serving.{SeatState, Serving, Answers, with_current, after_cut_tried, after_cuts_tried, after_sent, after_broadcast, after_broadcasts, accepting, after_answer, after_step, first_cut, after_settling, after_input, is_current, after_down, after_old_down, after_up, after_link_item, after_other_item, after_item_of, begin_serving, serving_of}
+use Rattle.tora_seat.specs.declared.Cargo.{Cargo}
+use Rattle.tora_seat.specs.Offers.{AreOffered, Follows, answers_in}
+use Rattle.tora_seat.specs.Rows.{SeatView, state_of, serving_at}
+use Rattle.tora_seat.proofs.Chains.{follows_back}
+use Rattle.tora_seat.specs.Serving.{SeatState, Serving, Offer, Answers, with_current, after_cut_tried, after_cuts_tried, after_sent, after_broadcast, after_broadcasts, accepting, after_answer, after_step, first_cut, after_settling, after_input, is_current, after_down, after_old_down, after_up, after_link_item, after_other_item, after_item_of, begin_serving, serving_of}
 use Rattle.tora_seat.specs.Serves.{ForEach, TriesCut, no_cut, cut_put, cut_back, Sends, no_life, packet_put, packet_back, SendsToEach, Steps, refused, accepted, IsCut, GoDown, Settles, noting, Does, first_life, next_life, packet_stepped, packet_passed_over, life_ended, cut_forgotten, end_passed_over, no_link_up, no_link_packet, no_link_down, need, beat, show, quit, Serves}
 use Rattle.tora_seat.proofs.Ups.{count_up, count_most, first_cut_none}
 use Rattle.tora_seat.proofs.CutLinks.{current-is, current-not, first-is, first-none}
@@ -139,3 +143,11 @@ module _ (answers : Answers) where
         cuts = cuts;
         does = item_holds ks item.now up tried (ap (λ (c : CoreView). c.neighbours) (cuts_core ks (begin_serving s) tried cuts) ∙ sym near) (slice_get ks item.seat) item.what;
       }
+
+-- offers that give the serving whatever was answered, read back as answers
+pub serves_so : {O : Type 0} (did_offer : O → ℕ → Cargo → Bool → O → Type 0) (item : Item) (s : SeatView) (outs : O) (new : SeatView) (after : O) → IsAscending s.core.neighbours →
+    ((offers : List Offer) × AreOffered did_offer s.core.neighbours outs offers after × ((answers : Answers) → Follows answers [] offers → serving_of answers s.core.neighbours (state_of s) item ≡ serving_at item.now new offers)) →
+    (offers : List Offer) × AreOffered did_offer s.core.neighbours outs offers after × Serves s.core.neighbours (state_of s) item (serving_at item.now new offers)
+serves_so did_offer item s outs new after up h =
+    let offers = h.0 in
+    (offers, h.1, subst (Serves s.core.neighbours (state_of s) item) (h.2 (answers_in offers) (follows_back offers)) (relation-holds (answers_in offers) s.core.neighbours (state_of s) item refl up))
