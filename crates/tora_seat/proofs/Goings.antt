@@ -208,11 +208,11 @@ pub record Sending {O : Type 0} (did_offer : O → ℕ → Cargo → Bool → O 
   pub leads : (answers : Answers) (v : Serving) (before : List Offer) → Follows answers before made →
       after_broadcasts answers (neighbours_of first) packets (on_rows v first before) ≡ after_broadcasts answers (neighbours_of first) (drop i packets) (on_rows v rows (before ++ made))
 
-packets_cons : (answers : Answers) (ks : List ℕ) (packet : Packet) (packets : List Packet) (v : Serving) → after_broadcasts answers ks (packet ∷ packets) v ≡ after_broadcasts answers ks packets (after_broadcast answers packet ks v)
+pub packets_cons : (answers : Answers) (ks : List ℕ) (packet : Packet) (packets : List Packet) (v : Serving) → after_broadcasts answers ks (packet ∷ packets) v ≡ after_broadcasts answers ks packets (after_broadcast answers packet ks v)
 unfolding after_broadcasts
 packets_cons answers ks packet packets v = refl
 
-packets_nil : (answers : Answers) (ks : List ℕ) (v : Serving) → after_broadcasts answers ks [] v ≡ v
+pub packets_nil : (answers : Answers) (ks : List ℕ) (v : Serving) → after_broadcasts answers ks [] v ≡ v
 unfolding after_broadcasts
 packets_nil answers ks v = refl
 

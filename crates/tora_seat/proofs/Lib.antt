@@ -9,3 +9,7 @@ pub mod Histories
 pub mod ItemFacts
 pub mod ItemLaws
 pub mod Counts
+mod CutLinks
+mod RelationLeads
+mod RelationHolds
+mod CutsGoDown

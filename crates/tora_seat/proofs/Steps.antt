@@ -30,7 +30,7 @@ pub is_refused : (A : Type 0) (o : Option StepError) (error : StepError) → (le
 is_refused A None error h = absurd (false≢true h)
 is_refused A (Some e) error h = cc
 
-step_is : (answers : Answers) (ks : List ℕ) (input : Input) (now : ℕ) (v : Serving) → after_step answers ks input now v ≡ after_answer answers ks input now v (refusal_of v.seat.core input)
+pub step_is : (answers : Answers) (ks : List ℕ) (input : Input) (now : ℕ) (v : Serving) → after_step answers ks input now v ≡ after_answer answers ks input now v (refusal_of v.seat.core input)
 unfolding after_step
 step_is answers ks input now v = refl
 
@@ -127,13 +127,13 @@ settling_end : (answers : Answers) (ks : List ℕ) (now : ℕ) (v : Serving) →
 unfolding after_settling
 settling_end answers ks now v = refl
 
-settling_done : (most : ℕ) (answers : Answers) (ks : List ℕ) (now : ℕ) (v : Serving) → first_cut v.seat ks ≡ None → after_settling most answers ks now v ≡ v
+pub settling_done : (most : ℕ) (answers : Answers) (ks : List ℕ) (now : ℕ) (v : Serving) → first_cut v.seat ks ≡ None → after_settling most answers ks now v ≡ v
 unfolding after_settling
 settling_done zero answers ks now v e = refl
 settling_done (suc most) answers ks now v e =
     ap (λ (o : Option ℕ). elim o [ None ↦ v | Some k ↦ after_settling most answers ks now (after_step answers ks (In.LinkDown k) now v) ]) e
 
-settling_more : (most : ℕ) (answers : Answers) (ks : List ℕ) (now : ℕ) (v : Serving) (k : ℕ) → first_cut v.seat ks ≡ Some k → after_settling (suc most) answers ks now v ≡ after_settling most answers ks now (after_step answers ks (In.LinkDown k) now v)
+pub settling_more : (most : ℕ) (answers : Answers) (ks : List ℕ) (now : ℕ) (v : Serving) (k : ℕ) → first_cut v.seat ks ≡ Some k → after_settling (suc most) answers ks now v ≡ after_settling most answers ks now (after_step answers ks (In.LinkDown k) now v)
 unfolding after_settling
 settling_more most answers ks now v k e =
     ap (λ (o : Option ℕ). elim o [ None ↦ v | Some k ↦ after_settling most answers ks now (after_step answers ks (In.LinkDown k) now v) ]) e

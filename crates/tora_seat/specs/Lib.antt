@@ -3,3 +3,4 @@ pub mod Offers
 pub mod Rows
 pub mod Bodies
 pub mod SeatLaws
+pub mod Serves

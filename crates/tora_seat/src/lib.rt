@@ -19,6 +19,7 @@ mod display;
 mod inputs;
 mod lanes;
 mod laws;
+mod relation;
 mod rows;
 mod seat;
 
@@ -28,6 +29,7 @@ pub use laws::{
     handed_back_packets_end_their_lives, items_step_few_inputs,
     lives_are_current_where_links_are_up, lives_have_no_gap, offers_are_their_own_answers,
 };
+pub use relation::{cut_links_go_down, serving_is_the_relation};
 pub use rows::LinkRow;
 pub use seat::CoreSeat;
 use tora_arq::{Life, Reason};

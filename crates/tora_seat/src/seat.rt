@@ -1,8 +1,9 @@
 //! The core's seat.
 ghost use Rattle.std.specs.Prelude.{◌≡◌, ◌<◌, ◌≤◌, ◌+◌, ◌*◌, ℕ, List, length, [], Option, None, Some, IfOk, IfSome, MatchOption, slice_get, map, is_some, if◌then◌else◌};
-ghost use Rattle.tora_core.specs.Numbers.{has_repeat};
+ghost use Rattle.tora_core.specs.Numbers.{has_repeat, IsAscending};
 ghost use Rattle.tora_core.specs.declared.Input.TheVariants as In;
 ghost use Rattle.tora_seat.specs.Serving.{Answers, Offer, first_cut, with_current, with_pending, after_cuts_tried, after_step, after_settling, after_input, after_down, after_old_down, after_up, after_packet, after_link_item, after_other_item, after_item_of, serving_of, is_current};
+ghost use Rattle.tora_seat.specs.Serves.{Serves};
 ghost use Rattle.tora_seat.specs.Offers.{AreOffered, Follows};
 ghost use Rattle.tora_seat.specs.Rows.{SeatView, neighbours_of, current_of, pending_of, state_of, serving_at, new_row, first_seat, first_cut_of};
 ghost use Rattle.tora_seat.specs.Bodies.{SeatGoes};
@@ -381,6 +382,10 @@ impl CoreSeat {
             × AreOffered O.did_offer self.old.core.neighbours outs.old offers outs.new
             × ((answers : Answers) → Follows answers [] offers
             → serving_of answers self.old.core.neighbours (state_of self.old) item.entry.now ≡ serving_at item.entry.now.now self.new offers) }
+        // The same by the relation: one case for each kind of item and each situation.
+        ensures related { IsAscending self.old.core.neighbours → (offers : List Offer)
+            × AreOffered O.did_offer self.old.core.neighbours outs.old offers outs.new
+            × Serves self.old.core.neighbours (state_of self.old) item.entry.now (serving_at item.entry.now.now self.new offers) }
         ensures answer { result ≡ self.new.answer }
     {
         self.begin();

@@ -1,28 +1,29 @@
 -- Serving an item is refused nothing but a need.
-use Rattle.std.proofs.Common.{◌≡◌, ℕ, zero, suc, ◌<◌, ◌≤◌, Bool, true, false, true≢false, ◌&&◌, ◌||◌, ◌⊎◌, inl, inr, ⊎_elim, List, [], ◌∷◌, ◌++◌, length, Option, Some, None, nat_eq, if◌then◌else◌, refl, sym, ap, ◌∙◌, subst, append_assoc, append-nil, eqb-true, eq-eqb, arith}
-use Rattle.std.proofs.lemmas.Bool.{cond_both, cases_Bool}
-use Rattle.std.specs.Prelude.{slice_get, is_none, not}
+use Rattle.std.proofs.Common.{◌≡◌, ◌≢◌, ℕ, zero, suc, Bool, true, false, true≢false, ◌&&◌, ◌||◌, ◌⊎◌, inl, inr, List, [], ◌∷◌, ◌++◌, length, Option, Some, None, nat_eq, if◌then◌else◌, refl, sym, ap, ◌∙◌, subst, append_assoc, append-nil, eqb-true, eq-eqb}
+use Rattle.std.proofs.lemmas.Bool.{cond_both, cases_Bool, false_from_ne_true}
+use Rattle.std.specs.Prelude.{slice_get}
 use Rattle.tora_packet.specs.declared.Packet.{Packet}
 use Rattle.tora_arq.specs.declared.Life.{Life}
 use Rattle.tora_core.specs.declared.Input.{Input}
 use Rattle.tora_core.specs.declared.Input.TheVariants as In
 use Rattle.tora_core.specs.declared.errors.StepError.{StepError}
-use Rattle.tora_core.specs.declared.errors.StepError.TheVariants as Fault
-use Rattle.tora_core.specs.Numbers.{has_number, without_number}
-use Rattle.tora_core.specs.CoreRun.{CoreView, is_from, refusal_of, up_after, sends_of}
+use Rattle.tora_core.specs.Numbers.{has_number}
+use Rattle.tora_core.specs.CoreRun.{CoreView, is_from, refusal_of, core_after, sends_of}
 use Rattle.tora_seat.specs.declared.What.{What}
 use Rattle.tora_seat.specs.declared.What.TheVariants as Tells
 use Rattle.tora_seat.specs.declared.Answer.TheVariants as Says
 use Rattle.tora_seat.specs.declared.Item.{Item}
 use Rattle.tora_seat.specs.declared.Cargo.{Cargo}
 use Rattle.tora_seat.specs.declared.Cargo.TheVariants as Gives
-use Rattle.tora_seat.specs.Serving.{SeatState, Offer, Parcel, Step, Serving, Answers, put_one, with_current, with_pending, after_cut_tried, after_cuts_tried, after_sent, after_broadcast, after_broadcasts, accepting, after_answer, after_step, first_cut, after_settling, after_input, is_current, after_down, after_old_down, after_up, after_packet, after_link_item, after_other_item, after_item_of, begin_serving, serving_of, put_to, stepped_from}
+use Rattle.tora_seat.specs.Serving.{SeatState, Offer, Parcel, Step, Serving, Answers, put_one, with_current, after_cut_tried, after_cuts_tried, after_sent, after_broadcast, after_broadcasts, accepting, after_answer, after_step, first_cut, after_settling, after_input, is_current, after_down, after_old_down, after_up, after_packet, after_link_item, after_other_item, after_item_of, begin_serving, serving_of, put_to, stepped_from}
 use Rattle.tora_world.specs.Lists.{parcel_of, Each}
 use Rattle.tora_world.specs.Refusals.{packet_in, packets_accepted, packets_in}
 use Rattle.tora_world.proofs.PacketLists.{same_true}
 use Rattle.tora_world.proofs.Events.{put_one_here, put_one_there}
 use Rattle.tora_world.proofs.EndViews.{map-append}
-use Rattle.tora_world.proofs.LinksUp.{core_accepted, same_neighbours, up_accepted, down_accepted, count_up, count_most, count_drops, first_cut_is, first_cut_none, settled_at, has-gone, has-with, has-other}
+use Rattle.tora_seat.specs.Serves.{IsCut}
+use Rattle.tora_world.specs.Layers.{CoreLaws, SeatLaws}
+use Rattle.tora_world.proofs.LinksUp.{up_accepted, down_accepted}
 use Rattle.tora_world.proofs.OwnHeights.{IsOwnView, IsSentBy, views_own, sends_own}
 
 accepted-push : (k : ℕ) (is : List (Input × ℕ)) (input : Input) (now : ℕ) → packets_accepted k (is ++ (input, now) ∷ []) ≡ packets_accepted k is ++ packet_in k input
@@ -59,10 +60,6 @@ put_of n k (o ∷ offers) h = go (nat_eq o.to k && o.put) (put_of n k offers h.1
     go true r = (h.0, r)
     go false r = r
 
-none_life : (o : Option Life) → is_none o ≡ true → o ≡ None
-none_life None e = refl
-none_life (Some l) e = absurd (true≢false (sym e))
-
 current_is : (l : Life) (o : Option Life) → is_current l o ≡ true → o ≡ Some l
 current_is l None e = absurd (true≢false (sym e))
 current_is l (Some j) e = ap Some (sym (same_true l j e))
@@ -77,22 +74,7 @@ at_in (x ∷ xs) (suc i) k e = ap (λ b. nat_eq x k || b) (at_in xs i k e) ∙ o
     or_true true = refl
     or_true false = refl
 
--- the packet of a neighbour whose link is up
-packet_accepted : (c : CoreView) (k : ℕ) (packet : Packet) → has_number k c.neighbours ≡ true → has_number k c.up ≡ true → is_from k packet ≡ true → refusal_of c (In.Packet k packet) ≡ None
-packet_accepted c k packet a b d =
-    ap (λ x. if not x then Some Fault.UnknownNeighbour else if not (has_number k c.up) then Some Fault.NotUp else if not (is_from k packet) then Some Fault.WrongSender else None) a
-    ∙ ap (λ x. if not x then Some Fault.NotUp else if not (is_from k packet) then Some Fault.WrongSender else None) b
-    ∙ ap (λ x. if not x then Some Fault.WrongSender else None) d
-
--- which neighbour is to be stepped down is told by the core and the current lives
-cuts_of : (s s' : SeatState) → s'.core ≡ s.core → s'.current ≡ s.current → (js : List ℕ) → first_cut s' js ≡ first_cut s js
-cuts_of s s' a b [] = refl
-cuts_of s s' a b (j ∷ js) =
-    ap (λ (c : CoreView). if has_number j c.up && is_none (s'.current j) then Some j else first_cut s' js) a
-    ∙ ap (λ (f : ℕ → Option Life). if has_number j s.core.up && is_none (f j) then Some j else first_cut s' js) b
-    ∙ ap (λ r. if has_number j s.core.up && is_none (s.current j) then Some j else r) (cuts_of s s' a b js)
-
-module _ (n : ℕ) (ks : List ℕ) (answers : Answers) (Excuse : Type 0) where
+module _ (cores : CoreLaws) (seats : SeatLaws) (n : ℕ) (ks : List ℕ) (answers : Answers) (Excuse : Type 0) where
   -- a core whose link to each neighbour with a current life is up, and that has refused nothing without an excuse
   pub record Sound (v : Serving) : Type 0 where
     pub near : (j : ℕ) → has_number j ks ≡ true → has_number j v.seat.core.neighbours ≡ true
@@ -170,10 +152,9 @@ module _ (n : ℕ) (ks : List ℕ) (answers : Answers) (Excuse : Type 0) where
   unfolding after_step
   step_is v input now e = ap (after_answer answers ks input now v) e
 
-  step_up : (v : Serving) (input : Input) (now : ℕ) → refusal_of v.seat.core input ≡ None → (after_step answers ks input now v).seat.core.up ≡ up_after v.seat.core.up input
+  step_up : (v : Serving) (input : Input) (now : ℕ) → refusal_of v.seat.core input ≡ None → (after_step answers ks input now v).seat.core.up ≡ (core_after v.seat.core input now).up
   step_up v input now e =
       ap (λ (x : Serving). x.seat.core.up) (step_is v input now e) ∙ ap (λ (c : CoreView). c.up) (broadcasts_core (sends_of v.seat.core input now) (accepting v input now))
-      ∙ ap (λ (c : CoreView). c.up) (core_accepted v.seat.core input now e)
 
   -- what is asked where an input is stepped: all but the links up and the packets agreed
   record Ready (v : Serving) : Type 0 where
@@ -186,14 +167,14 @@ module _ (n : ℕ) (ks : List ℕ) (answers : Answers) (Excuse : Type 0) where
   ready v h = record { near = h.near; silent = h.silent; own = h.own; sends = h.sends }
 
   accepts : (v : Serving) (input : Input) (now : ℕ) → refusal_of v.seat.core input ≡ None → Ready v →
-      ((j : ℕ) (l : Life) → has_number j ks ≡ true → v.seat.current j ≡ Some l → has_number j (up_after v.seat.core.up input) ≡ true) →
+      ((j : ℕ) (l : Life) → has_number j ks ≡ true → v.seat.current j ≡ Some l → has_number j (core_after v.seat.core input now).up ≡ true) →
       ((k : ℕ) → packets_accepted k v.inputs ++ packet_in k input ≡ packets_in (stepped_from k v.steps)) → Sound (after_step answers ks input now v)
   accepts v input now ok h up agreed =
       subst Sound (sym (step_is v input now ok))
       (broadcasts_sound (sends_of v.seat.core input now) (accepting v input now) (sends_own n v.seat.core input now h.own)
       (record {
-        near = λ j m. ap (λ ns. has_number j ns) (same_neighbours v.seat.core input now) ∙ h.near j m;
-        up = λ j l m e. ap (λ (c : CoreView). has_number j c.up) (core_accepted v.seat.core input now ok) ∙ up j l m e;
+        near = λ j m. ap (λ ns. has_number j ns) (cores.neighbours v.seat.core input now) ∙ h.near j m;
+        up = up;
         silent = h.silent;
         agreed = λ k. accepted-push k v.inputs input now ∙ agreed k;
         own = views_own n v.seat.core input now h.own;
@@ -207,12 +188,12 @@ module _ (n : ℕ) (ks : List ℕ) (answers : Answers) (Excuse : Type 0) where
   -- a link goes down whose life is no longer current
   down_sound : (v : Serving) (k now : ℕ) → has_number k ks ≡ true → has_number k v.seat.core.up ≡ true → v.seat.current k ≡ None → Sound v → Sound (after_step answers ks (In.LinkDown k) now v)
   down_sound v k now m u none h =
-      accepts v (In.LinkDown k) now (down_accepted v.seat.core k (h.near k m) u) (ready v h)
-      (λ j l i e. has-other j k v.seat.core.up (other j l e) ∙ h.up j l i e)
+      accepts v (In.LinkDown k) now (down_accepted cores v.seat.core k (h.near k m) u) (ready v h)
+      (λ j l i e. cores.others_at_down v.seat.core j k now (other j l e) ∙ h.up j l i e)
       (no_packet v (In.LinkDown k) (λ j. refl) h.agreed)
     where
-      other : (j : ℕ) (l : Life) → v.seat.current j ≡ Some l → nat_eq k j ≡ false
-      other j l e = ⊎_elim (λ (t : nat_eq k j ≡ true). absurd (let q : None ≡ Some l = sym none ∙ ap v.seat.current (eqb-true k j t) ∙ e in cc)) (λ (t : nat_eq k j ≡ false). t) (cases_Bool (nat_eq k j))
+      other : (j : ℕ) (l : Life) → v.seat.current j ≡ Some l → j ≢ k
+      other j l e q = let z : None ≡ Some l = sym none ∙ ap v.seat.current (sym q) ∙ e in absurd (cc)
 
   settling_sound : (most now : ℕ) (v : Serving) → Sound v → Sound (after_settling most answers ks now v)
   unfolding after_settling
@@ -223,24 +204,8 @@ module _ (n : ℕ) (ks : List ℕ) (answers : Answers) (Excuse : Type 0) where
           Sound (elim r [ None ↦ v | Some j ↦ after_settling most answers ks now (after_step answers ks (In.LinkDown j) now v) ])
       go None e again = h
       go (Some j) e again =
-          let f = first_cut_is v.seat ks j e in
-          again (after_step answers ks (In.LinkDown j) now v) (down_sound v j now f.0 f.1 (none_life (v.seat.current j) f.2) h)
-
-  -- none is left
-  settles : (most now : ℕ) (v : Serving) → Sound v → count_up ks v.seat.core.up ≤ most → first_cut (after_settling most answers ks now v).seat ks ≡ None
-  unfolding after_settling
-  settles zero now v h le = first_cut_none v.seat ks le
-  settles (suc most) now v h le = go (first_cut v.seat ks) refl (λ x y z. settles most now x y z)
-    where
-      go : (r : Option ℕ) → first_cut v.seat ks ≡ r → ((x : Serving) → Sound x → count_up ks x.seat.core.up ≤ most → first_cut (after_settling most answers ks now x).seat ks ≡ None) →
-          first_cut (elim r as (λ _. Serving) [ None ↦ v | Some j ↦ after_settling most answers ks now (after_step answers ks (In.LinkDown j) now v) ]).seat ks ≡ None
-      go None e again = e
-      go (Some j) e again =
-          let f = first_cut_is v.seat ks j e in
-          let fewer : count_up ks (without_number j v.seat.core.up) < count_up ks v.seat.core.up = count_drops ks v.seat.core.up j f.0 f.1 in
-          let ups : (after_step answers ks (In.LinkDown j) now v).seat.core.up ≡ without_number j v.seat.core.up = step_up v (In.LinkDown j) now (down_accepted v.seat.core j (h.near j f.0) f.1) in
-          again (after_step answers ks (In.LinkDown j) now v) (down_sound v j now f.0 f.1 (none_life (v.seat.current j) f.2) h)
-          (subst (λ up. count_up ks up ≤ most) (sym ups) (omega (arith, fewer, le)))
+          let f = seats.next ks v.seat j e in
+          again (after_step answers ks (In.LinkDown j) now v) (down_sound v j now f.neighbour f.up f.none h)
 
   -- a link that is down stays so
   stays_down : (k most now : ℕ) (v : Serving) → Sound v → has_number k v.seat.core.up ≡ false → has_number k (after_settling most answers ks now v).seat.core.up ≡ false
@@ -252,32 +217,31 @@ module _ (n : ℕ) (ks : List ℕ) (answers : Answers) (Excuse : Type 0) where
           has_number k (elim r as (λ _. Serving) [ None ↦ v | Some j ↦ after_settling most answers ks now (after_step answers ks (In.LinkDown j) now v) ]).seat.core.up ≡ false
       go None e again = off
       go (Some j) e again =
-          let f = first_cut_is v.seat ks j e in
-          let ups : (after_step answers ks (In.LinkDown j) now v).seat.core.up ≡ without_number j v.seat.core.up = step_up v (In.LinkDown j) now (down_accepted v.seat.core j (h.near j f.0) f.1) in
-          again (after_step answers ks (In.LinkDown j) now v) (down_sound v j now f.0 f.1 (none_life (v.seat.current j) f.2) h)
-          (ap (λ up. has_number k up) ups ∙ gone j)
+          let f = seats.next ks v.seat j e in
+          let ok : refusal_of v.seat.core (In.LinkDown j) ≡ None = down_accepted cores v.seat.core j (h.near j f.neighbour) f.up in
+          again (after_step answers ks (In.LinkDown j) now v) (down_sound v j now f.neighbour f.up f.none h)
+          (ap (λ up. has_number k up) (step_up v (In.LinkDown j) now ok) ∙ gone j ok (cases_Bool (nat_eq j k)))
         where
-          gone : (j : ℕ) → has_number k (without_number j v.seat.core.up) ≡ false
-          gone j = ⊎_elim (λ (t : nat_eq j k ≡ true). subst (λ x. has_number k (without_number x v.seat.core.up) ≡ false) (sym (eqb-true j k t)) (has-gone k v.seat.core.up)) (λ (t : nat_eq j k ≡ false). has-other k j v.seat.core.up t ∙ off) (cases_Bool (nat_eq j k))
+          gone : (j : ℕ) → refusal_of v.seat.core (In.LinkDown j) ≡ None → (nat_eq j k ≡ true) ⊎ (nat_eq j k ≡ false) → has_number k (core_after v.seat.core (In.LinkDown j) now).up ≡ false
+          gone j ok (inl t) = subst (λ x. has_number x (core_after v.seat.core (In.LinkDown j) now).up ≡ false) (eqb-true j k t) (cores.goes v.seat.core j now ok)
+          gone j ok (inr t) = cores.others_at_down v.seat.core k j now (λ q. true≢false (sym (eq-eqb j k (sym q)) ∙ t)) ∙ off
 
   -- what an item leaves: no neighbour is to be stepped down
   pub record Done (v : Serving) : Type 0 where
     pub sound : Sound v
-    pub settled : first_cut v.seat ks ≡ None
+    pub settled : (j : ℕ) → ¬ IsCut ks v.seat j
 
-  input_done : (v : Serving) (input : Input) (now : ℕ) → Sound (after_step answers ks input now v) → Done (after_input answers ks input now v)
+  input_done : (v : Serving) (input : Input) (now : ℕ) → ((j : ℕ) → has_number j ks ≡ true → has_number j v.seat.core.neighbours ≡ true) → Sound (after_step answers ks input now v) → Done (after_input answers ks input now v)
   unfolding after_input
-  input_done v input now h =
-      let v' : Serving = after_step answers ks input now v in
-      record { sound = settling_sound (length ks) now v' h; settled = settles (length ks) now v' h (count_most ks v'.seat.core.up) }
+  input_done v input now near h = record { sound = settling_sound (length ks) now (after_step answers ks input now v) h; settled = seats.none_left answers ks input now v near }
 
   -- a need may be refused
   need_done : (v : Serving) (d now : ℕ) → Excuse → Sound v → Done (after_input answers ks (In.Need d) now v)
   unfolding after_step
-  need_done v d now excuse h = input_done v (In.Need d) now (go (refusal_of v.seat.core (In.Need d)) refl)
+  need_done v d now excuse h = input_done v (In.Need d) now h.near (go (refusal_of v.seat.core (In.Need d)) refl)
     where
       go : (r : Option StepError) → refusal_of v.seat.core (In.Need d) ≡ r → Sound (after_step answers ks (In.Need d) now v)
-      go None e = accepts v (In.Need d) now e (ready v h) h.up (no_packet v (In.Need d) (λ j. refl) h.agreed)
+      go None e = accepts v (In.Need d) now e (ready v h) (λ j l i c. ap (has_number j) (cores.at_need v.seat.core d now) ∙ h.up j l i c) (no_packet v (In.Need d) (λ j. refl) h.agreed)
       go (Some error) e =
           subst (λ r. Sound (after_answer answers ks (In.Need d) now v r)) (sym e)
           (record { near = h.near; up = h.up; silent = λ x y. excuse; agreed = h.agreed; own = h.own; sends = h.sends })
@@ -289,43 +253,42 @@ module _ (n : ℕ) (ks : List ℕ) (answers : Answers) (Excuse : Type 0) where
       (record { near = h.near; up = λ j i x e. h.up j i x (fewer_current v.seat.current k j i e); silent = h.silent; agreed = h.agreed; own = h.own; sends = h.sends })
 
   down_done : (v : Serving) (k now : ℕ) (l : Life) → has_number k ks ≡ true → v.seat.current k ≡ Some l → Sound v → Done (after_down answers ks k now v)
-  down_done v k now l m on h = input_done (with_current v k None) (In.LinkDown k) now (down_step v k now l m on h)
+  down_done v k now l m on h = input_done (with_current v k None) (In.LinkDown k) now h.near (down_step v k now l m on h)
 
   down_off : (v : Serving) (k now : ℕ) (l : Life) → has_number k ks ≡ true → v.seat.current k ≡ Some l → Sound v → has_number k (after_down answers ks k now v).seat.core.up ≡ false
   unfolding after_input
   down_off v k now l m on h =
       let v' : Serving = with_current v k None in
       let s : Sound (after_step answers ks (In.LinkDown k) now v') = down_step v k now l m on h in
+      let ok : refusal_of v.seat.core (In.LinkDown k) ≡ None = down_accepted cores v.seat.core k (h.near k m) (h.up k l m on) in
       stays_down k (length ks) now (after_step answers ks (In.LinkDown k) now v') s
-      (ap (λ up. has_number k up) (step_up v' (In.LinkDown k) now (down_accepted v.seat.core k (h.near k m) (h.up k l m on))) ∙ has-gone k v.seat.core.up)
+      (ap (λ up. has_number k up) (step_up v' (In.LinkDown k) now ok) ∙ cores.goes v.seat.core k now ok)
 
   -- before a life comes up its link is down at the core
   old_done : (v : Serving) (k now : ℕ) (o : Option Life) → has_number k ks ≡ true → v.seat.current k ≡ o → Done v → Sound (after_old_down answers ks k now v o) × (has_number k (after_old_down answers ks k now v o).seat.core.up ≡ false)
-  old_done v k now None m e d = (d.sound, settled_at v.seat ks k d.settled m e)
+  old_done v k now None m e d = (d.sound, false_from_ne_true (has_number k v.seat.core.up) (λ u. d.settled k (record { neighbour = m; up = u; none = e })))
   old_done v k now (Some l) m e d = ((down_done v k now l m e d.sound).sound, down_off v k now l m e d.sound)
 
   up_done : (v : Serving) (k now : ℕ) (life : Life) → has_number k ks ≡ true → has_number k v.seat.core.up ≡ false → Sound v → Done (after_up answers ks k life now v)
   up_done v k now life m off h =
       let v' : Serving = with_current v k (Some life) in
-      input_done v' (In.LinkUp k) now
-      (accepts v' (In.LinkUp k) now (up_accepted v.seat.core k (h.near k m) off) (record { near = h.near; silent = h.silent; own = h.own; sends = h.sends })
-      (λ j l i e. has-with j k v.seat.core.up ∙ ups j l i e (cases_Bool (nat_eq j k)))
+      let ok : refusal_of v.seat.core (In.LinkUp k) ≡ None = up_accepted cores v.seat.core k (h.near k m) off in
+      input_done v' (In.LinkUp k) now h.near
+      (accepts v' (In.LinkUp k) now ok (record { near = h.near; silent = h.silent; own = h.own; sends = h.sends })
+      (λ j l i e. ups ok j l i e (cases_Bool (nat_eq j k)))
       (no_packet v' (In.LinkUp k) (λ j. refl) h.agreed))
     where
-      or_right : (a : Bool) → (a || true) ≡ true
-      or_right true = refl
-      or_right false = refl
-
-      ups : (j : ℕ) (l : Life) → has_number j ks ≡ true → put_one v.seat.current k (Some life) j ≡ Some l → (nat_eq j k ≡ true) ⊎ (nat_eq j k ≡ false) → (nat_eq k j || has_number j v.seat.core.up) ≡ true
-      ups j l i e (inl t) = ap (λ b. b || has_number j v.seat.core.up) (eq-eqb k j (sym (eqb-true j k t)))
-      ups j l i e (inr t) = ap (λ b. nat_eq k j || b) (h.up j l i (sym (put_one_there v.seat.current k (Some life) j t) ∙ e)) ∙ or_right (nat_eq k j)
+      ups : refusal_of v.seat.core (In.LinkUp k) ≡ None → (j : ℕ) (l : Life) → has_number j ks ≡ true → put_one v.seat.current k (Some life) j ≡ Some l → (nat_eq j k ≡ true) ⊎ (nat_eq j k ≡ false) → has_number j (core_after v.seat.core (In.LinkUp k) now).up ≡ true
+      ups ok j l i e (inl t) = subst (λ x. has_number x (core_after v.seat.core (In.LinkUp k) now).up ≡ true) (sym (eqb-true j k t)) (cores.comes v.seat.core k now ok)
+      ups ok j l i e (inr t) = cores.others_at_up v.seat.core j k now (λ q. true≢false (sym (eq-eqb j k q) ∙ t)) ∙ h.up j l i (sym (put_one_there v.seat.current k (Some life) j t) ∙ e)
 
   packet_done : (v : Serving) (k now : ℕ) (life : Life) (packet : Packet) → has_number k ks ≡ true → v.seat.current k ≡ Some life → is_from k packet ≡ true → Sound v → Done (after_packet answers ks k life packet now v)
   packet_done v k now life packet m on from h =
       let s : Step = record { from = k; parcel = parcel_of life packet } in
       let v' : Serving = record v { steps = v.steps ++ s ∷ [] } in
-      input_done v' (In.Packet k packet) now
-      (accepts v' (In.Packet k packet) now (packet_accepted v.seat.core k packet (h.near k m) (h.up k life m on) from) (record { near = h.near; silent = h.silent; own = h.own; sends = h.sends }) h.up
+      input_done v' (In.Packet k packet) now h.near
+      (accepts v' (In.Packet k packet) now ((cores.packet v.seat.core k packet).1 (h.near k m, h.up k life m on, from)) (record { near = h.near; silent = h.silent; own = h.own; sends = h.sends })
+      (λ j l i c. ap (has_number j) (cores.at_packet v.seat.core k packet now) ∙ h.up j l i c)
       (λ j. ap (λ xs. xs ++ packet_in j (In.Packet k packet)) (h.agreed j) ∙ ap (λ xs. packets_in (stepped_from j v.steps) ++ xs) (one (nat_eq k j))
       ∙ sym (map-append (λ (x : Parcel). x.packet) (stepped_from j v.steps) (if nat_eq k j then parcel_of life packet ∷ [] else [])) ∙ ap packets_in (sym (stepped-push j v.steps s))))
     where
@@ -347,12 +310,12 @@ module _ (n : ℕ) (ks : List ℕ) (answers : Answers) (Excuse : Type 0) where
       cond_both (is_current l (v.seat.current k)) _ _ Done
       (λ t. down_done v k now l m (current_is l (v.seat.current k) t) d.sound)
       (λ _. cond_both (is_current l (v.seat.pending k)) _ _ Done
-      (λ _. record { sound = record { near = d.sound.near; up = d.sound.up; silent = d.sound.silent; agreed = d.sound.agreed; own = d.sound.own; sends = d.sound.sends }; settled = cuts_of v.seat (with_pending v k None).seat refl refl ks ∙ d.settled })
+      (λ _. record { sound = record { near = d.sound.near; up = d.sound.up; silent = d.sound.silent; agreed = d.sound.agreed; own = d.sound.own; sends = d.sound.sends }; settled = λ j c. d.settled j (record { neighbour = c.neighbour; up = c.up; none = c.none }) })
       (λ _. d))
   link_item_done v k now (Tells.Need m) i from excuse d = need_done v m now (excuse m refl) d.sound
   link_item_done v k now Tells.Beat m from excuse d = d
-  link_item_done v k now Tells.Show m from excuse d = record { sound = record { near = d.sound.near; up = d.sound.up; silent = λ e q. absurd (cc); agreed = d.sound.agreed; own = d.sound.own; sends = d.sound.sends }; settled = d.settled }
-  link_item_done v k now Tells.Quit m from excuse d = record { sound = record { near = d.sound.near; up = d.sound.up; silent = λ e q. absurd (cc); agreed = d.sound.agreed; own = d.sound.own; sends = d.sound.sends }; settled = d.settled }
+  link_item_done v k now Tells.Show m from excuse d = record { sound = record { near = d.sound.near; up = d.sound.up; silent = λ e q. absurd (cc); agreed = d.sound.agreed; own = d.sound.own; sends = d.sound.sends }; settled = λ j c. d.settled j (record { neighbour = c.neighbour; up = c.up; none = c.none }) }
+  link_item_done v k now Tells.Quit m from excuse d = record { sound = record { near = d.sound.near; up = d.sound.up; silent = λ e q. absurd (cc); agreed = d.sound.agreed; own = d.sound.own; sends = d.sound.sends }; settled = λ j c. d.settled j (record { neighbour = c.neighbour; up = c.up; none = c.none }) }
 
   other_item_done : (v : Serving) (now : ℕ) (what : What) → ((d : ℕ) → what ≡ Tells.Need d → Excuse) → Done v → Done (after_other_item answers ks now what v)
   unfolding after_other_item
@@ -361,8 +324,8 @@ module _ (n : ℕ) (ks : List ℕ) (answers : Answers) (Excuse : Type 0) where
   other_item_done v now (Tells.Packet l p) excuse d = d
   other_item_done v now (Tells.Down l r) excuse d = d
   other_item_done v now Tells.Beat excuse d = d
-  other_item_done v now Tells.Show excuse d = record { sound = record { near = d.sound.near; up = d.sound.up; silent = λ e q. absurd (cc); agreed = d.sound.agreed; own = d.sound.own; sends = d.sound.sends }; settled = d.settled }
-  other_item_done v now Tells.Quit excuse d = record { sound = record { near = d.sound.near; up = d.sound.up; silent = λ e q. absurd (cc); agreed = d.sound.agreed; own = d.sound.own; sends = d.sound.sends }; settled = d.settled }
+  other_item_done v now Tells.Show excuse d = record { sound = record { near = d.sound.near; up = d.sound.up; silent = λ e q. absurd (cc); agreed = d.sound.agreed; own = d.sound.own; sends = d.sound.sends }; settled = λ j c. d.settled j (record { neighbour = c.neighbour; up = c.up; none = c.none }) }
+  other_item_done v now Tells.Quit excuse d = record { sound = record { near = d.sound.near; up = d.sound.up; silent = λ e q. absurd (cc); agreed = d.sound.agreed; own = d.sound.own; sends = d.sound.sends }; settled = λ j c. d.settled j (record { neighbour = c.neighbour; up = c.up; none = c.none }) }
 
   -- the cuts that are tried first change neither the core nor a current life
   record Started (seat : SeatState) (v : Serving) : Type 0 where
@@ -387,7 +350,7 @@ module _ (n : ℕ) (ks : List ℕ) (answers : Answers) (Excuse : Type 0) where
       s = start_cuts seat ks (begin_serving seat) (record { core = refl; current = refl })
 
       begun : Done (after_cuts_tried answers ks (begin_serving seat))
-      begun = record { sound = cuts_sound ks (begin_serving seat) d.sound; settled = cuts_of seat (after_cuts_tried answers ks (begin_serving seat)).seat s.core s.current ks ∙ d.settled }
+      begun = record { sound = cuts_sound ks (begin_serving seat) d.sound; settled = λ j c. d.settled j (record { neighbour = c.neighbour; up = ap (λ (x : CoreView). has_number j x.up) (sym s.core) ∙ c.up; none = ap (λ (f : ℕ → Option Life). f j) (sym s.current) ∙ c.none }) }
 
       go : (o : Option ℕ) → slice_get ks item.seat ≡ o → Done (after_item_of answers ks o item.now item.what (after_cuts_tried answers ks (begin_serving seat)))
       go (Some k) e =

@@ -6,26 +6,27 @@ use Rattle.tora_core.specs.Numbers.{has_number, with_number, has_repeat}
 use Rattle.tora_core.specs.declared.errors.CoreError.TheVariants as Fault
 use Rattle.tora_world.specs.Topology.{Link, Topology, other_ends, neighbours_of, is_same_link, has_link, has_repeated_link, has_too_many, has_own_link, topology_fault}
 use Rattle.tora_world.proofs.Events.{turned}
-use Rattle.tora_world.proofs.LinksUp.{or_left, or_none, has-with}
+use Rattle.tora_world.proofs.LinksUp.{or_left, or_none}
+use Rattle.tora_world.specs.Layers.{CoreLaws}
 
 both_false : (a b : Bool) → a ≡ false → b ≡ false → (a || b) ≡ false
 both_false a b e f = ap₂ (λ x y. x || y) e f
 
-repeat_with : (n : ℕ) (xs : List ℕ) → has_number n xs ≡ false → has_repeat xs ≡ false → has_repeat (with_number n xs) ≡ false
-repeat_with n [] i r = refl
-repeat_with n (m ∷ xs) i r =
+repeat_with : CoreLaws → (n : ℕ) (xs : List ℕ) → has_number n xs ≡ false → has_repeat xs ≡ false → has_repeat (with_number n xs) ≡ false
+repeat_with cores n [] i r = refl
+repeat_with cores n (m ∷ xs) i r =
     let a = or_none (nat_eq m n) (has_number n xs) i in
     let b = or_none (has_number m xs) (has_repeat xs) r in
     cond_both (nat_lt n m) (n ∷ m ∷ xs) (m ∷ with_number n xs) (λ (ys : List ℕ). has_repeat ys ≡ false)
     (λ _. both_false (has_number n (m ∷ xs)) (has_repeat (m ∷ xs)) i r)
-    (λ _. both_false (has_number m (with_number n xs)) (has_repeat (with_number n xs)) (has-with m n xs ∙ both_false (nat_eq n m) (has_number m xs) (turned m n a.0) b.0) (repeat_with n xs a.1 b.1))
+    (λ _. both_false (has_number m (with_number n xs)) (has_repeat (with_number n xs)) (cores.put m n xs ∙ both_false (nat_eq n m) (has_number m xs) (turned m n a.0) b.0) (repeat_with cores n xs a.1 b.1))
 
-repeat_sorted : (acc ns : List ℕ) → has_repeat acc ≡ false → has_repeat ns ≡ false → ((j : ℕ) → has_number j ns ≡ true → has_number j acc ≡ false) → has_repeat (fold (λ sorted n. with_number n sorted) acc ns) ≡ false
-repeat_sorted acc [] a r d = a
-repeat_sorted acc (n ∷ ns) a r d =
+repeat_sorted : CoreLaws → (acc ns : List ℕ) → has_repeat acc ≡ false → has_repeat ns ≡ false → ((j : ℕ) → has_number j ns ≡ true → has_number j acc ≡ false) → has_repeat (fold (λ sorted n. with_number n sorted) acc ns) ≡ false
+repeat_sorted cores acc [] a r d = a
+repeat_sorted cores acc (n ∷ ns) a r d =
     let b = or_none (has_number n ns) (has_repeat ns) r in
-    repeat_sorted (with_number n acc) ns (repeat_with n acc (d n (ap (λ x. x || has_number n ns) (eq-eqb n n refl))) a) b.1
-    (λ j i. has-with j n acc ∙ both_false (nat_eq n j) (has_number j acc)
+    repeat_sorted cores (with_number n acc) ns (repeat_with cores n acc (d n (ap (λ x. x || has_number n ns) (eq-eqb n n refl))) a) b.1
+    (λ j i. cores.put j n acc ∙ both_false (nat_eq n j) (has_number j acc)
     (false_from_ne_true (nat_eq n j) (λ e. true≢false (sym (subst (λ x. has_number x ns ≡ true) (sym (eqb-true n j e)) i) ∙ b.0)))
     (d j (or_right (nat_eq n j) (has_number j ns) i)))
   where
@@ -122,5 +123,5 @@ names_once t none = go (has_too_many t) (has_repeated_link t.links) none
     go false true e = absurd (cc)
     go false false e = refl
 
-pub neighbours_apart : (t : Topology) (n : ℕ) → topology_fault t ≡ None → has_repeat (neighbours_of t n) ≡ false
-neighbours_apart t n none = repeat_sorted [] (other_ends n t.links) refl (ends_apart n t.links (names_once t none)) (λ j i. refl)
+pub neighbours_apart : CoreLaws → (t : Topology) (n : ℕ) → topology_fault t ≡ None → has_repeat (neighbours_of t n) ≡ false
+neighbours_apart cores t n none = repeat_sorted cores [] (other_ends n t.links) refl (ends_apart n t.links (names_once t none)) (λ j i. refl)

@@ -1,5 +1,5 @@
 -- In no run is anything but a need refused.
-use Rattle.std.proofs.Common.{◌≡◌, ℕ, zero, suc, ◌≤◌, Bool, true, false, ◌⊎◌, inl, inr, List, [], ◌∷◌, ◌++◌, map, length, Option, Some, None, nat_eq, if◌then◌else◌, refl, sym, ap, ap₂, ◌∙◌, subst, append_assoc, append-nil, eqb-true, eq-eqb, arith}
+use Rattle.std.proofs.Common.{◌≡◌, ℕ, zero, suc, Bool, true, false, true≢false, ◌⊎◌, inl, inr, List, [], ◌∷◌, ◌++◌, map, length, Option, Some, None, nat_eq, if◌then◌else◌, refl, sym, ap, ap₂, ◌∙◌, subst, append_assoc, append-nil, eqb-true, eq-eqb, arith}
 use Rattle.std.proofs.lemmas.Bool.{cond_both, cases_Bool}
 use Rattle.std.specs.Prelude.{slice_get, is_some}
 use Rattle.tora_packet.specs.declared.Packet.{Packet}
@@ -16,7 +16,7 @@ use Rattle.tora_seat.specs.declared.What.TheVariants as Tells
 use Rattle.tora_seat.specs.declared.Item.{Item}
 use Rattle.tora_seat.specs.declared.Cargo.{Cargo}
 use Rattle.tora_seat.specs.declared.Cargo.TheVariants as Gives
-use Rattle.tora_seat.specs.Serving.{SeatState, Serving, Parcel, Answers, put_one, first_cut, begin_serving, serving_of, put_to, stepped_from}
+use Rattle.tora_seat.specs.Serving.{SeatState, Serving, Parcel, Answers, put_one, begin_serving, serving_of, put_to, stepped_from}
 use Rattle.tora_world.specs.declared.Event.{Event}
 use Rattle.tora_world.specs.declared.Event.TheVariants.{Need, Tick, Open, Pull, Transmit, Deliver, Pump, CoreTurn, Arm, Restart}
 use Rattle.tora_world.specs.declared.Call.{Call}
@@ -29,14 +29,14 @@ use Rattle.tora_world.specs.World.{World, Choice, settings, neighbours, datagram
 use Rattle.tora_world.specs.FreeWorld.{Schedule, after_schedule}
 use Rattle.tora_world.specs.Law.{HasAccepted}
 use Rattle.tora_world.specs.Refusals.{OnlyNeedsAreRefused, packets_accepted, packets_in, SteppedAreAccepted}
-use Rattle.tora_world.specs.Layers.{LinkLaws, LifeLaws}
+use Rattle.tora_world.specs.Layers.{LinkLaws, LifeLaws, CoreLaws, SeatLaws}
 use Rattle.tora_world.proofs.Invariant.{arrival_of, AllEndsFollow, Seen, seen_at_other}
 use Rattle.tora_world.proofs.Invariant.Arrival.{PacketComes}
 use Rattle.tora_world.proofs.Moves.{takes_next}
 use Rattle.tora_world.proofs.AllEnds.{more_seen}
 use Rattle.tora_world.proofs.EndViews.{arrivals_in, arrivals_of, end_views, map-append}
 use Rattle.tora_world.proofs.AllRuns.{world_follows, first_follows}
-use Rattle.tora_world.proofs.LinksUp.{has-ascending, count_up, first_cut_none}
+use Rattle.tora_seat.specs.Serves.{IsCut}
 use Rattle.tora_world.proofs.OwnHeights.{IsOwnView, IsSentBy, first_own}
 use Rattle.tora_world.proofs.Accepted.{IsCargoOf, put_of, accepted-append, Done, serving_done}
 
@@ -47,22 +47,18 @@ record IsSeat (n : ℕ) (ks : List ℕ) (seat : SeatState) : Type 0 where
   near : (j : ℕ) → has_number j ks ≡ true → has_number j seat.core.neighbours ≡ true
   up : (j : ℕ) (l : Life) → has_number j ks ≡ true → seat.current j ≡ Some l → has_number j seat.core.up ≡ true
   own : Each (IsOwnView n) seat.core.views
-  settled : first_cut seat ks ≡ None
+  settled : (j : ℕ) → ¬ IsCut ks seat j
 
-none_up : (ks : List ℕ) → count_up ks [] ≤ 0
-none_up [] = omega arith
-none_up (k ∷ ks) = let h = none_up ks in omega (arith, h)
-
-first_is : (t : Topology) (n : ℕ) → IsSeat n (neighbours_of t n) (first_seat t n)
-first_is t n = record {
-  near = λ j i. has-ascending j (neighbours_of t n) ∙ i;
+first_is : CoreLaws → (t : Topology) (n : ℕ) → IsSeat n (neighbours_of t n) (first_seat t n)
+first_is cores t n = record {
+  near = λ j i. cores.members j (neighbours_of t n) ∙ i;
   up = λ j l i e. absurd (cc);
   own = first_own n (ascending t.destinations);
-  settled = first_cut_none (first_seat t n) (neighbours_of t n) (none_up (neighbours_of t n));
+  settled = λ j c. true≢false (sym c.up);
 }
 
-begun : (n : ℕ) (ks : List ℕ) (answers : Answers) (Excuse : Type 0) (seat : SeatState) → IsSeat n ks seat → Done n ks answers Excuse (begin_serving seat)
-begun n ks answers Excuse seat h = record {
+begun : (cores : CoreLaws) (seats : SeatLaws) (n : ℕ) (ks : List ℕ) (answers : Answers) (Excuse : Type 0) (seat : SeatState) → IsSeat n ks seat → Done cores seats n ks answers Excuse (begin_serving seat)
+begun cores seats n ks answers Excuse seat h = record {
   sound = record { near = h.near; up = h.up; silent = λ e q. absurd (cc); agreed = λ k. refl; own = h.own; sends = tt };
   settled = h.settled;
 }
@@ -117,17 +113,17 @@ same_nodes w w' a b c d e h = record {
   agreed = λ n k. ((h.agreed n k).0, ap (λ (f : ℕ → List (Input × ℕ)). (h.agreed n k).0 ++ packets_accepted k (f n)) d ∙ (h.agreed n k).1 ∙ ap (λ (f : ℕ → ℕ → List Parcel). packets_in (f n k)) (sym e));
 }
 
-module _ (steps : List MachineStep) (w : World) (seen : Seen) (g : AllEndsFollow steps (end_views w) w.datagrams seen) (h : AreNodes w) where
+module _ (cores : CoreLaws) (seats : SeatLaws) (steps : List MachineStep) (w : World) (seen : Seen) (g : AllEndsFollow steps (end_views w) w.datagrams seen) (h : AreNodes w) where
   -- an item is served
   served : (n : ℕ) (answers : Answers) (Excuse : Type 0) (item : Item) (items : List Item) → w.items n ≡ item ∷ items → ((d : ℕ) → item.what ≡ Tells.Need d → Excuse) →
-      Done n (neighbours w n) answers Excuse (serving_of answers (neighbours w n) (w.seats n) item)
+      Done cores seats n (neighbours w n) answers Excuse (serving_of answers (neighbours w n) (w.seats n) item)
   served n answers Excuse item items q excuse =
-      serving_done n (neighbours w n) answers Excuse (w.seats n) item (begun n (neighbours w n) answers Excuse (w.seats n) (h.seats n)) (taken_from steps w seen g h n item items q) excuse
+      serving_done cores seats n (neighbours w n) answers Excuse (w.seats n) item (begun cores seats n (neighbours w n) answers Excuse (w.seats n) (h.seats n)) (taken_from steps w seen g h n item items q) excuse
 
   only_needs : OnlyNeedsAreRefused w
   only_needs n answers item items error q e = (served n answers ((d : ℕ) × (item.what ≡ Tells.Need d)) item items q (λ d x. (d, x))).sound.silent error e
 
-  serving_nodes : (n : ℕ) (answers : Answers) (items : List Item) (v : Serving) → Done n (neighbours w n) answers (Unit {0}) v → AreNodes (after_serving w n items v)
+  serving_nodes : (n : ℕ) (answers : Answers) (items : List Item) (v : Serving) → Done cores seats n (neighbours w n) answers (Unit {0}) v → AreNodes (after_serving w n items v)
   serving_nodes n answers items v d = record {
     seats = λ a. seat_at a (cases_Bool (nat_eq a n));
     put = λ a k. cargoes_at a k (cases_Bool (nat_eq a n));
@@ -175,7 +171,7 @@ module _ (steps : List MachineStep) (w : World) (seen : Seen) (g : AllEndsFollow
       seat_at : (a : ℕ) → (nat_eq a n ≡ true) ⊎ (nat_eq a n ≡ false) → IsSeat a (neighbours w a) (if nat_eq a n then first_seat w.topology n else w.seats a)
       seat_at a (inl t) =
           subst (λ x. IsSeat a (neighbours w a) (if x then first_seat w.topology n else w.seats a)) (sym t)
-          (subst (λ m. IsSeat m (neighbours w m) (first_seat w.topology n)) (sym (eqb-true a n t)) (first_is w.topology n))
+          (subst (λ m. IsSeat m (neighbours w m) (first_seat w.topology n)) (sym (eqb-true a n t)) (first_is cores w.topology n))
       seat_at a (inr t) = subst (λ x. IsSeat a (neighbours w a) (if x then first_seat w.topology n else w.seats a)) (sym t) (h.seats a)
 
       agreed_at : (a k : ℕ) → (nat_eq a n ≡ true) ⊎ (nat_eq a n ≡ false) → (earlier : List Packet) × (earlier ++ packets_accepted k (if nat_eq a n then [] else w.inputs a) ≡ packets_in (w.steps a k))
@@ -231,20 +227,20 @@ record Ended (w : World) : Type 0 where
   refused : OnlyNeedsAreRefused w
   agreed : SteppedAreAccepted w
 
-module _ (laws : LinkLaws) (lows : LifeLaws) where
+module _ (laws : LinkLaws) (lows : LifeLaws) (cores : CoreLaws) (seats : SeatLaws) where
   run_ends : (es : Schedule) (steps : List MachineStep) (w : World) (seen : Seen) → ((a b : ℕ) (l : Life) → seen a b l 0) → AllEndsFollow steps (end_views w) w.datagrams seen → AreNodes w → Ended (after_schedule es w)
   unfolding after_schedule
-  run_ends [] steps w seen z g h = record { refused = only_needs steps w seen g h; agreed = h.agreed }
+  run_ends [] steps w seen z g h = record { refused = only_needs cores seats steps w seen g h; agreed = h.agreed }
   run_ends (e ∷ es) steps w seen z g h =
       let now : Seen = λ a b l c. seen a b l c ⊎ HasAccepted a b l c w in
       let w' : World = world_by e.1 w e.0 in
       let steps' : List MachineStep = made (steps_by e.1 w e.0) steps in
       let g' : AllEndsFollow steps' (end_views w') w'.datagrams now =
       world_follows laws lows steps w now (λ a b l. inl (z a b l)) (λ a b l j. inr (record { bound = j; accepted = omega arith })) e.1 e.0 (more_seen steps (end_views w) w.datagrams seen now (λ a b l c x. inl x) g) in
-      run_ends es steps' w' now (λ a b l. inl (z a b l)) g' (world_nodes steps w seen g h e.1 e.0)
+      run_ends es steps' w' now (λ a b l. inl (z a b l)) g' (world_nodes cores seats steps w seen g h e.1 e.0)
 
   first_nodes : (t : Topology) (times : Times) → AreNodes (first_world t times)
-  first_nodes t times = record { seats = λ n. first_is t n; put = λ n k. tt; agreed = λ n k. ([], refl) }
+  first_nodes t times = record { seats = λ n. first_is cores t n; put = λ n k. tt; agreed = λ n k. ([], refl) }
 
   ends : (t : Topology) (times : Times) (es : Schedule) → Ended (after_schedule es (first_world t times))
   ends t times es = run_ends es [] (first_world t times) (λ a b l c. c ≡ 0) (λ a b l. refl) (first_follows laws lows t times) (first_nodes t times)

@@ -1,5 +1,5 @@
 -- No run leaves a gap.
-use Rattle.std.proofs.Common.{◌≡◌, ℕ, ◌≤◌, Bool, true, false, ◌⊎◌, inl, inr, ⊎_elim, List, [], ◌∷◌, ◌++◌, map, Option, Some, None, nat_eq, if◌then◌else◌, refl, sym, ap, ◌∙◌, subst, append-nil, eqb-true, eq-eqb, arith}
+use Rattle.std.proofs.Common.{◌≡◌, ℕ, Bool, true, false, true≢false, ◌⊎◌, inl, inr, ⊎_elim, List, [], ◌∷◌, ◌++◌, map, Option, Some, None, nat_eq, if◌then◌else◌, refl, sym, ap, ◌∙◌, subst, append-nil, eqb-true, eq-eqb, arith}
 use Rattle.std.proofs.lemmas.Bool.{cond_both, cases_Bool}
 use Rattle.std.specs.Prelude.{slice_get, is_some}
 use Rattle.tora_packet.specs.declared.Packet.{Packet}
@@ -15,7 +15,7 @@ use Rattle.tora_seat.specs.declared.What.{What}
 use Rattle.tora_seat.specs.declared.What.TheVariants as Tells
 use Rattle.tora_seat.specs.declared.Item.{Item}
 use Rattle.tora_seat.specs.declared.Cargo.{Cargo}
-use Rattle.tora_seat.specs.Serving.{SeatState, Serving, Parcel, put_one, first_cut, serving_of, put_to}
+use Rattle.tora_seat.specs.Serving.{SeatState, Serving, Parcel, put_one, serving_of, put_to}
 use Rattle.tora_world.specs.declared.Event.{Event}
 use Rattle.tora_world.specs.declared.Event.TheVariants.{Need, Tick, Open, Pull, Transmit, Deliver, Pump, CoreTurn, Arm, Restart}
 use Rattle.tora_world.specs.declared.Call.{Call}
@@ -28,7 +28,7 @@ use Rattle.tora_world.specs.World.{World, Choice, settings, neighbours, datagram
 use Rattle.tora_world.specs.FreeWorld.{Schedule, after_schedule}
 use Rattle.tora_world.specs.Law.{Sometime, HasAccepted}
 use Rattle.tora_world.specs.Gaps.{broadcast_from, broadcast_packets, life_told, life_taken, life_by, life_after, latest_life, IsCut, HasNoGap, IsWithoutGap, SendsInLatest}
-use Rattle.tora_world.specs.Layers.{LinkLaws, LifeLaws}
+use Rattle.tora_world.specs.Layers.{LinkLaws, LifeLaws, CoreLaws, SeatLaws}
 use Rattle.tora_world.proofs.PacketLists.{begins_refl}
 use Rattle.tora_world.proofs.Invariant.{arrival_of, AllEndsFollow, Seen, seen_at_other}
 use Rattle.tora_world.proofs.Invariant.Arrival.{LifeComes}
@@ -36,10 +36,10 @@ use Rattle.tora_world.proofs.Moves.{comes_new}
 use Rattle.tora_world.proofs.AllEnds.{more_seen}
 use Rattle.tora_world.proofs.EndViews.{arrivals_in, arrivals_of, end_views}
 use Rattle.tora_world.proofs.AllRuns.{world_follows, first_follows}
-use Rattle.tora_world.proofs.LinksUp.{has-ascending, count_up, first_cut_none}
+use Rattle.tora_seat.specs.Serves.{IsCut as IsCutLink}
 use Rattle.tora_world.proofs.ServedWithoutGap.{Now, Fits, Done, serving_done}
 
-module _ (t : Topology) (n k : ℕ) (apart : has_repeat (neighbours_of t n) ≡ false) (inside : is_link t n k ≡ true) where
+module _ (cores : CoreLaws) (seats : SeatLaws) (t : Topology) (n k : ℕ) (apart : has_repeat (neighbours_of t n) ≡ false) (inside : is_link t n k ≡ true) where
   abbrev ks : List ℕ
   ks = neighbours_of t n
 
@@ -48,7 +48,7 @@ module _ (t : Topology) (n k : ℕ) (apart : has_repeat (neighbours_of t n) ≡ 
     fits : Fits Was o (parcels_in put) [] (broadcast_from k (new_core t n) inputs []) (has_number k seat.core.up) (seat.current k) None (parcels_in put)
     follows : seat.core ≡ core_after_all (new_core t n) inputs
     near : (j : ℕ) → has_number j ks ≡ true → has_number j seat.core.neighbours ≡ true
-    settled : first_cut seat ks ≡ None
+    settled : (j : ℕ) → ¬ IsCutLink ks seat j
 
   record AtWorld (Was : Life → Type 0) (o : Option Life) (w : World) : Type 0 where
     topology : w.topology ≡ t
@@ -93,7 +93,7 @@ module _ (t : Topology) (n k : ℕ) (apart : has_repeat (neighbours_of t n) ≡ 
   served Was o w c item items fresh h =
       subst (λ js. Left Was (life_told k (slice_get js item.seat) item.what o) w (after_serving w n items (serving_of c.answers js (w.seats n) item))) (sym (ap (λ x. neighbours_of x n) h.topology)) here
     where
-      served_of : (v : Serving) → Done c.answers ks k (new_core t n) (w.inputs n) (w.put n k) Was inside apart (life_told k (slice_get ks item.seat) item.what o) (parcels_in (w.put n k)) v →
+      served_of : (v : Serving) → Done cores seats c.answers ks k (new_core t n) (w.inputs n) (w.put n k) Was inside apart (life_told k (slice_get ks item.seat) item.what o) (parcels_in (w.put n k)) v →
           Left Was (life_told k (slice_get ks item.seat) item.what o) w (after_serving w n items v)
       served_of v d =
           let o' : Option Life = life_told k (slice_get ks item.seat) item.what o in
@@ -119,7 +119,7 @@ module _ (t : Topology) (n k : ℕ) (apart : has_repeat (neighbours_of t n) ≡ 
       here : Left Was (life_told k (slice_get ks item.seat) item.what o) w (after_serving w n items (serving_of c.answers ks (w.seats n) item))
       here =
           served_of (serving_of c.answers ks (w.seats n) item)
-          (serving_done c.answers ks k (new_core t n) (w.inputs n) (w.put n k) Was inside apart o (w.seats n) item
+          (serving_done cores seats c.answers ks k (new_core t n) (w.inputs n) (w.put n k) Was inside apart o (w.seats n) item
           (record { fits = h.parts.fits; follows = h.parts.follows; near = h.parts.near; settled = h.parts.settled }) fresh)
 
   -- at another node
@@ -155,17 +155,13 @@ module _ (t : Topology) (n k : ℕ) (apart : has_repeat (neighbours_of t n) ≡ 
       go (inr e) =
           subst (λ (b : Bool). Left Was (if b then life_taken (neighbours w n) k (w.items n) o else o) w (after_turn w c m (w.items m))) (sym e) (there e (w.items m))
 
-  none_up : (js : List ℕ) → count_up js [] ≤ 0
-  none_up [] = omega arith
-  none_up (j ∷ js) = let h = none_up js in omega (arith, h)
-
   -- a new core
   new_parts : (Was : Life → Type 0) (put : List Cargo) → AtParts Was None (first_seat t n) [] put
   new_parts Was put = record {
     fits = record { now = (λ z. refl, λ l q. absurd (cc)); others = λ j no. refl };
     follows = refl;
-    near = λ j i. has-ascending j ks ∙ i;
-    settled = first_cut_none (first_seat t n) ks (none_up ks);
+    near = λ j i. cores.members j ks ∙ i;
+    settled = λ j c. true≢false (sym c.up);
   }
 
   restart_at : (Was : Life → Type 0) (o : Option Life) (w : World) (m : ℕ) (torn : Option (List ℕ)) → AtWorld Was o w → Left Was (if nat_eq n m then None else o) w (after_restart w m torn)

@@ -1,14 +1,14 @@
 -- Serving an item leaves no gap: what a core broadcasts while a life is current is sent in it, or the life is cut.
-use Rattle.std.proofs.Common.{◌≡◌, ℕ, zero, suc, ◌<◌, ◌≤◌, Bool, true, false, true≢false, ◌&&◌, ◌||◌, ◌⊎◌, inl, inr, ⊎_elim, List, [], ◌∷◌, ◌++◌, length, Option, Some, None, nat_eq, if◌then◌else◌, refl, sym, ap, ◌∙◌, subst, append_assoc, append-nil, eqb-true, eq-eqb, arith}
-use Rattle.std.proofs.lemmas.Bool.{cond_both, cases_Bool}
-use Rattle.std.specs.Prelude.{slice_get, is_none}
+use Rattle.std.proofs.Common.{◌≡◌, ℕ, zero, suc, Bool, true, false, true≢false, ◌&&◌, ◌||◌, ◌⊎◌, inl, inr, ⊎_elim, List, [], ◌∷◌, ◌++◌, length, Option, Some, None, nat_eq, if◌then◌else◌, refl, sym, ap, ◌∙◌, subst, append_assoc, append-nil, eqb-true, eq-eqb}
+use Rattle.std.proofs.lemmas.Bool.{cond_both, cases_Bool, false_from_ne_true}
+use Rattle.std.specs.Prelude.{slice_get}
 use Rattle.tora_packet.specs.declared.Packet.{Packet}
 use Rattle.tora_arq.specs.declared.Life.{Life}
 use Rattle.tora_core.specs.declared.Input.{Input}
 use Rattle.tora_core.specs.declared.Input.TheVariants as In
 use Rattle.tora_core.specs.declared.errors.StepError.{StepError}
-use Rattle.tora_core.specs.Numbers.{has_number, without_number, has_repeat}
-use Rattle.tora_core.specs.CoreRun.{CoreView, refusal_of, up_after, core_after, core_after_all, sends_of}
+use Rattle.tora_core.specs.Numbers.{has_number, has_repeat}
+use Rattle.tora_core.specs.CoreRun.{CoreView, refusal_of, core_after, core_after_all, sends_of}
 use Rattle.tora_seat.specs.declared.What.{What}
 use Rattle.tora_seat.specs.declared.What.TheVariants as Tells
 use Rattle.tora_seat.specs.declared.Answer.TheVariants as Says
@@ -22,7 +22,9 @@ use Rattle.tora_world.proofs.PacketLists.{same_true, of-push, only_same, only_ot
 use Rattle.tora_world.proofs.Events.{put_one_here, put_one_there, turned}
 use Rattle.tora_world.proofs.Cores.{core_after-push}
 use Rattle.tora_world.proofs.Serving.{offer_parcels, nothing_more, no_cut, no_back}
-use Rattle.tora_world.proofs.LinksUp.{or_none, is_link_down, up_same, up_come, up_gone, core_accepted, same_neighbours, up_accepted, down_accepted, count_up, count_most, count_drops, first_cut_is, first_cut_none, settled_at}
+use Rattle.tora_world.specs.Layers.{CoreLaws, SeatLaws}
+use Rattle.tora_seat.specs.Serves.{IsCut}
+use Rattle.tora_world.proofs.LinksUp.{or_none, is_link_down, up_same, up_gone, up_accepted, down_accepted}
 
 -- by the life that is current: what is still to be sent of it, or what was sent of the life that came up last
 abbrev pub Now : (Life → Type 0) → Option Life → List Packet → List Packet → Bool → Option Life → List Parcel → Option Life → Type 0
@@ -43,11 +45,7 @@ with_sends_is k c input now ps b e u =
     ap (λ x. if x then sends_of c input now else if has_number k (core_after c input now).up then ps ++ sends_of c input now else ps) e
     ∙ ap (λ x. if x then ps ++ sends_of c input now else ps) u
 
-none_is : (o : Option Life) → is_none o ≡ true → o ≡ None
-none_is None e = refl
-none_is (Some l) e = absurd (true≢false (sym e))
-
-module _ (answers : Answers) (ks : List ℕ) (k : ℕ) (first : CoreView) (before : List (Input × ℕ)) (base : List Cargo) (Was : Life → Type 0) (inside : has_number k ks ≡ true) (apart : has_repeat ks ≡ false) where
+module _ (cores : CoreLaws) (seats : SeatLaws) (answers : Answers) (ks : List ℕ) (k : ℕ) (first : CoreView) (before : List (Input × ℕ)) (base : List Cargo) (Was : Life → Type 0) (inside : has_number k ks ≡ true) (apart : has_repeat ks ≡ false) where
   abbrev pub xs_of : Serving → List Parcel
   xs_of v = parcels_in (base ++ put_to k v.offers)
 
@@ -173,7 +171,7 @@ module _ (answers : Answers) (ks : List ℕ) (k : ℕ) (first : CoreView) (befor
       ∙ ap (λ c. with_sends k c input now (all_of v)) (sym f)
 
   near_after : (c : CoreView) (input : Input) (now : ℕ) → Near c → Near (core_after c input now)
-  near_after c input now h j i = ap (λ ns. has_number j ns) (same_neighbours c input now) ∙ h j i
+  near_after c input now h j i = ap (λ ns. has_number j ns) (cores.neighbours c input now) ∙ h j i
 
   -- an input is accepted, and its packets go
   accepts : (o : Option Life) (old : List Parcel) (v : Serving) (input : Input) (now : ℕ) → v.seat.core ≡ core_after_all first (before ++ v.inputs) → Near v.seat.core →
@@ -195,9 +193,6 @@ module _ (answers : Answers) (ks : List ℕ) (k : ℕ) (first : CoreView) (befor
       FitsIn o old (sends_of v.seat.core input now) (with_sends k v.seat.core input now (all_of v)) (accepting v input now)
   entry o old v input now ok not_up down h = go (cases_Bool (is_link_down k input))
     where
-      taken : has_number k (core_after v.seat.core input now).up ≡ has_number k (up_after v.seat.core.up input)
-      taken = ap (λ (c : CoreView). has_number k c.up) (core_accepted v.seat.core input now ok)
-
       at_none : (b : Bool) → has_number k (core_after v.seat.core input now).up ≡ b → (b ≡ true → has_number k v.seat.core.up ≡ true) → (has_number k v.seat.core.up ≡ false → b ≡ false) →
           Now Was o [] (all_of v) (has_number k v.seat.core.up) (v.seat.pending k) (xs_of v) None →
           Now Was o (sends_of v.seat.core input now) (with_sends k v.seat.core input now (all_of v)) (has_number k (core_after v.seat.core input now).up) (v.seat.pending k) (xs_of v) None
@@ -228,16 +223,16 @@ module _ (answers : Answers) (ks : List ℕ) (k : ℕ) (first : CoreView) (befor
 
       same_up : is_link_down k input ≡ false → (cur : Option Life) → v.seat.current k ≡ cur → FitsIn o old (sends_of v.seat.core input now) (with_sends k v.seat.core input now (all_of v)) (accepting v input now)
       same_up d None e =
-          let u : has_number k (core_after v.seat.core input now).up ≡ has_number k v.seat.core.up = taken ∙ up_same k v.seat.core.up input not_up d in
+          let u : has_number k (core_after v.seat.core input now).up ≡ has_number k v.seat.core.up = up_same cores k v.seat.core input now not_up d in
           build None e (at_none (has_number k v.seat.core.up) u (λ q. q) (λ q. q) (was None e))
       same_up d (Some l) e =
-          let u : has_number k (core_after v.seat.core input now).up ≡ has_number k v.seat.core.up = taken ∙ up_same k v.seat.core.up input not_up d in
+          let u : has_number k (core_after v.seat.core input now).up ≡ has_number k v.seat.core.up = up_same cores k v.seat.core input now not_up d in
           let n = was (Some l) e in
           build (Some l) e
           (n.0, ap (λ ys. ys ++ sends_of v.seat.core input now) (sym (append-nil (packets_of l (xs_of v))) ∙ n.1) ∙ sym (with_sends_is k v.seat.core input now (all_of v) true not_up (u ∙ n.2)), u ∙ n.2)
 
       go : (is_link_down k input ≡ true) ⊎ (is_link_down k input ≡ false) → FitsIn o old (sends_of v.seat.core input now) (with_sends k v.seat.core input now (all_of v)) (accepting v input now)
-      go (inl d) = build None (down d) (at_none false (taken ∙ up_gone k v.seat.core.up input d) (λ q. absurd (true≢false (sym q))) (λ q. refl) (was None (down d)))
+      go (inl d) = build None (down d) (at_none false (up_gone cores k v.seat.core input now ok d) (λ q. absurd (true≢false (sym q))) (λ q. refl) (was None (down d)))
       go (inr d) = same_up d (v.seat.current k) refl
 
   step_keeps : (o : Option Life) (old : List Parcel) (v : Serving) (input : Input) (now : ℕ) → is_link_up k input ≡ false → (is_link_down k input ≡ true → v.seat.current k ≡ None) → Inv o old v → Inv o old (after_step answers ks input now v)
@@ -259,8 +254,8 @@ module _ (answers : Answers) (ks : List ℕ) (k : ℕ) (first : CoreView) (befor
   down_step o o' old old' v now l e sub others h =
       let v' : Serving = with_current v k None in
       let n : Now Was o [] (all_of v) (has_number k v.seat.core.up) (v.seat.pending k) (xs_of v) (Some l) = subst (λ c. Now Was o [] (all_of v) (has_number k v.seat.core.up) (v.seat.pending k) (xs_of v) c) e h.fits.now in
-      let ok : refusal_of v.seat.core (In.LinkDown k) ≡ None = down_accepted v.seat.core k (h.near k inside) n.2 in
-      let gone : has_number k (core_after v.seat.core (In.LinkDown k) now).up ≡ false = ap (λ (c : CoreView). has_number k c.up) (core_accepted v.seat.core (In.LinkDown k) now ok) ∙ up_gone k v.seat.core.up (In.LinkDown k) (eq-eqb k k refl) in
+      let ok : refusal_of v.seat.core (In.LinkDown k) ≡ None = down_accepted cores v.seat.core k (h.near k inside) n.2 in
+      let gone : has_number k (core_after v.seat.core (In.LinkDown k) now).up ≡ false = cores.goes v.seat.core k now ok in
       let all : with_sends k v.seat.core (In.LinkDown k) now (all_of v) ≡ all_of v = with_sends_is k v.seat.core (In.LinkDown k) now (all_of v) false refl gone in
       let is : after_step answers ks (In.LinkDown k) now v' ≡ after_broadcasts answers ks (sends_of v.seat.core (In.LinkDown k) now) (accepting v' (In.LinkDown k) now) = step_is v' (In.LinkDown k) now ok in
       let fit : FitsIn o' old' (sends_of v.seat.core (In.LinkDown k) now) (with_sends k v.seat.core (In.LinkDown k) now (all_of v)) (accepting v' (In.LinkDown k) now) =
@@ -283,8 +278,8 @@ module _ (answers : Answers) (ks : List ℕ) (k : ℕ) (first : CoreView) (befor
       Inv (Some l) old (after_step answers ks (In.LinkUp k) now (with_current v k (Some l)))
   up_step o old v now l off none h =
       let v' : Serving = with_current v k (Some l) in
-      let ok : refusal_of v.seat.core (In.LinkUp k) ≡ None = up_accepted v.seat.core k (h.near k inside) off in
-      let come : has_number k (core_after v.seat.core (In.LinkUp k) now).up ≡ true = ap (λ (c : CoreView). has_number k c.up) (core_accepted v.seat.core (In.LinkUp k) now ok) ∙ up_come k v.seat.core.up in
+      let ok : refusal_of v.seat.core (In.LinkUp k) ≡ None = up_accepted cores v.seat.core k (h.near k inside) off in
+      let come : has_number k (core_after v.seat.core (In.LinkUp k) now).up ≡ true = cores.comes v.seat.core k now ok in
       let all : with_sends k v.seat.core (In.LinkUp k) now (all_of v) ≡ sends_of v.seat.core (In.LinkUp k) now =
       ap (λ x. if x then sends_of v.seat.core (In.LinkUp k) now else if has_number k (core_after v.seat.core (In.LinkUp k) now).up then all_of v ++ sends_of v.seat.core (In.LinkUp k) now else all_of v) (eq-eqb k k refl) in
       let is : after_step answers ks (In.LinkUp k) now v' ≡ after_broadcasts answers ks (sends_of v.seat.core (In.LinkUp k) now) (accepting v' (In.LinkUp k) now) = step_is v' (In.LinkUp k) now ok in
@@ -307,45 +302,22 @@ module _ (answers : Answers) (ks : List ℕ) (k : ℕ) (first : CoreView) (befor
           Inv o old (elim r [ None ↦ v | Some j ↦ after_settling most answers ks now (after_step answers ks (In.LinkDown j) now v) ])
       go None e again = h
       go (Some j) e again =
-          let f = first_cut_is v.seat ks j e in
+          let f = seats.next ks v.seat j e in
           again (after_step answers ks (In.LinkDown j) now v)
-          (step_keeps o old v (In.LinkDown j) now refl (λ d. subst (λ x. v.seat.current x ≡ None) (eqb-true j k d) (none_is (v.seat.current j) f.2)) h)
-
-  step_core : (v : Serving) (input : Input) (now : ℕ) → refusal_of v.seat.core input ≡ None → (after_step answers ks input now v).seat.core.up ≡ up_after v.seat.core.up input
-  step_core v input now e =
-      ap (λ (x : Serving). x.seat.core.up) (step_is v input now e) ∙ ap (λ (c : CoreView). c.up) (calm_broadcasts (sends_of v.seat.core input now) (accepting v input now)).core
-      ∙ ap (λ (c : CoreView). c.up) (core_accepted v.seat.core input now e)
-
-  -- none is left
-  settles : (o : Option Life) (old : List Parcel) (most now : ℕ) (v : Serving) → Inv o old v → count_up ks v.seat.core.up ≤ most → first_cut (after_settling most answers ks now v).seat ks ≡ None
-  unfolding after_settling
-  settles o old zero now v h le = first_cut_none v.seat ks le
-  settles o old (suc most) now v h le = go (first_cut v.seat ks) refl (λ x y z. settles o old most now x y z)
-    where
-      go : (r : Option ℕ) → first_cut v.seat ks ≡ r → ((x : Serving) → Inv o old x → count_up ks x.seat.core.up ≤ most → first_cut (after_settling most answers ks now x).seat ks ≡ None) →
-          first_cut (elim r as (λ _. Serving) [ None ↦ v | Some j ↦ after_settling most answers ks now (after_step answers ks (In.LinkDown j) now v) ]).seat ks ≡ None
-      go None e again = e
-      go (Some j) e again =
-          let f = first_cut_is v.seat ks j e in
-          let fewer : count_up ks (without_number j v.seat.core.up) < count_up ks v.seat.core.up = count_drops ks v.seat.core.up j f.0 f.1 in
-          let ups : (after_step answers ks (In.LinkDown j) now v).seat.core.up ≡ without_number j v.seat.core.up = step_core v (In.LinkDown j) now (down_accepted v.seat.core j (h.near j f.0) f.1) in
-          again (after_step answers ks (In.LinkDown j) now v)
-          (step_keeps o old v (In.LinkDown j) now refl (λ d. subst (λ x. v.seat.current x ≡ None) (eqb-true j k d) (none_is (v.seat.current j) f.2)) h)
-          (subst (λ up. count_up ks up ≤ most) (sym ups) (omega (arith, fewer, le)))
+          (step_keeps o old v (In.LinkDown j) now refl (λ d. subst (λ x. v.seat.current x ≡ None) (eqb-true j k d) f.none) h)
 
   -- a link that is down stays down where another goes down
   down_stays : (j now : ℕ) (v : Serving) → has_number k v.seat.core.up ≡ false → has_number k (after_step answers ks (In.LinkDown j) now v).seat.core.up ≡ false
   unfolding after_step
   down_stays j now v u = go (refusal_of v.seat.core (In.LinkDown j)) refl
     where
-      gone : (nat_eq j k ≡ true) ⊎ (nat_eq j k ≡ false) → has_number k (up_after v.seat.core.up (In.LinkDown j)) ≡ false
-      gone (inl d) = up_gone k v.seat.core.up (In.LinkDown j) d
-      gone (inr d) = up_same k v.seat.core.up (In.LinkDown j) refl d ∙ u
+      gone : refusal_of v.seat.core (In.LinkDown j) ≡ None → (nat_eq j k ≡ true) ⊎ (nat_eq j k ≡ false) → has_number k (core_after v.seat.core (In.LinkDown j) now).up ≡ false
+      gone e (inl d) = up_gone cores k v.seat.core (In.LinkDown j) now e d
+      gone e (inr d) = up_same cores k v.seat.core (In.LinkDown j) now refl d ∙ u
 
       go : (r : Option StepError) → refusal_of v.seat.core (In.LinkDown j) ≡ r → has_number k (after_answer answers ks (In.LinkDown j) now v r).seat.core.up ≡ false
       go None e =
-          ap (λ (c : CoreView). has_number k c.up) (calm_broadcasts (sends_of v.seat.core (In.LinkDown j) now) (accepting v (In.LinkDown j) now)).core
-          ∙ ap (λ (c : CoreView). has_number k c.up) (core_accepted v.seat.core (In.LinkDown j) now e) ∙ gone (cases_Bool (nat_eq j k))
+          ap (λ (c : CoreView). has_number k c.up) (calm_broadcasts (sends_of v.seat.core (In.LinkDown j) now) (accepting v (In.LinkDown j) now)).core ∙ gone e (cases_Bool (nat_eq j k))
       go (Some error) e = u
 
   stays_down : (most now : ℕ) (v : Serving) → has_number k v.seat.core.up ≡ false → has_number k (after_settling most answers ks now v).seat.core.up ≡ false
@@ -363,26 +335,28 @@ module _ (answers : Answers) (ks : List ℕ) (k : ℕ) (first : CoreView) (befor
   -- none is left to be stepped down
   pub record Done (o : Option Life) (old : List Parcel) (v : Serving) : Type 0 where
     pub inv : Inv o old v
-    pub settled : first_cut v.seat ks ≡ None
+    pub settled : (j : ℕ) → ¬ IsCut ks v.seat j
 
-  settle : (o : Option Life) (old : List Parcel) (now : ℕ) (v : Serving) → Inv o old v → Done o old (after_settling (length ks) answers ks now v)
-  settle o old now v h = record { inv = settling_keeps o old (length ks) now v h; settled = settles o old (length ks) now v h (count_most ks v.seat.core.up) }
+  settle : (o : Option Life) (old : List Parcel) (v : Serving) (input : Input) (now : ℕ) → Near v.seat.core → Inv o old (after_step answers ks input now v) → Done o old (after_input answers ks input now v)
+  unfolding after_input
+  settle o old v input now near h = record { inv = settling_keeps o old (length ks) now (after_step answers ks input now v) h; settled = seats.none_left answers ks input now v near }
 
   input_done : (o : Option Life) (old : List Parcel) (v : Serving) (input : Input) (now : ℕ) → is_link_up k input ≡ false → (is_link_down k input ≡ true → v.seat.current k ≡ None) → Inv o old v → Done o old (after_input answers ks input now v)
+  input_done o old v input now a b h = settle o old v input now h.near (step_keeps o old v input now a b h)
+
+  down_off : (v : Serving) (now : ℕ) → has_number k (after_step answers ks (In.LinkDown k) now v).seat.core.up ≡ false → has_number k (after_input answers ks (In.LinkDown k) now v).seat.core.up ≡ false
   unfolding after_input
-  input_done o old v input now a b h = settle o old now (after_step answers ks input now v) (step_keeps o old v input now a b h)
+  down_off v now off = stays_down (length ks) now (after_step answers ks (In.LinkDown k) now v) off
 
   down_done : (o o' : Option Life) (old old' : List Parcel) (v : Serving) (now : ℕ) (l : Life) → v.seat.current k ≡ Some l → ((j : Life) → o' ≡ Some j → o ≡ Some j) → ((j : Life) → (o' ≡ Some j → ⊥) → packets_of j (xs_of v) ≡ packets_of j old') →
       Inv o old v → Done o' old' (after_down answers ks k now v) × (has_number k (after_down answers ks k now v).seat.core.up ≡ false)
-  unfolding after_input
   down_done o o' old old' v now l e sub others h =
       let d = down_step o o' old old' v now l e sub others h in
-      let v' : Serving = after_step answers ks (In.LinkDown k) now (with_current v k None) in
-      (settle o' old' now v' d.0, stays_down (length ks) now v' d.1)
+      let v' : Serving = with_current v k None in
+      (settle o' old' v' (In.LinkDown k) now h.near d.0, down_off v' now d.1)
 
   up_done : (o : Option Life) (old : List Parcel) (v : Serving) (now : ℕ) (l : Life) → has_number k v.seat.core.up ≡ false → packets_of l (xs_of v) ≡ [] → Inv None old v → Done (Some l) old (after_up answers ks k l now v)
-  unfolding after_input
-  up_done o old v now l off none h = settle (Some l) old now (after_step answers ks (In.LinkUp k) now (with_current v k (Some l))) (up_step o old v now l off none h)
+  up_done o old v now l off none h = let v' : Serving = with_current v k (Some l) in settle (Some l) old v' (In.LinkUp k) now h.near (up_step o old v now l off none h)
 
   -- ---- the start of an item
 
@@ -391,7 +365,7 @@ module _ (answers : Answers) (ks : List ℕ) (k : ℕ) (first : CoreView) (befor
     pub fits : Fits Was o (parcels_in base) [] (broadcast_from k first before []) (has_number k seat.core.up) (seat.current k) None (parcels_in base)
     pub follows : seat.core ≡ core_after_all first before
     pub near : Near seat.core
-    pub settled : first_cut seat ks ≡ None
+    pub settled : (j : ℕ) → ¬ IsCut ks seat j
 
   -- the cuts change no more than what is pending
   record Started (seat : SeatState) (v : Serving) : Type 0 where
@@ -437,16 +411,17 @@ module _ (answers : Answers) (ks : List ℕ) (k : ℕ) (first : CoreView) (befor
     near = subst Near (sym s.core) w.near;
   }
 
-  -- none is to be stepped down at the start
-  settled_start : (seat : SeatState) (v : Serving) → Started seat v → (js : List ℕ) → first_cut seat js ≡ first_cut v.seat js
-  settled_start seat v s [] = refl
-  settled_start seat v s (j ∷ js) =
-      ap (λ (c : CoreView). if has_number j c.up && is_none (seat.current j) then Some j else first_cut seat js) (sym s.core)
-      ∙ ap (λ (f : ℕ → Option Life). if has_number j v.seat.core.up && is_none (f j) then Some j else first_cut seat js) (sym s.current)
-      ∙ ap (λ r. if has_number j v.seat.core.up && is_none (v.seat.current j) then Some j else r) (settled_start seat v s js)
+  -- no life is cut at the start
+  settled_start : (seat : SeatState) (v : Serving) → Started seat v → ((j : ℕ) → ¬ IsCut ks seat j) → (j : ℕ) → ¬ IsCut ks v.seat j
+  settled_start seat v s none j c =
+      none j (record {
+        neighbour = c.neighbour;
+        up = ap (λ (x : CoreView). has_number j x.up) (sym s.core) ∙ c.up;
+        none = ap (λ (f : ℕ → Option Life). f j) (sym s.current) ∙ c.none;
+      })
 
   done_start : (o : Option Life) (seat : SeatState) (v : Serving) → Started seat v → Whole o seat → Done o (parcels_in base) v
-  done_start o seat v s w = record { inv = inv_start o seat v s w; settled = sym (settled_start seat v s ks) ∙ w.settled }
+  done_start o seat v s w = record { inv = inv_start o seat v s w; settled = settled_start seat v s w.settled }
 
   current_life : (l : Life) (o : Option Life) → is_current l o ≡ true → o ≡ Some l
   current_life l None e = absurd (true≢false (sym e))
@@ -472,7 +447,7 @@ module _ (answers : Answers) (ks : List ℕ) (k : ℕ) (first : CoreView) (befor
       Inv None (parcels_in base) (after_old_down answers ks k now v cur) × (has_number k (after_old_down answers ks k now v cur).seat.core.up ≡ false)
   own_old_down o seat v now s w None e =
       let h = inv_start o seat v s w in
-      let off : has_number k v.seat.core.up ≡ false = settled_at v.seat ks k (sym (settled_start seat v s ks) ∙ w.settled) inside e in (
+      let off : has_number k v.seat.core.up ≡ false = false_from_ne_true (has_number k v.seat.core.up) (λ u. settled_start seat v s w.settled k (record { neighbour = inside; up = u; none = e })) in (
         record {
           fits = record {
             now = subst (λ c. Now Was None [] (all_of v) (has_number k v.seat.core.up) (v.seat.pending k) (xs_of v) c) (sym e) (λ z. off, λ l q. absurd (cc));

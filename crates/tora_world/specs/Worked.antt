@@ -8,7 +8,7 @@ use Rattle.tora_world.specs.declared.Event.{Event}
 use Rattle.tora_world.specs.declared.Event.TheVariants.{Need, Open, Pull, Transmit, Deliver, Pump, CoreTurn, Restart}
 use Rattle.tora_world.specs.Topology.{Topology}
 use Rattle.tora_world.specs.LinkMachine.{MachineStep}
-use Rattle.tora_world.specs.LinkMachine.MachineStep.{Draw, Bind}
+use Rattle.tora_world.specs.LinkMachine.MachineStep.{Draw, Bind, Send, Take, Close}
 use Rattle.tora_world.specs.World.{World, Choice, first_world}
 use Rattle.tora_world.specs.FreeWorld.{Schedule, after_schedule, own_schedule}
 
@@ -49,6 +49,25 @@ bound_steps = Bind 2 1 1 1 ∷ Bind 1 2 1 1 ∷ Draw 2 1 1 ∷ Draw 1 2 1 ∷ []
 abbrev pub restart : Schedule
 restart = own_schedule (meeting ++ Restart 1 None ∷ []) start
 
+-- and needs node 2 once more, opens its end, and its HELLO ends the life at node 2
+abbrev pub ending : List Event
+ending = meeting ++ Restart 1 None ∷ Need 1 2 ∷ CoreTurn 1 ∷ Open 1 2 ∷ Transmit 1 2 ∷ Deliver 5 ∷ Pump 2 1 ∷ CoreTurn 2 ∷ []
+
+-- the second life of the link, as node 1 writes it: its life file had set the numbers up to 16 aside, and node 2 draws its next one
+abbrev pub second_life : Life
+second_life = record { own = 17; peer = 2 }
+
+-- node 2 opens its end too, the second life is bound and comes up, and node 1 sends its update in it
+abbrev pub meeting_again : List Event
+meeting_again = ending ++ Open 2 1 ∷ Deliver 5 ∷ Transmit 2 1 ∷ Deliver 6 ∷ Transmit 1 2 ∷ Deliver 7 ∷ Pump 1 2 ∷ Pump 2 1 ∷ CoreTurn 2 ∷ CoreTurn 1 ∷ Pull 1 2 ∷ Transmit 1 2 ∷ Deliver 8 ∷ Pump 2 1 ∷ CoreTurn 2 ∷ []
+
+abbrev pub met_again : World
+met_again = after_schedule (own_schedule meeting_again start) start
+
+-- the steps of the link machine until the first life has ended at both ends
+abbrev pub ended_steps : List MachineStep
+ended_steps = Close 2 1 life ∷ Draw 1 2 17 ∷ Close 1 2 life ∷ Take 2 1 life update ∷ Send 1 2 life update ∷ bound_steps
+
 -- in place of the rest, the lane to node 2 hands the update back
 abbrev pub refusing : Choice
 refusing = record { clock = 0; now = λ n k. 0; stamp = 0; answers = λ offers k. false }
@@ -58,3 +77,16 @@ refusal = own_schedule binding start ++ (CoreTurn 1, refusing) ∷ []
 
 abbrev pub handed_back : World
 handed_back = after_schedule refusal start
+
+-- ---- a packet that is taken and answered in one turn
+
+-- the same two nodes, where a node that is neither of them is the destination
+abbrev pub pair_elsewhere : Topology
+pair_elsewhere = record { links = record { a = 1; b = 2 } ∷ []; destinations = 3 ∷ [] }
+
+abbrev pub start_elsewhere : World
+start_elsewhere = first_world pair_elsewhere times
+
+-- both ends are bound and up, node 1 needs node 3 and asks node 2 for it, and the core of node 2, which knows no route, asks in its turn
+abbrev pub asking : List Event
+asking = Open 1 2 ∷ Open 2 1 ∷ Transmit 1 2 ∷ Deliver 1 ∷ Transmit 2 1 ∷ Deliver 2 ∷ Transmit 1 2 ∷ Deliver 3 ∷ Pump 1 2 ∷ Pump 2 1 ∷ CoreTurn 1 ∷ CoreTurn 2 ∷ Need 1 3 ∷ CoreTurn 1 ∷ Pull 1 2 ∷ Transmit 1 2 ∷ Deliver 4 ∷ Pump 2 1 ∷ CoreTurn 2 ∷ []

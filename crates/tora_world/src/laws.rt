@@ -1,8 +1,9 @@
 // The laws of all schedules. Each stands over the definitions alone: a function without parameters that does nothing.
 ghost use Rattle.std.specs.Prelude.{◌≡◌, List, [], ◌∷◌, Some, None};
+ghost use Rattle.tora_packet.specs.declared.Packet.TheVariants.{Qry};
 ghost use Rattle.tora_arq.specs.declared.Times.{Times};
 ghost use Rattle.tora_world.specs.declared.Event.{Event};
-ghost use Rattle.tora_world.specs.Layers.{LinkLaws, LifeLaws};
+ghost use Rattle.tora_world.specs.Layers.{LinkLaws, LifeLaws, CoreLaws, SeatLaws};
 ghost use Rattle.tora_world.specs.Topology.{Topology};
 ghost use Rattle.tora_world.specs.World.{first_world, world_after_all, sent_packets, taken_packets};
 ghost use Rattle.tora_world.specs.FreeWorld.{after_schedule, own_schedule};
@@ -10,21 +11,30 @@ ghost use Rattle.tora_world.specs.MachineRun.{machine_steps};
 ghost use Rattle.tora_world.specs.Law.{EveryRun, TakenBeginsSent, IsOfMachine, CoresFollow, BindsOnce, AcknowledgedIsAccepted};
 ghost use Rattle.tora_world.specs.Refusals.{OnlyNeedsAreRefused, SteppedAreAccepted};
 ghost use Rattle.tora_world.specs.Gaps.{EveryEnd, IsWithoutGap, SendsInLatest, broadcast_packets};
-ghost use Rattle.tora_world.specs.LinkMachine.MachineStep.{Send, Take, Close};
-ghost use Rattle.tora_world.specs.Worked.{pair, start, life, update, meeting, met, bound_steps, restart, refusal, handed_back};
+ghost use Rattle.tora_world.specs.LinkMachine.MachineStep.{Draw, Bind, Send, Take, Close};
+ghost use Rattle.tora_world.specs.Lists.{reversed};
+ghost use Rattle.tora_world.specs.WorkedEvents.{ArmedCalls, Lanes, AreRefused, StartsAnew};
+ghost use Rattle.tora_world.specs.Worked.{pair, start, life, update, meeting, met, bound_steps, restart, ending, ended_steps, second_life, meeting_again, met_again, asking, start_elsewhere, refusal, handed_back};
 
 use tora_arq::{
     acknowledged_counts_come_from_the_peer, calls_keep_an_end, data_frames_are_what_was_submitted,
     deliveries_are_in_order, events_of_a_life_are_in_order, lives_are_bound_once,
     packets_are_submitted_in_the_bound_life,
 };
+use tora_core::{
+    inputs_are_accepted, links_follow_inputs, numbers_are_put_in_order, numbers_come_and_go,
+    tables_stay,
+};
 use tora_life::drawn_life_numbers_rise;
+use tora_seat::{accepted_inputs_make_the_core, cut_links_go_down};
 
-/// What the link end and the life file promise. A law of theirs is the contract of a function that does nothing, so a
+/// What the link end, the life file, the core and its seat promise. A law of theirs is the contract of a function that does nothing, so a
 /// law that rests on it calls that function: the call brings its clauses in.
 fn layers_keep_their_laws()
     ensures links { LinkLaws }
     ensures files { LifeLaws }
+    ensures cores { CoreLaws }
+    ensures seats { SeatLaws }
 {
     calls_keep_an_end();
     lives_are_bound_once();
@@ -34,6 +44,13 @@ fn layers_keep_their_laws()
     events_of_a_life_are_in_order();
     acknowledged_counts_come_from_the_peer();
     drawn_life_numbers_rise();
+    tables_stay();
+    links_follow_inputs();
+    inputs_are_accepted();
+    numbers_come_and_go();
+    numbers_are_put_in_order();
+    accepted_inputs_make_the_core();
+    cut_links_go_down();
 }
 
 /// The prefix law: the packets that a node's core has taken from a neighbour in one life of their link are a prefix of
@@ -91,7 +108,7 @@ pub fn simulator_runs_are_free_runs()
         → world_after_all (first_world t times) events ≡ after_schedule (own_schedule events (first_world t times)) (first_world t times) }
 {}
 
-/// Two nodes and some twenty events, computed: neither law is empty.
+/// Two nodes and some forty events, computed: neither law is empty.
 pub fn worked_schedules_hold()
     // The core of node 1 broadcasts one update and sends it in the life of its link; the core of node 2 takes it.
     ensures broadcast { broadcast_packets pair met 1 2 ≡ update ∷ [] }
@@ -101,6 +118,19 @@ pub fn worked_schedules_hold()
     ensures steps { machine_steps (own_schedule meeting start) start [] ≡ Take 2 1 life update ∷ Send 1 2 life update ∷ bound_steps }
     // A restart of node 1 closes the life there.
     ensures restart { machine_steps restart start [] ≡ Close 1 2 life ∷ Take 2 1 life update ∷ Send 1 2 life update ∷ bound_steps }
+    // Then the HELLO of its new end ends the life at node 2: its core closes it. What the core of node 1 sent before
+    // that went nowhere, since no life is current there.
+    ensures ended { machine_steps (own_schedule ending start) start [] ≡ ended_steps }
+    // A second life is bound with numbers that were not drawn before, and what is sent and taken in it is apart from
+    // what was sent and taken in the first.
+    ensures again { machine_steps (own_schedule meeting_again start) start []
+        ≡ Take 2 1 (reversed second_life) update ∷ Send 1 2 second_life update ∷ Bind 2 1 2 17 ∷ Bind 1 2 17 2 ∷ Draw 2 1 2 ∷ ended_steps }
+    ensures sent_again { sent_packets met_again 1 2 second_life ≡ update ∷ [] }
+    ensures taken_again { taken_packets met_again 2 1 (reversed second_life) ≡ update ∷ [] }
+    ensures taken_before { taken_packets met_again 2 1 life ≡ update ∷ [] }
+    // In one turn a packet is taken before what is sent for it.
+    ensures asked { machine_steps (own_schedule asking start_elsewhere) start_elsewhere []
+        ≡ Send 2 1 life (Qry 3) ∷ Take 2 1 life (Qry 3) ∷ Send 1 2 life (Qry 3) ∷ bound_steps }
     // Where the lane hands the update back, it was broadcast and not sent: the life is no longer current, its cut is
     // pending, its link is down at the core, and the machine has closed it.
     ensures broadcast_all_the_same { broadcast_packets pair handed_back 1 2 ≡ update ∷ [] }
@@ -109,4 +139,17 @@ pub fn worked_schedules_hold()
     ensures cut { (handed_back.seats 1).pending 2 ≡ Some life }
     ensures down { (handed_back.seats 1).core.up ≡ [] }
     ensures closed { machine_steps refusal start [] ≡ Close 1 2 life ∷ bound_steps }
+{}
+
+/// What single events do, computed: what the laws leave open, since they hold of runs with other lanes, other clocks and
+/// calls that do not fail as well.
+pub fn worked_events_hold()
+    // Sends, receives, and writes and syncs of a life file that are armed to fail.
+    ensures armed { ArmedCalls }
+    // A lane out of a core holds 256 cargoes and the lane into it 1,024 items; items have numbers and ticks.
+    ensures lanes { Lanes }
+    // Why an event is refused.
+    ensures refused { AreRefused }
+    // A restart makes core, link ends and lanes anew, and keeps what was sent and taken.
+    ensures anew { StartsAnew }
 {}

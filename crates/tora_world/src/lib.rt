@@ -8,7 +8,7 @@ mod laws;
 
 pub use laws::{
     no_gap_law, only_needs_are_refused, prefix_law, simulator_runs_are_free_runs,
-    worked_schedules_hold,
+    worked_events_hold, worked_schedules_hold,
 };
 use thiserror::Error;
 use tora_height::Id;

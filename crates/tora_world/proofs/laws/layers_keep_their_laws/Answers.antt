@@ -29,3 +29,26 @@ returns-clause-files c = record {
   keep = c.drawn_life_numbers_rise.ensures.keep;
   crash = c.drawn_life_numbers_rise.ensures.crash;
 }
+
+pub returns-clause-cores : goal.returns-clause-cores
+returns-clause-cores c = record {
+  neighbours = c.tables_stay.ensures.neighbours;
+  comes = c.links_follow_inputs.ensures.comes;
+  goes = c.links_follow_inputs.ensures.goes;
+  others_at_up = c.links_follow_inputs.ensures.others_at_up;
+  others_at_down = c.links_follow_inputs.ensures.others_at_down;
+  at_packet = c.links_follow_inputs.ensures.at_packet;
+  at_need = c.links_follow_inputs.ensures.at_need;
+  link_up = c.inputs_are_accepted.ensures.link_up;
+  link_down = c.inputs_are_accepted.ensures.link_down;
+  packet = c.inputs_are_accepted.ensures.packet;
+  put = c.numbers_come_and_go.ensures.put;
+  members = c.numbers_are_put_in_order.ensures.members;
+}
+
+pub returns-clause-seats : goal.returns-clause-seats
+returns-clause-seats c = record {
+  runs = c.accepted_inputs_make_the_core.ensures.runs;
+  next = c.cut_links_go_down.ensures.next;
+  none_left = c.cut_links_go_down.ensures.none_left;
+}

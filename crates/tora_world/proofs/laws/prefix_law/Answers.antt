@@ -10,7 +10,7 @@ pub returns-clause-machine : goal.returns-clause-machine
 returns-clause-machine c = λ t times es. of_machine c.layers_keep_their_laws.ensures.links c.layers_keep_their_laws.ensures.files t times es
 
 pub returns-clause-cores : goal.returns-clause-cores
-returns-clause-cores c = λ t times es. cores_follow t times es
+returns-clause-cores c = λ t times es. cores_follow c.layers_keep_their_laws.ensures.seats t times es
 
 pub returns-clause-once : goal.returns-clause-once
 returns-clause-once c = λ t times es. binds_once c.layers_keep_their_laws.ensures.links c.layers_keep_their_laws.ensures.files t times es

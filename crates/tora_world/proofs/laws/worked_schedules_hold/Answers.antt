@@ -52,3 +52,27 @@ returns-clause-down c = refl
 pub returns-clause-closed : goal.returns-clause-closed
 unfolding after_release on_data on_matched on_frame_in on_frame after_tick on_submit after_cut on_transmit_in on_transmit first_due after_join new_level after_erase after_link_loss after_update_loss slot_bound number_of slot_of after_cuts_tried after_broadcast after_broadcasts after_step after_settling after_input after_link_item after_other_item serving_of effect_by world_by after_schedule height_fault
 returns-clause-closed c = refl
+
+pub returns-clause-ended : goal.returns-clause-ended
+unfolding after_release on_data on_matched on_frame_in on_frame after_tick on_submit after_cut on_transmit_in on_transmit first_due after_join new_level after_erase after_link_loss after_update_loss slot_bound number_of slot_of after_cuts_tried after_broadcast after_broadcasts after_step after_settling after_input after_link_item after_other_item serving_of effect_by world_by after_schedule height_fault
+returns-clause-ended c = refl
+
+pub returns-clause-again : goal.returns-clause-again
+unfolding after_release on_data on_matched on_frame_in on_frame after_tick on_submit after_cut on_transmit_in on_transmit first_due after_join new_level after_erase after_link_loss after_update_loss slot_bound number_of slot_of after_cuts_tried after_broadcast after_broadcasts after_step after_settling after_input after_link_item after_other_item serving_of effect_by world_by after_schedule height_fault
+returns-clause-again c = refl
+
+pub returns-clause-sent_again : goal.returns-clause-sent_again
+unfolding after_release on_data on_matched on_frame_in on_frame after_tick on_submit after_cut on_transmit_in on_transmit first_due after_join new_level after_erase after_link_loss after_update_loss slot_bound number_of slot_of after_cuts_tried after_broadcast after_broadcasts after_step after_settling after_input after_link_item after_other_item serving_of effect_by world_by after_schedule height_fault
+returns-clause-sent_again c = refl
+
+pub returns-clause-taken_again : goal.returns-clause-taken_again
+unfolding after_release on_data on_matched on_frame_in on_frame after_tick on_submit after_cut on_transmit_in on_transmit first_due after_join new_level after_erase after_link_loss after_update_loss slot_bound number_of slot_of after_cuts_tried after_broadcast after_broadcasts after_step after_settling after_input after_link_item after_other_item serving_of effect_by world_by after_schedule height_fault
+returns-clause-taken_again c = refl
+
+pub returns-clause-taken_before : goal.returns-clause-taken_before
+unfolding after_release on_data on_matched on_frame_in on_frame after_tick on_submit after_cut on_transmit_in on_transmit first_due after_join new_level after_erase after_link_loss after_update_loss slot_bound number_of slot_of after_cuts_tried after_broadcast after_broadcasts after_step after_settling after_input after_link_item after_other_item serving_of effect_by world_by after_schedule height_fault
+returns-clause-taken_before c = refl
+
+pub returns-clause-asked : goal.returns-clause-asked
+unfolding after_release on_data on_matched on_frame_in on_frame after_tick on_submit after_cut on_transmit_in on_transmit first_due after_join new_level after_erase after_link_loss after_update_loss slot_bound number_of slot_of after_cuts_tried after_broadcast after_broadcasts after_step after_settling after_input after_link_item after_other_item serving_of effect_by world_by after_schedule height_fault
+returns-clause-asked c = refl
