@@ -109,6 +109,7 @@ pub record IsLinkOf (t : Topology) (times : Times) (link : LinkView) : Type 0 wh
   pub room : link.seat < 9
   pub home : is_node t link.node ≡ true
   pub back : is_link t link.peer link.node ≡ true
+  pub pulled : link.pulled ≤ length link.put
 
 -- holds of each item
 abbrev pub EachOf : {A : Type 0} → (A → Type 0) → List A → Type 0
