@@ -9,3 +9,7 @@ pub mod Receives
 pub mod Pumps
 pub mod Runs
 pub mod Arms
+pub mod ItemSteps
+pub mod SameLinks
+pub mod Rooms
+pub mod Offering

@@ -137,7 +137,7 @@ pub record IsSameLink (x new : LinkView) : Type 0 where
   pub settings : new.settings ≡ x.settings
   pub pulled : x.pulled ≤ length x.put → new.pulled ≤ length new.put
 
-map_read : (f : LinkView → LinkView) (links : List LinkView) (j : ℕ) (link : LinkView) → slice_get (map f links) j ≡ Some link → (old : LinkView) × (slice_get links j ≡ Some old) × (f old ≡ link)
+pub map_read : (f : LinkView → LinkView) (links : List LinkView) (j : ℕ) (link : LinkView) → slice_get (map f links) j ≡ Some link → (old : LinkView) × (slice_get links j ≡ Some old) × (f old ≡ link)
 map_read f [] j link e = absurd (let z : None ≡ Some link = e in cc)
 map_read f (x ∷ links) zero link e = (x, refl, cc)
 map_read f (x ∷ links) (suc j) link e = map_read f links j link e
@@ -148,8 +148,8 @@ ends_map t links f same y h = record {
   within = subst (λ m. y.first + y.count ≤ m) (sym (length-map links f)) h.within;
   at = λ place k link e q.
       let o = map_read f links (y.first + place) link q in
-      let told = h.at place k o.0 e o.1.0 in
-      (ap (λ (z : LinkView). z.node) (sym o.1.1) ∙ (same o.0).node ∙ told.0, ap (λ (z : LinkView). z.peer) (sym o.1.1) ∙ (same o.0).peer ∙ told.1);
+      let told = h.at place k o.0 e o.1 in
+      (ap (λ (z : LinkView). z.node) (sym o.2) ∙ (same o.0).node ∙ told.0, ap (λ (z : LinkView). z.peer) (sym o.2) ∙ (same o.0).peer ∙ told.1);
 }
 
 module _ (n k : ℕ) (links : List LinkView) (i : ℕ) (x new : LinkView) (first : IsFirst (is_at n k) links i) (there : slice_get links i ≡ Some x) (same : IsSameLink x new) where
@@ -228,8 +228,8 @@ module _ (n k : ℕ) (links : List LinkView) (i : ℕ) (x new : LinkView) (first
     within = subst (λ m. y.first + y.count ≤ m) (sym (length-set links i new)) h.within;
     at = λ place k link e q.
         let o = was (y.first + place) link q in
-        let told = h.at place k o.0 e o.1.0 in
-        (sym o.1.1.0 ∙ told.0, sym o.1.1.1 ∙ told.1);
+        let told = h.at place k o.0 e o.1 in
+        (sym o.2 ∙ told.0, sym o.3 ∙ told.1);
   }
 
   pub store_set : (t : Topology) (times : Times) (clock : ℕ) (nodes : List NodeView) (ds : List FrameParts) → IsStore (state_of t times clock nodes links ds) → IsStore (state_of t times clock nodes (set links i new) ds)

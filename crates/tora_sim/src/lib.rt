@@ -2,10 +2,12 @@
 #![tactic(auto)]
 
 mod files;
+mod lanes;
 mod links;
 mod nodes;
 mod sim;
 mod topology;
+mod turns;
 
 pub use sim::Sim;
 pub use topology::Topology;
