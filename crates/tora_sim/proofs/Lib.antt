@@ -13,3 +13,5 @@ pub mod ItemSteps
 pub mod SameLinks
 pub mod Rooms
 pub mod Offering
+pub mod Served
+pub mod Turning

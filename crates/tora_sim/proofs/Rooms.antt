@@ -1,11 +1,14 @@
 -- Memory that is taken at the link ends of a node before an item is served.
-use Rattle.std.proofs.Common.{◌≡◌, ℕ, zero, suc, ◌<◌, ◌≤◌, ◌+◌, ◌⊎◌, inl, inr, true, false, List, [], ◌∷◌, map, length, set, slice_get, Some, None, refl, sym, ap, ◌∙◌, subst, arith}
-use Rattle.std.proofs.lemmas.List.{length-map}
+use Rattle.std.proofs.Common.{◌≡◌, ℕ, zero, suc, ◌<◌, ◌≤◌, ◌+◌, ◌⊎◌, inl, inr, Bool, true, false, List, [], ◌∷◌, map, length, set, slice_get, Some, None, refl, sym, ap, ◌∙◌, subst, arith}
+use Rattle.std.proofs.lemmas.List.{length-map, length-set}
+use Rattle.std.proofs.lemmas.Option.{slice_get_read}
+use Rattle.std.specs.Prelude.{slice_index_or}
+use Rattle.tora_seat.specs.declared.Cargo.{Cargo}
 use borrow.Author.Tests.{ltb-true, ltb-false}
 use Rattle.std.proofs.Common.{ltb}
 use Rattle.std.proofs.lemmas.Bool.{cases_Bool}
 use Rattle.tora_sim.specs.Links.{LinkView}
-use Rattle.tora_sim.specs.Lanes.{bare, AreAlike, HasRoom, AreReady, lanes_of}
+use Rattle.tora_sim.specs.Lanes.{bare, AreAlike, HasRoom, AreReady, lanes_of, after_offer_at, has_place, DidOffer}
 use Rattle.tora_sim.proofs.Stores.{set_read}
 
 -- there is room at the first so many of the node's ends
@@ -49,3 +52,29 @@ pub all_room : (before links : List LinkView) (first count : ℕ) → first + co
 all_room before links first count within h =
     let same : length links ≡ length before = sym (length-map links bare) ∙ ap length h.same ∙ length-map before bare in
     record { within = omega (arith, within, same); room = h.room }
+
+pub read_in : (before links : List LinkView) (i : ℕ) (x : LinkView) → AreAlike before links → i < length before → x ≡ slice_index_or links i x → slice_get links i ≡ Some x
+read_in before links i x h lt read =
+    let same : length links ≡ length before = sym (length-map links bare) ∙ ap length h ∙ length-map before bare in
+    slice_get_read links (length links) i x refl (omega (arith, lt, same)) read
+
+-- ---- an offer
+
+has_room : (x : LinkView) (cargo : Cargo) (put : Bool) → HasRoom x → HasRoom (after_offer_at x cargo put)
+has_room x cargo put h = record { cargoes = h.cargoes; step = h.step }
+
+module _ (links : List LinkView) (first count place : ℕ) (ready : AreReady (lanes_of links first count)) (lt : place < count) (x : LinkView) (read : x ≡ slice_index_or links (first + place) x) where
+  pub there : slice_get links (first + place) ≡ Some x
+  there = slice_get_read links (length links) (first + place) x refl (let w = ready.within in omega (arith, w, lt)) read
+
+  pub still_ready : (y : LinkView) (cargo : Cargo) (put : Bool) → y ≡ after_offer_at x cargo put → AreReady (lanes_of (set links (first + place) y) first count)
+  still_ready y cargo put e = record {
+    within = subst (λ m. first + count ≤ m) (sym (length-set links (first + place) y)) ready.within;
+    room = λ j link less at. elim (set_read links (first + place) y (first + j) link at) [
+      | inl told ↦ subst HasRoom (sym e ∙ told.1) (has_room x cargo put (ready.room place x lt there))
+      | inr was ↦ ready.room j link less was
+    ];
+  }
+
+  pub did : (y : LinkView) (cargo : Cargo) (put : Bool) → put ≡ has_place x → y ≡ after_offer_at x cargo put → DidOffer (lanes_of links first count) place cargo put (lanes_of (set links (first + place) y) first count)
+  did y cargo put p e = record { link = x; within = lt; there = there; answer = p; lanes = ap (λ z. lanes_of (set links (first + place) z) first count) e }

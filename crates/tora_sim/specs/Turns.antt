@@ -1,5 +1,6 @@
 -- What an item made of a node and its link ends.
 use Rattle.std.specs.Prelude.{◌≡◌, ℕ, ◌+◌, List, [], ◌∷◌, ◌++◌, map, slice_get, slice_set, Option, Some, None, Result, MatchResult, MatchOption}
+use Rattle.tora_core.specs.Kept.{destinations_of}
 use Rattle.tora_seat.specs.declared.Item.{Item}
 use Rattle.tora_seat.specs.declared.Stepped.{Stepped}
 use Rattle.tora_seat.specs.Serving.{Answers, Offer, serving_of}
@@ -18,7 +19,9 @@ pub record IsServed (before : NodeView) (lanes : LanesView) (item : Item) (after
   pub offers : List Offer
   pub offered : AreOffered DidOffer before.seat.core.neighbours lanes offers lanes_after
   pub serving : (answers : Answers) → Follows answers [] offers → serving_of answers before.seat.core.neighbours (Rows.state_of before.seat) item ≡ serving_at item.now after.seat offers
+  pub me : after.seat.core.me ≡ before.seat.core.me
   pub neighbours : after.seat.core.neighbours ≡ before.seat.core.neighbours
+  pub destinations : destinations_of after.seat.core.views ≡ destinations_of before.seat.core.views
   pub node : after ≡ record before { seat = after.seat; inputs = before.inputs ++ map (λ input. (input, item.now)) after.seat.inputs; items = after.items }
 
 -- the packet that was stepped is noted at the link of the item's seat

@@ -1,6 +1,5 @@
 //! The nodes: the core of each, and the lane into it.
-ghost use Rattle.std.specs.Prelude.{◌≡◌, ◌<◌, ◌≤◌, ◌+◌, ◌++◌, ℕ, None, Some, false, IfSome, IfNone, IfOk, IfErr, OnErr, MatchResult, find, length, map, slice_index, vec_len, vec_capacity};
-ghost use Rattle.tora_core.specs.Numbers.{has_repeat};
+ghost use Rattle.std.specs.Prelude.{◌≡◌, ◌<◌, ◌≤◌, ◌+◌, ◌++◌, ℕ, None, Some, IfSome, IfNone, IfOk, IfErr, OnErr, MatchResult, find, length, map, slice_index, vec_len, vec_capacity};
 ghost use Rattle.tora_sim.specs.Turns.{IsServed};
 ghost use Rattle.tora_sim.specs.Keyed.{IsFirst};
 ghost use Rattle.tora_sim.specs.Nodes.{NodeView, is_of, AreRising, after_item};
@@ -9,10 +8,10 @@ use crate::SimError;
 use crate::lanes::NodeLanes;
 use std::collections::VecDeque;
 use std::marker::Model;
-use tora_core::Input;
+use tora_core::{Input, tables_stay};
 use tora_height::Id;
 use tora_seat::{
-    CoreSeat, Item, Stepped, What, items_step_few_inputs, offers_are_their_own_answers,
+    CoreSeat, Item, Stepped, What, accepted_inputs_make_the_core, items_step_few_inputs, offers_are_their_own_answers,
 };
 
 /// What becomes of the next datagram that a node sends.
@@ -147,12 +146,13 @@ impl NodeSlot {
     pub fn serve(&mut self, lanes: &mut NodeLanes) -> Result<Item, SimError>
         requires waits { 0 < length self.old.items }
         requires neighbours { length self.old.seat.core.neighbours ≤ lanes.old.count }
-        requires apart { has_repeat self.old.seat.core.neighbours ≡ false }
         ensures served { IfOk result (λ item. IsServed self.old lanes.old item self.new lanes.new) }
         ensures memory { IfErr result (λ e. e ≡ SimError.Memory) }
         ensures kept { OnErr result ((self.new ≡ self.old) × (lanes.new ≡ lanes.old)) }
     {
-        let most = self.seat.core().neighbours().len() + 2;
+        let core = self.seat.core();
+        let _me = core.me();
+        let most = core.neighbours().len() + 2;
         if self.inputs.reserve(most).is_err() {
             return Err(SimError::Memory);
         }
@@ -160,6 +160,8 @@ impl NodeSlot {
             Some(item) => {
                 items_step_few_inputs();
                 offers_are_their_own_answers();
+                accepted_inputs_make_the_core();
+                tables_stay();
                 self.seat.serve(&item, lanes);
                 note_inputs(&mut self.inputs, self.seat.inputs(), item.now);
                 Ok(item)

@@ -183,7 +183,9 @@ impl Sim {
         }
         let first = self.nodes[home].first();
         let count = self.nodes[home].count();
-        make_room(&mut self.links, first, count)?;
+        if make_room(&mut self.links, first, count).is_err() {
+            return Err(SimError::Memory);
+        }
         turn(&mut self.nodes[home], &mut self.links)
     }
 
