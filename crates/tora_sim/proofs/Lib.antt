@@ -15,3 +15,5 @@ pub mod Rooms
 pub mod Offering
 pub mod Served
 pub mod Turning
+pub mod FreshEnds
+pub mod Restarting

@@ -7,3 +7,4 @@ pub mod Store
 pub mod Steps
 pub mod Lanes
 pub mod Turns
+pub mod Restarts

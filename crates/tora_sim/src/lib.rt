@@ -5,6 +5,7 @@ mod files;
 mod lanes;
 mod links;
 mod nodes;
+mod restarts;
 mod sim;
 mod topology;
 mod turns;
