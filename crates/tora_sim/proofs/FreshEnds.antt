@@ -1,14 +1,14 @@
 -- Fresh link ends for those of a node, and the ends restarted one after another.
-use Rattle.std.proofs.Common.{◌≡◌, ℕ, zero, suc, ◌<◌, ◌≤◌, ◌+◌, ◌⊎◌, inl, inr, Bool, true, false, List, [], ◌∷◌, ◌++◌, length, set, slice_get, Option, Some, None, refl, sym, ap, ◌∙◌, subst, arith, ltb}
+use Rattle.std.proofs.Common.{◌≡◌, ℕ, zero, suc, ◌<◌, ◌≤◌, ◌+◌, ◌⊎◌, inl, inr, List, [], ◌∷◌, ◌++◌, length, set, slice_get, Option, Some, refl, sym, ap, ◌∙◌, arith, ltb}
 use borrow.Author.Tests.{ltb-true, ltb-false}
 use Rattle.std.proofs.lemmas.Bool.{cases_Bool}
 use Rattle.std.proofs.lemmas.Option.{slice_get_read, slice_get_within}
-use Rattle.std.proofs.lemmas.List.{length-append, length-set}
+use Rattle.std.proofs.lemmas.List.{length-set}
 use Rattle.std.specs.Prelude.{slice_index_or}
 use Rattle.tora_arq.specs.LinkEnd.{first_end}
 use Rattle.tora_arq.specs.EndRange.{LinkEndView, link_end_of}
-use Rattle.tora_sim.specs.Links.{LinkView}
-use Rattle.tora_sim.specs.Restarts.{restarted, AreFresh, AreRestarted}
+use Rattle.tora_sim.specs.Links.{LinkView, AreChanged}
+use Rattle.tora_sim.specs.Restarts.{restarted, AreFresh}
 
 -- ---- lists
 
@@ -63,54 +63,61 @@ more_fresh links first place x ends end h count within read e j link lt at = go 
         let is : x ≡ link = same_item x link (sym there ∙ ap (λ m. slice_get links (first + m)) (sym same) ∙ at) in
         ap (λ m. slice_get (ends ++ end ∷ []) m) (same ∙ sym count) ∙ get_back ends end ∙ ap Some (e ∙ ap (λ (z : LinkView). link_end_of z.settings first_end) is)
 
--- ---- an end more is restarted
+-- ---- an end more is changed
 
--- the ends from a place on are as they were
-pub record IsGoing (torn : Option (List ℕ)) (before links : List LinkView) (first place : ℕ) (ends_before ends : List LinkEndView) : Type 0 where
-  pub restarted : AreRestarted torn before links first place
-  pub as_many : length ends ≡ length ends_before
-  pub ahead : (j : ℕ) → place ≤ j → slice_get ends j ≡ slice_get ends_before j
+pub none_changed : (change : LinkView → LinkView) (links : List LinkView) (first : ℕ) → AreChanged change links links first 0
+none_changed change links first = record { as_many = refl; done = λ place link lt e. absurd (omega (arith, lt)); rest = λ i link elsewhere e. e }
 
-pub begins : (torn : Option (List ℕ)) (links : List LinkView) (first : ℕ) (ends : List LinkEndView) → IsGoing torn links links first 0 ends ends
-begins torn links first ends = record {
-  restarted = record { as_many = refl; done = λ place link lt e. absurd (omega (arith, lt)); rest = λ i link elsewhere e. e };
-  as_many = refl;
-  ahead = λ j le. refl;
-}
-
-module _ (torn : Option (List ℕ)) (before links : List LinkView) (first place count : ℕ) (ends_before ends : List LinkEndView) (h : IsGoing torn before links first place ends_before ends)
+module _ (change : LinkView → LinkView) (before links : List LinkView) (first place count : ℕ) (h : AreChanged change before links first place)
     (lt : place < count) (within : first + count ≤ length before) (x : LinkView) (read : x ≡ slice_index_or links (first + place) x) where
   there : slice_get links (first + place) ≡ Some x
-  there = let same = h.restarted.as_many in slice_get_read links (length links) (first + place) x refl (omega (arith, same, lt, within)) read
+  there = let same = h.as_many in slice_get_read links (length links) (first + place) x refl (omega (arith, same, lt, within)) read
 
   -- it is as it was
-  was : slice_get before (first + place) ≡ Some x
+  pub was : slice_get before (first + place) ≡ Some x
   was =
       let old = item_at before (first + place) (omega (arith, lt, within)) in
-      let still = h.restarted.rest (first + place) old.0 (λ j less e. absurd (omega (arith, less, e))) old.1 in
+      let still = h.rest (first + place) old.0 (λ j less e. absurd (omega (arith, less, e))) old.1 in
       old.1 ∙ ap Some (same_item old.0 x (sym still ∙ there))
 
-  pub fresh_here : AreFresh before first count ends_before → (end : LinkEndView) → place < length ends → end ≡ slice_index_or ends place end → end ≡ link_end_of x.settings first_end
-  fresh_here fresh end less e =
-      same_item end (link_end_of x.settings first_end) (sym (slice_get_read ends (length ends) place end refl less e) ∙ h.ahead place (omega arith) ∙ fresh place x lt was)
-
-  pub goes_on : (y : LinkView) (end : LinkEndView) → y ≡ restarted torn x → IsGoing torn before (set links (first + place) y) first (place + 1) ends_before (set ends place end)
-  goes_on y end e = record {
-    restarted = record {
-      as_many = length-set links (first + place) y ∙ h.restarted.as_many;
-      done = λ j link less at. done j link at (below_next j place less);
-      rest = λ i link elsewhere at.
-          set_other links (first + place) i y (λ q. elsewhere place (omega arith) q)
-          ∙ h.restarted.rest i link (λ j less q. elsewhere j (omega (arith, less)) q) at;
-    };
-    as_many = length-set ends place end ∙ h.as_many;
-    ahead = λ j le. set_other ends place j end (λ q. absurd (omega (arith, le, q))) ∙ h.ahead j (omega (arith, le));
+  pub one_changed : (y : LinkView) → y ≡ change x → AreChanged change before (set links (first + place) y) first (place + 1)
+  one_changed y e = record {
+    as_many = length-set links (first + place) y ∙ h.as_many;
+    done = λ j link less at. done j link at (below_next j place less);
+    rest = λ i link elsewhere at.
+        set_other links (first + place) i y (λ q. elsewhere place (omega arith) q)
+        ∙ h.rest i link (λ j less q. elsewhere j (omega (arith, less)) q) at;
   }
     where
-      done : (j : ℕ) (link : LinkView) → slice_get before (first + j) ≡ Some link → (j < place) ⊎ (j ≡ place) → slice_get (set links (first + place) y) (first + j) ≡ Some (restarted torn link)
-      done j link at (inl less) = set_other links (first + place) (first + j) y (λ q. absurd (omega (arith, less, q))) ∙ h.restarted.done j link less at
+      done : (j : ℕ) (link : LinkView) → slice_get before (first + j) ≡ Some link → (j < place) ⊎ (j ≡ place) → slice_get (set links (first + place) y) (first + j) ≡ Some (change link)
+      done j link at (inl less) = set_other links (first + place) (first + j) y (λ q. absurd (omega (arith, less, q))) ∙ h.done j link less at
       done j link at (inr same) =
           let is : x ≡ link = same_item x link (sym was ∙ ap (λ m. slice_get before (first + m)) (sym same) ∙ at) in
           ap (λ m. slice_get (set links (first + place) y) (first + m)) same
           ∙ set_same links (first + place) y (slice_get_within links (first + place) x there)
-          ∙ ap Some (e ∙ ap (restarted torn) is)
+          ∙ ap Some (e ∙ ap change is)
+
+-- ---- an end more is restarted
+
+-- the ends from a place on are as they were
+pub record IsGoing (torn : Option (List ℕ)) (before links : List LinkView) (first place : ℕ) (ends_before ends : List LinkEndView) : Type 0 where
+  pub changed : AreChanged (restarted torn) before links first place
+  pub as_many : length ends ≡ length ends_before
+  pub ahead : (j : ℕ) → place ≤ j → slice_get ends j ≡ slice_get ends_before j
+
+pub begins : (torn : Option (List ℕ)) (links : List LinkView) (first : ℕ) (ends : List LinkEndView) → IsGoing torn links links first 0 ends ends
+begins torn links first ends = record { changed = none_changed (restarted torn) links first; as_many = refl; ahead = λ j le. refl }
+
+module _ (torn : Option (List ℕ)) (before links : List LinkView) (first place count : ℕ) (ends_before ends : List LinkEndView) (h : IsGoing torn before links first place ends_before ends)
+    (lt : place < count) (within : first + count ≤ length before) (x : LinkView) (read : x ≡ slice_index_or links (first + place) x) where
+  pub fresh_here : AreFresh before first count ends_before → (end : LinkEndView) → place < length ends → end ≡ slice_index_or ends place end → end ≡ link_end_of x.settings first_end
+  fresh_here fresh end less e =
+      same_item end (link_end_of x.settings first_end)
+      (sym (slice_get_read ends (length ends) place end refl less e) ∙ h.ahead place (omega arith) ∙ fresh place x lt (was (restarted torn) before links first place count h.changed lt within x read))
+
+  pub goes_on : (y : LinkView) (end : LinkEndView) → y ≡ restarted torn x → IsGoing torn before (set links (first + place) y) first (place + 1) ends_before (set ends place end)
+  goes_on y end e = record {
+    changed = one_changed (restarted torn) before links first place count h.changed lt within x read y e;
+    as_many = length-set ends place end ∙ h.as_many;
+    ahead = λ j le. set_other ends place j end (λ q. absurd (omega (arith, le, q))) ∙ h.ahead j (omega (arith, le));
+  }

@@ -17,3 +17,4 @@ pub mod Served
 pub mod Turning
 pub mod FreshEnds
 pub mod Restarting
+pub mod NodeEnds

@@ -1,23 +1,22 @@
 -- A node restarts.
-use Rattle.std.proofs.Common.{◌≡◌, ℕ, zero, suc, ◌<◌, ◌≤◌, ◌+◌, ◌⊎◌, ◌&&◌, ◌||◌, inl, inr, Bool, true, false, true≢false, List, [], ◌∷◌, ◌++◌, map, length, set, get_or, slice_get, Option, Some, None, refl, sym, ap, ap₂, ◌∙◌, subst, arith, is_some, if◌then◌else◌, nat_eq, nat_lt, eqb-true, eq-eqb, option_map, append_assoc, append-nil, drop, fold}
+use Rattle.std.proofs.Common.{◌≡◌, ℕ, zero, suc, ◌<◌, ◌⊎◌, ◌&&◌, inl, inr, Bool, true, false, true≢false, List, [], ◌∷◌, ◌++◌, map, length, set, get_or, slice_get, Option, Some, None, refl, sym, ap, ap₂, ◌∙◌, subst, arith, is_some, if◌then◌else◌, nat_eq, nat_lt, eqb-true, option_map, append_assoc, append-nil, fold}
 use Rattle.std.proofs.lemmas.Bool.{cases_Bool, and_parts}
 use Rattle.std.proofs.lemmas.Bool.Decides.{nat_tests}
 use Rattle.std.proofs.lemmas.List.{drop_all}
-use Rattle.std.specs.Prelude.{slice_index_or, slice_index}
+use Rattle.std.specs.Prelude.{slice_index_or}
 use Rattle.std.specs.List.{AllByRecursion}
 use mathlib.Core.Path.{fun_ext}
 use Rattle.tora_frame.specs.FrameParts.{FrameParts}
 use Rattle.tora_arq.specs.declared.Times.{Times}
 use Rattle.tora_arq.specs.declared.Life.{Life}
-use Rattle.tora_arq.specs.LinkEnd.{EndState, first_end}
+use Rattle.tora_arq.specs.LinkEnd.{first_end}
 use Rattle.tora_life.specs.LifeRun.{LifeDisk}
-use Rattle.tora_core.specs.declared.Input.{Input}
-use Rattle.tora_core.specs.Numbers.{has_number, with_number, ascending, IsAscending}
-use Rattle.tora_core.specs.View.{View, first_view}
+use Rattle.tora_core.specs.Numbers.{with_number, ascending, IsAscending}
+use Rattle.tora_core.specs.View.{first_view}
 use Rattle.tora_core.specs.CoreRun.{CoreView, first_core}
 use Rattle.tora_core.specs.Kept.{IsCore, destinations_of}
 use Rattle.tora_seat.specs.declared.Cargo.{Cargo}
-use Rattle.tora_seat.specs.Serving.{SeatState, put_one}
+use Rattle.tora_seat.specs.Serving.{put_one}
 use Rattle.tora_seat.specs.Rows.{SeatView, new_row, current_of, pending_of}
 use Rattle.tora_seat.specs.Rows as Rows
 use Rattle.tora_world.specs.declared.Event.TheVariants.{Restart}
@@ -25,17 +24,16 @@ use Rattle.tora_world.specs.declared.SimError.TheVariants as Refused
 use Rattle.tora_world.specs.Topology.{Topology, is_link, neighbours_of, new_core}
 use Rattle.tora_world.specs.World.{World, refusal_of, effect_by, world_after, first_seat, after_restart, reopened}
 use Rattle.tora_sim.specs.Keyed.{IsFirst}
-use Rattle.tora_sim.specs.Links.{LinkView, is_at}
+use Rattle.tora_sim.specs.Links.{LinkView, is_at, at_node, AreChanged}
 use Rattle.tora_sim.specs.Nodes.{NodeView, is_of}
-use Rattle.tora_sim.specs.Restarts.{restarted, restarted_of, restarted_node, core_again, AreRestarted}
+use Rattle.tora_sim.specs.Restarts.{restarted, restarted_node, core_again}
 use Rattle.tora_sim.specs.Store.{state_of, world_of, IsStore, IsNodeOf, AreEndsOf, link_at, end_in, file_in, lane_in, put_in, steps_in, node_at, seat_in, items_in, inputs_in, counts_in, arms_in}
 use Rattle.tora_sim.specs.Steps.{IsDone, IsRefused}
 use Rattle.tora_sim.proofs.Stores.{is_found, IsSameLink, IsSameNode, node_changes, node_changes_by, node_stays, store_set_node}
 use Rattle.tora_sim.proofs.SameLinks.{same_map, store_same, map_found}
 use Rattle.tora_sim.proofs.Opens.{effect_is, links_same}
 use Rattle.tora_sim.proofs.Needs.{nodes_same, node_place, is_there, at_there, of_node, named}
-use Rattle.tora_sim.proofs.Offering.{one_place, found_at}
-use Rattle.tora_sim.proofs.FreshEnds.{item_at, same_item}
+use Rattle.tora_sim.proofs.NodeEnds.{changed_is}
 
 -- ---- numbers in ascending order
 
@@ -91,27 +89,6 @@ pub new_state : (core : CoreView) → Rows.state_of (Rows.first_seat core) ≡ r
 new_state core =
     ap₂ (λ (c p : ℕ → Option Life). record { core = core; current = c; pending = p }) (fun_ext (λ k. no_current core.neighbours k)) (fun_ext (λ k. no_pending core.neighbours k))
 
--- ---- lists
-
-by_places : (g : LinkView → LinkView) (xs ys : List LinkView) → length ys ≡ length xs → ((j : ℕ) (x : LinkView) → slice_get xs j ≡ Some x → slice_get ys j ≡ Some (g x)) → ys ≡ map g xs
-by_places g [] [] e h = refl
-by_places g [] (y ∷ ys) e h = absurd (omega (arith, e))
-by_places g (x ∷ xs) [] e h = absurd (omega (arith, e))
-by_places g (x ∷ xs) (y ∷ ys) e h = ap₂ (λ a b. a ∷ b) (same_item y (g x) (h zero x refl)) (by_places g xs ys (omega (arith, e)) (λ j z at. h (suc j) z at))
-
-number_at : (k : ℕ) (ks : List ℕ) → has_number k ks ≡ true → (place : ℕ) × (slice_get ks place ≡ Some k)
-number_at k [] e = absurd (true≢false (sym e))
-number_at k (j ∷ ks) e = go (cases_Bool (nat_eq j k)) (number_at k ks)
-  where
-    go : (nat_eq j k ≡ true) ⊎ (nat_eq j k ≡ false) → (has_number k ks ≡ true → (place : ℕ) × (slice_get ks place ≡ Some k)) → (place : ℕ) × (slice_get (j ∷ ks) place ≡ Some k)
-    go (inl t) again = (zero, ap Some (eqb-true j k t))
-    go (inr f) again = let told = again (subst (λ (b : Bool). (b || has_number k ks) ≡ true) f e) in (suc told.0, told.1)
-
-within_list : (ks : List ℕ) (i k : ℕ) → slice_get ks i ≡ Some k → i < length ks
-within_list [] i k e = absurd (let z : None ≡ Some k = e in cc)
-within_list (j ∷ ks) zero k e = omega arith
-within_list (j ∷ ks) (suc i) k e = let again = within_list ks i k e in omega (arith, again)
-
 abbrev AllZero : List ℕ → Type 0
 AllZero [] = Unit {0}
 AllZero (c ∷ cs) = (c ≡ 0) × AllZero cs
@@ -154,46 +131,18 @@ module _ (t : Topology) (times : Times) (clock : ℕ) (nodes : List NodeView) (l
   unfolding effect_by
   effect = effect_is w (Restart n torn) possible
 
-  -- ---- the ends of the node are those in its place
-
-  has_place : (j : ℕ) (link : LinkView) → slice_get links j ≡ Some link → link.node ≡ n → (place : ℕ) × (place < x.count) × (j ≡ x.first + place)
-  has_place j link e q =
-      let found : link_at links n link.peer ≡ Some link = ap (λ m. link_at links m link.peer) (sym q) ∙ found_at links h.rising_links j link e in
-      let told = number_at link.peer (neighbours_of t n) (h.links n link.peer ∙ ap is_some found) in
-      let lt : told.0 < x.count = let less = within_list (neighbours_of t n) told.0 link.peer told.1 in omega (arith, less, count_is) in
-      let within = ends.within in
-      let other = item_at links (x.first + told.0) (omega (arith, lt, within)) in
-      let is = ends.at told.0 link.peer other.0 (ap (λ m. slice_get (neighbours_of t m) told.0) is_named ∙ told.1) other.1 in
-      (told.0, lt, one_place links h.rising_links j (x.first + told.0) link other.0 e other.1 (q ∙ sym (is.0 ∙ is_named)) (sym is.1))
-
-  at_home : (place : ℕ) (link : LinkView) → place < x.count → slice_get links (x.first + place) ≡ Some link → link.node ≡ n
-  at_home place link lt e =
-      let k = item_at (neighbours_of t x.node) place (let c = kept.count in omega (arith, lt, c)) in
-      (ends.at place k.0 link k.1 e).0 ∙ is_named
-
   abbrev after : List LinkView
-  after = map (restarted_of n torn) links
+  after = map (at_node n (restarted torn)) links
 
-  restarted_is : (links' : List LinkView) → AreRestarted torn links links' x.first x.count → links' ≡ after
-  restarted_is links' d = by_places (restarted_of n torn) links links' d.as_many (λ j link e. go j link e (cases_Bool (nat_eq link.node n)))
-    where
-      go : (j : ℕ) (link : LinkView) → slice_get links j ≡ Some link → (nat_eq link.node n ≡ true) ⊎ (nat_eq link.node n ≡ false) → slice_get links' j ≡ Some (restarted_of n torn link)
-      go j link e (inl q) =
-          let p = has_place j link e (eqb-true link.node n q) in
-          ap (slice_get links') p.2 ∙ d.done p.0 link p.1 (ap (slice_get links) (sym p.2) ∙ e) ∙ ap Some (sym (ap (λ (b : Bool). if b then restarted torn link else link) q))
-      go j link e (inr q) =
-          d.rest j link (λ place lt is. absurd (true≢false (sym (eq-eqb link.node n (at_home place link lt (ap (slice_get links) (sym is) ∙ e))) ∙ q))) e
-          ∙ ap Some (sym (ap (λ (b : Bool). if b then restarted torn link else link) q))
-
-  same_end : (link : LinkView) → IsSameLink link (restarted_of n torn link)
+  same_end : (link : LinkView) → IsSameLink link (at_node n (restarted torn) link)
   same_end link = go (nat_eq link.node n)
     where
       go : (b : Bool) → IsSameLink link (if b then restarted torn link else link)
       go true = record { node = refl; peer = refl; seat = refl; settings = refl; pulled = λ q. omega arith }
       go false = record { node = refl; peer = refl; seat = refl; settings = refl; pulled = λ q. q }
 
-  found_after : (a k : ℕ) → link_at after a k ≡ option_map (restarted_of n torn) (link_at links a k)
-  found_after a k = map_found (restarted_of n torn) same_end a k links
+  found_after : (a k : ℕ) → link_at after a k ≡ option_map (at_node n (restarted torn)) (link_at links a k)
+  found_after a k = map_found (at_node n (restarted torn)) same_end a k links
 
   stays : {A : Type 0} → (f : Option LinkView → A) → ((link : LinkView) → f (Some (restarted torn link)) ≡ f (Some link)) → ◌≡◌ {A = ℕ → ℕ → A} (λ a k. f (link_at after a k)) (λ a k. f (link_at links a k))
   stays {A} f same = fun_ext (λ a. fun_ext (λ k. ap f (found_after a k) ∙ go (link_at links a k)))
@@ -202,7 +151,7 @@ module _ (t : Topology) (times : Times) (clock : ℕ) (nodes : List NodeView) (l
       cases link true = same link
       cases link false = refl
 
-      go : (o : Option LinkView) → f (option_map (restarted_of n torn) o) ≡ f o
+      go : (o : Option LinkView) → f (option_map (at_node n (restarted torn)) o) ≡ f o
       go None = refl
       go (Some link) = cases link (nat_eq link.node n)
 
@@ -211,7 +160,7 @@ module _ (t : Topology) (times : Times) (clock : ℕ) (nodes : List NodeView) (l
       → ◌≡◌ {A = ℕ → ℕ → A} (λ a k. f (link_at after a k)) (λ a k. if nat_eq a n then new else f (link_at links a k))
   changes {A} f new same none = fun_ext (λ a. fun_ext (λ k. ap f (found_after a k) ∙ go a k (link_at links a k) refl (cases_Bool (nat_eq a n))))
     where
-      go : (a k : ℕ) (o : Option LinkView) → link_at links a k ≡ o → (nat_eq a n ≡ true) ⊎ (nat_eq a n ≡ false) → f (option_map (restarted_of n torn) o) ≡ (if nat_eq a n then new else f o)
+      go : (a k : ℕ) (o : Option LinkView) → link_at links a k ≡ o → (nat_eq a n ≡ true) ⊎ (nat_eq a n ≡ false) → f (option_map (at_node n (restarted torn)) o) ≡ (if nat_eq a n then new else f o)
       go a k None e (inl q) = none ∙ sym (ap (λ (b : Bool). if b then new else f None) q)
       go a k None e (inr q) = sym (ap (λ (b : Bool). if b then new else f None) q)
       go a k (Some link) e r =
@@ -233,7 +182,7 @@ module _ (t : Topology) (times : Times) (clock : ℕ) (nodes : List NodeView) (l
       on true link = refl
       on false link = refl
 
-      go : (a k : ℕ) (o : Option LinkView) → link_at links a k ≡ o → (b : Bool) → is_link t a k ≡ b → file_in (option_map (restarted_of n torn) o) ≡ (if nat_eq a n && b then reopened torn (file_in o) else file_in o)
+      go : (a k : ℕ) (o : Option LinkView) → link_at links a k ≡ o → (b : Bool) → is_link t a k ≡ b → file_in (option_map (at_node n (restarted torn)) o) ≡ (if nat_eq a n && b then reopened torn (file_in o) else file_in o)
       go a k None e true l = absurd (true≢false (sym l ∙ h.links a k ∙ ap is_some e))
       go a k None e false l = off (nat_eq a n) (file_in None)
       go a k (Some link) e false l = absurd (true≢false (sym (ap is_some e) ∙ sym (h.links a k) ∙ l))
@@ -296,19 +245,19 @@ module _ (t : Topology) (times : Times) (clock : ℕ) (nodes : List NodeView) (l
             go a k true = refl
             go a k false = refl
 
-    pub restart_done : (made : SeatView) (node : NodeView) (links' : List LinkView) → made ≡ Rows.first_seat (core_again x.seat.core) → node ≡ restarted_node made x → AreRestarted torn links links' x.first x.count
+    pub restart_done : (made : SeatView) (node : NodeView) (links' : List LinkView) → made ≡ Rows.first_seat (core_again x.seat.core) → node ≡ restarted_node made x → AreChanged (restarted torn) links links' x.first x.count
         → IsDone w (Restart n torn) (world_of (state_of t times clock (set nodes i node) links' ds))
     restart_done made node links' a b d = record {
       accepted = possible;
       world =
-          ap₂ (λ z xs. world_of (state_of t times clock (set nodes i z) xs ds)) (b ∙ ap (λ s. restarted_node s x) a) (restarted_is links' d)
+          ap₂ (λ z xs. world_of (state_of t times clock (set nodes i z) xs ds)) (b ∙ ap (λ s. restarted_node s x) a) (changed_is t times clock nodes links ds h n i x first read (restarted torn) links' d)
           ∙ restarted_world ∙ sym effect;
     }
 
-    pub restart_store : (made : SeatView) (node : NodeView) (links' : List LinkView) → made ≡ Rows.first_seat (core_again x.seat.core) → node ≡ restarted_node made x → AreRestarted torn links links' x.first x.count
+    pub restart_store : (made : SeatView) (node : NodeView) (links' : List LinkView) → made ≡ Rows.first_seat (core_again x.seat.core) → node ≡ restarted_node made x → AreChanged (restarted torn) links links' x.first x.count
         → IsStore (state_of t times clock (set nodes i node) links' ds)
     restart_store made node links' a b d =
         subst (λ z. IsStore (state_of t times clock (set nodes i z) links' ds)) (sym (b ∙ ap (λ s. restarted_node s x) a))
-        (subst (λ xs. IsStore (state_of t times clock (set nodes i y) xs ds)) (sym (restarted_is links' d))
+        (subst (λ xs. IsStore (state_of t times clock (set nodes i y) xs ds)) (sym (changed_is t times clock nodes links ds h n i x first read (restarted torn) links' d))
         (store_set_node n nodes i x y first at same t times clock after ds
-        (store_same t times clock nodes links after ds (same_map (restarted_of n torn) same_end links) h)))
+        (store_same t times clock nodes links after ds (same_map (at_node n (restarted torn)) same_end links) h)))

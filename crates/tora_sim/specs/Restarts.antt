@@ -1,10 +1,10 @@
 -- A node and its link ends after a restart.
-use Rattle.std.specs.Prelude.{◌≡◌, ℕ, ◌==◌, ◌+◌, ◌<◌, List, [], ◌∷◌, length, slice_get, Option, Some, if◌then◌else◌}
+use Rattle.std.specs.Prelude.{◌≡◌, ℕ, ◌+◌, ◌<◌, List, [], ◌∷◌, length, slice_get, Option, Some}
 use Rattle.tora_arq.specs.LinkEnd.{first_end}
 use Rattle.tora_arq.specs.EndRange.{LinkEndView, link_end_of}
 use Rattle.tora_core.specs.CoreRun.{CoreView, first_core}
 use Rattle.tora_core.specs.Kept.{destinations_of}
-use Rattle.tora_seat.specs.Rows.{SeatView, first_seat}
+use Rattle.tora_seat.specs.Rows.{SeatView}
 use Rattle.tora_world.specs.World.{reopened}
 use Rattle.tora_sim.specs.Links.{LinkView}
 use Rattle.tora_sim.specs.Nodes.{NodeView}
@@ -12,9 +12,6 @@ use Rattle.tora_sim.specs.Nodes.{NodeView}
 -- a link end: fresh, with an empty lane, and with its life file opened
 abbrev pub restarted : Option (List ℕ) → LinkView → LinkView
 restarted torn link = record link { state = first_end; file = reopened torn link.file; pulled = length link.put }
-
-abbrev pub restarted_of : ℕ → Option (List ℕ) → LinkView → LinkView
-restarted_of n torn link = if link.node == n then restarted torn link else link
 
 -- a core of the same node, neighbours and destinations before any input
 abbrev pub core_again : CoreView → CoreView
@@ -28,9 +25,3 @@ restarted_node seat node = record node { seat = seat; inputs = []; items = []; c
 abbrev pub AreFresh : List LinkView → ℕ → ℕ → List LinkEndView → Type 0
 AreFresh links first count ends =
     (place : ℕ) (link : LinkView) → place < count → slice_get links (first + place) ≡ Some link → slice_get ends place ≡ Some (link_end_of link.settings first_end)
-
--- so many link ends from a place on are restarted, and the others are as they were
-pub record AreRestarted (torn : Option (List ℕ)) (before links : List LinkView) (first count : ℕ) : Type 0 where
-  pub as_many : length links ≡ length before
-  pub done : (place : ℕ) (link : LinkView) → place < count → slice_get before (first + place) ≡ Some link → slice_get links (first + place) ≡ Some (restarted torn link)
-  pub rest : (i : ℕ) (link : LinkView) → ((place : ℕ) → place < count → i ≡ first + place → ⊥) → slice_get before i ≡ Some link → slice_get links i ≡ Some link

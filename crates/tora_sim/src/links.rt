@@ -2,7 +2,7 @@
 ghost use Rattle.std.specs.Prelude.{◌≡◌, ◌<◌, ◌≤◌, ◌+◌, ◌++◌, ◌∷◌, [], ℕ, ⊤, IsTrue, IfSome, IfNone, OnOk, IfOk, IfErr, None, MatchOption, find, length, map, is_some, nat_lt, slice_get};
 ghost use Rattle.tora_arq.specs.LinkEnd.{is_closed, after_frame, after_tick, frame_due, after_transmit, first_event, after_poll_event};
 ghost use Rattle.tora_world.specs.World.{after_cargo};
-ghost use Rattle.tora_sim.specs.Links.{with_state, after_open_at, after_arm, after_pull_at, is_at, AreRising, ticked, armed_of};
+ghost use Rattle.tora_sim.specs.Links.{with_state, after_open_at, after_arm, after_pull_at, is_at, AreRising, ticked, AreChanged};
 ghost use Rattle.tora_arq.specs.LinkEnd.{first_end};
 ghost use Rattle.tora_arq.specs.EndRange.{link_end_of};
 ghost use Rattle.tora_sim.specs.Keyed.{IsFirst};
@@ -140,15 +140,6 @@ impl LinkSlot {
         self.file.arm(call);
     }
 
-    /// The next such call of the life file fails, where the end is one of node `n`.
-    fn arm_of(&mut self, n: Id, call: DiskCall)
-        ensures { self.new ≡ armed_of n call self.old }
-    {
-        if self.node == n {
-            self.file.arm(call);
-        }
-    }
-
     /// Whether a cargo waits in the lane.
     pub fn has_cargo(&self) -> bool
         ensures { result ≡ nat_lt self.now.pulled (length self.now.put) }
@@ -284,17 +275,13 @@ fn tick_each(links: &mut [LinkSlot], now: u64)
     }
 }
 
-/// The next such call of each life file of node `n` fails.
-pub fn arm(links: &mut Vec<LinkSlot>, n: Id, call: DiskCall)
-    ensures { links.new.items ≡ map (armed_of n call) links.old.items }
+/// The next such call of each life file fails, at the `count` ends from the place `first` on.
+pub fn arm(links: &mut Vec<LinkSlot>, first: usize, count: usize, call: DiskCall)
+    requires { first + count ≤ length links.old.items }
+    ensures { AreChanged (λ link. after_arm link call) links.old.items links.new.items first count }
 {
-    arm_each(links, n, call);
-}
-
-fn arm_each(links: &mut [LinkSlot], n: Id, call: DiskCall)
-    ensures { links.new ≡ map (armed_of n call) links.old }
-{
-    for link in links.iter_mut() {
-        link.arm_of(n, call);
+    for place in 0..count {
+        let at = first + place;
+        links[at].arm(call);
     }
 }

@@ -1,6 +1,7 @@
 //! Restarts of a node.
 ghost use Rattle.std.specs.Prelude.{◌≡◌, ◌+◌, ◌≤◌, ℕ, length, IfOk, IfErr};
-ghost use Rattle.tora_sim.specs.Restarts.{AreFresh, AreRestarted};
+ghost use Rattle.tora_sim.specs.Links.{AreChanged};
+ghost use Rattle.tora_sim.specs.Restarts.{AreFresh, restarted};
 
 use crate::SimError;
 use crate::links::LinkSlot;
@@ -45,7 +46,7 @@ pub fn restart_ends(
 )
     requires within { first + length ends.old.items ≤ length links.old.items }
     requires fresh { AreFresh links.old.items first (length ends.old.items) ends.old.items }
-    ensures { AreRestarted torn links.old.items links.new.items first (length ends.old.items) }
+    ensures { AreChanged (restarted torn) links.old.items links.new.items first (length ends.old.items) }
 {
     let count = ends.len();
     for place in 0..count {

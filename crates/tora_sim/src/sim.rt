@@ -2,9 +2,9 @@
 ghost use Rattle.std.specs.Prelude.{◌≡◌, ◌<◌, true, vec_len, vec_capacity};
 ghost use Rattle.tora_world.specs.declared.Event.TheVariants.{Tick, Open, Pull, Need, Transmit, Deliver, Pump, CoreTurn, Arm, Restart};
 ghost use Rattle.tora_world.specs.World.{with_datagram, what_of};
-ghost use Rattle.tora_sim.specs.Nodes.{sending_of};
+ghost use Rattle.tora_sim.specs.Nodes.{is_of, sending_of};
 ghost use Rattle.tora_sim.specs.Store.{numbered, call_of};
-ghost use Rattle.tora_world.specs.Topology.{is_node};
+ghost use Rattle.tora_sim.specs.Keyed.{IsFirst};
 ghost use Rattle.tora_sim.specs.Steps.{Does, Runs};
 
 use crate::lanes::make_room;
@@ -231,18 +231,20 @@ impl Sim {
                 self.nodes[home].arm_receive(true);
                 Ok(())
             }
-            Call::Read => self.arm_files(n, DiskCall::Read),
-            Call::Write => self.arm_files(n, DiskCall::Write),
-            Call::Sync => self.arm_files(n, DiskCall::Sync),
+            Call::Read => self.arm_files(n, home, DiskCall::Read),
+            Call::Write => self.arm_files(n, home, DiskCall::Write),
+            Call::Sync => self.arm_files(n, home, DiskCall::Sync),
         }
     }
 
-    /// The next such call of each life file of a node fails.
-    fn arm_files(&mut self, n: Id, call: DiskCall) -> Result<(), SimError>
-        requires { is_node self.old.topology n ≡ true }
+    /// The next such call of each life file of node `n`, which is the one at the place `home`, fails.
+    fn arm_files(&mut self, n: Id, home: usize, call: DiskCall) -> Result<(), SimError>
+        requires { IsFirst (is_of n) self.old.nodes home }
         ensures { Does self.old (Arm n (call_of call)) result self.new }
     {
-        arm(&mut self.links, n, call);
+        let first = self.nodes[home].first();
+        let count = self.nodes[home].count();
+        arm(&mut self.links, first, count, call);
         Ok(())
     }
 

@@ -1,4 +1,4 @@
-use Rattle.std.proofs.Common.{◌≡◌, ◌<◌, length, arith, sym, subst}
+use Rattle.std.proofs.Common.{◌<◌, length, arith}
 use Rattle.tora_sim.proofs.FreshEnds.{fresh_here, goes_on}
 use Rattle.tora_sim.proofs.restarts.restart_ends.Goals as goal
 

@@ -1,13 +1,14 @@
-use Rattle.std.proofs.Common.{◌≡◌, ◌<◌, ◌≤◌, ◌+◌, ℕ, List, length, sym, ap, ap₂, ◌∙◌, subst, arith}
+use Rattle.std.proofs.Common.{◌≡◌, ℕ, length, ap, ◌∙◌, subst, arith}
 use Rattle.std.specs.Prelude.{slice_set}
 use Rattle.tora_core.specs.Kept.{IsCore}
-use Rattle.tora_seat.specs.Rows.{SeatView, first_seat}
+use Rattle.tora_seat.specs.Rows.{first_seat}
 use Rattle.tora_world.specs.declared.Event.TheVariants.{Restart}
 use Rattle.tora_world.specs.declared.SimError.TheVariants as Refused
 use Rattle.tora_sim.specs.Nodes.{NodeView}
 use Rattle.tora_sim.specs.Store.{SimState, state_of, world_of}
 use Rattle.tora_sim.specs.Steps.{IsDone, IsRefused}
-use Rattle.tora_sim.specs.Restarts.{core_again, AreRestarted}
+use Rattle.tora_sim.specs.Restarts.{core_again, restarted}
+use Rattle.tora_sim.specs.Links.{AreChanged}
 use Rattle.tora_sim.proofs.Opens.{same_read}
 use Rattle.tora_sim.proofs.Turning.{ends_within}
 use Rattle.tora_sim.proofs.Restarting.{restart_starved, restart_done, restart_store}
@@ -42,7 +43,7 @@ restart_ends-requires-clause-within c =
     let many = c.in-Ok-new_ends.ensures.as_many in
     omega (arith, within, c.first-first.ensures, count, many)
 
-module _ (c : goal.After-self-1) where
+module _ (c : goal.After-drop-ends) where
   abbrev x : NodeView
   x = c.index_mut.result.now
 
@@ -52,13 +53,13 @@ module _ (c : goal.After-self-1) where
   made : c.in-Ok.seat ≡ first_seat (core_again x.seat.core)
   made = c.in-Ok.ensures.made ∙ ap (λ (z : NodeView). first_seat (core_again z.seat.core)) (same_read c.self.inside.nodes.items c.in-Some.home c.index-3.result.now x c.in-Some.ensures.first.within c.index-3.ensures c.index_mut.ensures.value)
 
-  ends : AreRestarted c.args.torn c.self.inside.links.items c.restart_ends.new.links.items x.first x.count
+  ends : AreChanged (restarted c.args.torn) c.self.inside.links.items c.restart_ends.new.links.items x.first x.count
   ends =
       let first : c.first-first.result ≡ x.first = c.first-first.ensures ∙ ap (λ (z : NodeView). z.first) (same_read c.self.inside.nodes.items c.in-Some.home c.index.result.now x c.in-Some.ensures.first.within c.index.ensures c.index_mut.ensures.value) in
       let count : length c.in-Ok-new_ends.ends.items ≡ x.count =
       c.in-Ok-new_ends.ensures.as_many ∙ c.count-count.ensures ∙ ap (λ (z : NodeView). z.count) (same_read c.self.inside.nodes.items c.in-Some.home c.index-2.result.now x c.in-Some.ensures.first.within c.index-2.ensures c.index_mut.ensures.value) in
-      subst (λ (m : ℕ). AreRestarted c.args.torn c.self.inside.links.items c.restart_ends.new.links.items x.first m) count
-      (subst (λ (m : ℕ). AreRestarted c.args.torn c.self.inside.links.items c.restart_ends.new.links.items m (length c.in-Ok-new_ends.ends.items)) first c.restart_ends.ensures)
+      subst (λ (m : ℕ). AreChanged (restarted c.args.torn) c.self.inside.links.items c.restart_ends.new.links.items x.first m) count
+      (subst (λ (m : ℕ). AreChanged (restarted c.args.torn) c.self.inside.links.items c.restart_ends.new.links.items m (length c.in-Ok-new_ends.ends.items)) first c.restart_ends.ensures)
 
 pub invariant_of-self : goal.invariant_of-self
 invariant_of-self c =
