@@ -9,3 +9,12 @@ pub mod Receives
 pub mod Pumps
 pub mod Runs
 pub mod Arms
+pub mod ItemSteps
+pub mod SameLinks
+pub mod Rooms
+pub mod Offering
+pub mod Served
+pub mod Turning
+pub mod FreshEnds
+pub mod Restarting
+pub mod NodeEnds

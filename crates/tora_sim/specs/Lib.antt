@@ -5,3 +5,6 @@ pub mod Nodes
 pub mod Topologies
 pub mod Store
 pub mod Steps
+pub mod Lanes
+pub mod Turns
+pub mod Restarts

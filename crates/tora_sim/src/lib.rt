@@ -2,10 +2,13 @@
 #![tactic(auto)]
 
 mod files;
+mod lanes;
 mod links;
 mod nodes;
+mod restarts;
 mod sim;
 mod topology;
+mod turns;
 
 pub use sim::Sim;
 pub use topology::Topology;
