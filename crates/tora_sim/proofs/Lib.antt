@@ -9,3 +9,5 @@ pub mod Receives
 pub mod Pumps
 pub mod Runs
 pub mod Arms
+pub mod Named
+pub mod Repeats

@@ -8,5 +8,5 @@ mod sim;
 mod topology;
 
 pub use sim::Sim;
-pub use topology::Topology;
+pub use topology::{MOST_NODES, Topology};
 pub use tora_world::{Call, Event, SimError};
