@@ -7,35 +7,38 @@ ghost use Rattle.tora_sim.specs.Keyed.{IsFirst};
 
 use crate::files::FileSlot;
 use std::marker::Model;
-use tora_arq::{LinkEnd, LinkEvent, lives_are_bound_once};
+use tora_arq::{Life, LinkEnd, LinkEvent, lives_are_bound_once};
 use tora_frame::Frame;
 use tora_height::Id;
 use tora_life::DiskCall;
+use tora_packet::Packet;
 use tora_seat::Cargo;
 
 /// The end of a link at one node, with its life file and the lane from the node's core to it.
 #[derive(Drop)]
 pub struct LinkSlot {
-    node: Id,
-    peer: Id,
+    pub(crate) node: Id,
+    pub(crate) peer: Id,
     /// The place of the peer among the node's neighbours.
-    seat: usize,
-    end: LinkEnd,
-    file: FileSlot,
+    pub(crate) seat: usize,
+    pub(crate) end: LinkEnd,
+    pub(crate) file: FileSlot,
     /// All cargoes that were ever put into the lane.
-    put: Vec<Cargo>,
+    pub(crate) put: Vec<Cargo>,
     /// How many of them are no longer in the lane.
-    pulled: usize,
+    pub(crate) pulled: usize,
+    /// The packets of the peer that the node's core ever stepped, each with its life.
+    pub(crate) steps: Vec<(Life, Packet)>,
 }
 
 impl Model for LinkSlot {
-    ghost use Rattle.std.specs.Prelude.{◌≤◌, length};
+    ghost use Rattle.std.specs.Prelude.{◌≤◌, length, vec_capacity};
     ghost use Rattle.tora_sim.specs.Files.{disk_of, IsDrawn};
     ghost use Rattle.tora_sim.specs.Links.{LinkView, link_of};
 
     ghost Value = { LinkView };
 
-    ghost view = { λ s. link_of s.node s.peer s.seat s.end (disk_of s.file) s.put.items s.pulled };
+    ghost view = { λ s. link_of s.node s.peer s.seat s.end (disk_of s.file) s.put.items s.pulled (vec_capacity s.put) s.steps.items (vec_capacity s.steps) };
 
     ghost invariant = { λ s. IsDrawn s.end.state.last_life (disk_of s.file) × (s.pulled ≤ length s.put.items) };
 }

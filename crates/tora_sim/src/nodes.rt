@@ -6,9 +6,9 @@ ghost use Rattle.tora_sim.specs.Nodes.{NodeView, is_of, AreRising, after_item};
 use crate::SimError;
 use std::collections::VecDeque;
 use std::marker::Model;
-use tora_core::Core;
+use tora_core::Input;
 use tora_height::Id;
-use tora_seat::{Item, What};
+use tora_seat::{CoreSeat, Item, What};
 
 /// What becomes of the next datagram that a node sends.
 #[derive(Clone, Copy, Debug, PartialEq, Eq)]
@@ -21,16 +21,22 @@ pub enum Sending {
 /// A node, with the lane into its core.
 #[derive(Drop)]
 pub struct NodeSlot {
-    node: Id,
+    pub(crate) node: Id,
+    /// The place of its first link end among all link ends.
+    pub(crate) first: usize,
     /// How many neighbours it has.
-    count: usize,
-    core: Core,
-    items: VecDeque<Item>,
+    pub(crate) count: usize,
+    /// Its core's seat.
+    pub(crate) seat: CoreSeat,
+    /// The inputs that its core accepted since the node's last restart, each with its tick.
+    pub(crate) inputs: Vec<(Input, u64)>,
+    /// The lane into its core.
+    pub(crate) items: VecDeque<Item>,
     /// How many items each seat has put since the node's last restart.
-    counts: [u64; 9],
-    sending: Sending,
+    pub(crate) counts: [u64; 9],
+    pub(crate) sending: Sending,
     /// Whether the next datagram for it is not handed over.
-    receive: bool,
+    pub(crate) receive: bool,
 }
 
 impl Model for NodeSlot {
@@ -38,7 +44,7 @@ impl Model for NodeSlot {
 
     ghost Value = { NodeView };
 
-    ghost view = { λ s. node_of s.node s.count s.core s.items.items s.counts s.sending s.receive };
+    ghost view = { λ s. node_of s.node s.first s.count s.seat s.inputs.items s.items.items s.counts s.sending s.receive };
 }
 
 impl NodeSlot {

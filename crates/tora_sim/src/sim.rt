@@ -24,12 +24,12 @@ const MOST_ITEMS: usize = 1024;
 /// A simulated world.
 #[derive(Drop)]
 pub struct Sim {
-    topology: Topology,
-    times: Times,
-    clock: u64,
-    nodes: Vec<NodeSlot>,
-    links: Vec<LinkSlot>,
-    datagrams: Vec<Frame>,
+    pub(crate) topology: Topology,
+    pub(crate) times: Times,
+    pub(crate) clock: u64,
+    pub(crate) nodes: Vec<NodeSlot>,
+    pub(crate) links: Vec<LinkSlot>,
+    pub(crate) datagrams: Vec<Frame>,
 }
 
 impl Model for Sim {
