@@ -5,3 +5,4 @@ pub mod Nodes
 pub mod Topologies
 pub mod Store
 pub mod Steps
+pub mod Readers

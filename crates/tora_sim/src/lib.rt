@@ -2,8 +2,10 @@
 #![tactic(auto)]
 
 mod files;
+mod first;
 mod links;
 mod nodes;
+mod readers;
 mod sim;
 mod topology;
 

@@ -1,13 +1,13 @@
 //! Which nodes there are, which links, and the destinations of their tables.
-ghost use Rattle.std.specs.Prelude.{◌≡◌, ◌⊎◌, ◌<◌, None, Some, IfErr, IfOk, MatchOption, MatchBool, length, map, nat_lt, position};
+ghost use Rattle.std.specs.Prelude.{◌≡◌, ◌⊎◌, ◌<◌, ◌≤◌, None, Some, IfErr, IfOk, MatchOption, MatchBool, length, map, nat_lt, position};
 ghost use Rattle.std.specs.List.{list_any};
-ghost use Rattle.tora_core.specs.Numbers.{has_number, has_repeat, with_number};
-ghost use Rattle.tora_world.specs.Topology.{Link, topology_fault, nodes_in, with_node, different, different_neighbours, other_ends, has_too_many, is_same_link, has_link, has_repeated_link, has_own_link};
+ghost use Rattle.tora_core.specs.Numbers.{ascending, has_number, has_repeat, with_number};
+ghost use Rattle.tora_world.specs.Topology.{Link, topology_fault, nodes_in, neighbours_of, with_node, different, different_neighbours, other_ends, has_too_many, is_same_link, has_link, has_repeated_link, has_own_link};
 ghost use Rattle.tora_sim.specs.Topologies.{topology_of, link_in, links_in, with_end, AreNumbers};
 ghost use Rattle.arrayvec.specs.ArrayVec.{array_vec_len};
 
 use arrayvec::ArrayVec;
-use std::alloc::Global;
+use std::alloc::{AllocError, Global};
 use std::marker::Model;
 use tora_core::{CoreError, MOST_DESTINATIONS, MOST_NEIGHBOURS};
 use tora_height::Id;
@@ -19,7 +19,7 @@ pub const MOST_NODES: usize = 64;
 ///
 /// There are at most 64 nodes, each with at most 8 neighbours, and at most 16 destinations. No link, either way round,
 /// and no destination is named twice, and no link leads from a node to itself. No number is 0.
-#[derive(Drop)]
+#[derive(Debug, Drop)]
 pub struct Topology {
     links: Vec<(Id, Id)>,
     destinations: Vec<Id>,
@@ -84,6 +84,51 @@ impl Topology {
     {
         &self.destinations
     }
+
+    /// The nodes, in ascending order.
+    pub(crate) fn nodes(&self) -> ArrayVec<Id, MOST_NODES>
+        ensures { result.items ≡ nodes_in self.now.links }
+    {
+        match nodes_of(&self.links) {
+            Some(nodes) => nodes,
+            None => unreachable!(),
+        }
+    }
+
+    /// The neighbours of a node, in ascending order.
+    pub(crate) fn neighbours(&self, n: Id) -> ArrayVec<Id, MOST_NEIGHBOURS>
+        ensures { result.items ≡ neighbours_of self.now n }
+    {
+        neighbours_of(&self.links, n)
+    }
+
+    /// The same topology once more.
+    pub(crate) fn copied(&self, alloc: Global) -> Result<Topology, AllocError>
+        ensures { IfOk result (λ t. t ≡ self.now) }
+    {
+        let links = Vec::from_slice(alloc, &self.links)?;
+        let destinations = Vec::from_slice(alloc, &self.destinations)?;
+        Ok(Topology {
+            links,
+            destinations,
+        })
+    }
+}
+
+/// The neighbours that links give a node, in ascending order.
+fn neighbours_of(links: &[(Id, Id)], n: Id) -> ArrayVec<Id, MOST_NEIGHBOURS>
+    requires { length (other_ends n (links_in links.now)) ≤ 8 }
+    ensures { result.items ≡ ascending (other_ends n (links_in links.now)) }
+{
+    let mut neighbours = ArrayVec::new();
+    for link in links {
+        if link.0 == n {
+            insert_number(&mut neighbours, link.1);
+        } else if link.1 == n {
+            insert_number(&mut neighbours, link.0);
+        }
+    }
+    neighbours
 }
 
 // ---- why there is no such topology
