@@ -11,3 +11,5 @@ pub mod Runs
 pub mod Arms
 pub mod Named
 pub mod Repeats
+pub mod Sound
+pub mod Lookups

@@ -123,7 +123,7 @@ without-with_number n k (m ∷ ns) =
     let two = without-front n m ns in
     omega arith)
 
-has-with_number : (n k : ℕ) (ns : List ℕ) → has_number n (with_number k ns) ≡ ((k == n) || has_number n ns)
+pub has-with_number : (n k : ℕ) (ns : List ℕ) → has_number n (with_number k ns) ≡ ((k == n) || has_number n ns)
 has-with_number n k [] = refl
 has-with_number n k (m ∷ ns) =
     cond_both (nat_lt k m) (k ∷ m ∷ ns) (m ∷ with_number k ns) (λ (xs : List ℕ). has_number n xs ≡ ((k == n) || has_number n (m ∷ ns)))
