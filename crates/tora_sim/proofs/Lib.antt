@@ -13,3 +13,5 @@ pub mod Named
 pub mod Repeats
 pub mod Sound
 pub mod Lookups
+pub mod Peers
+pub mod FirstLists

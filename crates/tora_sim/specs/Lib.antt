@@ -6,3 +6,4 @@ pub mod Topologies
 pub mod Store
 pub mod Steps
 pub mod Readers
+pub mod Firsts

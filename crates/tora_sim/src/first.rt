@@ -1,8 +1,11 @@
 //! A world at its start.
-ghost use Rattle.std.specs.Prelude.{◌≡◌, ◌++◌, IfErr, IfOk, OnOk, map, length};
+ghost use Rattle.std.specs.Prelude.{◌≡◌, ◌≢◌, ◌<◌, IfErr, IfOk, MatchResult};
 ghost use Rattle.tora_arq.specs.declared.TheConstants.Times.{STANDARD};
+ghost use Rattle.tora_seat.specs.Rows.{first_seat};
+ghost use Rattle.tora_world.specs.Topology.{new_core};
 ghost use Rattle.tora_world.specs.World.{first_world};
 ghost use Rattle.tora_sim.specs.Store.{world_of};
+ghost use Rattle.tora_sim.specs.Firsts.{IsFirstEnd, AreAdded, IsMade};
 
 use crate::SimError;
 use crate::files::open;
@@ -12,8 +15,8 @@ use crate::sim::Sim;
 use crate::topology::Topology;
 use std::alloc::Global;
 use std::collections::VecDeque;
-use tora_arq::{LinkEnd, Times};
-use tora_core::Core;
+use tora_arq::{LinkEnd, Times, standard_times};
+use tora_core::{Core, numbers_are_put_in_order, numbers_come_and_go};
 use tora_height::Id;
 use tora_life::MemDisk;
 use tora_seat::CoreSeat;
@@ -31,6 +34,8 @@ impl Sim {
         ensures made { IfOk result (λ sim. world_of sim ≡ first_world topology.now STANDARD) }
         ensures refused { IfErr result (λ e. e ≡ SimError.Memory) }
     {
+        numbers_are_put_in_order();
+        numbers_come_and_go();
         let Ok(topology) = topology.copied(alloc) else {
             return Err(SimError::Memory);
         };
@@ -58,15 +63,19 @@ fn add_node(
     n: Id,
     nodes: &mut Vec<NodeSlot>,
     links: &mut Vec<LinkSlot>,
-) -> Result<(), SimError> {
+) -> Result<(), SimError>
+    requires { 0 < n }
+    ensures { MatchResult result (λ _. IsMade topology.now n nodes.old.items links.old.items nodes.new.items links.new.items) (λ e. e ≡ SimError.Memory) }
+{
     let first = links.len();
     let neighbours = topology.neighbours(n);
-    let seat = first_seat(alloc, topology, n, neighbours.as_slice())?;
-    add_links(alloc, n, neighbours.as_slice(), links)?;
+    let count = neighbours.len();
+    let seat = new_seat(alloc, topology, n)?;
+    add_links(alloc, topology, n, links)?;
     let node = NodeSlot {
         node: n,
         first,
-        count: neighbours.len(),
+        count,
         seat,
         inputs: Vec::new(alloc),
         items: VecDeque::new(alloc),
@@ -80,13 +89,13 @@ fn add_node(
     }
 }
 
-fn first_seat(
-    alloc: Global,
-    topology: &Topology,
-    n: Id,
-    neighbours: &[Id],
-) -> Result<CoreSeat, SimError> {
-    let Ok(core) = Core::new(alloc, n, neighbours, topology.destinations()) else {
+/// The seat of a node's core before any input.
+fn new_seat(alloc: Global, topology: &Topology, n: Id) -> Result<CoreSeat, SimError>
+    requires { 0 < n }
+    ensures { MatchResult result (λ seat. seat ≡ first_seat (new_core topology.now n)) (λ e. e ≡ SimError.Memory) }
+{
+    let neighbours = topology.neighbours(n);
+    let Ok(core) = Core::new(alloc, n, neighbours.as_slice(), topology.destinations()) else {
         return Err(SimError::Memory);
     };
     match CoreSeat::new(alloc, core) {
@@ -95,29 +104,41 @@ fn first_seat(
     }
 }
 
+/// Adds the link ends of a node.
 fn add_links(
     alloc: Global,
+    topology: &Topology,
     n: Id,
-    neighbours: &[Id],
     links: &mut Vec<LinkSlot>,
-) -> Result<(), SimError> {
-    for (seat, k) in neighbours.iter().enumerate() {
-        add_link(alloc, n, *k, seat, links)?;
+) -> Result<(), SimError>
+    requires { 0 < n }
+    ensures { MatchResult result (λ _. AreAdded topology.now n links.old.items links.new.items) (λ e. e ≡ SimError.Memory) }
+{
+    numbers_are_put_in_order();
+    let neighbours = topology.neighbours(n);
+    let peers = neighbours.as_slice();
+    for seat in 0..peers.len() {
+        let link = new_link(alloc, n, peers[seat], seat)?;
+        match links.push(link) {
+            Ok(()) => {}
+            Err(_) => return Err(SimError::Memory),
+        }
     }
     Ok(())
 }
 
-fn add_link(
-    alloc: Global,
-    n: Id,
-    k: Id,
-    seat: usize,
-    links: &mut Vec<LinkSlot>,
-) -> Result<(), SimError> {
+/// The end of a link at its start.
+fn new_link(alloc: Global, n: Id, k: Id, seat: usize) -> Result<LinkSlot, SimError>
+    requires me { 0 < n }
+    requires peer { 0 < k }
+    requires other { n ≢ k }
+    ensures { MatchResult result (λ link. IsFirstEnd n k seat link) (λ e. e ≡ SimError.Memory) }
+{
+    standard_times();
     let Ok(end) = LinkEnd::new(alloc, n, k, Times::STANDARD) else {
         return Err(SimError::Memory);
     };
-    let link = LinkSlot {
+    Ok(LinkSlot {
         node: n,
         peer: k,
         seat,
@@ -126,9 +147,5 @@ fn add_link(
         put: Vec::new(alloc),
         pulled: 0,
         steps: Vec::new(alloc),
-    };
-    match links.push(link) {
-        Ok(()) => Ok(()),
-        Err(_) => Err(SimError::Memory),
-    }
+    })
 }

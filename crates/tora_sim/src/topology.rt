@@ -3,7 +3,7 @@ ghost use Rattle.std.specs.Prelude.{◌≡◌, ◌⊎◌, ◌<◌, ◌≤◌, No
 ghost use Rattle.std.specs.List.{list_any};
 ghost use Rattle.tora_core.specs.Numbers.{ascending, has_number, has_repeat, with_number};
 ghost use Rattle.tora_world.specs.Topology.{Link, topology_fault, nodes_in, neighbours_of, with_node, different, different_neighbours, other_ends, has_too_many, is_same_link, has_link, has_repeated_link, has_own_link};
-ghost use Rattle.tora_sim.specs.Topologies.{topology_of, link_in, links_in, with_end, AreNumbers};
+ghost use Rattle.tora_sim.specs.Topologies.{topology_of, link_in, links_in, with_end, AreNumbers, IsTopology};
 ghost use Rattle.arrayvec.specs.ArrayVec.{array_vec_len};
 
 use arrayvec::ArrayVec;
@@ -87,7 +87,8 @@ impl Topology {
 
     /// The nodes, in ascending order.
     pub(crate) fn nodes(&self) -> ArrayVec<Id, MOST_NODES>
-        ensures { result.items ≡ nodes_in self.now.links }
+        ensures items { result.items ≡ nodes_in self.now.links }
+        ensures kept { IsTopology self.now }
     {
         match nodes_of(&self.links) {
             Some(nodes) => nodes,
@@ -97,7 +98,8 @@ impl Topology {
 
     /// The neighbours of a node, in ascending order.
     pub(crate) fn neighbours(&self, n: Id) -> ArrayVec<Id, MOST_NEIGHBOURS>
-        ensures { result.items ≡ neighbours_of self.now n }
+        ensures items { result.items ≡ neighbours_of self.now n }
+        ensures kept { IsTopology self.now }
     {
         neighbours_of(&self.links, n)
     }

@@ -14,5 +14,5 @@ loop-n-preserved c =
     let n : ℕ = get_or c.as_slice-n-items.result.now c.loop-n.n-index 0 in
     let same = ap (λ (w : SimState). ends_at w.topology (get_or c.as_slice-n-items.result.now c.loop-n.n-index 0)) c.self.view_is in
     c.in_ok-put_ends.ensures
-    ∙ ap₂ (λ (xs ys : List (ℕ × ℕ)). xs ++ ys) c.loop-n.invariant (ap (map (λ k. (n, k))) (c.as_slice.ensures.value ∙ c.neighbours-neighbours.ensures) ∙ same)
+    ∙ ap₂ (λ (xs ys : List (ℕ × ℕ)). xs ++ ys) c.loop-n.invariant (ap (map (λ k. (n, k))) (c.as_slice.ensures.value ∙ c.neighbours-neighbours.ensures.items) ∙ same)
     ∙ flat_map_more (ends_at t) [] (take i ns) n ∙ ap (flat_map (ends_at t)) (sym (take_more ns i 0 c.loop-n-test.true))
