@@ -15,3 +15,9 @@ pub mod Sound
 pub mod Lookups
 pub mod Peers
 pub mod FirstLists
+pub mod ItemSteps
+pub mod SameLinks
+pub mod Rooms
+pub mod Offering
+pub mod Served
+pub mod Turning

@@ -10,6 +10,7 @@ use Rattle.tora_arq.specs.declared.Times.{Times}
 use Rattle.tora_arq.specs.Settings.{settings_of}
 use Rattle.tora_world.specs.World.{place_of}
 use Rattle.tora_world.specs.Topology.{Topology, is_node, is_link, neighbours_of}
+use Rattle.tora_core.specs.Kept.{destinations_of}
 use Rattle.tora_world.specs.LinkMachine.{put_at}
 use Rattle.tora_seat.specs.Serving.{put_one}
 use Rattle.tora_sim.specs.Keyed.{IsFirst, IsOrdered}
@@ -137,7 +138,7 @@ pub record IsSameLink (x new : LinkView) : Type 0 where
   pub settings : new.settings ≡ x.settings
   pub pulled : x.pulled ≤ length x.put → new.pulled ≤ length new.put
 
-map_read : (f : LinkView → LinkView) (links : List LinkView) (j : ℕ) (link : LinkView) → slice_get (map f links) j ≡ Some link → (old : LinkView) × (slice_get links j ≡ Some old) × (f old ≡ link)
+pub map_read : (f : LinkView → LinkView) (links : List LinkView) (j : ℕ) (link : LinkView) → slice_get (map f links) j ≡ Some link → (old : LinkView) × (slice_get links j ≡ Some old) × (f old ≡ link)
 map_read f [] j link e = absurd (let z : None ≡ Some link = e in cc)
 map_read f (x ∷ links) zero link e = (x, refl, cc)
 map_read f (x ∷ links) (suc j) link e = map_read f links j link e
@@ -148,8 +149,8 @@ ends_map t links f same y h = record {
   within = subst (λ m. y.first + y.count ≤ m) (sym (length-map links f)) h.within;
   at = λ place k link e q.
       let o = map_read f links (y.first + place) link q in
-      let told = h.at place k o.0 e o.1.0 in
-      (ap (λ (z : LinkView). z.node) (sym o.1.1) ∙ (same o.0).node ∙ told.0, ap (λ (z : LinkView). z.peer) (sym o.1.1) ∙ (same o.0).peer ∙ told.1);
+      let told = h.at place k o.0 e o.1 in
+      (ap (λ (z : LinkView). z.node) (sym o.2) ∙ (same o.0).node ∙ told.0, ap (λ (z : LinkView). z.peer) (sym o.2) ∙ (same o.0).peer ∙ told.1);
 }
 
 module _ (n k : ℕ) (links : List LinkView) (i : ℕ) (x new : LinkView) (first : IsFirst (is_at n k) links i) (there : slice_get links i ≡ Some x) (same : IsSameLink x new) where
@@ -228,8 +229,8 @@ module _ (n k : ℕ) (links : List LinkView) (i : ℕ) (x new : LinkView) (first
     within = subst (λ m. y.first + y.count ≤ m) (sym (length-set links i new)) h.within;
     at = λ place k link e q.
         let o = was (y.first + place) link q in
-        let told = h.at place k o.0 e o.1.0 in
-        (sym o.1.1.0 ∙ told.0, sym o.1.1.1 ∙ told.1);
+        let told = h.at place k o.0 e o.1 in
+        (sym o.2 ∙ told.0, sym o.3 ∙ told.1);
   }
 
   pub store_set : (t : Topology) (times : Times) (clock : ℕ) (nodes : List NodeView) (ds : List FrameParts) → IsStore (state_of t times clock nodes links ds) → IsStore (state_of t times clock nodes (set links i new) ds)
@@ -250,7 +251,9 @@ pub record IsSameNode (x new : NodeView) : Type 0 where
   pub node : new.node ≡ x.node
   pub first : new.first ≡ x.first
   pub count : new.count ≡ x.count
+  pub me : new.seat.core.me ≡ x.seat.core.me
   pub neighbours : new.seat.core.neighbours ≡ x.seat.core.neighbours
+  pub destinations : destinations_of new.seat.core.views ≡ destinations_of x.seat.core.views
   pub seats : length new.counts ≡ length x.counts
 
 module _ (n : ℕ) (nodes : List NodeView) (i : ℕ) (x new : NodeView) (first : IsFirst (is_of n) nodes i) (there : slice_get nodes i ≡ Some x) (same : IsSameNode x new) where
@@ -282,6 +285,17 @@ module _ (n : ℕ) (nodes : List NodeView) (i : ℕ) (x new : NodeView) (first :
       go a true = refl
       go a false = refl
 
+  pub node_changes_by : {A : Type 0} → (f : ℕ → Option NodeView → A) → ◌≡◌ {A = ℕ → A} (λ a. f a (node_at (set nodes i new) a)) (put_one (λ a. f a (node_at nodes a)) n (f n (Some new)))
+  node_changes_by {A} f = fun_ext (λ a. ap (f a) (found_node a) ∙ go a (cases_Bool (nat_eq a n)))
+    where
+      go : (a : ℕ) → (nat_eq a n ≡ true) ⊎ (nat_eq a n ≡ false) → f a (put_one (node_at nodes) n (Some new) a) ≡ put_one (λ m. f m (node_at nodes m)) n (f n (Some new)) a
+      go a (inl t) =
+          ap (λ c. f a (if c then Some new else node_at nodes a)) t ∙ ap (λ m. f m (Some new)) (eqb-true a n t)
+          ∙ sym (ap (λ c. if c then f n (Some new) else f a (node_at nodes a)) t)
+      go a (inr r) =
+          ap (λ c. f a (if c then Some new else node_at nodes a)) r
+          ∙ sym (ap (λ c. if c then f n (Some new) else f a (node_at nodes a)) r)
+
   -- what is read of each node, by its number too
   pub node_stays_by : {A : Type 0} → (f : ℕ → Option NodeView → A) → f n (Some new) ≡ f n (Some x) → ◌≡◌ {A = ℕ → A} (λ a. f a (node_at (set nodes i new) a)) (λ a. f a (node_at nodes a))
   node_stays_by {A} f e = fun_ext (λ a. ap (f a) (found_node a) ∙ go a (cases_Bool (nat_eq a n)))
@@ -301,7 +315,9 @@ module _ (n : ℕ) (nodes : List NodeView) (i : ℕ) (x new : NodeView) (first :
     count = same.count ∙ h.count ∙ ap (λ y. length (neighbours_of t y)) (sym same.node);
     room = subst (λ m. m < 9) (sym same.count) h.room;
     seats = same.seats ∙ h.seats;
+    me = same.me ∙ h.me ∙ sym same.node;
     neighbours = same.neighbours ∙ h.neighbours ∙ ap (neighbours_of t) (sym same.node);
+    destinations = same.destinations ∙ h.destinations;
   }
 
   pub ends_of_set : (t : Topology) (links : List LinkView) → AreEndsOf t links x → AreEndsOf t links new

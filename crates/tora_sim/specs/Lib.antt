@@ -7,3 +7,5 @@ pub mod Store
 pub mod Steps
 pub mod Readers
 pub mod Firsts
+pub mod Lanes
+pub mod Turns

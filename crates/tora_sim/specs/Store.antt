@@ -13,6 +13,8 @@ use Rattle.tora_world.specs.declared.Call.TheVariants as Fails
 use Rattle.tora_seat.specs.declared.Item.{Item}
 use Rattle.tora_seat.specs.declared.Cargo.{Cargo}
 use Rattle.tora_core.specs.declared.Input.{Input}
+use Rattle.tora_core.specs.Numbers.{ascending}
+use Rattle.tora_core.specs.Kept.{destinations_of}
 use Rattle.tora_seat.specs.Serving.{SeatState, Parcel}
 use Rattle.tora_seat.specs.Rows as Rows
 use Rattle.tora_world.specs.Topology.{Topology, is_node, is_link, neighbours_of}
@@ -119,7 +121,9 @@ pub record IsNodeOf (t : Topology) (node : NodeView) : Type 0 where
   pub count : node.count ≡ length (neighbours_of t node.node)
   pub room : node.count < 9
   pub seats : length node.counts ≡ 9
+  pub me : node.seat.core.me ≡ node.node
   pub neighbours : node.seat.core.neighbours ≡ neighbours_of t node.node
+  pub destinations : destinations_of node.seat.core.views ≡ ascending t.destinations
 
 -- the link ends of a node stand one behind the other, in the order of its neighbours
 pub record AreEndsOf (t : Topology) (links : List LinkView) (node : NodeView) : Type 0 where

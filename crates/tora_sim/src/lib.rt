@@ -3,11 +3,13 @@
 
 mod files;
 mod first;
+mod lanes;
 mod links;
 mod nodes;
 mod readers;
 mod sim;
 mod topology;
+mod turns;
 
 pub use sim::Sim;
 pub use topology::{MOST_NODES, Topology};

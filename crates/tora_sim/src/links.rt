@@ -1,10 +1,12 @@
 //! The link ends of all nodes, one behind the other.
-ghost use Rattle.std.specs.Prelude.{◌≡◌, ◌<◌, ◌≤◌, ◌+◌, ℕ, ⊤, IsTrue, IfSome, IfNone, None, MatchOption, find, length, map, is_some, nat_lt, slice_get};
+ghost use Rattle.std.specs.Prelude.{◌≡◌, ◌<◌, ◌≤◌, ◌+◌, ◌++◌, ◌∷◌, [], ℕ, ⊤, IsTrue, IfSome, IfNone, OnOk, IfErr, None, MatchOption, find, length, map, is_some, nat_lt, slice_get};
 ghost use Rattle.tora_arq.specs.LinkEnd.{is_closed, after_frame, after_tick, frame_due, after_transmit, first_event, after_poll_event};
 ghost use Rattle.tora_world.specs.World.{after_cargo};
 ghost use Rattle.tora_sim.specs.Links.{with_state, after_open_at, after_arm, after_pull_at, is_at, AreRising, ticked, armed_of};
 ghost use Rattle.tora_sim.specs.Keyed.{IsFirst};
+ghost use Rattle.tora_sim.specs.Lanes.{after_offer_at, has_place, bare, HasRoom};
 
+use crate::SimError;
 use crate::files::FileSlot;
 use std::marker::Model;
 use tora_arq::{Life, LinkEnd, LinkEvent, lives_are_bound_once};
@@ -13,6 +15,9 @@ use tora_height::Id;
 use tora_life::DiskCall;
 use tora_packet::Packet;
 use tora_seat::Cargo;
+
+/// The most cargoes that wait in a lane.
+const MOST_CARGOES: usize = 256;
 
 /// The end of a link at one node, with its life file and the lane from the node's core to it.
 #[derive(Drop)]
@@ -155,6 +160,51 @@ impl LinkSlot {
         let cargo = self.put[self.pulled];
         self.pulled += 1;
         give(&mut self.end, &cargo);
+    }
+
+    /// Takes the memory for all that one item of the node can put here: cargoes up to 256 that wait, and a packet that is
+    /// stepped.
+    ///
+    /// # Errors
+    /// `Memory`. The end is as it was either way.
+    pub fn make_room(&mut self) -> Result<(), SimError>
+        ensures same { bare self.new ≡ bare self.old }
+        ensures room { OnOk result (HasRoom self.new) }
+        ensures memory { IfErr result (λ e. e ≡ SimError.Memory) }
+    {
+        let waiting = self.put.len() - self.pulled;
+        if self
+            .put
+            .reserve(MOST_CARGOES.saturating_sub(waiting))
+            .is_err()
+        {
+            return Err(SimError::Memory);
+        }
+        if self.steps.reserve(1).is_err() {
+            return Err(SimError::Memory);
+        }
+        Ok(())
+    }
+
+    /// Puts a cargo at the back of the lane, where fewer than 256 wait, and answers whether it was put.
+    pub fn offer(&mut self, cargo: Cargo) -> bool
+        requires { self.old.pulled + 256 ≤ self.old.room }
+        ensures put { result ≡ has_place self.old }
+        ensures lane { self.new ≡ after_offer_at self.old cargo result }
+    {
+        if self.put.len() - self.pulled >= MOST_CARGOES {
+            return false;
+        }
+        self.put.push_reserved(cargo);
+        true
+    }
+
+    /// Notes a packet of the peer that the node's core stepped, with its life.
+    pub fn note_step(&mut self, life: Life, packet: Packet)
+        requires { length self.old.steps < self.old.step_room }
+        ensures { self.new ≡ record self.old { steps = self.old.steps ++ record { life = life; packet = packet } ∷ [] } }
+    {
+        self.steps.push_reserved((life, packet));
     }
 }
 

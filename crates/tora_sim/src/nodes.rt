@@ -1,14 +1,18 @@
 //! The nodes: the core of each, and the lane into it.
-ghost use Rattle.std.specs.Prelude.{◌≡◌, ◌<◌, ◌≤◌, ℕ, None, Some, IfSome, IfNone, MatchResult, find, length, slice_index};
+ghost use Rattle.std.specs.Prelude.{◌≡◌, ◌<◌, ◌≤◌, ◌+◌, ◌++◌, ℕ, None, Some, IfSome, IfNone, IfOk, IfErr, OnErr, MatchResult, find, length, map, slice_index, vec_len, vec_capacity};
+ghost use Rattle.tora_sim.specs.Turns.{IsServed};
 ghost use Rattle.tora_sim.specs.Keyed.{IsFirst};
 ghost use Rattle.tora_sim.specs.Nodes.{NodeView, is_of, AreRising, after_item};
 
 use crate::SimError;
+use crate::lanes::NodeLanes;
 use std::collections::VecDeque;
 use std::marker::Model;
-use tora_core::Input;
+use tora_core::{Input, tables_stay};
 use tora_height::Id;
-use tora_seat::{CoreSeat, Item, What};
+use tora_seat::{
+    CoreSeat, Item, Stepped, What, accepted_inputs_make_the_core, items_step_few_inputs, offers_are_their_own_answers,
+};
 
 /// What becomes of the next datagram that a node sends.
 #[derive(Clone, Copy, Debug, PartialEq, Eq)]
@@ -119,6 +123,61 @@ impl NodeSlot {
         }
         self.counts[seat] = number;
         Ok(())
+    }
+
+    /// The place of its first link end among all link ends.
+    pub fn first(&self) -> usize
+        ensures { result ≡ self.now.first }
+    {
+        self.first
+    }
+
+    /// The packet that was stepped for the item last served, if one was.
+    pub fn stepped(&self) -> Option<Stepped>
+        ensures { result ≡ self.now.seat.stepped }
+    {
+        self.seat.stepped()
+    }
+
+    /// Serves the first item of the lane over the lanes to the neighbours, and notes the inputs that the core accepted.
+    ///
+    /// # Errors
+    /// `Memory`, which changes nothing.
+    pub fn serve(&mut self, lanes: &mut NodeLanes) -> Result<Item, SimError>
+        requires waits { 0 < length self.old.items }
+        requires neighbours { length self.old.seat.core.neighbours ≤ lanes.old.count }
+        ensures served { IfOk result (λ item. IsServed self.old lanes.old item self.new lanes.new) }
+        ensures memory { IfErr result (λ e. e ≡ SimError.Memory) }
+        ensures kept { OnErr result ((self.new ≡ self.old) × (lanes.new ≡ lanes.old)) }
+    {
+        let core = self.seat.core();
+        let _me = core.me();
+        let most = core.neighbours().len() + 2;
+        if self.inputs.reserve(most).is_err() {
+            return Err(SimError::Memory);
+        }
+        match self.items.pop_front() {
+            Some(item) => {
+                items_step_few_inputs();
+                offers_are_their_own_answers();
+                accepted_inputs_make_the_core();
+                tables_stay();
+                self.seat.serve(&item, lanes);
+                note_inputs(&mut self.inputs, self.seat.inputs(), item.now);
+                Ok(item)
+            }
+            None => Err(SimError::Memory),
+        }
+    }
+}
+
+/// Notes the inputs that a core accepted at a tick.
+fn note_inputs(inputs: &mut Vec<(Input, u64)>, accepted: &[Input], now: u64)
+    requires { vec_len inputs.old + length accepted.now ≤ vec_capacity inputs.old }
+    ensures { inputs.new.items ≡ inputs.old.items ++ map (λ input. (input, now)) accepted.now }
+{
+    for input in accepted {
+        inputs.push_reserved((*input, now));
     }
 }
 

@@ -1,15 +1,17 @@
 //! The simulator.
 ghost use Rattle.std.specs.Prelude.{◌≡◌, ◌<◌, true, vec_len, vec_capacity};
-ghost use Rattle.tora_world.specs.declared.Event.TheVariants.{Tick, Open, Pull, Need, Transmit, Deliver, Pump, Arm};
+ghost use Rattle.tora_world.specs.declared.Event.TheVariants.{Tick, Open, Pull, Need, Transmit, Deliver, Pump, CoreTurn, Arm};
 ghost use Rattle.tora_world.specs.World.{with_datagram, what_of};
 ghost use Rattle.tora_sim.specs.Nodes.{sending_of};
 ghost use Rattle.tora_sim.specs.Store.{numbered, call_of};
 ghost use Rattle.tora_world.specs.Topology.{is_node};
 ghost use Rattle.tora_sim.specs.Steps.{Does, IsRun, AreRun, Runs};
 
+use crate::lanes::make_room;
 use crate::links::{LinkSlot, arm, place, tick};
 use crate::nodes::{NodeSlot, Sending, place as node_place};
 use crate::topology::Topology;
+use crate::turns::turn;
 use crate::{Call, Event, SimError};
 use std::marker::Model;
 use tora_arq::{LinkEvent, Times, data_frames_are_what_was_submitted};
@@ -167,6 +169,24 @@ impl Sim {
         };
         self.links[at].receive(&frame, self.clock);
         Ok(())
+    }
+
+    /// The core of a node serves the first item of its lane.
+    pub(crate) fn core_turn(&mut self, n: Id) -> Result<(), SimError>
+        ensures { Does self.old (CoreTurn n) result self.new }
+    {
+        let Some(home) = node_place(&self.nodes, n) else {
+            return Err(SimError::NoNode);
+        };
+        if self.nodes[home].waiting() == 0 {
+            return Err(SimError::NotPossible);
+        }
+        let first = self.nodes[home].first();
+        let count = self.nodes[home].count();
+        if make_room(&mut self.links, first, count).is_err() {
+            return Err(SimError::Memory);
+        }
+        turn(&mut self.nodes[home], &mut self.links)
     }
 
     /// A call of a node is made to fail.
