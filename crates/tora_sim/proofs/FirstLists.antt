@@ -1,8 +1,7 @@
 -- The nodes and link ends of a world at its start, one more at a time.
-use Rattle.std.proofs.Common.{◌≡◌, ◌≢◌, refl, sym, ap, ap₂, ◌∙◌, subst, ℕ, zero, suc, ◌+◌, ◌<◌, ◌≤◌, List, [], ◌∷◌, ◌++◌, map, take, length, get_or, slice_get, Option, Some, None, arith}
-use Rattle.std.specs.List.{flat_map}
+use Rattle.std.proofs.Common.{◌≡◌, refl, sym, ap, ap₂, ◌∙◌, subst, ℕ, zero, suc, ◌+◌, ◌<◌, List, [], ◌∷◌, ◌++◌, map, take, length, get_or, slice_get, Some, None, arith}
 use Rattle.std.specs.Prelude.{option_map}
-use Rattle.std.proofs.lemmas.List.{append_assoc, map_push, map_more, flat_map_more, length-append, length-map, map-append}
+use Rattle.std.proofs.lemmas.List.{append_assoc, map_push, map_more, flat_map_more, length-append, length-map}
 use Rattle.std.proofs.lemmas.Option.{slice_get-map}
 use Rattle.tora_arq.specs.declared.TheConstants.Times.{STANDARD}
 use Rattle.tora_arq.specs.Settings.{settings_of}
@@ -66,7 +65,7 @@ has-own : (t : Topology) (n : ℕ) (keys : List (ℕ × ℕ)) (node : NodeView) 
 has-own t n keys node is first = record {
   within =
       (let e = length-append keys (ends_at t n) in
-      let s = length-map (neighbours_of t n) (λ (k : ℕ). (n, k)) in
+      let s : length (ends_at t n) ≡ length (neighbours_of t n) = length-map (neighbours_of t n) (λ (k : ℕ). (n, k)) in
       let m : length (neighbours_of t node.node) ≡ length (neighbours_of t n) = ap (λ j. length (neighbours_of t j)) is in
       omega arith);
   at = λ place k e.

@@ -21,3 +21,5 @@ pub mod Rooms
 pub mod Offering
 pub mod Served
 pub mod Turning
+pub mod KeyLists
+pub mod FirstStore

@@ -90,14 +90,14 @@ module _ (links : List LinkView) (rising : Links.AreRising links) where
         before = λ j d lt. elim (cases_Bool (is_at x.node x.peer (get_or links j d))) [
           | inr off ↦ off
           | inl on ↦ (
-            let within = slice_get_within links i x e in
-            let q = and_parts _ _ on in
-            let h : Links.ComesBefore (get_or links j d) (get_or links i d) = rising j i d lt within in
-            let at : get_or links i d ≡ x = get_or_from_slice_get links i x d e in
-            let node : (get_or links j d).node ≡ x.node = eqb-true (get_or links j d).node x.node q.0 in
-            let peer : (get_or links j d).peer ≡ x.peer = eqb-true (get_or links j d).peer x.peer q.1 in
-            let now : Links.ComesBefore (get_or links j d) x = subst (λ (z : LinkView). Links.ComesBefore (get_or links j d) z) at h in
-            elim now [ inl l ↦ absurd (omega (arith, l, node)) | inr l ↦ absurd (let m = l.1 in omega (arith, m, peer)) ])
+              let within = slice_get_within links i x e in
+              let q = and_parts _ _ on in
+              let h : Links.ComesBefore (get_or links j d) (get_or links i d) = rising j i d lt within in
+              let at : get_or links i d ≡ x = get_or_from_slice_get links i x d e in
+              let node : (get_or links j d).node ≡ x.node = eqb-true (get_or links j d).node x.node q.0 in
+              let peer : (get_or links j d).peer ≡ x.peer = eqb-true (get_or links j d).peer x.peer q.1 in
+              let now : Links.ComesBefore (get_or links j d) x = subst (λ (z : LinkView). Links.ComesBefore (get_or links j d) z) at h in
+              elim now [ inl l ↦ absurd (omega (arith, l, node)) | inr l ↦ absurd (let m = l.1 in omega (arith, m, peer)) ])
         ];
       }
 

@@ -1,14 +1,14 @@
 -- The neighbours of a node in a topology: in ascending order, each once, none of them 0 or the node.
-use Rattle.std.proofs.Common.{◌≡◌, ◌≢◌, refl, sym, ap, ap₂, ◌∙◌, subst, ℕ, zero, suc, ◌+◌, ◌<◌, ◌≤◌, ◌==◌, Bool, true, false, ◌||◌, nat_lt, List, [], ◌∷◌, ◌++◌, length, get_or, cond, arith, if◌then◌else◌, eq-eqb, eqb-true, true≢false}
+use Rattle.std.proofs.Common.{◌≡◌, ◌≢◌, refl, sym, ap, ◌∙◌, subst, ℕ, zero, suc, ◌+◌, ◌<◌, ◌≤◌, ◌==◌, Bool, true, false, ◌||◌, nat_lt, List, [], ◌∷◌, ◌++◌, length, get_or, arith, if◌then◌else◌, eq-eqb, eqb-true, true≢false}
 use Rattle.std.specs.List.{All, AllByRecursion}
 use Rattle.std.proofs.lemmas.Bool.{cond_both}
 use Rattle.std.proofs.lemmas.Bool.Decides.{nat_tests}
 use Rattle.tora_core.specs.Numbers.{has_number, has_repeat, with_number, ascending, IsAscending}
 use Rattle.tora_world.specs.Topology.{Topology, Link, nodes_in, with_node, other_ends, neighbours_of}
 use Rattle.tora_world.specs.World.{place_of}
-use Rattle.tora_sim.specs.Topologies.{IsTopology, AreNumbers}
+use Rattle.tora_sim.specs.Topologies.{IsTopology}
 use Rattle.tora_sim.proofs.Named.{has-with_number, length-with_number}
-use Rattle.tora_sim.proofs.Sound.{sorted_on, IsSound, sound, others-apart, others-once, few-ends, has-with_node}
+use Rattle.tora_sim.proofs.Sound.{sorted_on, sound, others-apart, others-once, few-ends, has-with_node}
 
 -- what tora_core's law says of numbers that are put in order
 abbrev pub PutInOrder : Type 0

@@ -36,17 +36,17 @@ impl Sim {
     {
         numbers_are_put_in_order();
         numbers_come_and_go();
-        let Ok(topology) = topology.copied(alloc) else {
+        let Ok(own) = topology.copied(alloc) else {
             return Err(SimError::Memory);
         };
-        let named = topology.nodes();
+        let named = own.nodes();
         let mut nodes = Vec::new(alloc);
         let mut links = Vec::new(alloc);
         for n in named.as_slice() {
-            add_node(alloc, &topology, *n, &mut nodes, &mut links)?;
+            add_node(alloc, &own, *n, &mut nodes, &mut links)?;
         }
         Ok(Sim {
-            topology,
+            topology: own,
             times: Times::STANDARD,
             clock: 0,
             nodes,
@@ -83,10 +83,10 @@ fn add_node(
         sending: Sending::Goes,
         receive: false,
     };
-    match nodes.push(node) {
-        Ok(()) => Ok(()),
-        Err(_) => Err(SimError::Memory),
+    if nodes.push(node).is_err() {
+        return Err(SimError::Memory);
     }
+    Ok(())
 }
 
 /// The seat of a node's core before any input.

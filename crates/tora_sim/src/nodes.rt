@@ -11,7 +11,8 @@ use std::marker::Model;
 use tora_core::{Input, tables_stay};
 use tora_height::Id;
 use tora_seat::{
-    CoreSeat, Item, Stepped, What, accepted_inputs_make_the_core, items_step_few_inputs, offers_are_their_own_answers,
+    CoreSeat, Item, Stepped, What, accepted_inputs_make_the_core, items_step_few_inputs,
+    offers_are_their_own_answers,
 };
 
 /// What becomes of the next datagram that a node sends.

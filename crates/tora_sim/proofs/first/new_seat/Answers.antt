@@ -1,4 +1,4 @@
-use Rattle.std.proofs.Common.{◌≡◌, ◌<◌, ℕ, List, length, get_or, sym, ap, ◌∙◌, subst}
+use Rattle.std.proofs.Common.{◌<◌, ℕ, List, sym, ◌∙◌, subst}
 use Rattle.std.specs.List.{All}
 use Rattle.tora_sim.proofs.Peers.{positive-peer}
 use Rattle.tora_sim.proofs.first.new_seat.Goals as goal
