@@ -1,5 +1,5 @@
 -- Cargoes that are offered to the lanes of a node, one after another.
-use Rattle.std.proofs.Common.{◌≡◌, ℕ, zero, suc, ◌<◌, ◌≤◌, ◌+◌, ◌⊎◌, inl, inr, Bool, true, false, true≢false, ◌&&◌, List, [], ◌∷◌, ◌++◌, map, length, drop, get_or, set, slice_get, Option, Some, None, refl, sym, ap, ap₂, ◌∙◌, subst, arith, cond, is_some, if◌then◌else◌, nat_eq, nat_lt, eqb-true, eq-eqb, append_assoc, append-nil, option_map}
+use Rattle.std.proofs.Common.{◌≡◌, ℕ, zero, suc, ◌<◌, ◌≤◌, ◌+◌, ◌⊎◌, inl, inr, Bool, true, false, true≢false, ◌&&◌, List, [], ◌∷◌, ◌++◌, map, length, drop, get_or, set, slice_get, Option, Some, None, refl, sym, ap, ap₂, ◌∙◌, subst, arith, is_some, if◌then◌else◌, nat_eq, nat_lt, eqb-true, eq-eqb, append_assoc, append-nil, option_map}
 use Rattle.std.proofs.lemmas.Bool.{cases_Bool, and_parts, and_from}
 use Rattle.std.proofs.lemmas.Bool.Decides.{nat_tests}
 use Rattle.std.proofs.lemmas.Option.{get_or_from_slice_get, slice_get_within}
@@ -16,7 +16,7 @@ use Rattle.tora_world.specs.World.{World, own_answers}
 use Rattle.tora_sim.specs.Keyed.{IsFirst}
 use Rattle.tora_sim.specs.Links.{LinkView, is_at, waiting}
 use Rattle.tora_sim.specs.Nodes.{NodeView}
-use Rattle.tora_sim.specs.Lanes.{LanesView, lanes_of, after_offer_at, has_place, DidOffer, served_of}
+use Rattle.tora_sim.specs.Lanes.{LanesView, lanes_of, after_offer_at, DidOffer, served_of}
 use Rattle.tora_sim.specs.Store.{state_of, world_of, IsStore, AreEndsOf, link_at, lane_in}
 use Rattle.tora_sim.specs.Links as Links
 use Rattle.tora_sim.proofs.Keys.{found}
@@ -312,7 +312,7 @@ module _ (t : Topology) (times : Times) (clock : ℕ) (nodes : List NodeView) (l
         go a k (inl e) =
             ap (λ m. f (option_map (served_of n offers steps) (link_at links m k))) (eqb-true a n e)
             ∙ at_n k (link_at links n k) refl
-            ∙ sym (ap (λ (b : Bool). (if b then (λ j. f (link_at links n j) ++ extra j) else (λ j. f (link_at links a j))) k) e)
+            ∙ sym (ap (λ (b : Bool). if◌then◌else◌ {A = ℕ → List A} b (λ j. f (link_at links n j) ++ extra j) (λ j. f (link_at links a j)) k) e)
         go a k (inr r) =
             off_n a k (link_at links a k) r refl
-            ∙ sym (ap (λ (b : Bool). (if b then (λ j. f (link_at links n j) ++ extra j) else (λ j. f (link_at links a j))) k) r)
+            ∙ sym (ap (λ (b : Bool). if◌then◌else◌ {A = ℕ → List A} b (λ j. f (link_at links n j) ++ extra j) (λ j. f (link_at links a j)) k) r)

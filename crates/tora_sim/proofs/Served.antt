@@ -1,18 +1,17 @@
 -- What is known of an item that was served, and of the node's seat after it.
-use Rattle.std.proofs.Common.{◌≡◌, ℕ, ◌<◌, ◌≤◌, ◌+◌, ◌||◌, inl, inr, Bool, false, List, [], ◌∷◌, map, length, slice_get, Option, Some, None, refl, sym, ap, ap₂, ◌∙◌, subst, arith, nat_eq}
+use Rattle.std.proofs.Common.{◌≡◌, ℕ, ◌<◌, ◌≤◌, ◌+◌, ◌||◌, inl, inr, Bool, false, List, [], ◌∷◌, length, Option, Some, None, refl, sym, ap, ap₂, ◌∙◌, subst, arith, nat_eq}
 use Rattle.std.proofs.lemmas.List.{length-map}
 use Rattle.std.proofs.lemmas.Option.{slice_get_within}
 use Rattle.std.proofs.lemmas.Bool.{false_from_ne_true}
-use Rattle.std.proofs.Common.{◌⊎◌, eqb-true, true, MatchOption}
+use Rattle.std.proofs.Common.{eqb-true, MatchOption}
 use Rattle.std.specs.Prelude.{⊤}
 use Rattle.std.specs.List.{AllByRecursion}
 use Rattle.tora_core.specs.declared.Input.{Input}
 use Rattle.tora_core.specs.Numbers.{has_number, has_repeat, IsAscending}
 use Rattle.tora_core.specs.CoreRun.{CoreView, core_after, core_after_all}
-use Rattle.tora_core.specs.Kept.{destinations_of}
 use Rattle.tora_seat.specs.declared.Item.{Item}
 use Rattle.tora_seat.specs.declared.Stepped.{Stepped}
-use Rattle.tora_seat.specs.Serving.{Answers, Offer, SeatState, Step, serving_of}
+use Rattle.tora_seat.specs.Serving.{Answers, Offer, SeatState, serving_of}
 use Rattle.tora_seat.specs.Offers.{AreOffered, Follows, answers_in}
 use Rattle.tora_seat.specs.Rows.{SeatView, serving_at, steps_of}
 use Rattle.tora_seat.specs.Rows as Rows

@@ -1,5 +1,5 @@
 -- A node's core serves the first item of its lane.
-use Rattle.std.proofs.Common.{◌≡◌, ℕ, zero, suc, ◌<◌, ◌≤◌, ◌+◌, ◌⊎◌, ◌||◌, inl, inr, Bool, true, false, true≢false, not, nat_eq, eqb-true, eq-eqb, List, [], ◌∷◌, ◌++◌, map, length, set, slice_get, Option, Some, None, refl, sym, ap, ap₂, ◌∙◌, subst, arith, is_some, if◌then◌else◌, Result, Ok, Err, MatchResult, append_assoc, append-nil, drop}
+use Rattle.std.proofs.Common.{◌≡◌, ℕ, zero, suc, ◌<◌, ◌≤◌, ◌+◌, ◌⊎◌, ◌||◌, inl, inr, Bool, true, false, true≢false, not, nat_eq, eqb-true, eq-eqb, List, [], ◌∷◌, ◌++◌, map, length, set, slice_get, Option, Some, None, refl, sym, ap, ◌∙◌, subst, arith, is_some, if◌then◌else◌, Result, Ok, Err}
 use Rattle.std.proofs.lemmas.List.{drop-append-le}
 use Rattle.std.proofs.lemmas.Bool.{cases_Bool}
 use Rattle.tora_core.specs.Numbers.{has_number}
@@ -7,12 +7,10 @@ use Rattle.std.specs.Prelude.{slice_index_or}
 use Rattle.tora_frame.specs.FrameParts.{FrameParts}
 use Rattle.tora_arq.specs.declared.Times.{Times}
 use Rattle.tora_core.specs.declared.Input.{Input}
-use Rattle.tora_core.specs.Kept.{destinations_of}
-use Rattle.tora_seat.specs.declared.Cargo.{Cargo}
 use Rattle.tora_seat.specs.declared.Item.{Item}
 use Rattle.tora_seat.specs.declared.Stepped.{Stepped}
-use Rattle.tora_seat.specs.Serving.{Answers, Offer, Parcel, Step, SeatState, Serving, put_one, put_to, stepped_from, serving_of}
-use Rattle.tora_seat.specs.Offers.{AreOffered, Follows}
+use Rattle.tora_seat.specs.Serving.{Step, Serving, put_one, put_to, stepped_from, serving_of}
+use Rattle.tora_seat.specs.Offers.{AreOffered}
 use Rattle.tora_seat.specs.Rows.{serving_at, step_of, steps_of}
 use Rattle.tora_seat.specs.Rows as Rows
 use Rattle.tora_world.specs.declared.Event.TheVariants.{CoreTurn}
@@ -23,11 +21,11 @@ use Rattle.tora_world.specs.World.{World, refusal_of, effect_by, world_after, ow
 use Rattle.tora_sim.specs.Keyed.{IsFirst}
 use Rattle.tora_sim.specs.Links.{LinkView}
 use Rattle.tora_sim.specs.Nodes.{NodeView, is_of}
-use Rattle.tora_sim.specs.Lanes.{LanesView, lanes_of, DidOffer, served_of, AreAlike, bare}
+use Rattle.tora_sim.specs.Lanes.{LanesView, lanes_of, DidOffer, AreAlike, bare}
 use Rattle.tora_sim.specs.Turns.{IsServed, IsTurned, Turns, after_note}
 use Rattle.tora_sim.specs.Store.{state_of, world_of, IsStore, IsNodeOf, AreEndsOf, link_at, end_in, file_in, lane_in, put_in, steps_in, node_at, seat_in, items_in, inputs_in, counts_in, arms_in}
 use Rattle.tora_sim.specs.Steps.{IsDone, IsRefused, Does}
-use Rattle.tora_sim.proofs.Stores.{map_read, IsSameNode, node_changes, node_changes_by, node_stays, store_set_node}
+use Rattle.tora_sim.proofs.Stores.{IsSameNode, node_changes, node_changes_by, node_stays, store_set_node}
 use Rattle.tora_sim.proofs.SameLinks.{same_alike, store_same, world_alike}
 use Rattle.tora_sim.proofs.Opens.{effect_is, refused_for, links_same}
 use Rattle.tora_sim.proofs.Needs.{nodes_same, node_place, is_there, at_there, of_node, named, same_nodes}
@@ -43,7 +41,7 @@ some_items [] lt = absurd (omega (arith, lt))
 some_items (item ∷ items) lt = refl
 
 -- the neighbour of the first packet
-first_from : List Step → ℕ
+abbrev first_from : List Step → ℕ
 first_from [] = 0
 first_from (z ∷ zs) = z.from
 

@@ -1,5 +1,5 @@
 -- The lanes from a node's core to its neighbours: the ends of the node's links stand one behind the other among all ends.
-use Rattle.std.specs.Prelude.{◌≡◌, ℕ, ◌==◌, ◌+◌, ◌<◌, ◌≤◌, nat_lt, Bool, true, false, List, [], ◌∷◌, ◌++◌, length, map, slice_get, slice_set, Option, Some, None, if◌then◌else◌}
+use Rattle.std.specs.Prelude.{◌≡◌, ℕ, ◌==◌, ◌+◌, ◌<◌, ◌≤◌, nat_lt, Bool, List, [], ◌∷◌, ◌++◌, length, map, slice_get, slice_set, Some, if◌then◌else◌}
 use Rattle.tora_seat.specs.declared.Cargo.{Cargo}
 use Rattle.tora_seat.specs.Serving.{Offer, Step, put_to, stepped_from}
 use Rattle.tora_sim.specs.Links.{LinkView, waiting}

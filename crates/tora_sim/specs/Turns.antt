@@ -1,5 +1,5 @@
 -- What an item made of a node and its link ends.
-use Rattle.std.specs.Prelude.{◌≡◌, ℕ, ◌+◌, List, [], ◌∷◌, ◌++◌, map, slice_get, slice_set, Option, Some, None, Result, MatchResult, MatchOption}
+use Rattle.std.specs.Prelude.{◌≡◌, ℕ, ◌+◌, List, [], ◌∷◌, ◌++◌, map, slice_get, slice_set, Option, Some, None, Result, MatchResult}
 use Rattle.tora_core.specs.Kept.{destinations_of}
 use Rattle.tora_seat.specs.declared.Item.{Item}
 use Rattle.tora_seat.specs.declared.Stepped.{Stepped}

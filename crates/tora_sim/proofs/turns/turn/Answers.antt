@@ -1,4 +1,4 @@
-use Rattle.std.proofs.Common.{◌≡◌, ◌≤◌, length, ap, ◌∙◌, arith}
+use Rattle.std.proofs.Common.{◌≡◌, ap, ◌∙◌, arith}
 use Rattle.tora_sim.specs.Lanes.{LanesView}
 use Rattle.tora_sim.proofs.Served.{seat_within}
 use Rattle.tora_sim.proofs.turns.turn.Goals as goal

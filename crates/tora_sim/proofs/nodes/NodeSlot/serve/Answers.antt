@@ -1,6 +1,8 @@
-use Rattle.std.proofs.Common.{◌≡◌, ◌≤◌, ◌+◌, ◌++◌, ◌∷◌, ℕ, List, map, length, sym, ap, ap₂, ◌∙◌, subst, arith}
+use Rattle.std.proofs.Common.{◌≡◌, ◌≤◌, ◌+◌, ◌++◌, ℕ, List, map, length, ap, ap₂, ◌∙◌, subst, arith, rules}
+use Rattle.std.specs.Prelude.{vec_len, vec_capacity}
 use Rattle.tora_core.specs.declared.Input.{Input}
 use Rattle.tora_core.specs.CoreRun.{CoreView}
+use Rattle.tora_core.specs.Numbers.{IsAscending}
 use Rattle.tora_core.specs.Kept.{destinations_of}
 use Rattle.tora_sim.specs.Nodes.{NodeView, node_of}
 use Rattle.tora_sim.specs.Turns.{IsServed}
@@ -10,10 +12,11 @@ use Rattle.tora_sim.proofs.nodes.NodeSlot.serve.Goals as goal
 pub note_inputs-requires : goal.note_inputs-requires
 note_inputs-requires c =
     let few = few_inputs c.self.inside.seat c.serve.new.self c.in-Some.item c.serve.ensures.served.0 c.items_step_few_inputs.ensures c.offers_are_their_own_answers.ensures
-    c.me-me.ensures.kept.ascending_neighbours c.serve.ensures.served.2 in
-    let room = c.reserve.ensures.ok in
+    (subst (λ (core : CoreView). IsAscending core.neighbours) c.core-core.ensures c.me-me.ensures.kept.ascending_neighbours) c.serve.ensures.served.2 in
+    let ks : length c.neighbours.result.now ≡ length c.self.inside.seat.core.neighbours = ap length c.neighbours.ensures ∙ ap (λ (core : CoreView). length core.neighbours) c.core-core.ensures in
+    let room : vec_len c.reserve.new.self + (length c.neighbours.result.now + 2) ≤ vec_capacity c.reserve.new.self = search rules in
     let same : length c.inputs.result.now ≡ length c.serve.new.self.inputs = ap length c.inputs.ensures in
-    omega (arith, few, same, room)
+    omega (arith, few, same, room, ks)
 
 pub returns-in-Some-clause-served : goal.returns-in-Some-clause-served
 returns-in-Some-clause-served c =
