@@ -14,3 +14,6 @@ mod turns;
 pub use sim::Sim;
 pub use topology::{MOST_NODES, Topology};
 pub use tora_world::{Call, Event, SimError};
+
+#[cfg(test)]
+mod tests;

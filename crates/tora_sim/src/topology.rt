@@ -75,14 +75,14 @@ impl Topology {
     pub fn links(&self) -> &[(Id, Id)]
         ensures { map link_in result.now ≡ self.now.links }
     {
-        &self.links
+        self.links.as_slice()
     }
 
     /// The destinations, as they were given.
     pub fn destinations(&self) -> &[Id]
         ensures { result.now ≡ self.now.destinations }
     {
-        &self.destinations
+        self.destinations.as_slice()
     }
 
     /// The nodes, in ascending order.
