@@ -22,7 +22,7 @@ use Rattle.tora_seat.specs.Rows as Rows
 use Rattle.tora_sim.specs.declared.nodes.Sending.{Sending as DeclaredSending}
 use Rattle.tora_sim.specs.declared.nodes.Sending.TheVariants as Sends
 use Rattle.tora_sim.specs.Keyed.{IsFirst}
-use Rattle.tora_sim.specs.Links.{LinkView, is_at, after_arm, armed_of}
+use Rattle.tora_sim.specs.Links.{LinkView, is_at, after_arm, at_node}
 use Rattle.tora_sim.specs.Nodes.{NodeView, is_of, sending_of}
 use Rattle.tora_sim.specs.Store.{state_of, world_of, IsStore, IsLinkOf, link_at, end_in, file_in, lane_in, put_in, steps_in, node_at, seat_in, items_in, inputs_in, counts_in, arms_in, call_of}
 use Rattle.tora_sim.specs.Steps.{IsDone}
@@ -36,6 +36,9 @@ get_at : (xs : List NodeView) (i : ℕ) → i < length xs → (x : NodeView) × 
 get_at [] i lt = absurd (omega arith)
 get_at (x ∷ xs) zero lt = (x, refl)
 get_at (x ∷ xs) (suc i) lt = get_at xs i (omega arith)
+
+abbrev pub armed_of : ℕ → DiskCall → LinkView → LinkView
+armed_of n call = at_node n (λ link. after_arm link call)
 
 module _ (t : Topology) (times : Times) (clock : ℕ) (nodes : List NodeView) (links : List LinkView) (ds : List FrameParts) (h : IsStore (state_of t times clock nodes links ds)) (n : ℕ) where
   abbrev w : World

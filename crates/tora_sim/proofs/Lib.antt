@@ -23,3 +23,6 @@ pub mod Served
 pub mod Turning
 pub mod KeyLists
 pub mod FirstStore
+pub mod FreshEnds
+pub mod Restarting
+pub mod NodeEnds

@@ -9,3 +9,4 @@ pub mod Readers
 pub mod Firsts
 pub mod Lanes
 pub mod Turns
+pub mod Restarts

@@ -1,5 +1,5 @@
 -- A link end as it is stored.
-use Rattle.std.specs.Prelude.{ℕ, ◌==◌, ◌&&◌, ◌<◌, ◌≡◌, ◌⊎◌, suc, Bool, List, map, Option, None, Some, drop, if◌then◌else◌}
+use Rattle.std.specs.Prelude.{ℕ, ◌==◌, ◌&&◌, ◌<◌, ◌+◌, ◌≡◌, ◌⊎◌, suc, Bool, List, map, Option, None, Some, drop, length, slice_get, if◌then◌else◌}
 use Rattle.tora_sim.specs.Keyed.{IsOrdered}
 use Rattle.std.specs.Ordering.{nat_cmp, ordering_then}
 use Rattle.std.specs.declared.cmp.Ordering.{Ordering}
@@ -81,5 +81,12 @@ compared n k link = ordering_then (nat_cmp link.node n) (nat_cmp link.peer k)
 abbrev pub ticked : ℕ → LinkView → LinkView
 ticked now link = with_state link (after_tick link.settings link.state now)
 
-abbrev pub armed_of : ℕ → DiskCall → LinkView → LinkView
-armed_of n call link = if link.node == n then after_arm link call else link
+-- a change of the ends of one node
+abbrev pub at_node : ℕ → (LinkView → LinkView) → LinkView → LinkView
+at_node n change link = if link.node == n then change link else link
+
+-- so many link ends from a place on are changed so, and the others are as they were
+pub record AreChanged (change : LinkView → LinkView) (before links : List LinkView) (first count : ℕ) : Type 0 where
+  pub as_many : length links ≡ length before
+  pub done : (place : ℕ) (link : LinkView) → place < count → slice_get before (first + place) ≡ Some link → slice_get links (first + place) ≡ Some (change link)
+  pub rest : (i : ℕ) (link : LinkView) → ((place : ℕ) → place < count → i ≡ first + place → ⊥) → slice_get before i ≡ Some link → slice_get links i ≡ Some link

@@ -7,6 +7,7 @@ mod lanes;
 mod links;
 mod nodes;
 mod readers;
+mod restarts;
 mod sim;
 mod topology;
 mod turns;

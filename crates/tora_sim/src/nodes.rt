@@ -1,14 +1,18 @@
 //! The nodes: the core of each, and the lane into it.
 ghost use Rattle.std.specs.Prelude.{◌≡◌, ◌<◌, ◌≤◌, ◌+◌, ◌++◌, ℕ, None, Some, IfSome, IfNone, IfOk, IfErr, OnErr, MatchResult, find, length, map, slice_index, vec_len, vec_capacity};
+ghost use Rattle.tora_core.specs.Kept.{IsCore};
+ghost use Rattle.tora_seat.specs.Rows.{first_seat};
+ghost use Rattle.tora_sim.specs.Restarts.{core_again, restarted_node};
 ghost use Rattle.tora_sim.specs.Turns.{IsServed};
 ghost use Rattle.tora_sim.specs.Keyed.{IsFirst};
 ghost use Rattle.tora_sim.specs.Nodes.{NodeView, is_of, AreRising, after_item};
 
 use crate::SimError;
 use crate::lanes::NodeLanes;
+use std::alloc::Global;
 use std::collections::VecDeque;
 use std::marker::Model;
-use tora_core::{Input, tables_stay};
+use tora_core::{Core, Input, tables_stay};
 use tora_height::Id;
 use tora_seat::{
     CoreSeat, Item, Stepped, What, accepted_inputs_make_the_core, items_step_few_inputs,
@@ -138,6 +142,35 @@ impl NodeSlot {
         ensures { result ≡ self.now.seat.stepped }
     {
         self.seat.stepped()
+    }
+
+    /// A new seat of a core of the same node, neighbours and destinations.
+    ///
+    /// # Errors
+    /// `Memory`: the core was made of these lists before.
+    pub fn new_seat(&self, alloc: Global) -> Result<CoreSeat, SimError>
+        ensures made { IfOk result (λ seat. seat ≡ first_seat (core_again self.now.seat.core)) }
+        ensures kept { IsCore self.now.seat.core }
+        ensures memory { IfErr result (λ e. e ≡ SimError.Memory) }
+    {
+        let core = self.seat.core();
+        match Core::new(alloc, core.me(), core.neighbours(), core.destinations()) {
+            Ok(again) => match CoreSeat::new(alloc, again) {
+                Ok(seat) => Ok(seat),
+                Err(_) => Err(SimError::Memory),
+            },
+            Err(_) => Err(SimError::Memory),
+        }
+    }
+
+    /// Takes a new seat in place of its own; nothing is in the lane, and nothing is accepted.
+    pub fn restart(&mut self, seat: CoreSeat)
+        ensures { self.new ≡ restarted_node seat self.old }
+    {
+        self.seat = seat;
+        self.inputs.clear();
+        self.items.clear();
+        self.counts = [0; 9];
     }
 
     /// Serves the first item of the lane over the lanes to the neighbours, and notes the inputs that the core accepted.
