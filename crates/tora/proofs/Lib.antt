@@ -15,3 +15,4 @@ pub mod SimulationLaws
 pub mod Flushed
 pub mod SimulationFound
 pub mod SimulationHere
+pub mod LinkPairs
