@@ -16,15 +16,18 @@ use Rattle.tora_world.specs.declared.SimError.TheVariants as Refused
 use Rattle.tora_world.specs.Topology.{Topology, is_node, is_link}
 use Rattle.tora_world.specs.World.{World, refusal_of, effect_by, world_after, unless_possible, after_arming, with_armed_files}
 use Rattle.tora_seat.specs.Serving.{put_one}
+use Rattle.tora_core.specs.Kept.{destinations_of}
+use Rattle.tora_seat.specs.Rows.{SeatView}
+use Rattle.tora_seat.specs.Rows as Rows
 use Rattle.tora_sim.specs.declared.nodes.Sending.{Sending as DeclaredSending}
 use Rattle.tora_sim.specs.declared.nodes.Sending.TheVariants as Sends
 use Rattle.tora_sim.specs.Keyed.{IsFirst}
-use Rattle.tora_sim.specs.Links.{LinkView, is_at, after_arm, armed_of}
+use Rattle.tora_sim.specs.Links.{LinkView, is_at, after_arm, at_node}
 use Rattle.tora_sim.specs.Nodes.{NodeView, is_of, sending_of}
-use Rattle.tora_sim.specs.Store.{state_of, world_of, IsStore, IsLinkOf, link_at, end_in, file_in, lane_in, put_in, node_at, seat_in, items_in, counts_in, arms_in, call_of}
+use Rattle.tora_sim.specs.Store.{state_of, world_of, IsStore, IsLinkOf, link_at, end_in, file_in, lane_in, put_in, steps_in, node_at, seat_in, items_in, inputs_in, counts_in, arms_in, call_of}
 use Rattle.tora_sim.specs.Steps.{IsDone}
 use Rattle.tora_sim.specs.Links as Links
-use Rattle.tora_sim.proofs.Stores.{is_found, each_map, ordered_map, IsSameNode, node_changes, node_stays, node_stays_by, store_set_node}
+use Rattle.tora_sim.proofs.Stores.{is_found, each_map, ordered_map, ends_map, IsSameLink, IsSameNode, node_changes, node_stays, node_stays_by, store_set_node}
 use Rattle.tora_sim.proofs.Keys.{found}
 use Rattle.tora_sim.proofs.Opens.{effect_is, links_same}
 use Rattle.tora_sim.proofs.Needs.{nodes_same, node_place, is_there, is_noded}
@@ -33,6 +36,9 @@ get_at : (xs : List NodeView) (i : ℕ) → i < length xs → (x : NodeView) × 
 get_at [] i lt = absurd (omega arith)
 get_at (x ∷ xs) zero lt = (x, refl)
 get_at (x ∷ xs) (suc i) lt = get_at xs i (omega arith)
+
+abbrev pub armed_of : ℕ → DiskCall → LinkView → LinkView
+armed_of n call = at_node n (λ link. after_arm link call)
 
 module _ (t : Topology) (times : Times) (clock : ℕ) (nodes : List NodeView) (links : List LinkView) (ds : List FrameParts) (h : IsStore (state_of t times clock nodes links ds)) (n : ℕ) where
   abbrev w : World
@@ -57,11 +63,12 @@ module _ (t : Topology) (times : Times) (clock : ℕ) (nodes : List NodeView) (l
     pub noded : is_node t n ≡ true
     noded = is_noded t times clock nodes links ds h n i x first read
 
-    module _ (new : NodeView) (same : IsSameNode x new) (core : new.core ≡ x.core) (items : new.items ≡ x.items) (counts : new.counts ≡ x.counts) where
+    module _ (new : NodeView) (same : IsSameNode x new) (seat : new.seat ≡ x.seat) (inputs : new.inputs ≡ x.inputs) (items : new.items ≡ x.items) (counts : new.counts ≡ x.counts) where
       armed_world : world_of (state_of t times clock (set nodes i new) links ds) ≡ record w { arms = put_one w.arms n (arms_in (Some new)) }
       armed_world =
           nodes_same w
-          (node_stays_by n nodes i x new first at same (seat_in t) (ap (λ core. record { core = core; current = λ k. None; pending = λ k. None }) core))
+          (node_stays_by n nodes i x new first at same (seat_in t) (ap Rows.state_of seat))
+          (node_stays n nodes i x new first at same inputs_in inputs)
           (node_stays n nodes i x new first at same items_in items)
           (node_stays n nodes i x new first at same counts_in (ap (λ (xs : List ℕ). counts_in (Some (record x { counts = xs }))) counts))
           (node_changes n nodes i x new first at same arms_in)
@@ -72,14 +79,14 @@ module _ (t : Topology) (times : Times) (clock : ℕ) (nodes : List NodeView) (l
       pub armed_done : (call : Call) → record w { arms = put_one w.arms n (arms_in (Some new)) } ≡ after_arming w n call → IsDone w (Happens.Arm n call) (world_of (state_of t times clock (set nodes i new) links ds))
       armed_done call e = record { accepted = possible call noded; world = armed_world ∙ e ∙ sym (effect call noded) }
 
-    abbrev as_it_was : (new : NodeView) → new.node ≡ x.node → new.count ≡ x.count → new.counts ≡ x.counts → IsSameNode x new
-    as_it_was new a b c = record { node = a; count = b; seats = ap length c }
+    abbrev as_it_was : (new : NodeView) → new.node ≡ x.node → new.first ≡ x.first → new.count ≡ x.count → new.seat ≡ x.seat → new.counts ≡ x.counts → IsSameNode x new
+    as_it_was new a f b s c = record { node = a; first = f; count = b; me = ap (λ (seat : SeatView). seat.core.me) s; neighbours = ap (λ (seat : SeatView). seat.core.neighbours) s; destinations = ap (λ (seat : SeatView). destinations_of seat.core.views) s; seats = ap length c }
 
     -- its next send is armed, or its next receive
     sends_done : (sending : DeclaredSending) (call : Call) → ((v : World) → after_arming v n call ≡ record v { arms = put_one v.arms n (record (v.arms n) { sending = sending_of sending }) }) →
         IsDone w (Happens.Arm n call) (world_of (state_of t times clock (set nodes i (record x { sending = sending })) links ds))
     sends_done sending call e =
-        armed_done (record x { sending = sending }) (as_it_was (record x { sending = sending }) refl refl refl) refl refl refl call
+        armed_done (record x { sending = sending }) (as_it_was (record x { sending = sending }) refl refl refl refl refl) refl refl refl refl call
         (ap (λ o. record w { arms = put_one w.arms n (record (arms_in o) { sending = sending_of sending }) }) (sym there) ∙ sym (e w))
 
     pub lost_done : (new : NodeView) (call : Call) → call ≡ Fails.SendLost → new ≡ record x { sending = Sends.IsLost } → IsDone w (Happens.Arm n call) (world_of (state_of t times clock (set nodes i new) links ds))
@@ -89,16 +96,16 @@ module _ (t : Topology) (times : Times) (clock : ℕ) (nodes : List NodeView) (l
     gone_done new call q e = subst (λ z. IsDone w (Happens.Arm n call) (world_of (state_of t times clock (set nodes i z) links ds))) (sym e) (subst (λ m. IsDone w (Happens.Arm n m) (world_of (state_of t times clock (set nodes i (record x { sending = Sends.IsGone })) links ds))) (sym q) (sends_done Sends.IsGone Fails.SendGone (λ v. refl)))
 
     pub sends_store : (sending : DeclaredSending) (new : NodeView) → new ≡ record x { sending = sending } → IsStore (state_of t times clock (set nodes i new) links ds)
-    sends_store sending new e = subst (λ z. IsStore (state_of t times clock (set nodes i z) links ds)) (sym e) (armed_store (record x { sending = sending }) (as_it_was (record x { sending = sending }) refl refl refl) refl refl refl)
+    sends_store sending new e = subst (λ z. IsStore (state_of t times clock (set nodes i z) links ds)) (sym e) (armed_store (record x { sending = sending }) (as_it_was (record x { sending = sending }) refl refl refl refl refl) refl refl refl refl)
 
     pub receive_done : (new : NodeView) (call : Call) → call ≡ Fails.Receive → new ≡ record x { receive = true } → IsDone w (Happens.Arm n call) (world_of (state_of t times clock (set nodes i new) links ds))
     receive_done new call q e =
         subst (λ z. IsDone w (Happens.Arm n call) (world_of (state_of t times clock (set nodes i z) links ds))) (sym e) (subst (λ m. IsDone w (Happens.Arm n m) (world_of (state_of t times clock (set nodes i (record x { receive = true })) links ds))) (sym q)
-        (armed_done (record x { receive = true }) (as_it_was (record x { receive = true }) refl refl refl) refl refl refl Fails.Receive
+        (armed_done (record x { receive = true }) (as_it_was (record x { receive = true }) refl refl refl refl refl) refl refl refl refl Fails.Receive
         (ap (λ o. record w { arms = put_one w.arms n (record (arms_in o) { receive = true }) }) (sym there))))
 
     pub receive_store : (new : NodeView) → new ≡ record x { receive = true } → IsStore (state_of t times clock (set nodes i new) links ds)
-    receive_store new e = subst (λ z. IsStore (state_of t times clock (set nodes i z) links ds)) (sym e) (armed_store (record x { receive = true }) (as_it_was (record x { receive = true }) refl refl refl) refl refl refl)
+    receive_store new e = subst (λ z. IsStore (state_of t times clock (set nodes i z) links ds)) (sym e) (armed_store (record x { receive = true }) (as_it_was (record x { receive = true }) refl refl refl refl refl) refl refl refl refl)
 
   pub noded_at : (i : ℕ) → IsFirst (is_of n) nodes i → is_node t n ≡ true
   noded_at i first = go (get_at nodes i first.within)
@@ -154,9 +161,10 @@ module _ (t : Topology) (times : Times) (clock : ℕ) (nodes : List NodeView) (l
       let ends = stays end_in call (λ x. refl) in
       let lanes = stays lane_in call (λ x. refl) in
       let puts = stays put_in call (λ x. refl) in
+      let steps = stays steps_in call (λ x. refl) in
       let files : ◌≡◌ {A = ℕ → ℕ → LifeDisk} (λ a k. file_in (link_at (map (armed_of n call) links) a k)) (λ a k. if nat_eq a n && is_link t a k then after_event (ArmsDisk call) (file_in (link_at links a k)) else file_in (link_at links a k)) =
       fun_ext (λ a. fun_ext (λ k. ap file_in (link_map call a k links) ∙ file_armed call a k (link_at links a k) refl (is_link t a k) refl)) in
-      links_same w ends files lanes puts
+      links_same w ends files lanes puts steps
 
   armed_is : (call : DiskCall) → after_arming w n (call_of call) ≡ with_armed_files w n call
   armed_is Disk.Read = refl
@@ -176,6 +184,7 @@ module _ (t : Topology) (times : Times) (clock : ℕ) (nodes : List NodeView) (l
     rising_nodes = h.rising_nodes;
     rising_links = ordered_map Links.ComesBefore (armed_of n call) (λ x y b. by_case call x (λ z. Links.ComesBefore z (armed_of n call y)) (by_case call y (Links.ComesBefore x) b b) (by_case call y (Links.ComesBefore (after_arm x call)) b b)) links h.rising_links;
     each_node = h.each_node;
-    each_link = each_map (IsLinkOf t times) (armed_of n call) (λ x f. by_case call x (IsLinkOf t times) f (record { settings = f.settings; seat = f.seat; room = f.room; home = f.home; back = f.back })) links h.each_link;
+    each_link = each_map (IsLinkOf t times) (armed_of n call) (λ x f. by_case call x (IsLinkOf t times) f (record { settings = f.settings; seat = f.seat; room = f.room; home = f.home; back = f.back; pulled = f.pulled })) links h.each_link;
+    each_ends = λ m y q. ends_map t links (armed_of n call) (λ x. by_case call x (λ z. IsSameLink x z) (record { node = refl; peer = refl; seat = refl; settings = refl; pulled = λ b. b }) (record { node = refl; peer = refl; seat = refl; settings = refl; pulled = λ b. b })) y (h.each_ends m y q);
     each_datagram = h.each_datagram;
   })

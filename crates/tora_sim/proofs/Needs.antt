@@ -7,6 +7,7 @@ use Rattle.std.specs.Prelude.{slice_index_or, slice_index}
 use mathlib.Core.Path.{fun_ext}
 use Rattle.tora_frame.specs.FrameParts.{FrameParts}
 use Rattle.tora_arq.specs.declared.Times.{Times}
+use Rattle.tora_core.specs.declared.Input.{Input}
 use Rattle.tora_seat.specs.declared.What.{What}
 use Rattle.tora_seat.specs.declared.What.TheVariants as Tells
 use Rattle.tora_seat.specs.declared.Item.{Item}
@@ -20,18 +21,19 @@ use Rattle.tora_world.specs.World.{World, Arms, refusal_of, effect_by, own_choic
 use Rattle.tora_sim.specs.Keyed.{IsFirst}
 use Rattle.tora_sim.specs.Links.{LinkView}
 use Rattle.tora_sim.specs.Nodes.{NodeView, is_of, after_item}
-use Rattle.tora_sim.specs.Store.{state_of, world_of, IsStore, IsNodeOf, node_at, seat_in, items_in, counts_in, arms_in}
+use Rattle.tora_sim.specs.Store.{state_of, world_of, IsStore, IsNodeOf, node_at, seat_in, items_in, inputs_in, counts_in, arms_in}
 use Rattle.tora_sim.specs.Steps.{IsRefused, Does}
 use Rattle.tora_sim.proofs.Stores.{IsSameNode, node_there, node_changes, node_stays, node_stays_by, store_set_node}
 use Rattle.tora_sim.proofs.Opens.{effect_is, refused_for}
 
 -- worlds with the same functions over nodes
-pub nodes_same : (w : World) {seats seats' : ℕ → SeatState} {items items' : ℕ → List Item} {counts counts' : ℕ → ℕ → ℕ} {arms arms' : ℕ → Arms}
-    → seats ≡ seats' → items ≡ items' → counts ≡ counts' → arms ≡ arms'
-    → ◌≡◌ {A = World} (record w { seats = seats; items = items; counts = counts; arms = arms }) (record w { seats = seats'; items = items'; counts = counts'; arms = arms' })
-nodes_same w {seats} {seats'} {items} {items'} {counts} {counts'} {arms} {arms'} s i c a =
-    ap₂ (λ (x : ℕ → SeatState) (y : ℕ → List Item). record w { seats = x; items = y; counts = counts; arms = arms }) s i
-    ∙ ap₂ (λ (x : ℕ → ℕ → ℕ) (y : ℕ → Arms). record w { seats = seats'; items = items'; counts = x; arms = y }) c a
+pub nodes_same : (w : World) {seats seats' : ℕ → SeatState} {inputs inputs' : ℕ → List (Input × ℕ)} {items items' : ℕ → List Item} {counts counts' : ℕ → ℕ → ℕ} {arms arms' : ℕ → Arms}
+    → seats ≡ seats' → inputs ≡ inputs' → items ≡ items' → counts ≡ counts' → arms ≡ arms'
+    → ◌≡◌ {A = World} (record w { seats = seats; inputs = inputs; items = items; counts = counts; arms = arms }) (record w { seats = seats'; inputs = inputs'; items = items'; counts = counts'; arms = arms' })
+nodes_same w {seats} {seats'} {inputs} {inputs'} {items} {items'} {counts} {counts'} {arms} {arms'} s p i c a =
+    ap₂ (λ (x : ℕ → SeatState) (y : ℕ → List Item). record w { seats = x; inputs = inputs; items = y; counts = counts; arms = arms }) s i
+    ∙ ap₂ (λ (x : ℕ → ℕ → ℕ) (y : ℕ → Arms). record w { seats = seats'; inputs = inputs; items = items'; counts = x; arms = y }) c a
+    ∙ ap (λ (x : ℕ → List (Input × ℕ)). record w { seats = seats'; inputs = x; items = items'; counts = counts'; arms = arms' }) p
 
 module _ (t : Topology) (times : Times) (clock : ℕ) (nodes : List NodeView) (links : List LinkView) (ds : List FrameParts) (h : IsStore (state_of t times clock nodes links ds))
     (n i : ℕ) (x : NodeView) (first : IsFirst (is_of n) nodes i) (read : x ≡ slice_index_or nodes i x) where
@@ -42,7 +44,7 @@ module _ (t : Topology) (times : Times) (clock : ℕ) (nodes : List NodeView) (l
   node_place = slice_get_read nodes (length nodes) i x refl first.within read
 
   pub is_there : node_at nodes n ≡ Some x
-  is_there = node_there n nodes i x x first node_place (record { node = refl; count = refl; seats = refl })
+  is_there = node_there n nodes i x x first node_place (record { node = refl; first = refl; count = refl; me = refl; neighbours = refl; destinations = refl; seats = refl })
 
   pub is_noded : is_node t n ≡ true
   is_noded = h.nodes n ∙ ap is_some is_there
@@ -65,7 +67,7 @@ module _ (t : Topology) (times : Times) (clock : ℕ) (nodes : List NodeView) (l
     new = after_item x seat clock what
 
     same_node : IsSameNode x new
-    same_node = record { node = refl; count = refl; seats = length-set x.counts seat (suc (slice_index x.counts seat)) }
+    same_node = record { node = refl; first = refl; count = refl; me = refl; neighbours = refl; destinations = refl; seats = length-set x.counts seat (suc (slice_index x.counts seat)) }
 
     counted : ◌≡◌ {A = ℕ → ℕ → ℕ} (put_one (λ a. counts_in (node_at nodes a)) n (counts_in (Some new))) (put_at (λ a. counts_in (node_at nodes a)) n seat (suc (counts_in (node_at nodes n) seat)))
     counted = fun_ext (λ a. fun_ext (λ b. go a b (cases_Bool (nat_eq a n)) (cases_Bool (nat_eq b seat))))
@@ -96,11 +98,12 @@ module _ (t : Topology) (times : Times) (clock : ℕ) (nodes : List NodeView) (l
     pub item_world : world_of (state_of t times clock (set nodes i new) links ds) ≡ with_item w n seat clock what
     item_world =
         let seats = node_stays_by n nodes i x new first node_place same_node (seat_in t) refl in
+        let inputs = node_stays n nodes i x new first node_place same_node inputs_in refl in
         let items = node_changes n nodes i x new first node_place same_node items_in
         ∙ ap (λ o. put_one (λ a. items_in (node_at nodes a)) n (items_in o ++ record { seat = seat; number = suc (counts_in o seat); now = clock; what = what } ∷ [])) (sym is_there) in
         let counts = node_changes n nodes i x new first node_place same_node counts_in ∙ counted in
         let arms = node_stays n nodes i x new first node_place same_node arms_in refl in
-        nodes_same w seats items counts arms
+        nodes_same w seats inputs items counts arms
 
     pub item_store : IsStore (state_of t times clock (set nodes i new) links ds)
     item_store = store_set_node n nodes i x new first node_place same_node t times clock links ds h

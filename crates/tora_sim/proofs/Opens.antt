@@ -1,6 +1,6 @@
 -- Events at one link end.
 use Rattle.std.proofs.Common.{◌≡◌, ℕ, zero, suc, ◌<◌, ◌≤◌, inr, Bool, true, false, not, List, [], ◌∷◌, Some, None, refl, sym, ap, ap₂, ◌∙◌, subst, arith, length, drop, set, slice_get, is_some, if◌then◌else◌}
-use Rattle.std.proofs.lemmas.Option.{slice_get_read}
+use Rattle.std.proofs.lemmas.Option.{slice_get_read, slice_get_within}
 use Rattle.std.proofs.lemmas.List.{drop_all, get_or_default}
 use Rattle.std.specs.Prelude.{slice_index_or}
 use Rattle.tora_frame.specs.FrameParts.{FrameParts}
@@ -9,6 +9,7 @@ use Rattle.tora_arq.specs.LinkEnd.{EndState, is_closed}
 use Rattle.tora_life.specs.LifeRun.{LifeDisk, after_event, drawn_by}
 use Rattle.tora_life.specs.LifeRun.LifeEvent.{Draw as DrawsNumber}
 use Rattle.tora_seat.specs.declared.Cargo.{Cargo}
+use Rattle.tora_seat.specs.Serving.{Parcel}
 use Rattle.tora_world.specs.declared.Event.{Event}
 use Rattle.tora_world.specs.declared.Event.TheVariants.{Open, Pull}
 use Rattle.tora_world.specs.declared.SimError.{SimError}
@@ -19,7 +20,7 @@ use Rattle.tora_world.specs.World.{World, refusal_of, effect_by, world_by, world
 use Rattle.tora_sim.specs.Keyed.{IsFirst}
 use Rattle.tora_sim.specs.Links.{LinkView, is_at, after_open_at, after_pull_at, waiting}
 use Rattle.tora_sim.specs.Nodes.{NodeView}
-use Rattle.tora_sim.specs.Store.{state_of, world_of, IsStore, link_at, end_in, file_in, lane_in, put_in}
+use Rattle.tora_sim.specs.Store.{state_of, world_of, IsStore, link_at, end_in, file_in, lane_in, put_in, steps_in}
 use Rattle.tora_sim.specs.Steps.{IsDone, IsRefused}
 use Rattle.tora_sim.proofs.Stores.{IsSameLink, link_there, link_changes, link_stays, store_set}
 
@@ -41,12 +42,13 @@ pub same_read : {A : Type 0} → (xs : List A) (i : ℕ) (x y : A) → i < lengt
 same_read xs i x y lt a b = a ∙ get_or_default xs i x y lt ∙ sym b
 
 -- worlds with the same functions over links
-pub links_same : (w : World) {ends ends' : ℕ → ℕ → EndState} {files files' : ℕ → ℕ → LifeDisk} {lanes lanes' puts puts' : ℕ → ℕ → List Cargo}
-    → ends ≡ ends' → files ≡ files' → lanes ≡ lanes' → puts ≡ puts'
-    → ◌≡◌ {A = World} (record w { ends = ends; files = files; cargoes = lanes; put = puts }) (record w { ends = ends'; files = files'; cargoes = lanes'; put = puts' })
-links_same w {ends} {ends'} {files} {files'} {lanes} {lanes'} {puts} {puts'} e f l p =
-    ap₂ (λ (a : ℕ → ℕ → EndState) (b : ℕ → ℕ → LifeDisk). record w { ends = a; files = b; cargoes = lanes; put = puts }) e f
-    ∙ ap₂ (λ (a b : ℕ → ℕ → List Cargo). record w { ends = ends'; files = files'; cargoes = a; put = b }) l p
+pub links_same : (w : World) {ends ends' : ℕ → ℕ → EndState} {files files' : ℕ → ℕ → LifeDisk} {lanes lanes' puts puts' : ℕ → ℕ → List Cargo} {steps steps' : ℕ → ℕ → List Parcel}
+    → ends ≡ ends' → files ≡ files' → lanes ≡ lanes' → puts ≡ puts' → steps ≡ steps'
+    → ◌≡◌ {A = World} (record w { ends = ends; files = files; cargoes = lanes; put = puts; steps = steps }) (record w { ends = ends'; files = files'; cargoes = lanes'; put = puts'; steps = steps' })
+links_same w {ends} {ends'} {files} {files'} {lanes} {lanes'} {puts} {puts'} {steps} {steps'} e f l p s =
+    ap₂ (λ (a : ℕ → ℕ → EndState) (b : ℕ → ℕ → LifeDisk). record w { ends = a; files = b; cargoes = lanes; put = puts; steps = steps }) e f
+    ∙ ap₂ (λ (a b : ℕ → ℕ → List Cargo). record w { ends = ends'; files = files'; cargoes = a; put = b; steps = steps }) l p
+    ∙ ap (λ (a : ℕ → ℕ → List Parcel). record w { ends = ends'; files = files'; cargoes = lanes'; put = puts'; steps = a }) s
 
 module _ (t : Topology) (times : Times) (clock : ℕ) (nodes : List NodeView) (links : List LinkView) (ds : List FrameParts) (h : IsStore (state_of t times clock nodes links ds))
     (n k i : ℕ) (x : LinkView) (first : IsFirst (is_at n k) links i) (read : x ≡ slice_index_or links i x) where
@@ -57,7 +59,7 @@ module _ (t : Topology) (times : Times) (clock : ℕ) (nodes : List NodeView) (l
   at_place = slice_get_read links (length links) i x refl first.within read
 
   abbrev itself : IsSameLink x x
-  itself = record { node = refl; peer = refl; seat = refl; settings = refl }
+  itself = record { node = refl; peer = refl; seat = refl; settings = refl; pulled = λ q. q }
 
   pub end_there : link_at links n k ≡ Some x
   end_there = link_there n k links i x x first at_place itself
@@ -81,7 +83,7 @@ module _ (t : Topology) (times : Times) (clock : ℕ) (nodes : List NodeView) (l
   unfolding effect_by
   opened_world e =
       let new = after_open_at x clock in
-      let same : IsSameLink x new = record { node = refl; peer = refl; seat = refl; settings = refl } in
+      let same : IsSameLink x new = record { node = refl; peer = refl; seat = refl; settings = refl; pulled = λ q. q } in
       let effect = effect_is w (Open n k) (open_possible true e) in
       let ends = link_changes n k links i x new first at_place same end_in
       ∙ ap (λ o. put_at (λ a b. end_in (link_at links a b)) n k (open_with (end_in o) clock (drawn_by DrawsNumber (file_in o)))) (sym end_there) in
@@ -89,7 +91,8 @@ module _ (t : Topology) (times : Times) (clock : ℕ) (nodes : List NodeView) (l
       ∙ ap (λ o. put_at (λ a b. file_in (link_at links a b)) n k (after_event DrawsNumber (file_in o))) (sym end_there) in
       let lanes = link_stays n k links i x new first at_place same lane_in refl in
       let puts = link_stays n k links i x new first at_place same put_in refl in
-      links_same w ends files lanes puts ∙ sym effect
+      let steps = link_stays n k links i x new first at_place same steps_in refl in
+      links_same w ends files lanes puts steps ∙ sym effect
 
   pub open_done : (new : LinkView) → is_closed x.state ≡ true → new ≡ after_open_at x clock → IsDone w (Open n k) (world_of (state_of t times clock nodes (set links i new) ds))
   open_done new e f = record { accepted = open_possible true e; world = ap (λ y. world_of (state_of t times clock nodes (set links i y) ds)) f ∙ opened_world e }
@@ -97,7 +100,7 @@ module _ (t : Topology) (times : Times) (clock : ℕ) (nodes : List NodeView) (l
   pub open_store : (new : LinkView) → new ≡ after_open_at x clock → IsStore (state_of t times clock nodes (set links i new) ds)
   open_store new f =
       subst (λ y. IsStore (state_of t times clock nodes (set links i y) ds)) (sym f)
-      (store_set n k links i x (after_open_at x clock) first at_place (record { node = refl; peer = refl; seat = refl; settings = refl }) t times clock nodes ds h)
+      (store_set n k links i x (after_open_at x clock) first at_place (record { node = refl; peer = refl; seat = refl; settings = refl; pulled = λ q. q }) t times clock nodes ds h)
 
   -- ---- a cargo of the lane
 
@@ -111,7 +114,7 @@ module _ (t : Topology) (times : Times) (clock : ℕ) (nodes : List NodeView) (l
   unfolding effect_by
   pulled_world cargo at front =
       let new = after_pull_at x (Some cargo) in
-      let same : IsSameLink x new = record { node = refl; peer = refl; seat = refl; settings = refl } in
+      let same : IsSameLink x new = record { node = refl; peer = refl; seat = refl; settings = refl; pulled = λ q. slice_get_within x.put x.pulled cargo at } in
       let lane : lane_in (link_at links n k) ≡ cargo ∷ drop (suc x.pulled) x.put = ap lane_in end_there ∙ front in
       let effect = effect_is w (Pull n k) (pull_possible true (ap (λ (xs : List Cargo). not (is_empty xs)) front)) ∙ ap (after_pull w n k) lane in
       let ends = link_changes n k links i x new first at_place same end_in
@@ -119,7 +122,8 @@ module _ (t : Topology) (times : Times) (clock : ℕ) (nodes : List NodeView) (l
       let files = link_stays n k links i x new first at_place same file_in refl in
       let lanes = link_changes n k links i x new first at_place same lane_in in
       let puts = link_stays n k links i x new first at_place same put_in refl in
-      links_same w ends files lanes puts ∙ sym effect
+      let steps = link_stays n k links i x new first at_place same steps_in refl in
+      links_same w ends files lanes puts steps ∙ sym effect
 
   pub pull_done : (new : LinkView) → x.pulled < length x.put → new ≡ after_pull_at x (slice_get x.put x.pulled) → IsDone w (Pull n k) (world_of (state_of t times clock nodes (set links i new) ds))
   pull_done new lt f = go (slice_get_at x.put x.pulled lt)
@@ -136,4 +140,4 @@ module _ (t : Topology) (times : Times) (clock : ℕ) (nodes : List NodeView) (l
       go : (cargo : Cargo) × (slice_get x.put x.pulled ≡ Some cargo) × (waiting x ≡ cargo ∷ drop (suc x.pulled) x.put) → IsStore (state_of t times clock nodes (set links i new) ds)
       go (cargo, at, front) =
           subst (λ y. IsStore (state_of t times clock nodes (set links i y) ds)) (sym (f ∙ ap (after_pull_at x) at))
-          (store_set n k links i x (after_pull_at x (Some cargo)) first at_place (record { node = refl; peer = refl; seat = refl; settings = refl }) t times clock nodes ds h)
+          (store_set n k links i x (after_pull_at x (Some cargo)) first at_place (record { node = refl; peer = refl; seat = refl; settings = refl; pulled = λ q. slice_get_within x.put x.pulled cargo at }) t times clock nodes ds h)

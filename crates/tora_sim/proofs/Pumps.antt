@@ -14,7 +14,7 @@ use Rattle.tora_world.specs.World.{World, refusal_of, effect_by, world_after, ow
 use Rattle.tora_sim.specs.Keyed.{IsFirst}
 use Rattle.tora_sim.specs.Links.{LinkView, is_at, with_state}
 use Rattle.tora_sim.specs.Nodes.{NodeView, is_of, after_item}
-use Rattle.tora_sim.specs.Store.{state_of, world_of, IsStore, link_at, end_in, file_in, lane_in, put_in}
+use Rattle.tora_sim.specs.Store.{state_of, world_of, IsStore, link_at, end_in, file_in, lane_in, put_in, steps_in}
 use Rattle.tora_sim.specs.Steps.{IsDone, IsRefused}
 use Rattle.tora_sim.proofs.Stores.{IsSameLink, link_changes, link_stays, store_set}
 use Rattle.tora_sim.proofs.Opens.{effect_is, refused_for, links_same, at_place, at_end, end_there}
@@ -64,7 +64,7 @@ module _ (t : Topology) (times : Times) (clock : ℕ) (nodes : List NodeView) (l
     polled = with_state x (after_poll_event x.state)
 
     same : IsSameLink x polled
-    same = record { node = refl; peer = refl; seat = refl; settings = refl }
+    same = record { node = refl; peer = refl; seat = refl; settings = refl; pulled = λ q. q }
 
     effect : nat_lt (length y.items) 1024 ≡ true → world_after w (Happens.Pump n k) ≡ with_item (with_end w n k (after_poll_event (end_in (link_at links n k)))) n (place_of k (neighbours_of t n)) clock (what_of event)
     unfolding effect_by
@@ -88,8 +88,9 @@ module _ (t : Topology) (times : Times) (clock : ℕ) (nodes : List NodeView) (l
         let files = link_stays n k links i x polled first at same file_in refl in
         let lanes = link_stays n k links i x polled first at same lane_in refl in
         let puts = link_stays n k links i x polled first at same put_in refl in
+        let steps = link_stays n k links i x polled first at same steps_in refl in
         let u = world_of (state_of t times clock (set nodes j (after_item y x.seat clock (what_of event))) links ds) in
-        links_same u ends files lanes puts
+        links_same u ends files lanes puts steps
         ∙ ap (λ (z : World). record z { ends = put_at (λ a b. end_in (link_at links a b)) n k (after_poll_event (end_in (link_at links n k))) })
         (item_world t times clock nodes links ds h n j y first' read' x.seat (what_of event) seat_room)
         ∙ ap (λ m. with_item (with_end w n k (after_poll_event (end_in (link_at links n k)))) n m clock (what_of event)) seat_is

@@ -15,7 +15,7 @@ use Rattle.tora_seat.specs.Serving.{put_one}
 use Rattle.tora_sim.specs.Keyed.{IsFirst}
 use Rattle.tora_sim.specs.Links.{LinkView, is_at, with_state}
 use Rattle.tora_sim.specs.Nodes.{NodeView, is_of}
-use Rattle.tora_sim.specs.Store.{state_of, world_of, numbered, IsStore, link_at, end_in, file_in, lane_in, put_in, node_at, seat_in, items_in, counts_in, arms_in}
+use Rattle.tora_sim.specs.Store.{state_of, world_of, numbered, IsStore, link_at, end_in, file_in, lane_in, put_in, steps_in, node_at, seat_in, items_in, inputs_in, counts_in, arms_in}
 use Rattle.tora_sim.specs.Steps.{IsDone, IsRefused}
 use Rattle.tora_sim.proofs.Stores.{is_found, IsSameLink, IsSameNode, link_changes, link_stays, store_set, node_changes, node_stays, node_stays_by, store_set_node}
 use Rattle.tora_sim.proofs.Opens.{effect_is, refused_for, links_same, at_place, end_there}
@@ -71,7 +71,7 @@ module _ (t : Topology) (times : Times) (clock : ℕ) (nodes : List NodeView) (l
       disarmed = record y { receive = false }
 
       same' : IsSameNode y disarmed
-      same' = record { node = refl; count = refl; seats = refl }
+      same' = record { node = refl; first = refl; count = refl; me = refl; neighbours = refl; destinations = refl; seats = refl }
 
       at' : slice_get nodes j ≡ Some y
       at' = node_place t times clock nodes links ds h n j y first' read'
@@ -79,11 +79,12 @@ module _ (t : Topology) (times : Times) (clock : ℕ) (nodes : List NodeView) (l
       failed_world : y.receive ≡ true → world_of (state_of t times clock (set nodes j disarmed) links ds) ≡ world_after w (Happens.Deliver i)
       failed_world armed =
           let seats = node_stays_by n nodes j y disarmed first' at' same' (seat_in t) refl in
+          let inputs = node_stays n nodes j y disarmed first' at' same' inputs_in refl in
           let items = node_stays n nodes j y disarmed first' at' same' items_in refl in
           let counts = node_stays n nodes j y disarmed first' at' same' counts_in refl in
           let arms = node_changes n nodes j y disarmed first' at' same' arms_in
           ∙ ap (λ o. put_one (λ a. arms_in (node_at nodes a)) n (record (arms_in o) { receive = false })) (sym there') in
-          nodes_same w seats items counts arms
+          nodes_same w seats inputs items counts arms
           ∙ sym (effect ∙ ap (λ b. if b then record w { arms = put_one w.arms n (record (w.arms n) { receive = false }) } else with_end w n f.header.sender (after_frame (settings_of n f.header.sender times) (w.ends n f.header.sender) f clock)) (ap (λ o. (arms_in o).receive) there' ∙ armed))
 
       pub failed_done : (node : NodeView) → y.receive ≡ true → node ≡ disarmed → IsDone w (Happens.Deliver i) (world_of (state_of t times clock (set nodes j node) links ds))
@@ -114,7 +115,7 @@ module _ (t : Topology) (times : Times) (clock : ℕ) (nodes : List NodeView) (l
         received = with_state x (after_frame x.settings x.state f clock)
 
         same : IsSameLink x received
-        same = record { node = refl; peer = refl; seat = refl; settings = refl }
+        same = record { node = refl; peer = refl; seat = refl; settings = refl; pulled = λ q. q }
 
         received_world : y.receive ≡ false → world_of (state_of t times clock nodes (set links m received) ds) ≡ world_after w (Happens.Deliver i)
         received_world armed =
@@ -123,7 +124,8 @@ module _ (t : Topology) (times : Times) (clock : ℕ) (nodes : List NodeView) (l
             let files = link_stays n k links m x received first at same file_in refl in
             let lanes = link_stays n k links m x received first at same lane_in refl in
             let puts = link_stays n k links m x received first at same put_in refl in
-            links_same w ends files lanes puts
+            let steps = link_stays n k links m x received first at same steps_in refl in
+            links_same w ends files lanes puts steps
             ∙ sym (effect ∙ ap (λ b. if b then record w { arms = put_one w.arms n (record (w.arms n) { receive = false }) } else with_end w n k (after_frame (settings_of n k times) (w.ends n k) f clock)) (ap (λ o. (arms_in o).receive) there' ∙ armed))
 
         pub received_done : (link : LinkView) → y.receive ≡ false → link ≡ received → IsDone w (Happens.Deliver i) (world_of (state_of t times clock nodes (set links m link) ds))

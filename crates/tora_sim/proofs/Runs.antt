@@ -1,9 +1,9 @@
 -- Events, one after another.
-use Rattle.std.proofs.Common.{ℕ, zero, suc, ◌<◌, inl, inr, List, [], ◌∷◌, length, get_or, refl, subst, arith}
+use Rattle.std.proofs.Common.{inl, inr, List, [], ◌∷◌, refl, subst}
 use Rattle.tora_world.specs.declared.Event.{Event}
 use Rattle.tora_world.specs.declared.SimError.{SimError}
 use Rattle.tora_world.specs.World.{World}
-use Rattle.tora_sim.specs.Steps.{IsDone, IsRefused, IsRun, AreRun, AllAreDone, StopsWith}
+use Rattle.tora_sim.specs.Steps.{IsDone, IsRefused, AllAreDone, StopsWith}
 
 -- what the rest of the events does is what all of them do
 pub record GoesOn (start : World) (events : List Event) (w : World) (rest : List Event) : Type 0 where
@@ -24,8 +24,3 @@ ends start events w h = h.done w refl
 
 pub stopped : (start : World) (events : List Event) (w : World) (event : Event) (rest : List Event) (error : SimError) (after : World) → GoesOn start events w (event ∷ rest) → IsRefused w event error after → StopsWith start events error after
 stopped start events w event rest error after h r = h.stops error after (inl r)
-
-pub run_at : (events : List Event) (i : ℕ) (d : Event) → i < length events → AreRun events → IsRun (get_or events i d)
-run_at [] i d lt h = absurd (omega arith)
-run_at (e ∷ events) zero d lt h = h.0
-run_at (e ∷ events) (suc i) d lt h = run_at events i d (omega arith) h.1

@@ -21,7 +21,7 @@ use Rattle.tora_sim.specs.declared.nodes.Sending.TheVariants as Sends
 use Rattle.tora_sim.specs.Keyed.{IsFirst}
 use Rattle.tora_sim.specs.Links.{LinkView, is_at, with_state}
 use Rattle.tora_sim.specs.Nodes.{NodeView, is_of, sending_of}
-use Rattle.tora_sim.specs.Store.{state_of, world_of, IsStore, IsOfLink, link_at, end_in, file_in, lane_in, put_in, node_at, seat_in, items_in, counts_in, arms_in}
+use Rattle.tora_sim.specs.Store.{state_of, world_of, IsStore, IsOfLink, link_at, end_in, file_in, lane_in, put_in, steps_in, node_at, seat_in, items_in, inputs_in, counts_in, arms_in}
 use Rattle.tora_sim.specs.Steps.{IsDone, IsRefused}
 use Rattle.tora_sim.proofs.Stores.{IsSameLink, IsSameNode, link_changes, link_stays, store_set, node_changes, node_stays, node_stays_by, store_set_node, store_push}
 use Rattle.tora_sim.proofs.Opens.{effect_is, refused_for, links_same, at_place, at_end, end_there}
@@ -83,10 +83,10 @@ module _ (t : Topology) (times : Times) (clock : ℕ) (nodes : List NodeView) (l
     datagrams = with_datagram (sending_of y.sending) ds f
 
     same : IsSameLink x sent
-    same = record { node = refl; peer = refl; seat = refl; settings = refl }
+    same = record { node = refl; peer = refl; seat = refl; settings = refl; pulled = λ q. q }
 
     same' : IsSameNode y disarmed
-    same' = record { node = refl; count = refl; seats = refl }
+    same' = record { node = refl; first = refl; count = refl; me = refl; neighbours = refl; destinations = refl; seats = refl }
 
     at' : slice_get nodes j ≡ Some y
     at' = node_place t times clock nodes links ds h n j y first' read'
@@ -105,15 +105,17 @@ module _ (t : Topology) (times : Times) (clock : ℕ) (nodes : List NodeView) (l
         let files = link_stays n k links i x sent first at same file_in refl in
         let lanes = link_stays n k links i x sent first at same lane_in refl in
         let puts = link_stays n k links i x sent first at same put_in refl in
+        let steps = link_stays n k links i x sent first at same steps_in refl in
         let seats = node_stays_by n nodes j y disarmed first' at' same' (seat_in t) refl in
+        let inputs = node_stays n nodes j y disarmed first' at' same' inputs_in refl in
         let items = node_stays n nodes j y disarmed first' at' same' items_in refl in
         let counts = node_stays n nodes j y disarmed first' at' same' counts_in refl in
         let arms = node_changes n nodes j y disarmed first' at' same' arms_in
         ∙ ap (λ o. put_one (λ a. arms_in (node_at nodes a)) n (record (arms_in o) { sending = Goes })) (sym there') in
         let w' = world_of (state_of t times clock nodes links datagrams) in
         let u = world_of (state_of t times clock (set nodes j disarmed) links datagrams) in
-        links_same u ends files lanes puts
-        ∙ nodes_same (record w' { ends = put_at (λ a b. end_in (link_at links a b)) n k (after_transmit (settings_of n k times) (end_in (link_at links n k)) clock) }) seats items counts arms
+        links_same u ends files lanes puts steps
+        ∙ nodes_same (record w' { ends = put_at (λ a b. end_in (link_at links a b)) n k (after_transmit (settings_of n k times) (end_in (link_at links n k)) clock) }) seats inputs items counts arms
         ∙ ap (λ o. record w {
           ends = put_at (λ a b. end_in (link_at links a b)) n k (after_transmit (settings_of n k times) (end_in (link_at links n k)) clock);
           arms = put_one (λ a. arms_in (node_at nodes a)) n (record (arms_in (node_at nodes n)) { sending = Goes });

@@ -1,5 +1,5 @@
 -- What is stored, and the functions that it is, after a change of one link end or one node.
-use Rattle.std.proofs.Common.{◌≡◌, ℕ, zero, suc, ◌<◌, Bool, true, false, ◌&&◌, ◌⊎◌, inl, inr, List, [], ◌∷◌, ◌++◌, map, length, get_or, set, slice_get, Option, Some, None, refl, sym, ap, ap₂, ◌∙◌, subst, arith, cond, find, is_some, if◌then◌else◌, nat_eq, eqb-true, eq-eqb, true≢false}
+use Rattle.std.proofs.Common.{◌≡◌, ℕ, zero, suc, ◌<◌, ◌≤◌, ◌+◌, Bool, true, false, ◌&&◌, ◌⊎◌, inl, inr, List, [], ◌∷◌, ◌++◌, map, length, get_or, set, slice_get, Option, Some, None, refl, sym, ap, ap₂, ◌∙◌, subst, arith, cond, find, is_some, if◌then◌else◌, nat_eq, eqb-true, eq-eqb, true≢false}
 use Rattle.std.proofs.lemmas.Bool.{cases_Bool, and_parts}
 use Rattle.std.proofs.lemmas.Bool.Decides.{nat_tests}
 use Rattle.std.proofs.lemmas.List.{get_or-set_same, get_or-set_other, length-set, length-map}
@@ -10,12 +10,13 @@ use Rattle.tora_arq.specs.declared.Times.{Times}
 use Rattle.tora_arq.specs.Settings.{settings_of}
 use Rattle.tora_world.specs.World.{place_of}
 use Rattle.tora_world.specs.Topology.{Topology, is_node, is_link, neighbours_of}
+use Rattle.tora_core.specs.Kept.{destinations_of}
 use Rattle.tora_world.specs.LinkMachine.{put_at}
 use Rattle.tora_seat.specs.Serving.{put_one}
 use Rattle.tora_sim.specs.Keyed.{IsFirst, IsOrdered}
 use Rattle.tora_sim.specs.Links.{LinkView, is_at}
 use Rattle.tora_sim.specs.Nodes.{NodeView, is_of}
-use Rattle.tora_sim.specs.Store.{state_of, IsStore, IsLinkOf, IsNodeOf, IsOfLink, EachOf, link_at, node_at}
+use Rattle.tora_sim.specs.Store.{state_of, IsStore, IsLinkOf, IsNodeOf, IsOfLink, EachOf, AreEndsOf, link_at, node_at}
 use Rattle.tora_sim.specs.Links as Links
 use Rattle.tora_sim.specs.Nodes as Nodes
 use Rattle.tora_sim.proofs.Keys.{found, found_after, other_after}
@@ -116,6 +117,14 @@ ordered_map {A} Before f k xs h a b d lt within =
     got (y ∷ ys) zero less = refl
     got (y ∷ ys) (suc j) less = got ys j (omega arith)
 
+-- what is read after one item took the place of another
+pub set_read : {A : Type 0} → (xs : List A) (i : ℕ) (new : A) (j : ℕ) (x : A) → slice_get (set xs i new) j ≡ Some x → ((j ≡ i) × (new ≡ x)) ⊎ (slice_get xs j ≡ Some x)
+set_read [] i new j x e = inr e
+set_read (y ∷ ys) zero new zero x e = inl (refl, cc)
+set_read (y ∷ ys) zero new (suc j) x e = inr e
+set_read (y ∷ ys) (suc i) new zero x e = inr e
+set_read (y ∷ ys) (suc i) new (suc j) x e = elim (set_read ys i new j x e) [ inl h ↦ inl (ap suc h.0, h.1) | inr h ↦ inr h ]
+
 -- ---- one link end
 
 turned : (a b : ℕ) → nat_eq a b ≡ nat_eq b a
@@ -127,6 +136,22 @@ pub record IsSameLink (x new : LinkView) : Type 0 where
   pub peer : new.peer ≡ x.peer
   pub seat : new.seat ≡ x.seat
   pub settings : new.settings ≡ x.settings
+  pub pulled : x.pulled ≤ length x.put → new.pulled ≤ length new.put
+
+pub map_read : (f : LinkView → LinkView) (links : List LinkView) (j : ℕ) (link : LinkView) → slice_get (map f links) j ≡ Some link → (old : LinkView) × (slice_get links j ≡ Some old) × (f old ≡ link)
+map_read f [] j link e = absurd (let z : None ≡ Some link = e in cc)
+map_read f (x ∷ links) zero link e = (x, refl, cc)
+map_read f (x ∷ links) (suc j) link e = map_read f links j link e
+
+-- all ends change in place
+pub ends_map : (t : Topology) (links : List LinkView) (f : LinkView → LinkView) → ((x : LinkView) → IsSameLink x (f x)) → (y : NodeView) → AreEndsOf t links y → AreEndsOf t (map f links) y
+ends_map t links f same y h = record {
+  within = subst (λ m. y.first + y.count ≤ m) (sym (length-map links f)) h.within;
+  at = λ place k link e q.
+      let o = map_read f links (y.first + place) link q in
+      let told = h.at place k o.0 e o.1 in
+      (ap (λ (z : LinkView). z.node) (sym o.2) ∙ (same o.0).node ∙ told.0, ap (λ (z : LinkView). z.peer) (sym o.2) ∙ (same o.0).peer ∙ told.1);
+}
 
 module _ (n k : ℕ) (links : List LinkView) (i : ℕ) (x new : LinkView) (first : IsFirst (is_at n k) links i) (there : slice_get links i ≡ Some x) (same : IsSameLink x new) where
   here : is_at n k x ≡ true
@@ -180,6 +205,7 @@ module _ (n k : ℕ) (links : List LinkView) (i : ℕ) (x new : LinkView) (first
     room = subst (λ m. m < 9) (sym same.seat) h.room;
     home = ap (is_node t) same.node ∙ h.home;
     back = ap₂ (λ y z. is_link t y z) same.peer same.node ∙ h.back;
+    pulled = same.pulled h.pulled;
   }
 
   still_there : (a b : ℕ) → is_some (link_at links a b) ≡ is_some (link_at (set links i new) a b)
@@ -194,6 +220,19 @@ module _ (n k : ℕ) (links : List LinkView) (i : ℕ) (x new : LinkView) (first
         before = λ y b. elim b [ inl lt ↦ inl (subst (λ m. m < y.node) (sym same.node) lt) | inr p ↦ inr (same.node ∙ p.0, subst (λ m. m < y.peer) (sym same.peer) p.1) ];
       }
 
+  -- at each place there was one of the same node and peer
+  was : (j : ℕ) (link : LinkView) → slice_get (set links i new) j ≡ Some link → (old : LinkView) × (slice_get links j ≡ Some old) × (old.node ≡ link.node) × (old.peer ≡ link.peer)
+  was j link q = elim (set_read links i new j link q) [ inl e ↦ (x, ap (slice_get links) e.0 ∙ there, sym same.node ∙ ap (λ (z : LinkView). z.node) e.1, sym same.peer ∙ ap (λ (z : LinkView). z.peer) e.1) | inr e ↦ (link, e, refl, refl) ]
+
+  pub ends_set : (t : Topology) (y : NodeView) → AreEndsOf t links y → AreEndsOf t (set links i new) y
+  ends_set t y h = record {
+    within = subst (λ m. y.first + y.count ≤ m) (sym (length-set links i new)) h.within;
+    at = λ place k link e q.
+        let o = was (y.first + place) link q in
+        let told = h.at place k o.0 e o.1 in
+        (sym o.2 ∙ told.0, sym o.3 ∙ told.1);
+  }
+
   pub store_set : (t : Topology) (times : Times) (clock : ℕ) (nodes : List NodeView) (ds : List FrameParts) → IsStore (state_of t times clock nodes links ds) → IsStore (state_of t times clock nodes (set links i new) ds)
   store_set t times clock nodes ds h = record {
     nodes = h.nodes;
@@ -202,6 +241,7 @@ module _ (n k : ℕ) (links : List LinkView) (i : ℕ) (x new : LinkView) (first
     rising_links = rising_set h.rising_links;
     each_node = h.each_node;
     each_link = each_set (IsLinkOf t times) links i new h.each_link (link_set t times (h.each_link i x there));
+    each_ends = λ m y q. ends_set t y (h.each_ends m y q);
     each_datagram = h.each_datagram;
   }
 
@@ -209,7 +249,11 @@ module _ (n k : ℕ) (links : List LinkView) (i : ℕ) (x new : LinkView) (first
 
 pub record IsSameNode (x new : NodeView) : Type 0 where
   pub node : new.node ≡ x.node
+  pub first : new.first ≡ x.first
   pub count : new.count ≡ x.count
+  pub me : new.seat.core.me ≡ x.seat.core.me
+  pub neighbours : new.seat.core.neighbours ≡ x.seat.core.neighbours
+  pub destinations : destinations_of new.seat.core.views ≡ destinations_of x.seat.core.views
   pub seats : length new.counts ≡ length x.counts
 
 module _ (n : ℕ) (nodes : List NodeView) (i : ℕ) (x new : NodeView) (first : IsFirst (is_of n) nodes i) (there : slice_get nodes i ≡ Some x) (same : IsSameNode x new) where
@@ -241,6 +285,17 @@ module _ (n : ℕ) (nodes : List NodeView) (i : ℕ) (x new : NodeView) (first :
       go a true = refl
       go a false = refl
 
+  pub node_changes_by : {A : Type 0} → (f : ℕ → Option NodeView → A) → ◌≡◌ {A = ℕ → A} (λ a. f a (node_at (set nodes i new) a)) (put_one (λ a. f a (node_at nodes a)) n (f n (Some new)))
+  node_changes_by {A} f = fun_ext (λ a. ap (f a) (found_node a) ∙ go a (cases_Bool (nat_eq a n)))
+    where
+      go : (a : ℕ) → (nat_eq a n ≡ true) ⊎ (nat_eq a n ≡ false) → f a (put_one (node_at nodes) n (Some new) a) ≡ put_one (λ m. f m (node_at nodes m)) n (f n (Some new)) a
+      go a (inl t) =
+          ap (λ c. f a (if c then Some new else node_at nodes a)) t ∙ ap (λ m. f m (Some new)) (eqb-true a n t)
+          ∙ sym (ap (λ c. if c then f n (Some new) else f a (node_at nodes a)) t)
+      go a (inr r) =
+          ap (λ c. f a (if c then Some new else node_at nodes a)) r
+          ∙ sym (ap (λ c. if c then f n (Some new) else f a (node_at nodes a)) r)
+
   -- what is read of each node, by its number too
   pub node_stays_by : {A : Type 0} → (f : ℕ → Option NodeView → A) → f n (Some new) ≡ f n (Some x) → ◌≡◌ {A = ℕ → A} (λ a. f a (node_at (set nodes i new) a)) (λ a. f a (node_at nodes a))
   node_stays_by {A} f e = fun_ext (λ a. ap (f a) (found_node a) ∙ go a (cases_Bool (nat_eq a n)))
@@ -260,6 +315,17 @@ module _ (n : ℕ) (nodes : List NodeView) (i : ℕ) (x new : NodeView) (first :
     count = same.count ∙ h.count ∙ ap (λ y. length (neighbours_of t y)) (sym same.node);
     room = subst (λ m. m < 9) (sym same.count) h.room;
     seats = same.seats ∙ h.seats;
+    me = same.me ∙ h.me ∙ sym same.node;
+    neighbours = same.neighbours ∙ h.neighbours ∙ ap (neighbours_of t) (sym same.node);
+    destinations = same.destinations ∙ h.destinations;
+  }
+
+  pub ends_of_set : (t : Topology) (links : List LinkView) → AreEndsOf t links x → AreEndsOf t links new
+  ends_of_set t links h = record {
+    within = subst (λ m. m ≤ length links) (sym (ap₂ (λ a b. a + b) same.first same.count)) h.within;
+    at = λ place k link e q.
+        let told = h.at place k link (ap (λ y. slice_get (neighbours_of t y) place) (sym same.node) ∙ e) (ap (λ a. slice_get links (a + place)) (sym same.first) ∙ q) in
+        (told.0 ∙ sym same.node, told.1);
   }
 
   pub rising_node_set : Nodes.AreRising nodes → Nodes.AreRising (set nodes i new)
@@ -279,6 +345,7 @@ module _ (n : ℕ) (nodes : List NodeView) (i : ℕ) (x new : NodeView) (first :
     rising_links = h.rising_links;
     each_node = each_set (IsNodeOf t) nodes i new h.each_node (node_set t (h.each_node i x there));
     each_link = h.each_link;
+    each_ends = each_set (AreEndsOf t links) nodes i new h.each_ends (ends_of_set t links (h.each_ends i x there));
     each_datagram = h.each_datagram;
   }
 
@@ -292,5 +359,6 @@ store_push t times clock nodes links ds f p h = record {
   rising_links = h.rising_links;
   each_node = h.each_node;
   each_link = h.each_link;
+  each_ends = h.each_ends;
   each_datagram = each_push (IsOfLink t) ds f h.each_datagram p;
 }

@@ -11,10 +11,10 @@ use Rattle.tora_world.specs.Topology.{Topology}
 use Rattle.tora_world.specs.World.{effect_by, world_by, world_after}
 use Rattle.tora_sim.specs.Links.{LinkView, is_at, ticked}
 use Rattle.tora_sim.specs.Nodes.{NodeView}
-use Rattle.tora_sim.specs.Store.{state_of, world_of, IsStore, IsLinkOf, link_at, end_in, file_in, lane_in, put_in}
+use Rattle.tora_sim.specs.Store.{state_of, world_of, IsStore, IsLinkOf, link_at, end_in, file_in, lane_in, put_in, steps_in}
 use Rattle.tora_sim.specs.Steps.{IsDone}
 use Rattle.tora_sim.specs.Links as Links
-use Rattle.tora_sim.proofs.Stores.{is_found, each_map, ordered_map}
+use Rattle.tora_sim.proofs.Stores.{is_found, each_map, ordered_map, ends_map}
 
 link_map : (now n k : ℕ) (links : List LinkView) → link_at (map (ticked now) links) n k ≡ option_map (ticked now) (link_at links n k)
 link_map now n k [] = refl
@@ -50,6 +50,7 @@ module _ (t : Topology) (times : Times) (clock : ℕ) (nodes : List NodeView) (l
       let files = stays file_in (clock + 1) (λ x. refl) in
       let lanes = stays lane_in (clock + 1) (λ x. refl) in
       let puts = stays put_in (clock + 1) (λ x. refl) in
+      let steps = stays steps_in (clock + 1) (λ x. refl) in
       cc
 
   tick_store_at : IsStore (state_of t times (clock + 1) nodes (map (ticked (clock + 1)) links) ds)
@@ -59,7 +60,8 @@ module _ (t : Topology) (times : Times) (clock : ℕ) (nodes : List NodeView) (l
     rising_nodes = h.rising_nodes;
     rising_links = ordered_map Links.ComesBefore (ticked (clock + 1)) (λ x y b. b) links h.rising_links;
     each_node = h.each_node;
-    each_link = each_map (IsLinkOf t times) (ticked (clock + 1)) (λ x f. record { settings = f.settings; seat = f.seat; room = f.room; home = f.home; back = f.back }) links h.each_link;
+    each_link = each_map (IsLinkOf t times) (ticked (clock + 1)) (λ x f. record { settings = f.settings; seat = f.seat; room = f.room; home = f.home; back = f.back; pulled = f.pulled }) links h.each_link;
+    each_ends = λ m y q. ends_map t links (ticked (clock + 1)) (λ x. record { node = refl; peer = refl; seat = refl; settings = refl; pulled = λ b. b }) y (h.each_ends m y q);
     each_datagram = h.each_datagram;
   }
 

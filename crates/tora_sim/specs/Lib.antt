@@ -5,3 +5,8 @@ pub mod Nodes
 pub mod Topologies
 pub mod Store
 pub mod Steps
+pub mod Readers
+pub mod Firsts
+pub mod Lanes
+pub mod Turns
+pub mod Restarts

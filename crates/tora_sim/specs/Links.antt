@@ -1,5 +1,5 @@
 -- A link end as it is stored.
-use Rattle.std.specs.Prelude.{ℕ, ◌==◌, ◌&&◌, ◌<◌, ◌≡◌, ◌⊎◌, suc, Bool, List, Option, None, Some, drop, if◌then◌else◌}
+use Rattle.std.specs.Prelude.{ℕ, ◌==◌, ◌&&◌, ◌<◌, ◌+◌, ◌≡◌, ◌⊎◌, suc, Bool, List, map, Option, None, Some, drop, length, slice_get, if◌then◌else◌}
 use Rattle.tora_sim.specs.Keyed.{IsOrdered}
 use Rattle.std.specs.Ordering.{nat_cmp, ordering_then}
 use Rattle.std.specs.declared.cmp.Ordering.{Ordering}
@@ -9,7 +9,10 @@ use Rattle.tora_arq.specs.EndRange.{LinkEndView}
 use Rattle.tora_life.specs.LifeRun.{LifeDisk, after_event, drawn_by}
 use Rattle.tora_life.specs.LifeRun.LifeEvent.{Draw as DrawsNumber, Arm as ArmsDisk}
 use Rattle.tora_life.specs.declared.state.DiskCall.{DiskCall}
+use Rattle.tora_packet.specs.declared.Packet.{Packet}
+use Rattle.tora_arq.specs.declared.Life.{Life}
 use Rattle.tora_seat.specs.declared.Cargo.{Cargo}
+use Rattle.tora_seat.specs.Serving.{Parcel}
 use Rattle.tora_world.specs.World.{open_with, after_cargo}
 
 pub record LinkView : Type 0 where
@@ -21,9 +24,27 @@ pub record LinkView : Type 0 where
   pub file : LifeDisk
   pub put : List Cargo  -- all cargoes that were ever put into the lane to the peer
   pub pulled : ℕ  -- how many of them are no longer in the lane
+  pub room : ℕ  -- for how many cargoes there is memory
+  pub steps : List Parcel  -- the packets of the peer that the node's core ever stepped
+  pub step_room : ℕ  -- for how many of them there is memory
 
-abbrev pub link_of : ℕ → ℕ → ℕ → LinkEndView → LifeDisk → List Cargo → ℕ → LinkView
-link_of node peer seat end file put pulled = record { node = node; peer = peer; seat = seat; settings = end.settings; state = end.state; file = file; put = put; pulled = pulled }
+abbrev pub parcel_in : Life × Packet → Parcel
+parcel_in step = record { life = step.0; packet = step.1 }
+
+abbrev pub link_of : ℕ → ℕ → ℕ → LinkEndView → LifeDisk → List Cargo → ℕ → ℕ → List (Life × Packet) → ℕ → LinkView
+link_of node peer seat end file put pulled room steps step_room = record {
+  node = node;
+  peer = peer;
+  seat = seat;
+  settings = end.settings;
+  state = end.state;
+  file = file;
+  put = put;
+  pulled = pulled;
+  room = room;
+  steps = map parcel_in steps;
+  step_room = step_room;
+}
 
 -- the end of node n towards k
 abbrev pub is_at : ℕ → ℕ → LinkView → Bool
@@ -60,5 +81,12 @@ compared n k link = ordering_then (nat_cmp link.node n) (nat_cmp link.peer k)
 abbrev pub ticked : ℕ → LinkView → LinkView
 ticked now link = with_state link (after_tick link.settings link.state now)
 
-abbrev pub armed_of : ℕ → DiskCall → LinkView → LinkView
-armed_of n call link = if link.node == n then after_arm link call else link
+-- a change of the ends of one node
+abbrev pub at_node : ℕ → (LinkView → LinkView) → LinkView → LinkView
+at_node n change link = if link.node == n then change link else link
+
+-- so many link ends from a place on are changed so, and the others are as they were
+pub record AreChanged (change : LinkView → LinkView) (before links : List LinkView) (first count : ℕ) : Type 0 where
+  pub as_many : length links ≡ length before
+  pub done : (place : ℕ) (link : LinkView) → place < count → slice_get before (first + place) ≡ Some link → slice_get links (first + place) ≡ Some (change link)
+  pub rest : (i : ℕ) (link : LinkView) → ((place : ℕ) → place < count → i ≡ first + place → ⊥) → slice_get before i ≡ Some link → slice_get links i ≡ Some link

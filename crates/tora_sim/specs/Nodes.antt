@@ -1,6 +1,7 @@
 -- A node as it is stored.
 use Rattle.std.specs.Prelude.{ℕ, suc, ◌==◌, ◌<◌, Bool, List, [], ◌∷◌, ◌++◌, set, slice_index}
-use Rattle.tora_core.specs.CoreRun.{CoreView}
+use Rattle.tora_core.specs.declared.Input.{Input}
+use Rattle.tora_seat.specs.Rows.{SeatView}
 use Rattle.tora_seat.specs.declared.What.{What}
 use Rattle.tora_seat.specs.declared.Item.{Item}
 use Rattle.tora_world.specs.World.{Sending as SendingOfWorld}
@@ -11,15 +12,17 @@ use Rattle.tora_sim.specs.Keyed.{IsOrdered}
 
 pub record NodeView : Type 0 where
   pub node : ℕ
+  pub first : ℕ  -- the place of its first link end among all link ends
   pub count : ℕ  -- of its neighbours
-  pub core : CoreView
+  pub seat : SeatView  -- its core's
+  pub inputs : List (Input × ℕ)  -- those that its core accepted since the node's last restart
   pub items : List Item  -- the lane into the core
   pub counts : List ℕ  -- how many items each seat has put
   pub sending : Sending
   pub receive : Bool
 
-abbrev pub node_of : ℕ → ℕ → CoreView → List Item → List ℕ → Sending → Bool → NodeView
-node_of node count core items counts sending receive = record { node = node; count = count; core = core; items = items; counts = counts; sending = sending; receive = receive }
+abbrev pub node_of : ℕ → ℕ → ℕ → SeatView → List (Input × ℕ) → List Item → List ℕ → Sending → Bool → NodeView
+node_of node first count seat inputs items counts sending receive = record { node = node; first = first; count = count; seat = seat; inputs = inputs; items = items; counts = counts; sending = sending; receive = receive }
 
 abbrev pub sending_of : Sending → SendingOfWorld
 sending_of Sends.Goes = Goes

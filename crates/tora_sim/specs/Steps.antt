@@ -1,7 +1,6 @@
 -- Events that are done or refused.
 use Rattle.std.specs.Prelude.{◌≡◌, ◌⊎◌, List, [], ◌∷◌, Result, MatchResult, Some, None}
 use Rattle.tora_world.specs.declared.Event.{Event}
-use Rattle.tora_world.specs.declared.Event.TheVariants.{Need, Tick, Open, Pull, Transmit, Deliver, Pump, CoreTurn, Arm, Restart}
 use Rattle.tora_world.specs.declared.SimError.{SimError}
 use Rattle.tora_world.specs.declared.SimError.TheVariants as Refused
 use Rattle.tora_world.specs.World.{World, refusal_of, world_after}
@@ -19,23 +18,6 @@ pub record IsRefused (w : World) (event : Event) (error : SimError) (after : Wor
 
 abbrev pub Does : SimState → Event → Result (Unit {0}) SimError → SimState → Type 0
 Does before event result after = MatchResult result (λ _. IsDone (world_of before) event (world_of after)) (λ error. IsRefused (world_of before) event error (world_of after))
-
--- the events that the simulator runs so far: no turn of a core, no restart
-abbrev pub IsRun : Event → Type 0
-IsRun (Need n d) = Unit {0}
-IsRun Tick = Unit {0}
-IsRun (Open n k) = Unit {0}
-IsRun (Pull n k) = Unit {0}
-IsRun (Transmit n k) = Unit {0}
-IsRun (Deliver i) = Unit {0}
-IsRun (Pump n k) = Unit {0}
-IsRun (CoreTurn n) = ⊥
-IsRun (Arm n call) = Unit {0}
-IsRun (Restart n torn) = ⊥
-
-abbrev pub AreRun : List Event → Type 0
-AreRun [] = Unit {0}
-AreRun (event ∷ events) = IsRun event × AreRun events
 
 -- no event is refused, and the last one leaves this world
 abbrev pub AllAreDone : World → List Event → World → Type 0

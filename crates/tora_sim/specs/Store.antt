@@ -1,5 +1,5 @@
 -- What the simulator stores, and the world that it is.
-use Rattle.std.specs.Prelude.{◌≡◌, ℕ, zero, suc, ◌<◌, true, false, is_some, List, [], length, slice_get, slice_index, Option, Some, None, find}
+use Rattle.std.specs.Prelude.{◌≡◌, ℕ, zero, suc, ◌<◌, ◌≤◌, ◌+◌, true, false, is_some, List, [], length, slice_get, slice_index, Option, Some, None, find}
 use Rattle.tora_frame.specs.FrameParts.{FrameParts}
 use Rattle.tora_arq.specs.declared.Times.{Times}
 use Rattle.tora_arq.specs.Settings.{settings_of}
@@ -12,7 +12,11 @@ use Rattle.tora_world.specs.declared.Call.{Call}
 use Rattle.tora_world.specs.declared.Call.TheVariants as Fails
 use Rattle.tora_seat.specs.declared.Item.{Item}
 use Rattle.tora_seat.specs.declared.Cargo.{Cargo}
-use Rattle.tora_seat.specs.Serving.{SeatState}
+use Rattle.tora_core.specs.declared.Input.{Input}
+use Rattle.tora_core.specs.Numbers.{ascending}
+use Rattle.tora_core.specs.Kept.{destinations_of}
+use Rattle.tora_seat.specs.Serving.{SeatState, Parcel}
+use Rattle.tora_seat.specs.Rows as Rows
 use Rattle.tora_world.specs.Topology.{Topology, is_node, is_link, neighbours_of}
 use Rattle.tora_world.specs.World.{World, Arms, first_seat, place_of}
 use Rattle.tora_world.specs.World.Sending.{Goes}
@@ -36,7 +40,11 @@ state_of topology times clock nodes links datagrams = record { topology = topolo
 
 abbrev pub seat_in : Topology → ℕ → Option NodeView → SeatState
 seat_in t n None = first_seat t n
-seat_in t n (Some node) = record { core = node.core; current = λ k. None; pending = λ k. None }
+seat_in t n (Some node) = Rows.state_of node.seat
+
+abbrev pub inputs_in : Option NodeView → List (Input × ℕ)
+inputs_in None = []
+inputs_in (Some node) = node.inputs
 
 abbrev pub items_in : Option NodeView → List Item
 items_in None = []
@@ -66,6 +74,10 @@ abbrev pub put_in : Option LinkView → List Cargo
 put_in None = []
 put_in (Some link) = link.put
 
+abbrev pub steps_in : Option LinkView → List Parcel
+steps_in None = []
+steps_in (Some link) = link.steps
+
 abbrev pub node_at : List NodeView → ℕ → Option NodeView
 node_at nodes n = find (is_of n) nodes
 
@@ -87,8 +99,8 @@ world_of s = record {
   arms = λ n. arms_in (node_at s.nodes n);
   datagrams = s.datagrams;
   put = λ n k. put_in (link_at s.links n k);
-  inputs = λ n. [];
-  steps = λ n k. [];
+  inputs = λ n. inputs_in (node_at s.nodes n);
+  steps = λ n k. steps_in (link_at s.links n k);
 }
 
 -- ---- what every simulator keeps
@@ -99,6 +111,7 @@ pub record IsLinkOf (t : Topology) (times : Times) (link : LinkView) : Type 0 wh
   pub room : link.seat < 9
   pub home : is_node t link.node ≡ true
   pub back : is_link t link.peer link.node ≡ true
+  pub pulled : link.pulled ≤ length link.put
 
 -- holds of each item
 abbrev pub EachOf : {A : Type 0} → (A → Type 0) → List A → Type 0
@@ -108,6 +121,14 @@ pub record IsNodeOf (t : Topology) (node : NodeView) : Type 0 where
   pub count : node.count ≡ length (neighbours_of t node.node)
   pub room : node.count < 9
   pub seats : length node.counts ≡ 9
+  pub me : node.seat.core.me ≡ node.node
+  pub neighbours : node.seat.core.neighbours ≡ neighbours_of t node.node
+  pub destinations : destinations_of node.seat.core.views ≡ ascending t.destinations
+
+-- the link ends of a node stand one behind the other, in the order of its neighbours
+pub record AreEndsOf (t : Topology) (links : List LinkView) (node : NodeView) : Type 0 where
+  pub within : node.first + node.count ≤ length links
+  pub at : (place k : ℕ) (link : LinkView) → slice_get (neighbours_of t node.node) place ≡ Some k → slice_get links (node.first + place) ≡ Some link → (link.node ≡ node.node) × (link.peer ≡ k)
 
 -- a datagram came over a link, from its sender to its receiver
 abbrev pub IsOfLink : Topology → FrameParts → Type 0
@@ -120,6 +141,7 @@ pub record IsStore (s : SimState) : Type 0 where
   pub rising_links : Links.AreRising s.links
   pub each_node : EachOf (IsNodeOf s.topology) s.nodes
   pub each_link : EachOf (IsLinkOf s.topology s.times) s.links
+  pub each_ends : EachOf (AreEndsOf s.topology s.links) s.nodes
   pub each_datagram : EachOf (IsOfLink s.topology) s.datagrams
 
 -- the datagram of a number from 1 on

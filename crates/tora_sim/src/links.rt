@@ -1,41 +1,54 @@
 //! The link ends of all nodes, one behind the other.
-ghost use Rattle.std.specs.Prelude.{◌≡◌, ◌<◌, ◌≤◌, ◌+◌, ℕ, ⊤, IsTrue, IfSome, IfNone, None, MatchOption, find, length, map, is_some, nat_lt, slice_get};
+ghost use Rattle.std.specs.Prelude.{◌≡◌, ◌<◌, ◌≤◌, ◌+◌, ◌++◌, ◌∷◌, [], ℕ, ⊤, IsTrue, IfSome, IfNone, OnOk, IfOk, IfErr, None, MatchOption, find, length, map, is_some, nat_lt, slice_get};
 ghost use Rattle.tora_arq.specs.LinkEnd.{is_closed, after_frame, after_tick, frame_due, after_transmit, first_event, after_poll_event};
 ghost use Rattle.tora_world.specs.World.{after_cargo};
-ghost use Rattle.tora_sim.specs.Links.{with_state, after_open_at, after_arm, after_pull_at, is_at, AreRising, ticked, armed_of};
+ghost use Rattle.tora_sim.specs.Links.{with_state, after_open_at, after_arm, after_pull_at, is_at, AreRising, ticked, AreChanged};
+ghost use Rattle.tora_arq.specs.LinkEnd.{first_end};
+ghost use Rattle.tora_arq.specs.EndRange.{link_end_of};
 ghost use Rattle.tora_sim.specs.Keyed.{IsFirst};
+ghost use Rattle.tora_sim.specs.Restarts.{restarted};
+ghost use Rattle.tora_sim.specs.Lanes.{after_offer_at, has_place, bare, HasRoom};
 
+use crate::SimError;
 use crate::files::FileSlot;
+use std::alloc::Global;
 use std::marker::Model;
-use tora_arq::{LinkEnd, LinkEvent, lives_are_bound_once};
+use std::mem;
+use tora_arq::{Life, LinkEnd, LinkEvent, lives_are_bound_once};
 use tora_frame::Frame;
 use tora_height::Id;
-use tora_life::DiskCall;
+use tora_life::{DiskCall, MemDisk};
+use tora_packet::Packet;
 use tora_seat::Cargo;
+
+/// The most cargoes that wait in a lane.
+const MOST_CARGOES: usize = 256;
 
 /// The end of a link at one node, with its life file and the lane from the node's core to it.
 #[derive(Drop)]
 pub struct LinkSlot {
-    node: Id,
-    peer: Id,
+    pub(crate) node: Id,
+    pub(crate) peer: Id,
     /// The place of the peer among the node's neighbours.
-    seat: usize,
-    end: LinkEnd,
-    file: FileSlot,
+    pub(crate) seat: usize,
+    pub(crate) end: LinkEnd,
+    pub(crate) file: FileSlot,
     /// All cargoes that were ever put into the lane.
-    put: Vec<Cargo>,
+    pub(crate) put: Vec<Cargo>,
     /// How many of them are no longer in the lane.
-    pulled: usize,
+    pub(crate) pulled: usize,
+    /// The packets of the peer that the node's core ever stepped, each with its life.
+    pub(crate) steps: Vec<(Life, Packet)>,
 }
 
 impl Model for LinkSlot {
-    ghost use Rattle.std.specs.Prelude.{◌≤◌, length};
+    ghost use Rattle.std.specs.Prelude.{◌≤◌, length, vec_capacity};
     ghost use Rattle.tora_sim.specs.Files.{disk_of, IsDrawn};
     ghost use Rattle.tora_sim.specs.Links.{LinkView, link_of};
 
     ghost Value = { LinkView };
 
-    ghost view = { λ s. link_of s.node s.peer s.seat s.end (disk_of s.file) s.put.items s.pulled };
+    ghost view = { λ s. link_of s.node s.peer s.seat s.end (disk_of s.file) s.put.items s.pulled (vec_capacity s.put) s.steps.items (vec_capacity s.steps) };
 
     ghost invariant = { λ s. IsDrawn s.end.state.last_life (disk_of s.file) × (s.pulled ≤ length s.put.items) };
 }
@@ -127,15 +140,6 @@ impl LinkSlot {
         self.file.arm(call);
     }
 
-    /// The next such call of the life file fails, where the end is one of node `n`.
-    fn arm_of(&mut self, n: Id, call: DiskCall)
-        ensures { self.new ≡ armed_of n call self.old }
-    {
-        if self.node == n {
-            self.file.arm(call);
-        }
-    }
-
     /// Whether a cargo waits in the lane.
     pub fn has_cargo(&self) -> bool
         ensures { result ≡ nat_lt self.now.pulled (length self.now.put) }
@@ -152,6 +156,78 @@ impl LinkSlot {
         let cargo = self.put[self.pulled];
         self.pulled += 1;
         give(&mut self.end, &cargo);
+    }
+
+    /// Takes the memory for all that one item of the node can put here: cargoes up to 256 that wait, and a packet that is
+    /// stepped.
+    ///
+    /// # Errors
+    /// `Memory`. The end is as it was either way.
+    pub fn make_room(&mut self) -> Result<(), SimError>
+        ensures same { bare self.new ≡ bare self.old }
+        ensures room { OnOk result (HasRoom self.new) }
+        ensures memory { IfErr result (λ e. e ≡ SimError.Memory) }
+    {
+        let waiting = self.put.len() - self.pulled;
+        if self
+            .put
+            .reserve(MOST_CARGOES.saturating_sub(waiting))
+            .is_err()
+        {
+            return Err(SimError::Memory);
+        }
+        if self.steps.reserve(1).is_err() {
+            return Err(SimError::Memory);
+        }
+        Ok(())
+    }
+
+    /// Puts a cargo at the back of the lane, where fewer than 256 wait, and answers whether it was put.
+    pub fn offer(&mut self, cargo: Cargo) -> bool
+        requires { self.old.pulled + 256 ≤ self.old.room }
+        ensures put { result ≡ has_place self.old }
+        ensures lane { self.new ≡ after_offer_at self.old cargo result }
+    {
+        if self.put.len() - self.pulled >= MOST_CARGOES {
+            return false;
+        }
+        self.put.push_reserved(cargo);
+        true
+    }
+
+    /// A fresh end of the same link.
+    ///
+    /// # Errors
+    /// `Memory`.
+    pub fn new_end(&self, alloc: Global) -> Result<LinkEnd, SimError>
+        ensures fresh { IfOk result (λ end. end ≡ link_end_of self.now.settings first_end) }
+        ensures memory { IfErr result (λ e. e ≡ SimError.Memory) }
+    {
+        let peer = self.end.peer();
+        match LinkEnd::new(alloc, self.end.me(), peer, self.end.times()) {
+            Ok(end) => Ok(end),
+            Err(_) => Err(SimError::Memory),
+        }
+    }
+
+    /// Takes a fresh end in place of its own, which is behind `end` then, empties the lane, and opens the life file after
+    /// a crash of its disk.
+    pub fn restart(&mut self, end: &mut LinkEnd, torn: Option<[u8; 16]>)
+        requires { end.old ≡ link_end_of self.old.settings first_end }
+        ensures { self.new ≡ restarted torn self.old }
+    {
+        mem::swap(&mut self.end, end);
+        let file = mem::replace(&mut self.file, FileSlot::Unopened(MemDisk::new()));
+        self.file = file.restart(torn);
+        self.pulled = self.put.len();
+    }
+
+    /// Notes a packet of the peer that the node's core stepped, with its life.
+    pub fn note_step(&mut self, life: Life, packet: Packet)
+        requires { length self.old.steps < self.old.step_room }
+        ensures { self.new ≡ record self.old { steps = self.old.steps ++ record { life = life; packet = packet } ∷ [] } }
+    {
+        self.steps.push_reserved((life, packet));
     }
 }
 
@@ -199,17 +275,13 @@ fn tick_each(links: &mut [LinkSlot], now: u64)
     }
 }
 
-/// The next such call of each life file of node `n` fails.
-pub fn arm(links: &mut Vec<LinkSlot>, n: Id, call: DiskCall)
-    ensures { links.new.items ≡ map (armed_of n call) links.old.items }
+/// The next such call of each life file fails, at the `count` ends from the place `first` on.
+pub fn arm(links: &mut Vec<LinkSlot>, first: usize, count: usize, call: DiskCall)
+    requires { first + count ≤ length links.old.items }
+    ensures { AreChanged (λ link. after_arm link call) links.old.items links.new.items first count }
 {
-    arm_each(links, n, call);
-}
-
-fn arm_each(links: &mut [LinkSlot], n: Id, call: DiskCall)
-    ensures { links.new ≡ map (armed_of n call) links.old }
-{
-    for link in links.iter_mut() {
-        link.arm_of(n, call);
+    for place in 0..count {
+        let at = first + place;
+        links[at].arm(call);
     }
 }

@@ -1,14 +1,23 @@
 //! The nodes: the core of each, and the lane into it.
-ghost use Rattle.std.specs.Prelude.{◌≡◌, ◌<◌, ◌≤◌, ℕ, None, Some, IfSome, IfNone, MatchResult, find, length, slice_index};
+ghost use Rattle.std.specs.Prelude.{◌≡◌, ◌<◌, ◌≤◌, ◌+◌, ◌++◌, ℕ, None, Some, IfSome, IfNone, IfOk, IfErr, OnErr, MatchResult, find, length, map, slice_index, vec_len, vec_capacity};
+ghost use Rattle.tora_core.specs.Kept.{IsCore};
+ghost use Rattle.tora_seat.specs.Rows.{first_seat};
+ghost use Rattle.tora_sim.specs.Restarts.{core_again, restarted_node};
+ghost use Rattle.tora_sim.specs.Turns.{IsServed};
 ghost use Rattle.tora_sim.specs.Keyed.{IsFirst};
 ghost use Rattle.tora_sim.specs.Nodes.{NodeView, is_of, AreRising, after_item};
 
 use crate::SimError;
+use crate::lanes::NodeLanes;
+use std::alloc::Global;
 use std::collections::VecDeque;
 use std::marker::Model;
-use tora_core::Core;
+use tora_core::{Core, Input, tables_stay};
 use tora_height::Id;
-use tora_seat::{Item, What};
+use tora_seat::{
+    CoreSeat, Item, Stepped, What, accepted_inputs_make_the_core, items_step_few_inputs,
+    offers_are_their_own_answers,
+};
 
 /// What becomes of the next datagram that a node sends.
 #[derive(Clone, Copy, Debug, PartialEq, Eq)]
@@ -21,16 +30,22 @@ pub enum Sending {
 /// A node, with the lane into its core.
 #[derive(Drop)]
 pub struct NodeSlot {
-    node: Id,
+    pub(crate) node: Id,
+    /// The place of its first link end among all link ends.
+    pub(crate) first: usize,
     /// How many neighbours it has.
-    count: usize,
-    core: Core,
-    items: VecDeque<Item>,
+    pub(crate) count: usize,
+    /// Its core's seat.
+    pub(crate) seat: CoreSeat,
+    /// The inputs that its core accepted since the node's last restart, each with its tick.
+    pub(crate) inputs: Vec<(Input, u64)>,
+    /// The lane into its core.
+    pub(crate) items: VecDeque<Item>,
     /// How many items each seat has put since the node's last restart.
-    counts: [u64; 9],
-    sending: Sending,
+    pub(crate) counts: [u64; 9],
+    pub(crate) sending: Sending,
     /// Whether the next datagram for it is not handed over.
-    receive: bool,
+    pub(crate) receive: bool,
 }
 
 impl Model for NodeSlot {
@@ -38,7 +53,7 @@ impl Model for NodeSlot {
 
     ghost Value = { NodeView };
 
-    ghost view = { λ s. node_of s.node s.count s.core s.items.items s.counts s.sending s.receive };
+    ghost view = { λ s. node_of s.node s.first s.count s.seat s.inputs.items s.items.items s.counts s.sending s.receive };
 }
 
 impl NodeSlot {
@@ -113,6 +128,90 @@ impl NodeSlot {
         }
         self.counts[seat] = number;
         Ok(())
+    }
+
+    /// The place of its first link end among all link ends.
+    pub fn first(&self) -> usize
+        ensures { result ≡ self.now.first }
+    {
+        self.first
+    }
+
+    /// The packet that was stepped for the item last served, if one was.
+    pub fn stepped(&self) -> Option<Stepped>
+        ensures { result ≡ self.now.seat.stepped }
+    {
+        self.seat.stepped()
+    }
+
+    /// A new seat of a core of the same node, neighbours and destinations.
+    ///
+    /// # Errors
+    /// `Memory`: the core was made of these lists before.
+    pub fn new_seat(&self, alloc: Global) -> Result<CoreSeat, SimError>
+        ensures made { IfOk result (λ seat. seat ≡ first_seat (core_again self.now.seat.core)) }
+        ensures kept { IsCore self.now.seat.core }
+        ensures memory { IfErr result (λ e. e ≡ SimError.Memory) }
+    {
+        let core = self.seat.core();
+        match Core::new(alloc, core.me(), core.neighbours(), core.destinations()) {
+            Ok(again) => match CoreSeat::new(alloc, again) {
+                Ok(seat) => Ok(seat),
+                Err(_) => Err(SimError::Memory),
+            },
+            Err(_) => Err(SimError::Memory),
+        }
+    }
+
+    /// Takes a new seat in place of its own; nothing is in the lane, and nothing is accepted.
+    pub fn restart(&mut self, seat: CoreSeat)
+        ensures { self.new ≡ restarted_node seat self.old }
+    {
+        self.seat = seat;
+        self.inputs.clear();
+        self.items.clear();
+        self.counts = [0; 9];
+    }
+
+    /// Serves the first item of the lane over the lanes to the neighbours, and notes the inputs that the core accepted.
+    ///
+    /// # Errors
+    /// `Memory`, which changes nothing.
+    pub fn serve(&mut self, lanes: &mut NodeLanes) -> Result<Item, SimError>
+        requires waits { 0 < length self.old.items }
+        requires neighbours { length self.old.seat.core.neighbours ≤ lanes.old.count }
+        ensures served { IfOk result (λ item. IsServed self.old lanes.old item self.new lanes.new) }
+        ensures memory { IfErr result (λ e. e ≡ SimError.Memory) }
+        ensures kept { OnErr result ((self.new ≡ self.old) × (lanes.new ≡ lanes.old)) }
+    {
+        let core = self.seat.core();
+        let _me = core.me();
+        let most = core.neighbours().len() + 2;
+        if self.inputs.reserve(most).is_err() {
+            return Err(SimError::Memory);
+        }
+        match self.items.pop_front() {
+            Some(item) => {
+                items_step_few_inputs();
+                offers_are_their_own_answers();
+                accepted_inputs_make_the_core();
+                tables_stay();
+                self.seat.serve(&item, lanes);
+                note_inputs(&mut self.inputs, self.seat.inputs(), item.now);
+                Ok(item)
+            }
+            None => Err(SimError::Memory),
+        }
+    }
+}
+
+/// Notes the inputs that a core accepted at a tick.
+fn note_inputs(inputs: &mut Vec<(Input, u64)>, accepted: &[Input], now: u64)
+    requires { vec_len inputs.old + length accepted.now ≤ vec_capacity inputs.old }
+    ensures { inputs.new.items ≡ inputs.old.items ++ map (λ input. (input, now)) accepted.now }
+{
+    for input in accepted {
+        inputs.push_reserved((*input, now));
     }
 }
 

@@ -1,15 +1,18 @@
 //! The simulator.
 ghost use Rattle.std.specs.Prelude.{◌≡◌, ◌<◌, true, vec_len, vec_capacity};
-ghost use Rattle.tora_world.specs.declared.Event.TheVariants.{Tick, Open, Pull, Need, Transmit, Deliver, Pump, Arm};
+ghost use Rattle.tora_world.specs.declared.Event.TheVariants.{Tick, Open, Pull, Need, Transmit, Deliver, Pump, CoreTurn, Arm, Restart};
 ghost use Rattle.tora_world.specs.World.{with_datagram, what_of};
-ghost use Rattle.tora_sim.specs.Nodes.{sending_of};
+ghost use Rattle.tora_sim.specs.Nodes.{is_of, sending_of};
 ghost use Rattle.tora_sim.specs.Store.{numbered, call_of};
-ghost use Rattle.tora_world.specs.Topology.{is_node};
-ghost use Rattle.tora_sim.specs.Steps.{Does, IsRun, AreRun, Runs};
+ghost use Rattle.tora_sim.specs.Keyed.{IsFirst};
+ghost use Rattle.tora_sim.specs.Steps.{Does, Runs};
 
+use crate::lanes::make_room;
 use crate::links::{LinkSlot, arm, place, tick};
 use crate::nodes::{NodeSlot, Sending, place as node_place};
+use crate::restarts::{new_ends, restart_ends};
 use crate::topology::Topology;
+use crate::turns::turn;
 use crate::{Call, Event, SimError};
 use std::marker::Model;
 use tora_arq::{LinkEvent, Times, data_frames_are_what_was_submitted};
@@ -24,12 +27,12 @@ const MOST_ITEMS: usize = 1024;
 /// A simulated world.
 #[derive(Drop)]
 pub struct Sim {
-    topology: Topology,
-    times: Times,
-    clock: u64,
-    nodes: Vec<NodeSlot>,
-    links: Vec<LinkSlot>,
-    datagrams: Vec<Frame>,
+    pub(crate) topology: Topology,
+    pub(crate) times: Times,
+    pub(crate) clock: u64,
+    pub(crate) nodes: Vec<NodeSlot>,
+    pub(crate) links: Vec<LinkSlot>,
+    pub(crate) datagrams: Vec<Frame>,
 }
 
 impl Model for Sim {
@@ -169,6 +172,45 @@ impl Sim {
         Ok(())
     }
 
+    /// The core of a node serves the first item of its lane.
+    pub(crate) fn core_turn(&mut self, n: Id) -> Result<(), SimError>
+        ensures { Does self.old (CoreTurn n) result self.new }
+    {
+        let Some(home) = node_place(&self.nodes, n) else {
+            return Err(SimError::NoNode);
+        };
+        if self.nodes[home].waiting() == 0 {
+            return Err(SimError::NotPossible);
+        }
+        let first = self.nodes[home].first();
+        let count = self.nodes[home].count();
+        if make_room(&mut self.links, first, count).is_err() {
+            return Err(SimError::Memory);
+        }
+        turn(&mut self.nodes[home], &mut self.links)
+    }
+
+    /// A node restarts: its core, ends and lanes are made anew, and its life files are opened after a crash.
+    pub(crate) fn restart(&mut self, n: Id, torn: Option<[u8; 16]>) -> Result<(), SimError>
+        ensures { Does self.old (Restart n torn) result self.new }
+    {
+        let Some(home) = node_place(&self.nodes, n) else {
+            return Err(SimError::NoNode);
+        };
+        let alloc = *self.nodes.allocator();
+        let first = self.nodes[home].first();
+        let count = self.nodes[home].count();
+        let Ok(seat) = self.nodes[home].new_seat(alloc) else {
+            return Err(SimError::Memory);
+        };
+        let Ok(mut ends) = new_ends(alloc, &self.links, first, count) else {
+            return Err(SimError::Memory);
+        };
+        restart_ends(&mut self.links, first, &mut ends, torn);
+        self.nodes[home].restart(seat);
+        Ok(())
+    }
+
     /// A call of a node is made to fail.
     pub(crate) fn arm(&mut self, n: Id, call: Call) -> Result<(), SimError>
         ensures { Does self.old (Arm n call) result self.new }
@@ -189,30 +231,29 @@ impl Sim {
                 self.nodes[home].arm_receive(true);
                 Ok(())
             }
-            Call::Read => self.arm_files(n, DiskCall::Read),
-            Call::Write => self.arm_files(n, DiskCall::Write),
-            Call::Sync => self.arm_files(n, DiskCall::Sync),
+            Call::Read => self.arm_files(n, home, DiskCall::Read),
+            Call::Write => self.arm_files(n, home, DiskCall::Write),
+            Call::Sync => self.arm_files(n, home, DiskCall::Sync),
         }
     }
 
-    /// The next such call of each life file of a node fails.
-    fn arm_files(&mut self, n: Id, call: DiskCall) -> Result<(), SimError>
-        requires { is_node self.old.topology n ≡ true }
+    /// The next such call of each life file of node `n`, which is the one at the place `home`, fails.
+    fn arm_files(&mut self, n: Id, home: usize, call: DiskCall) -> Result<(), SimError>
+        requires { IsFirst (is_of n) self.old.nodes home }
         ensures { Does self.old (Arm n (call_of call)) result self.new }
     {
-        arm(&mut self.links, n, call);
+        let first = self.nodes[home].first();
+        let count = self.nodes[home].count();
+        arm(&mut self.links, first, count, call);
         Ok(())
     }
 
     /// Lets one event happen.
     ///
-    /// The simulator runs no turn of a core and no restart yet.
-    ///
     /// # Errors
     /// `NoNode` where there is no such node or link, `NoDatagram` where there is no such datagram, `NotPossible` where
     /// the event is not possible now, and `Memory` last. The world is then as before.
     pub fn step(&mut self, event: &Event) -> Result<(), SimError>
-        requires { IsRun event.now }
         ensures { Does self.old event.now result self.new }
     {
         match event {
@@ -223,9 +264,9 @@ impl Sim {
             Event::Transmit(n, k) => self.transmit(*n, *k),
             Event::Deliver(i) => self.deliver(*i),
             Event::Pump(n, k) => self.pump(*n, *k),
-            Event::CoreTurn(_) => unreachable!(),
+            Event::CoreTurn(n) => self.core_turn(*n),
             Event::Arm(n, call) => self.arm(*n, *call),
-            Event::Restart(_, _) => unreachable!(),
+            Event::Restart(n, torn) => self.restart(*n, *torn),
         }
     }
 
@@ -234,7 +275,6 @@ impl Sim {
     /// # Errors
     /// Those of `step`. The world is then as after the events before the refused one.
     pub fn run(&mut self, events: &[Event]) -> Result<(), SimError>
-        requires { AreRun events.now }
         ensures { Runs self.old events.now result self.new }
     {
         for event in events {

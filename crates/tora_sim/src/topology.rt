@@ -1,12 +1,25 @@
 //! Which nodes there are, which links, and the destinations of their tables.
+ghost use Rattle.std.specs.Prelude.{◌≡◌, ◌⊎◌, ◌<◌, ◌≤◌, None, Some, IfErr, IfOk, MatchOption, MatchBool, length, map, nat_lt, position};
+ghost use Rattle.std.specs.List.{list_any};
+ghost use Rattle.tora_core.specs.Numbers.{ascending, has_number, has_repeat, with_number};
+ghost use Rattle.tora_world.specs.Topology.{Link, topology_fault, nodes_in, neighbours_of, with_node, different, different_neighbours, other_ends, has_too_many, is_same_link, has_link, has_repeated_link, has_own_link};
+ghost use Rattle.tora_sim.specs.Topologies.{topology_of, link_in, links_in, with_end, AreNumbers, IsTopology};
+ghost use Rattle.arrayvec.specs.ArrayVec.{array_vec_len};
+
+use arrayvec::ArrayVec;
+use std::alloc::{AllocError, Global};
 use std::marker::Model;
+use tora_core::{CoreError, MOST_DESTINATIONS, MOST_NEIGHBOURS};
 use tora_height::Id;
+
+/// The most nodes of a world. Own profile.
+pub const MOST_NODES: usize = 64;
 
 /// The links of a world and the destinations that each node's table has.
 ///
 /// There are at most 64 nodes, each with at most 8 neighbours, and at most 16 destinations. No link, either way round,
 /// and no destination is named twice, and no link leads from a node to itself. No number is 0.
-#[derive(Drop)]
+#[derive(Debug, Drop)]
 pub struct Topology {
     links: Vec<(Id, Id)>,
     destinations: Vec<Id>,
@@ -21,4 +34,269 @@ impl Model for Topology {
     ghost view = { λ t. topology_of t.links.items t.destinations.items };
 
     ghost invariant = { λ t. IsTopology (topology_of t.links.items t.destinations.items) };
+}
+
+impl Topology {
+    /// The topology of these links, each between two nodes, and these destinations.
+    ///
+    /// The nodes are those that the links name. The lists are in any order, and no number in them is 0. They are copied.
+    ///
+    /// # Errors
+    /// In this order: `TooMany` where there are more than `MOST_NODES` nodes, more than `MOST_NEIGHBOURS` neighbours of
+    /// a node, or more than `MOST_DESTINATIONS` destinations; `Repeated` where a link, either way round, or a
+    /// destination is named twice; `OwnId` where a link leads from a node to itself; `Memory`.
+    pub fn new(
+        alloc: Global,
+        links: &[(Id, Id)],
+        destinations: &[Id],
+    ) -> Result<Topology, CoreError>
+        requires { AreNumbers (topology_of links.now destinations.now) }
+        ensures made { IfOk result (λ t. t ≡ topology_of links.now destinations.now) }
+        ensures sound { IfOk result (λ _. topology_fault (topology_of links.now destinations.now) ≡ None) }
+        ensures fault { IfErr result (λ e. ((e ≡ CoreError.Memory) × (topology_fault (topology_of links.now destinations.now) ≡ None))
+            ⊎ (topology_fault (topology_of links.now destinations.now) ≡ Some e)) }
+    {
+        if let Some(error) = fault_of(links, destinations) {
+            return Err(error);
+        }
+        let Ok(links) = Vec::from_slice(alloc, links) else {
+            return Err(CoreError::Memory);
+        };
+        let Ok(destinations) = Vec::from_slice(alloc, destinations) else {
+            return Err(CoreError::Memory);
+        };
+        Ok(Topology {
+            links,
+            destinations,
+        })
+    }
+
+    /// The links, as they were given.
+    pub fn links(&self) -> &[(Id, Id)]
+        ensures { map link_in result.now ≡ self.now.links }
+    {
+        self.links.as_slice()
+    }
+
+    /// The destinations, as they were given.
+    pub fn destinations(&self) -> &[Id]
+        ensures { result.now ≡ self.now.destinations }
+    {
+        self.destinations.as_slice()
+    }
+
+    /// The nodes, in ascending order.
+    pub(crate) fn nodes(&self) -> ArrayVec<Id, MOST_NODES>
+        ensures items { result.items ≡ nodes_in self.now.links }
+        ensures kept { IsTopology self.now }
+    {
+        match nodes_of(&self.links) {
+            Some(nodes) => nodes,
+            None => unreachable!(),
+        }
+    }
+
+    /// The neighbours of a node, in ascending order.
+    pub(crate) fn neighbours(&self, n: Id) -> ArrayVec<Id, MOST_NEIGHBOURS>
+        ensures items { result.items ≡ neighbours_of self.now n }
+        ensures kept { IsTopology self.now }
+    {
+        neighbours_of(&self.links, n)
+    }
+
+    /// The same topology once more.
+    pub(crate) fn copied(&self, alloc: Global) -> Result<Topology, AllocError>
+        ensures { IfOk result (λ t. t ≡ self.now) }
+    {
+        let links = Vec::from_slice(alloc, &self.links)?;
+        let destinations = Vec::from_slice(alloc, &self.destinations)?;
+        Ok(Topology {
+            links,
+            destinations,
+        })
+    }
+}
+
+/// The neighbours that links give a node, in ascending order.
+fn neighbours_of(links: &[(Id, Id)], n: Id) -> ArrayVec<Id, MOST_NEIGHBOURS>
+    requires { length (other_ends n (links_in links.now)) ≤ 8 }
+    ensures { result.items ≡ ascending (other_ends n (links_in links.now)) }
+{
+    let mut neighbours = ArrayVec::new();
+    for link in links {
+        if link.0 == n {
+            insert_number(&mut neighbours, link.1);
+        } else if link.1 == n {
+            insert_number(&mut neighbours, link.0);
+        }
+    }
+    neighbours
+}
+
+// ---- why there is no such topology
+
+/// The first cause that holds, other than want of memory.
+fn fault_of(links: &[(Id, Id)], destinations: &[Id]) -> Option<CoreError>
+    ensures { result ≡ topology_fault (topology_of links.now destinations.now) }
+{
+    if has_too_many(links, destinations) {
+        return Some(CoreError::TooMany);
+    }
+    if has_repeated_link(links) || has_repeat(destinations) {
+        return Some(CoreError::Repeated);
+    }
+    if has_own_link(links) {
+        return Some(CoreError::OwnId);
+    }
+    None
+}
+
+/// Whether there are more than 64 nodes, 8 neighbours of a node, or 16 destinations.
+fn has_too_many(links: &[(Id, Id)], destinations: &[Id]) -> bool
+    ensures { result ≡ has_too_many (topology_of links.now destinations.now) }
+{
+    if destinations.len() > MOST_DESTINATIONS {
+        return true;
+    }
+    match nodes_of(links) {
+        None => true,
+        Some(nodes) => some_has_many_neighbours(nodes.as_slice(), links),
+    }
+}
+
+fn some_has_many_neighbours(nodes: &[Id], links: &[(Id, Id)]) -> bool
+    ensures { result ≡ list_any (λ n. nat_lt 8 (length (different_neighbours n (links_in links.now)))) nodes.now }
+{
+    nodes.iter().any(|n| has_many_neighbours(*n, links))
+}
+
+/// The nodes that links name, ascending, where there are at most 64.
+fn nodes_of(links: &[(Id, Id)]) -> Option<ArrayVec<Id, MOST_NODES>>
+    ensures { MatchOption result (64 < length (nodes_in (links_in links.now))) (λ nodes. nodes.items ≡ nodes_in (links_in links.now)) }
+{
+    let mut nodes = ArrayVec::new();
+    let mut left = links.len();
+    while left > 0 {
+        left -= 1;
+        let (a, b) = links[left];
+        if !put(&mut nodes, b) {
+            return None;
+        }
+        if !put(&mut nodes, a) {
+            return None;
+        }
+    }
+    Some(nodes)
+}
+
+/// Whether the links of a node name more than 8 others.
+fn has_many_neighbours(n: Id, links: &[(Id, Id)]) -> bool
+    ensures { result ≡ nat_lt 8 (length (different_neighbours n (links_in links.now))) }
+{
+    // One more, since a link of the node to itself names the node.
+    let mut ends: ArrayVec<Id, 9> = ArrayVec::new();
+    let mut left = links.len();
+    while left > 0 {
+        left -= 1;
+        if !put_end(&mut ends, n, links[left]) {
+            return true;
+        }
+    }
+    ends.len() > MOST_NEIGHBOURS && !has_number(n, ends.as_slice())
+}
+
+/// Puts the other end of a link of the node, if it is one; answers whether there was room.
+fn put_end<const N: usize>(ends: &mut ArrayVec<Id, N>, n: Id, link: (Id, Id)) -> bool
+    ensures { MatchBool result (ends.new.items ≡ with_end n (link_in link) ends.old.items) (N < length (with_end n (link_in link) ends.old.items)) }
+{
+    if link.0 == n {
+        put(ends, link.1)
+    } else if link.1 == n {
+        put(ends, link.0)
+    } else {
+        true
+    }
+}
+
+/// Puts a number at its place, where it is not there; answers whether there was room.
+fn put<const N: usize>(numbers: &mut ArrayVec<Id, N>, n: Id) -> bool
+    ensures { MatchBool result (numbers.new.items ≡ with_node n numbers.old.items) (N < length (with_node n numbers.old.items)) }
+{
+    if has_number(n, numbers.as_slice()) {
+        return true;
+    }
+    if numbers.is_full() {
+        return false;
+    }
+    insert_number(numbers, n);
+    true
+}
+
+fn insert_number<const N: usize>(numbers: &mut ArrayVec<Id, N>, n: Id)
+    requires { array_vec_len numbers.old < N }
+    ensures { numbers.new.items ≡ with_number n numbers.old.items }
+{
+    let at = place_above(n, numbers.as_slice()).unwrap_or(numbers.len());
+    numbers.insert(at, n);
+}
+
+/// The place of the first greater number.
+fn place_above(n: Id, numbers: &[Id]) -> Option<usize>
+    ensures { result ≡ position (λ m. nat_lt n m) numbers.now }
+{
+    numbers.iter().position(|m| n < *m)
+}
+
+fn has_number(n: Id, numbers: &[Id]) -> bool
+    ensures { result ≡ has_number n numbers.now }
+{
+    numbers.iter().any(|m| *m == n)
+}
+
+/// Whether some link is named twice, either way round.
+///
+/// Where there are few nodes and few neighbours of each, links that all differ are few, so the pass ends early in a long list.
+fn has_repeated_link(links: &[(Id, Id)]) -> bool
+    ensures { result ≡ has_repeated_link (links_in links.now) }
+{
+    let mut left = links.len();
+    while left > 0 {
+        left -= 1;
+        if has_link(links[left], &links[left + 1..]) {
+            return true;
+        }
+    }
+    false
+}
+
+fn has_link(x: (Id, Id), links: &[(Id, Id)]) -> bool
+    ensures { result ≡ has_link (link_in x) (links_in links.now) }
+{
+    links.iter().any(|link| is_same_link(x, *link))
+}
+
+fn is_same_link(x: (Id, Id), y: (Id, Id)) -> bool
+    ensures { result ≡ is_same_link (link_in x) (link_in y) }
+{
+    (x.0 == y.0 && x.1 == y.1) || (x.0 == y.1 && x.1 == y.0)
+}
+
+/// Whether some number stands twice.
+fn has_repeat(numbers: &[Id]) -> bool
+    ensures { result ≡ has_repeat numbers.now }
+{
+    let mut left = numbers.len();
+    while left > 0 {
+        left -= 1;
+        if has_number(numbers[left], &numbers[left + 1..]) {
+            return true;
+        }
+    }
+    false
+}
+
+fn has_own_link(links: &[(Id, Id)]) -> bool
+    ensures { result ≡ has_own_link (links_in links.now) }
+{
+    links.iter().any(|link| link.0 == link.1)
 }

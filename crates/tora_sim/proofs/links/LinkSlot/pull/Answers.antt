@@ -1,7 +1,7 @@
 use Rattle.std.proofs.Common.{◌≡◌, ap, ap₂, sym, ◌∙◌, subst, arith, suc, ℕ, ◌+◌, length, ◌<◌, refl, Some, Option}
 use Rattle.tora_sim.specs.Files.{disk_of}
 use Rattle.std.proofs.lemmas.Option.{slice_get_read}
-use Rattle.std.specs.Prelude.{slice_get}
+use Rattle.std.specs.Prelude.{slice_get, vec_capacity}
 use Rattle.tora_arq.specs.EndRange.{LinkEndView}
 use Rattle.tora_seat.specs.declared.Cargo.{Cargo}
 use Rattle.tora_world.specs.World.{after_cargo}
@@ -23,6 +23,6 @@ returns c =
     let w : in_it.pulled < length in_it.put.items = subst (λ (v : LinkView). v.pulled < length v.put) (sym c.self.view_is) c.requires in
     let at : slice_get in_it.put.items in_it.pulled ≡ Some c.index.result.now = slice_get_read in_it.put.items (length in_it.put.items) in_it.pulled c.index.result.now refl w c.index.ensures in
     let plus : in_it.pulled + 1 ≡ suc in_it.pulled = omega arith in
-    ap₂ (λ (e : LinkEndView) (m : ℕ). link_of in_it.node in_it.peer in_it.seat e (disk_of in_it.file) in_it.put.items m) c.give.ensures plus
-    ∙ ap (λ (o : Option Cargo). after_pull_at (link_of in_it.node in_it.peer in_it.seat in_it.end (disk_of in_it.file) in_it.put.items in_it.pulled) o) (sym at)
+    ap₂ (λ (e : LinkEndView) (m : ℕ). link_of in_it.node in_it.peer in_it.seat e (disk_of in_it.file) in_it.put.items m (vec_capacity in_it.put) in_it.steps.items (vec_capacity in_it.steps)) c.give.ensures plus
+    ∙ ap (λ (o : Option Cargo). after_pull_at (link_of in_it.node in_it.peer in_it.seat in_it.end (disk_of in_it.file) in_it.put.items in_it.pulled (vec_capacity in_it.put) in_it.steps.items (vec_capacity in_it.steps)) o) (sym at)
     ∙ ap (λ (v : LinkView). after_pull_at v (slice_get v.put v.pulled)) c.self.view_is

@@ -1,11 +1,12 @@
-use Rattle.std.proofs.Common.{◌≡◌, true, subst}
+use Rattle.std.proofs.Common.{subst}
 use Rattle.std.specs.Prelude.{slice_set}
 use Rattle.tora_world.specs.declared.Event.TheVariants.{Arm}
-use Rattle.tora_world.specs.Topology.{is_node}
+use Rattle.tora_sim.specs.Keyed.{IsFirst}
+use Rattle.tora_sim.specs.Nodes.{is_of}
 use Rattle.tora_sim.specs.declared.nodes.Sending.TheVariants as Sends
 use Rattle.tora_sim.specs.Store.{SimState, state_of, world_of}
 use Rattle.tora_sim.specs.Steps.{IsDone}
-use Rattle.tora_sim.proofs.Arms.{lost_done, gone_done, sends_store, receive_done, receive_store, noded_at}
+use Rattle.tora_sim.proofs.Arms.{lost_done, gone_done, sends_store, receive_done, receive_store}
 use Rattle.tora_sim.proofs.sim.Sim.arm.Goals as goal
 
 pub invariant_of-self : goal.invariant_of-self
@@ -36,16 +37,10 @@ returns-in-Receive c =
     (receive_done s.topology s.times s.clock s.nodes.items s.links.items s.datagrams.items c.self.invariant c.args.n c.in-Some.home c.index_mut-in-Receive.result.now c.in-Some.ensures.first c.index_mut-in-Receive.ensures.value c.arm_receive.new.self c.args.call c.in-Receive.is c.arm_receive.ensures)
 
 pub arm_files-requires : goal.arm_files-requires
-arm_files-requires c =
-    let s = c.self.inside in
-    subst (λ (before : SimState). is_node before.topology c.args.n ≡ true) c.self.view_is (noded_at s.topology s.times s.clock s.nodes.items s.links.items s.datagrams.items c.self.invariant c.args.n c.in-Some.home c.in-Some.ensures.first)
+arm_files-requires c = subst (λ (before : SimState). IsFirst (is_of c.args.n) before.nodes c.in-Some.home) c.self.view_is c.in-Some.ensures.first
 
 pub arm_files-requires-in-Write : goal.arm_files-requires-in-Write
-arm_files-requires-in-Write c =
-    let s = c.self.inside in
-    subst (λ (before : SimState). is_node before.topology c.args.n ≡ true) c.self.view_is (noded_at s.topology s.times s.clock s.nodes.items s.links.items s.datagrams.items c.self.invariant c.args.n c.in-Some.home c.in-Some.ensures.first)
+arm_files-requires-in-Write c = subst (λ (before : SimState). IsFirst (is_of c.args.n) before.nodes c.in-Some.home) c.self.view_is c.in-Some.ensures.first
 
 pub arm_files-requires-in-Sync : goal.arm_files-requires-in-Sync
-arm_files-requires-in-Sync c =
-    let s = c.self.inside in
-    subst (λ (before : SimState). is_node before.topology c.args.n ≡ true) c.self.view_is (noded_at s.topology s.times s.clock s.nodes.items s.links.items s.datagrams.items c.self.invariant c.args.n c.in-Some.home c.in-Some.ensures.first)
+arm_files-requires-in-Sync c = subst (λ (before : SimState). IsFirst (is_of c.args.n) before.nodes c.in-Some.home) c.self.view_is c.in-Some.ensures.first

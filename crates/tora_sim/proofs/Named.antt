@@ -1,0 +1,219 @@
+-- The nodes and the neighbours that links name, taken from the last link to the first.
+use Rattle.std.proofs.Common.{◌≡◌, refl, sym, ap, ◌∙◌, subst, ℕ, zero, suc, ◌+◌, ◌-◌, ◌<◌, ◌≤◌, ◌==◌, Bool, true, false, not, ◌||◌, nat_lt, List, [], ◌∷◌, length, drop, get_or, cond, arith, if◌then◌else◌}
+use Rattle.std.proofs.lemmas.Bool.{cond_both}
+use Rattle.std.proofs.lemmas.Bool.Decides.{nat_tests}
+use Rattle.std.proofs.lemmas.List.{drop_more}
+use Rattle.tora_core.specs.Numbers.{has_number, with_number, without_number}
+use Rattle.tora_world.specs.Topology.{Link, nodes_in, with_node, different, different_neighbours, other_ends}
+use Rattle.tora_sim.specs.Topologies.{link_in, links_in, with_end}
+
+-- ---- a number more is no shorter list
+
+pub length-with_number : (k : ℕ) (ns : List ℕ) → length (with_number k ns) ≡ suc (length ns)
+length-with_number k [] = refl
+length-with_number k (n ∷ ns) =
+    cond_both (nat_lt k n) (k ∷ n ∷ ns) (n ∷ with_number k ns) (λ (xs : List ℕ). length xs ≡ suc (suc (length ns))) (λ _. refl) (λ _. ap suc (length-with_number k ns))
+
+pub length-with_node-le : (k : ℕ) (ns : List ℕ) → length ns ≤ length (with_node k ns)
+length-with_node-le k ns =
+    cond_both (has_number k ns) ns (with_number k ns) (λ (xs : List ℕ). length ns ≤ length xs) (λ _. omega arith) (λ _. omega (arith, length-with_number k ns))
+
+pub length-with_end-le : (n : ℕ) (link : Link) (ns : List ℕ) → length ns ≤ length (with_end n link ns)
+length-with_end-le n link ns =
+    cond_both (link.a == n) (with_node link.b ns) (if link.b == n then with_node link.a ns else ns) (λ (xs : List ℕ). length ns ≤ length xs)
+    (λ _. length-with_node-le link.b ns)
+    (λ _. cond_both (link.b == n) (with_node link.a ns) ns (λ (xs : List ℕ). length ns ≤ length xs) (λ _. length-with_node-le link.a ns) (λ _. omega arith))
+
+-- ---- the nodes of the links from a place on
+
+abbrev pub nodes_from : List (ℕ × ℕ) → ℕ → List ℕ
+nodes_from links i = nodes_in (links_in (drop i links))
+
+nodes-step : (links : List (ℕ × ℕ)) (i : ℕ) (d : ℕ × ℕ) → i < length links
+    → nodes_from links i ≡ with_node (get_or links i d).0 (with_node (get_or links i d).1 (nodes_from links (i + 1)))
+nodes-step links i d lt = ap (λ xs. nodes_in (links_in xs)) (drop_more links i d lt)
+
+nodes-fewer : (links : List (ℕ × ℕ)) (i : ℕ) → length (nodes_from links i) ≤ length (nodes_in (links_in links))
+nodes-fewer links zero = omega arith
+nodes-fewer [] (suc i) = omega arith
+nodes-fewer (x ∷ links) (suc i) =
+    let rest = nodes-fewer links i in
+    let one = length-with_node-le x.1 (nodes_in (links_in links)) in
+    let two = length-with_node-le x.0 (with_node x.1 (nodes_in (links_in links))) in
+    omega arith
+
+-- too many after one end of a link, or after both, are too many
+pub many-by-one : (links : List (ℕ × ℕ)) (left most : ℕ) (items : List ℕ) (d : ℕ × ℕ) → 0 < left → left ≤ length links → items ≡ nodes_from links left
+    → most < length (with_node (get_or links (left - 1) d).1 items) → most < length (nodes_in (links_in links))
+many-by-one links left most items d some within is more =
+    let i : ℕ = left - 1 in
+    let next : i + 1 ≡ left = omega arith in
+    let step = nodes-step links i d (omega arith) in
+    let same : nodes_from links (i + 1) ≡ items = ap (nodes_from links) next ∙ sym is in
+    let two = length-with_node-le (get_or links i d).0 (with_node (get_or links i d).1 items) in
+    let fewer = nodes-fewer links i in
+    let is_step : nodes_from links i ≡ with_node (get_or links i d).0 (with_node (get_or links i d).1 items) = step ∙ ap (λ ns. with_node (get_or links i d).0 (with_node (get_or links i d).1 ns)) same in
+    let size = ap length is_step in
+    omega arith
+
+pub many-by-both : (links : List (ℕ × ℕ)) (left most : ℕ) (items behind : List ℕ) (d : ℕ × ℕ) → 0 < left → left ≤ length links → items ≡ nodes_from links left
+    → behind ≡ with_node (get_or links (left - 1) d).1 items
+    → most < length (with_node (get_or links (left - 1) d).0 behind) → most < length (nodes_in (links_in links))
+many-by-both links left most items behind d some within is next_is more =
+    let i : ℕ = left - 1 in
+    let next : i + 1 ≡ left = omega arith in
+    let same : nodes_from links (i + 1) ≡ items = ap (nodes_from links) next ∙ sym is in
+    let is_step : nodes_from links i ≡ with_node (get_or links i d).0 behind =
+    nodes-step links i d (omega arith) ∙ ap (λ ns. with_node (get_or links i d).0 (with_node (get_or links i d).1 ns)) same ∙ ap (with_node (get_or links i d).0) (sym next_is) in
+    let fewer = nodes-fewer links i in
+    let size = ap length is_step in
+    omega arith
+
+-- ---- the other ends of a node's links from a place on
+
+abbrev pub ends_from : ℕ → List (ℕ × ℕ) → ℕ → List ℕ
+ends_from n links i = different (other_ends n (links_in (drop i links)))
+
+pub ends-more : (n : ℕ) (link : Link) (links : List Link) → different (other_ends n (link ∷ links)) ≡ with_end n link (different (other_ends n links))
+ends-more n link links = go (link.a == n) (link.b == n)
+  where
+    go : (a b : Bool) → different (if a then link.b ∷ other_ends n links else if b then link.a ∷ other_ends n links else other_ends n links)
+        ≡ (if a then with_node link.b (different (other_ends n links)) else if b then with_node link.a (different (other_ends n links)) else different (other_ends n links))
+    go true b = refl
+    go false true = refl
+    go false false = refl
+
+ends-step : (n : ℕ) (links : List (ℕ × ℕ)) (i : ℕ) (d : ℕ × ℕ) → i < length links
+    → ends_from n links i ≡ with_end n (link_in (get_or links i d)) (ends_from n links (i + 1))
+ends-step n links i d lt =
+    ap (λ xs. different (other_ends n (links_in xs))) (drop_more links i d lt)
+    ∙ ends-more n (link_in (get_or links i d)) (links_in (drop (i + 1) links))
+
+ends-fewer : (n : ℕ) (links : List (ℕ × ℕ)) (i : ℕ) → length (ends_from n links i) ≤ length (different (other_ends n (links_in links)))
+ends-fewer n links zero = omega arith
+ends-fewer n [] (suc i) = omega arith
+ends-fewer n (x ∷ links) (suc i) =
+    let rest = ends-fewer n links i in
+    let more = ends-more n (link_in x) (links_in links) in
+    let one = length-with_end-le n (link_in x) (different (other_ends n (links_in links))) in
+    subst (λ (xs : List ℕ). length (ends_from n links i) ≤ length xs) (sym more) (omega arith)
+
+-- ---- how many of them are not the node itself
+
+-- 0 for the number that is left out, else 1
+abbrev pub weight : Bool → ℕ
+weight true = 0
+weight false = 1
+
+without-front : (n k : ℕ) (ns : List ℕ) → length (without_number n (k ∷ ns)) ≡ weight (k == n) + length (without_number n ns)
+without-front n k ns = go (k == n)
+  where
+    go : (b : Bool) → length (cond (not b) (k ∷ without_number n ns) (without_number n ns)) ≡ weight b + length (without_number n ns)
+    go true = omega arith
+    go false = omega arith
+
+without-with_number : (n k : ℕ) (ns : List ℕ) → length (without_number n (with_number k ns)) ≡ weight (k == n) + length (without_number n ns)
+without-with_number n k [] = without-front n k []
+without-with_number n k (m ∷ ns) =
+    cond_both (nat_lt k m) (k ∷ m ∷ ns) (m ∷ with_number k ns) (λ (xs : List ℕ). length (without_number n xs) ≡ weight (k == n) + length (without_number n (m ∷ ns)))
+    (λ _. without-front n k (m ∷ ns))
+    (λ _.
+    let rest = without-with_number n k ns in
+    let one = without-front n m (with_number k ns) in
+    let two = without-front n m ns in
+    omega arith)
+
+pub has-with_number : (n k : ℕ) (ns : List ℕ) → has_number n (with_number k ns) ≡ ((k == n) || has_number n ns)
+has-with_number n k [] = refl
+has-with_number n k (m ∷ ns) =
+    cond_both (nat_lt k m) (k ∷ m ∷ ns) (m ∷ with_number k ns) (λ (xs : List ℕ). has_number n xs ≡ ((k == n) || has_number n (m ∷ ns)))
+    (λ _. refl)
+    (λ _. ap (λ b. (m == n) || b) (has-with_number n k ns) ∙ turned (m == n) (k == n) (has_number n ns))
+  where
+    turned : (a b c : Bool) → (a || (b || c)) ≡ (b || (a || c))
+    turned true true c = refl
+    turned true false c = refl
+    turned false true c = refl
+    turned false false c = refl
+
+-- 1 where it is there
+abbrev pub one_if : Bool → ℕ
+one_if true = 1
+one_if false = 0
+
+abbrev pub IsSplit : ℕ → List ℕ → Type 0
+IsSplit n ns = length (without_number n ns) + one_if (has_number n ns) ≡ length ns
+
+split-more : (n k : ℕ) (ns : List ℕ) → has_number k ns ≡ false → IsSplit n ns → IsSplit n (with_number k ns)
+split-more n k ns absent e = go (k == n) refl
+  where
+    go : (b : Bool) → (k == n) ≡ b → IsSplit n (with_number k ns)
+    go true is =
+        let same : k ≡ n = grind (arith, nat_tests) in
+        let none : has_number n ns ≡ false = subst (λ m. has_number m ns ≡ false) same absent in
+        let had : length (without_number n ns) + 0 ≡ length ns = subst (λ b. length (without_number n ns) + one_if b ≡ length ns) none e in
+        let there : has_number n (with_number k ns) ≡ true = has-with_number n k ns ∙ ap (λ b. b || has_number n ns) is in
+        let size : length (without_number n (with_number k ns)) ≡ 0 + length (without_number n ns) = without-with_number n k ns ∙ ap (λ b. weight b + length (without_number n ns)) is in
+        subst (λ b. length (without_number n (with_number k ns)) + one_if b ≡ length (with_number k ns)) (sym there) (omega (arith, length-with_number k ns))
+    go false is =
+        let there : has_number n (with_number k ns) ≡ has_number n ns = has-with_number n k ns ∙ ap (λ b. b || has_number n ns) is in
+        let size : length (without_number n (with_number k ns)) ≡ 1 + length (without_number n ns) = without-with_number n k ns ∙ ap (λ b. weight b + length (without_number n ns)) is in
+        subst (λ b. length (without_number n (with_number k ns)) + one_if b ≡ length (with_number k ns)) (sym there) (omega (arith, length-with_number k ns))
+
+pub split-different : (n : ℕ) (ns : List ℕ) → IsSplit n (different ns)
+split-different n [] = omega arith
+split-different n (k ∷ ns) =
+    let rest = split-different n ns in
+    cond_both (has_number k (different ns)) (different ns) (with_number k (different ns)) (IsSplit n) (λ _. rest) (λ absent. split-more n k (different ns) absent rest)
+
+-- where there are ten, more than eight are others
+pub many-of-ten : (n : ℕ) (links : List (ℕ × ℕ)) → 9 < length (different (other_ends n (links_in links))) → nat_lt 8 (length (different_neighbours n (links_in links))) ≡ true
+many-of-ten n links more =
+    let ns : List ℕ = different (other_ends n (links_in links)) in
+    let e = split-different n (other_ends n (links_in links)) in
+    go (has_number n ns) refl e
+  where
+    go : (b : Bool) → has_number n (different (other_ends n (links_in links))) ≡ b → IsSplit n (different (other_ends n (links_in links)))
+        → nat_lt 8 (length (different_neighbours n (links_in links))) ≡ true
+    go b is e =
+        let all : length (different_neighbours n (links_in links)) + one_if b ≡ length (different (other_ends n (links_in links))) =
+        subst (λ d. length (different_neighbours n (links_in links)) + one_if d ≡ length (different (other_ends n (links_in links)))) is e in
+        let some : 8 < length (different_neighbours n (links_in links)) = few b all in
+        grind (arith, nat_tests)
+      where
+        few : (d : Bool) → length (different_neighbours n (links_in links)) + one_if d ≡ length (different (other_ends n (links_in links))) → 8 < length (different_neighbours n (links_in links))
+        few true h = omega arith
+        few false h = omega arith
+
+pub fresh_node : (k : ℕ) (ns : List ℕ) → has_number k ns ≡ false → length (with_node k ns) ≡ suc (length ns)
+fresh_node k ns absent = ap (λ b. length (cond b ns (with_number k ns))) absent ∙ length-with_number k ns
+
+-- too many after a link are too many
+pub many-ends : (n : ℕ) (links : List (ℕ × ℕ)) (left : ℕ) (items : List ℕ) (d : ℕ × ℕ) → 0 < left → left ≤ length links → items ≡ ends_from n links left
+    → 9 < length (with_end n (link_in (get_or links (left - 1) d)) items) → nat_lt 8 (length (different_neighbours n (links_in links))) ≡ true
+many-ends n links left items d some within is more =
+    let i : ℕ = left - 1 in
+    let next : i + 1 ≡ left = omega arith in
+    let same : ends_from n links (i + 1) ≡ items = ap (ends_from n links) next ∙ sym is in
+    let is_step : ends_from n links i ≡ with_end n (link_in (get_or links i d)) items = ends-step n links i d (omega arith) ∙ ap (with_end n (link_in (get_or links i d))) same in
+    let fewer = ends-fewer n links i in
+    let size = ap length is_step in
+    many-of-ten n links (omega arith)
+
+-- of at most nine, eight or fewer are others, or all nine are
+pub few-of-nine : (n : ℕ) (links : List (ℕ × ℕ)) (b : Bool) → b ≡ has_number n (different (other_ends n (links_in links)))
+    → length (different (other_ends n (links_in links))) ≤ 9 → 8 < length (different (other_ends n (links_in links)))
+    → not b ≡ nat_lt 8 (length (different_neighbours n (links_in links)))
+few-of-nine n links b is most more = go b (subst (λ d. length (different_neighbours n (links_in links)) + one_if d ≡ length (different (other_ends n (links_in links)))) (sym is) (split-different n (other_ends n (links_in links))))
+  where
+    go : (d : Bool) → length (different_neighbours n (links_in links)) + one_if d ≡ length (different (other_ends n (links_in links))) → not d ≡ nat_lt 8 (length (different_neighbours n (links_in links)))
+    go true e = let few : length (different_neighbours n (links_in links)) ≤ 8 = omega arith in grind (arith, nat_tests)
+    go false e = let many : 8 < length (different_neighbours n (links_in links)) = omega arith in grind (arith, nat_tests)
+
+pub few-of-eight : (n : ℕ) (links : List (ℕ × ℕ)) (m : ℕ) → m ≡ length (different (other_ends n (links_in links))) → m ≤ 8
+    → nat_lt 8 m ≡ nat_lt 8 (length (different_neighbours n (links_in links)))
+few-of-eight n links m is few = go (has_number n (different (other_ends n (links_in links)))) (split-different n (other_ends n (links_in links)))
+  where
+    go : (d : Bool) → length (different_neighbours n (links_in links)) + one_if d ≡ length (different (other_ends n (links_in links))) → nat_lt 8 m ≡ nat_lt 8 (length (different_neighbours n (links_in links)))
+    go true e = let fewer : length (different_neighbours n (links_in links)) ≤ 8 = omega arith in grind (arith, nat_tests)
+    go false e = let fewer : length (different_neighbours n (links_in links)) ≤ 8 = omega arith in grind (arith, nat_tests)

@@ -1,0 +1,12 @@
+use Rattle.std.proofs.Common.{◌≡◌, ℕ, ◌==◌, ◌∙◌, rules, tests}
+use Rattle.std.specs.List.{list_any}
+use Rattle.std.proofs.lemmas.Iterator.{YieldsList-from_slice}
+use Rattle.std.proofs.lemmas.Iterator.Search.{any_from_yields_List}
+use Rattle.tora_sim.proofs.Repeats.{own-any}
+use Rattle.tora_sim.proofs.topology.has_own_link.Goals as goal
+
+pub returns : goal.returns
+returns c =
+    let found : c.any.result ≡ list_any (λ (y : ℕ × ℕ). y.0 == y.1) c.args.links.now =
+    any_from_yields_List (λ (y : ℕ × ℕ). y.0 == y.1) _ _ c.any.result c.any.ensures.ran (YieldsList-from_slice c.args.links.now cc) (λ x b q k. search (rules, tests)) in
+    found ∙ own-any c.args.links.now

@@ -1,0 +1,66 @@
+-- Nodes and link ends as they are at the start.
+use Rattle.std.specs.Prelude.{◌≡◌, ℕ, ◌+◌, ◌≤◌, false, List, [], ◌∷◌, ◌++◌, map, replicate, length, slice_get, Some}
+use Rattle.std.specs.List.{flat_map}
+use Rattle.tora_arq.specs.declared.TheConstants.Times.{STANDARD}
+use Rattle.tora_arq.specs.Settings.{settings_of}
+use Rattle.tora_arq.specs.LinkEnd.{first_end}
+use Rattle.tora_life.specs.State.{fresh_state}
+use Rattle.tora_life.specs.LifeRun.{opened}
+use Rattle.tora_seat.specs.Rows.{first_seat}
+use Rattle.tora_world.specs.Topology.{Topology, neighbours_of, new_core}
+use Rattle.tora_world.specs.World.{place_of}
+use Rattle.tora_sim.specs.declared.nodes.Sending.TheVariants.{Goes}
+use Rattle.tora_sim.specs.Links.{LinkView}
+use Rattle.tora_sim.specs.Nodes.{NodeView}
+use Rattle.tora_sim.specs.Store.{EachOf}
+use Rattle.tora_sim.specs.Readers.{ends_at}
+
+-- the end of node n towards k, whose place among the neighbours this is
+pub record IsFirstEnd (n k place : ℕ) (link : LinkView) : Type 0 where
+  pub node : link.node ≡ n
+  pub peer : link.peer ≡ k
+  pub seat : link.seat ≡ place
+  pub settings : link.settings ≡ settings_of n k STANDARD
+  pub state : link.state ≡ first_end
+  pub file : link.file ≡ opened (fresh_state [])
+  pub put : link.put ≡ []
+  pub pulled : link.pulled ≡ 0
+  pub steps : link.steps ≡ []
+
+abbrev pub IsFirstLink : Topology → LinkView → Type 0
+IsFirstLink t link = IsFirstEnd link.node link.peer (place_of link.peer (neighbours_of t link.node)) link
+
+pub record IsFirstNode (t : Topology) (node : NodeView) : Type 0 where
+  pub count : node.count ≡ length (neighbours_of t node.node)
+  pub seat : node.seat ≡ first_seat (new_core t node.node)
+  pub inputs : node.inputs ≡ []
+  pub items : node.items ≡ []
+  pub counts : node.counts ≡ replicate 9 0
+  pub sending : node.sending ≡ Goes
+  pub receive : node.receive ≡ false
+
+-- of which node and towards which peer a link end is
+abbrev pub key_of : LinkView → ℕ × ℕ
+key_of link = (link.node, link.peer)
+
+-- the ends of a node stand among these one behind the other, from its first on
+pub record HasEnds (t : Topology) (keys : List (ℕ × ℕ)) (node : NodeView) : Type 0 where
+  pub within : node.first + length (neighbours_of t node.node) ≤ length keys
+  pub at : (place k : ℕ) → slice_get (neighbours_of t node.node) place ≡ Some k → slice_get keys (node.first + place) ≡ Some (node.node, k)
+
+-- the ends of one node more
+pub record AreAdded (t : Topology) (n : ℕ) (links new : List LinkView) : Type 0 where
+  pub keys : map key_of new ≡ map key_of links ++ ends_at t n
+  pub each : EachOf (IsFirstLink t) links → EachOf (IsFirstLink t) new
+
+-- these nodes with their link ends
+pub record AreMade (t : Topology) (ns : List ℕ) (nodes : List NodeView) (links : List LinkView) : Type 0 where
+  pub names : map (λ node. node.node) nodes ≡ ns
+  pub keys : map key_of links ≡ flat_map (ends_at t) ns
+  pub each_node : EachOf (IsFirstNode t) nodes
+  pub each_link : EachOf (IsFirstLink t) links
+  pub ends : EachOf (HasEnds t (map key_of links)) nodes
+
+-- one node more, with its link ends
+abbrev pub IsMade : Topology → ℕ → List NodeView → List LinkView → List NodeView → List LinkView → Type 0
+IsMade t n nodes links more_nodes more_links = (ns : List ℕ) → AreMade t ns nodes links → AreMade t (ns ++ n ∷ []) more_nodes more_links

@@ -1,0 +1,51 @@
+-- The lanes from a node's core to its neighbours: the ends of the node's links stand one behind the other among all ends.
+use Rattle.std.specs.Prelude.{◌≡◌, ℕ, ◌==◌, ◌+◌, ◌<◌, ◌≤◌, nat_lt, Bool, List, [], ◌∷◌, ◌++◌, length, map, slice_get, slice_set, Some, if◌then◌else◌}
+use Rattle.tora_seat.specs.declared.Cargo.{Cargo}
+use Rattle.tora_seat.specs.Serving.{Offer, Step, put_to, stepped_from}
+use Rattle.tora_sim.specs.Links.{LinkView, waiting}
+
+pub record LanesView : Type 0 where
+  pub links : List LinkView  -- the ends of all links
+  pub first : ℕ  -- the place of the node's first one
+  pub count : ℕ  -- of its neighbours
+
+abbrev pub lanes_of : List LinkView → ℕ → ℕ → LanesView
+lanes_of links first count = record { links = links; first = first; count = count }
+
+-- a cargo is at the back of the lane, where it was put
+abbrev pub after_offer_at : LinkView → Cargo → Bool → LinkView
+after_offer_at link cargo put = record link { put = link.put ++ (if put then cargo ∷ [] else []) }
+
+-- fewer than 256 cargoes wait
+abbrev pub has_place : LinkView → Bool
+has_place link = nat_lt (length (waiting link)) 256
+
+-- what an offer to the lane at a place made of the lanes
+pub record DidOffer (before : LanesView) (place : ℕ) (cargo : Cargo) (put : Bool) (after : LanesView) : Type 0 where
+  pub link : LinkView
+  pub within : place < before.count
+  pub there : slice_get before.links (before.first + place) ≡ Some link
+  pub answer : put ≡ has_place link
+  pub lanes : after ≡ record before { links = slice_set before.links (before.first + place) (after_offer_at link cargo put) }
+
+-- there is memory for as many cargoes as one item can put, and for the packet that it steps
+pub record HasRoom (link : LinkView) : Type 0 where
+  pub cargoes : link.pulled + 256 ≤ link.room
+  pub step : length link.steps < link.step_room
+
+pub record AreReady (lanes : LanesView) : Type 0 where
+  pub within : lanes.first + lanes.count ≤ length lanes.links
+  pub room : (place : ℕ) (link : LinkView) → place < lanes.count → slice_get lanes.links (lanes.first + place) ≡ Some link → HasRoom link
+
+-- a link end but for the memory that it has
+abbrev pub bare : LinkView → LinkView
+bare link = record link { room = 0; step_room = 0 }
+
+-- the same ends but for the memory that they have
+abbrev pub AreAlike : List LinkView → List LinkView → Type 0
+AreAlike before after = map bare after ≡ map bare before
+
+-- the end after an item of its node was served, of which these were the offers and the packets stepped
+abbrev pub served_of : ℕ → List Offer → List Step → LinkView → LinkView
+served_of n offers steps link =
+    if link.node == n then record link { put = link.put ++ put_to link.peer offers; steps = link.steps ++ stepped_from link.peer steps } else link

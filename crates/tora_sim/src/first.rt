@@ -1,0 +1,151 @@
+//! A world at its start.
+ghost use Rattle.std.specs.Prelude.{◌≡◌, ◌≢◌, ◌<◌, IfErr, IfOk, MatchResult};
+ghost use Rattle.tora_arq.specs.declared.TheConstants.Times.{STANDARD};
+ghost use Rattle.tora_seat.specs.Rows.{first_seat};
+ghost use Rattle.tora_world.specs.Topology.{new_core};
+ghost use Rattle.tora_world.specs.World.{first_world};
+ghost use Rattle.tora_sim.specs.Store.{world_of};
+ghost use Rattle.tora_sim.specs.Firsts.{IsFirstEnd, AreAdded, IsMade};
+
+use crate::SimError;
+use crate::files::open;
+use crate::links::LinkSlot;
+use crate::nodes::{NodeSlot, Sending};
+use crate::sim::Sim;
+use crate::topology::Topology;
+use std::alloc::Global;
+use std::collections::VecDeque;
+use tora_arq::{LinkEnd, Times, standard_times};
+use tora_core::{Core, numbers_are_put_in_order, numbers_come_and_go};
+use tora_height::Id;
+use tora_life::MemDisk;
+use tora_seat::CoreSeat;
+
+impl Sim {
+    /// The world of a topology at its start: no link end is open, every life file is empty, nothing is under way, and the
+    /// clock stands at 0.
+    ///
+    /// Each link end has the standard times: 10 ticks of 100 ms between HELLOs, 50 of silence, 5 between tries, 8 tries.
+    /// The lists of the topology are copied.
+    ///
+    /// # Errors
+    /// `Memory`.
+    pub fn new(alloc: Global, topology: &Topology) -> Result<Sim, SimError>
+        ensures made { IfOk result (λ sim. world_of sim ≡ first_world topology.now STANDARD) }
+        ensures refused { IfErr result (λ e. e ≡ SimError.Memory) }
+    {
+        numbers_are_put_in_order();
+        numbers_come_and_go();
+        let Ok(own) = topology.copied(alloc) else {
+            return Err(SimError::Memory);
+        };
+        let named = own.nodes();
+        let mut nodes = Vec::new(alloc);
+        let mut links = Vec::new(alloc);
+        for n in named.as_slice() {
+            add_node(alloc, &own, *n, &mut nodes, &mut links)?;
+        }
+        Ok(Sim {
+            topology: own,
+            times: Times::STANDARD,
+            clock: 0,
+            nodes,
+            links,
+            datagrams: Vec::new(alloc),
+        })
+    }
+}
+
+/// Adds a node, and its link ends.
+fn add_node(
+    alloc: Global,
+    topology: &Topology,
+    n: Id,
+    nodes: &mut Vec<NodeSlot>,
+    links: &mut Vec<LinkSlot>,
+) -> Result<(), SimError>
+    requires { 0 < n }
+    ensures { MatchResult result (λ _. IsMade topology.now n nodes.old.items links.old.items nodes.new.items links.new.items) (λ e. e ≡ SimError.Memory) }
+{
+    let first = links.len();
+    let neighbours = topology.neighbours(n);
+    let count = neighbours.len();
+    let seat = new_seat(alloc, topology, n)?;
+    add_links(alloc, topology, n, links)?;
+    let node = NodeSlot {
+        node: n,
+        first,
+        count,
+        seat,
+        inputs: Vec::new(alloc),
+        items: VecDeque::new(alloc),
+        counts: [0; 9],
+        sending: Sending::Goes,
+        receive: false,
+    };
+    if nodes.push(node).is_err() {
+        return Err(SimError::Memory);
+    }
+    Ok(())
+}
+
+/// The seat of a node's core before any input.
+fn new_seat(alloc: Global, topology: &Topology, n: Id) -> Result<CoreSeat, SimError>
+    requires { 0 < n }
+    ensures { MatchResult result (λ seat. seat ≡ first_seat (new_core topology.now n)) (λ e. e ≡ SimError.Memory) }
+{
+    let neighbours = topology.neighbours(n);
+    let Ok(core) = Core::new(alloc, n, neighbours.as_slice(), topology.destinations()) else {
+        return Err(SimError::Memory);
+    };
+    match CoreSeat::new(alloc, core) {
+        Ok(seat) => Ok(seat),
+        Err(_) => Err(SimError::Memory),
+    }
+}
+
+/// Adds the link ends of a node.
+fn add_links(
+    alloc: Global,
+    topology: &Topology,
+    n: Id,
+    links: &mut Vec<LinkSlot>,
+) -> Result<(), SimError>
+    requires { 0 < n }
+    ensures { MatchResult result (λ _. AreAdded topology.now n links.old.items links.new.items) (λ e. e ≡ SimError.Memory) }
+{
+    numbers_are_put_in_order();
+    let neighbours = topology.neighbours(n);
+    let peers = neighbours.as_slice();
+    for seat in 0..peers.len() {
+        let link = new_link(alloc, n, peers[seat], seat)?;
+        match links.push(link) {
+            Ok(()) => {}
+            Err(_) => return Err(SimError::Memory),
+        }
+    }
+    Ok(())
+}
+
+/// The end of a link at its start.
+fn new_link(alloc: Global, n: Id, k: Id, seat: usize) -> Result<LinkSlot, SimError>
+    requires me { 0 < n }
+    requires peer { 0 < k }
+    requires other { n ≢ k }
+    ensures { MatchResult result (λ link. IsFirstEnd n k seat link) (λ e. e ≡ SimError.Memory) }
+{
+    standard_times();
+    let Ok(end) = LinkEnd::new(alloc, n, k, Times::STANDARD) else {
+        return Err(SimError::Memory);
+    };
+    Ok(LinkSlot {
+        node: n,
+        peer: k,
+        seat,
+        end,
+        file: open(MemDisk::new()),
+        put: Vec::new(alloc),
+        pulled: 0,
+        steps: Vec::new(alloc),
+    })
+}

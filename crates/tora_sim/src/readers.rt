@@ -1,0 +1,291 @@
+//! What is read of a simulated world.
+ghost use Rattle.std.specs.Prelude.{◌≡◌, IfOk, length, map, option_map, option_to_list, ◌++◌, [], ◌∷◌};
+ghost use Rattle.tora_core.specs.CoreRun.{height_of, hop_of};
+ghost use Rattle.tora_world.specs.Topology.{nodes_in};
+ghost use Rattle.tora_world.specs.World.{sent_packets, taken_packets, datagram};
+ghost use Rattle.tora_world.specs.Lists.{packets_of, parcels_in};
+ghost use Rattle.tora_sim.specs.Store.{world_of, numbered};
+ghost use Rattle.tora_sim.specs.Links.{parcel_in};
+ghost use Rattle.tora_sim.specs.Readers.{ends_in, height_at, hop_at, way_of};
+
+use crate::links::{LinkSlot, place};
+use crate::nodes::{NodeSlot, place as node_place};
+use crate::sim::Sim;
+use crate::topology::Topology;
+use std::alloc::{AllocError, Global};
+use tora_arq::Life;
+use tora_frame::Frame;
+use tora_height::{Entry, Id};
+use tora_packet::Packet;
+use tora_seat::Cargo;
+
+impl Sim {
+    /// The topology that the world was made of.
+    pub fn topology(&self) -> &Topology
+        ensures { result.now ≡ self.now.topology }
+    {
+        &self.topology
+    }
+
+    /// How many ticks of 100 ms have passed since the start.
+    pub fn clock(&self) -> u64
+        ensures { result ≡ self.now.clock }
+    {
+        self.clock
+    }
+
+    /// The nodes, in ascending order.
+    ///
+    /// # Errors
+    /// Want of memory.
+    pub fn nodes(&self, alloc: Global) -> Result<Vec<Id>, AllocError>
+        ensures { IfOk result (λ v. v.items ≡ nodes_in self.now.topology.links) }
+    {
+        let nodes = self.topology.nodes();
+        Vec::from_slice(alloc, nodes.as_slice())
+    }
+
+    /// The link ends, each as its node and its neighbour, by ascending node and then neighbour.
+    ///
+    /// # Errors
+    /// Want of memory.
+    pub fn ends(&self, alloc: Global) -> Result<Vec<(Id, Id)>, AllocError>
+        ensures { IfOk result (λ v. v.items ≡ ends_in self.now.topology) }
+    {
+        let nodes = self.topology.nodes();
+        let mut ends = Vec::new(alloc);
+        for n in nodes.as_slice() {
+            let neighbours = self.topology.neighbours(*n);
+            put_ends(&mut ends, *n, neighbours.as_slice())?;
+        }
+        Ok(ends)
+    }
+
+    /// How many datagrams were ever sent, those that were lost on sending not counted.
+    pub fn datagrams(&self) -> u64
+        ensures { result ≡ length self.now.datagrams }
+    {
+        self.datagrams.len() as u64
+    }
+
+    /// The sender and the receiver of a datagram by its number, from 1 on; `None` where there is no such datagram.
+    pub fn datagram(&self, i: u64) -> Option<(Id, Id)>
+        ensures { result ≡ option_map way_of (datagram (world_of self.now) i) }
+    {
+        way_of_numbered(&self.datagrams, i)
+    }
+
+    /// The height of a node for a destination; `None` where there is no such node or destination.
+    pub fn height(&self, n: Id, d: Id) -> Option<Entry>
+        ensures { result ≡ height_at (world_of self.now) n d }
+    {
+        match node_place(&self.nodes, n) {
+            Some(at) => self.nodes[at].height(d),
+            None => None,
+        }
+    }
+
+    /// The next hop of a node to a destination; `None` where it has none, or where there is no such node or destination.
+    pub fn next_hop(&self, n: Id, d: Id) -> Option<Id>
+        ensures { result ≡ hop_at (world_of self.now) n d }
+    {
+        match node_place(&self.nodes, n) {
+            Some(at) => self.nodes[at].next_hop(d),
+            None => None,
+        }
+    }
+
+    /// How many packets the core of `a` put into the lane to `b` in a life, as the end of `a` writes it; 0 where there is
+    /// no such link or life.
+    pub fn sent_count(&self, a: Id, b: Id, life: Life) -> usize
+        ensures { result ≡ length (sent_packets (world_of self.now) a b life) }
+    {
+        match place(&self.links, a, b) {
+            Some(at) => self.links[at].sent_count(life),
+            None => 0,
+        }
+    }
+
+    /// The packets that the core of `a` put into the lane to `b` in a life, as the end of `a` writes it, the first of them
+    /// first; none where there is no such link or life.
+    ///
+    /// The packets of one life are not kept apart, so that the list is made at each call.
+    ///
+    /// # Errors
+    /// Want of memory.
+    pub fn sent(&self, alloc: Global, a: Id, b: Id, life: Life) -> Result<Vec<Packet>, AllocError>
+        ensures { IfOk result (λ v. v.items ≡ sent_packets (world_of self.now) a b life) }
+    {
+        match place(&self.links, a, b) {
+            Some(at) => self.links[at].sent(alloc, life),
+            None => Ok(Vec::new(alloc)),
+        }
+    }
+
+    /// How many packets of `a` the core of `b` stepped in a life, as the end of `b` writes it; 0 where there is no such
+    /// link or life.
+    pub fn taken_count(&self, b: Id, a: Id, life: Life) -> usize
+        ensures { result ≡ length (taken_packets (world_of self.now) b a life) }
+    {
+        match place(&self.links, b, a) {
+            Some(at) => self.links[at].taken_count(life),
+            None => 0,
+        }
+    }
+
+    /// The packets of `a` that the core of `b` stepped in a life, as the end of `b` writes it, the first of them first;
+    /// none where there is no such link or life.
+    ///
+    /// The packets of one life are not kept apart, so that the list is made at each call.
+    ///
+    /// # Errors
+    /// Want of memory.
+    pub fn taken(&self, alloc: Global, b: Id, a: Id, life: Life) -> Result<Vec<Packet>, AllocError>
+        ensures { IfOk result (λ v. v.items ≡ taken_packets (world_of self.now) b a life) }
+    {
+        match place(&self.links, b, a) {
+            Some(at) => self.links[at].taken(alloc, life),
+            None => Ok(Vec::new(alloc)),
+        }
+    }
+}
+
+impl NodeSlot {
+    /// Its height for a destination.
+    fn height(&self, d: Id) -> Option<Entry>
+        ensures { result ≡ height_of self.now.seat.core d }
+    {
+        self.seat.core().height(d)
+    }
+
+    /// Its next hop to a destination.
+    fn next_hop(&self, d: Id) -> Option<Id>
+        ensures { result ≡ hop_of self.now.seat.core d }
+    {
+        self.seat.core().next_hop(d)
+    }
+}
+
+impl LinkSlot {
+    /// How many packets were put into the lane in a life.
+    fn sent_count(&self, life: Life) -> usize
+        ensures { result ≡ length (packets_of life (parcels_in self.now.put)) }
+    {
+        count_put(&self.put, life)
+    }
+
+    /// The packets that were put into the lane in a life.
+    fn sent(&self, alloc: Global, life: Life) -> Result<Vec<Packet>, AllocError>
+        ensures { IfOk result (λ v. v.items ≡ packets_of life (parcels_in self.now.put)) }
+    {
+        list_put(alloc, &self.put, life)
+    }
+
+    /// How many packets of the peer the node's core stepped in a life.
+    fn taken_count(&self, life: Life) -> usize
+        ensures { result ≡ length (packets_of life self.now.steps) }
+    {
+        count_steps(&self.steps, life)
+    }
+
+    /// The packets of the peer that the node's core stepped in a life.
+    fn taken(&self, alloc: Global, life: Life) -> Result<Vec<Packet>, AllocError>
+        ensures { IfOk result (λ v. v.items ≡ packets_of life self.now.steps) }
+    {
+        list_steps(alloc, &self.steps, life)
+    }
+}
+
+/// Appends the ends of a node.
+fn put_ends(ends: &mut Vec<(Id, Id)>, n: Id, neighbours: &[Id]) -> Result<(), AllocError>
+    ensures { IfOk result (λ _. ends.new.items ≡ ends.old.items ++ map (λ k. (n, k)) neighbours.now) }
+{
+    for k in neighbours {
+        ends.push((n, *k))?;
+    }
+    Ok(())
+}
+
+fn way_of_numbered(datagrams: &[Frame], i: u64) -> Option<(Id, Id)>
+    ensures { result ≡ option_map way_of (numbered i datagrams.now) }
+{
+    let place = usize::try_from(i).ok()?.checked_sub(1)?;
+    datagrams.get(place).map(|frame| way_of(frame))
+}
+
+fn way_of(frame: &Frame) -> (Id, Id)
+    ensures { result ≡ way_of frame.now }
+{
+    (frame.header().sender, frame.header().receiver)
+}
+
+/// The packet of a cargo, where it is of this life.
+fn packet_put(cargo: &Cargo, life: Life) -> Option<Packet>
+    ensures { option_to_list result ≡ packets_of life (parcels_in (cargo.now ∷ [])) }
+{
+    match cargo {
+        Cargo::Packet(other, packet) => { if *other == life { Some(*packet) } else { None } }
+        Cargo::Cut(_) => None,
+    }
+}
+
+fn count_put(put: &[Cargo], life: Life) -> usize
+    ensures { result ≡ length (packets_of life (parcels_in put.now)) }
+{
+    let mut count = 0;
+    for cargo in put {
+        if packet_put(cargo, life).is_some() {
+            count += 1;
+        }
+    }
+    count
+}
+
+fn list_put(alloc: Global, put: &[Cargo], life: Life) -> Result<Vec<Packet>, AllocError>
+    ensures { IfOk result (λ v. v.items ≡ packets_of life (parcels_in put.now)) }
+{
+    let mut packets = Vec::new(alloc);
+    for cargo in put {
+        match packet_put(cargo, life) {
+            Some(packet) => packets.push(packet)?,
+            None => {}
+        }
+    }
+    Ok(packets)
+}
+
+/// The packet of a step, where it is of this life.
+fn packet_stepped(step: &(Life, Packet), life: Life) -> Option<Packet>
+    ensures { option_to_list result ≡ packets_of life (parcel_in step.now ∷ []) }
+{
+    if step.0 == life { Some(step.1) } else { None }
+}
+
+fn count_steps(steps: &[(Life, Packet)], life: Life) -> usize
+    ensures { result ≡ length (packets_of life (map parcel_in steps.now)) }
+{
+    let mut count = 0;
+    for step in steps {
+        if packet_stepped(step, life).is_some() {
+            count += 1;
+        }
+    }
+    count
+}
+
+fn list_steps(
+    alloc: Global,
+    steps: &[(Life, Packet)],
+    life: Life,
+) -> Result<Vec<Packet>, AllocError>
+    ensures { IfOk result (λ v. v.items ≡ packets_of life (map parcel_in steps.now)) }
+{
+    let mut packets = Vec::new(alloc);
+    for step in steps {
+        match packet_stepped(step, life) {
+            Some(packet) => packets.push(packet)?,
+            None => {}
+        }
+    }
+    Ok(packets)
+}
