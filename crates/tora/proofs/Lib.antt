@@ -16,3 +16,4 @@ pub mod Flushed
 pub mod SimulationFound
 pub mod SimulationHere
 pub mod LinkPairs
+pub mod Starting
