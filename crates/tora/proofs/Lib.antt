@@ -15,3 +15,5 @@ pub mod SimulationLaws
 pub mod Flushed
 pub mod SimulationFound
 pub mod SimulationHere
+pub mod LinkPairs
+pub mod Starting

@@ -16,3 +16,4 @@ pub mod RunningView
 pub mod SimulationView
 pub mod Statuses
 pub mod SimulationGrammar
+pub mod ToldView

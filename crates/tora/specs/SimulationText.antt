@@ -8,7 +8,7 @@ use Rattle.tora_core.specs.Numbers.{has_number}
 use Rattle.tora_core.specs.ShowText.{height_text, hop_text}
 use Rattle.tora_world.specs.declared.Event.{Event}
 use Rattle.tora_world.specs.declared.SimError.{SimError}
-use Rattle.tora_world.specs.declared.SimError.TheVariants.{Memory, NoNode, NoDatagram, NotPossible}
+use Rattle.tora_world.specs.Errors.{sim_error_number}
 use Rattle.tora_world.specs.World.{World, refusal_of, world_after, world_after_all, sent_packets, taken_packets}
 use Rattle.tora.specs.LineText.{Rules, numbered, whole_text, fault_of, IsFirstFaultBy}
 use Rattle.tora.specs.Engine.{IsWholeText, IsFrontOfText}
@@ -42,12 +42,6 @@ begun_in dests w = record { dests = dests; nodes = nodes_of w; ends = ends_of w;
 
 abbrev pub Reply : Type 0
 Reply = RunningView × List ℕ
-
-abbrev pub sim_error_number : SimError → ℕ
-sim_error_number Memory = 1
-sim_error_number NoNode = 2
-sim_error_number NoDatagram = 3
-sim_error_number NotPossible = 4
 
 abbrev pub refusal_text : Option SimError → List ℕ
 refusal_text None = []

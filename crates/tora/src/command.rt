@@ -32,6 +32,58 @@ Exit statuses:
   2  usage
   5  memory was refused";
 
+/// What `--help` of `sim` says of its file.
+const SIMULATION: &str = "\
+Lines of a simulation file, each ended by LF, of at most 4096 bytes:
+  dests LIST         the first line: the destinations of every node's table
+  link A B           one line or more: a link; the nodes are those of the links
+behind these, in any order, events:
+  need N D           N needs a route to destination D
+  tick               the clock goes on by one tick of 100 ms
+  open N K           the closed end of N towards K begins a life
+  pull N K           that end takes what N's core has sent to K
+  transmit N K       that end sends its next frame
+  deliver I          datagram I, of all ever sent, comes to its receiver
+  pump N K           that end hands its next event to N's core
+  turn N             N's core takes what was handed to it next
+  arm N CALL         N's next such call fails: send-lost, send-gone, receive,
+                     read, write or sync
+  restart N T        N begins anew; what its disks have not synced is torn to
+                     T, 32 hexadecimal digits, or lost for `-`
+orders:
+  rounds R           R rounds, at most 10000, in which all goes on
+  part A B           rounds deliver nothing between A and B any more
+  mend A B           rounds deliver it again
+  heights D          prints `node N height hop K` for each node
+  sent A B X Y       prints `count C`: packets that A's core sent to B in the
+                     life that A's end writes {X, Y}
+  taken B A Y X      prints `count C`: packets that B's core took from A in the
+                     life that B's end writes {Y, X}
+N, K, A, B and D are numbers from 1 to 4294967295; a LIST is such numbers
+between commas, or `-`. One blank stands between two words.
+
+It prints `refused N` for an event that is refused (2: no such node or link,
+3: no such datagram, 4: not possible now), and `fault N` where line N is none
+of these; the simulation then ends.
+
+Example, a line of three nodes of which the first asks for a route:
+  dests 3
+  link 1 2
+  link 2 3
+  need 1 3
+  rounds 3
+  heights 3
+prints
+  node 1 (0,0,0,2,1) hop 2
+  node 2 (0,0,0,1,2) hop 3
+  node 3 (0,0,0,0,3) hop -
+
+Exit statuses:
+  0  the file ended
+  1  a line is a fault, the file can't be read, or output failed
+  2  usage
+  5  memory was refused";
+
 /// The command line of the program.
 pub fn command<'a>(alloc: Global) -> Result<Command<'a>, AllocError> {
     let verbose = Arg::new(alloc, "verbose")
@@ -39,13 +91,20 @@ pub fn command<'a>(alloc: Global) -> Result<Command<'a>, AllocError> {
         .long("verbose")
         .action(ArgAction::SetTrue)
         .global(true)
-        .help("Says on standard error why a line is a fault");
+        .help("Says on standard error why a line is a fault, and why an event is refused");
     let replay = Command::new(alloc, "replay")
         .about("Replays the inputs of one node, from standard input to standard output")
         .after_help(FORMATS);
     let config = Arg::new(alloc, "CONFIG")
         .required(true)
         .help("The configuration, a TOML file");
+    let file = Arg::new(alloc, "FILE")
+        .required(true)
+        .help("The lines of the simulation, a text file");
+    let sim = Command::new(alloc, "sim")
+        .about("Simulates a world of nodes, links and datagrams, to standard output")
+        .after_help(SIMULATION)
+        .arg(file)?;
     let check = Arg::new(alloc, "check")
         .long("check")
         .action(ArgAction::SetTrue)
@@ -61,5 +120,6 @@ pub fn command<'a>(alloc: Global) -> Result<Command<'a>, AllocError> {
         .after_help(FORMATS)
         .arg(verbose)?
         .subcommand(replay)?
+        .subcommand(sim)?
         .subcommand(node)
 }

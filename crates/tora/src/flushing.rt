@@ -9,6 +9,7 @@ use crate::ended::{Ended, ReplayError};
 use crate::replaying::replay;
 use crate::simulating::simulate_in;
 use crate::simulator::Simulator;
+use crate::told::simulate_told;
 use std::alloc::Global;
 use std::io::{Read, Write};
 
@@ -47,6 +48,28 @@ pub fn simulate_and_flush<S: Simulator, R: Read, W: Write>(
         IsSimulationBegun (R.remaining reader.old) (R.remaining reader.new) (W.contents writer.old) (W.contents writer.new)) }
 {
     let result = simulate_in::<S, R, W>(alloc, reader, writer);
+    match writer.flush() {
+        Ok(()) => result,
+        Err(_) if result.is_ok() => Err(ReplayError::Write),
+        Err(_) => result,
+    }
+}
+
+/// Simulates, tells on standard error what is refused, and flushes the writer: `Write` where that alone fails.
+pub fn simulate_told_and_flush<S: Simulator, T: Eprint, R: Read, W: Write>(
+    rt: &T,
+    alloc: Global,
+    reader: &mut R,
+    writer: &mut W,
+) -> Result<Ended, ReplayError>
+    ensures whole { IfOk result (λ ended. IfSome (R.remaining reader.old) (λ input.
+        Simulates input (W.contents writer.old) (W.contents writer.new) ended)) }
+    ensures at_end { result ≡ Ok Ended.Whole → IsAtEnd (R.remaining reader.new) }
+    ensures fault { IfOk result (λ ended. IfSome (R.remaining reader.old) (λ input. fault_of ended ≡ first_simulation_fault input)) }
+    ensures begun { IfErr result (λ e. e ≢ ReplayError.Write →
+        IsSimulationBegun (R.remaining reader.old) (R.remaining reader.new) (W.contents writer.old) (W.contents writer.new)) }
+{
+    let result = simulate_told::<S, T, R, W>(rt, alloc, reader, writer);
     match writer.flush() {
         Ok(()) => result,
         Err(_) if result.is_ok() => Err(ReplayError::Write),

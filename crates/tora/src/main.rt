@@ -15,6 +15,7 @@ mod engine;
 mod flushing;
 mod height_text;
 mod line;
+mod link_lines;
 mod node_command;
 mod parse;
 mod recent;
@@ -22,10 +23,14 @@ mod replaying;
 mod rounds;
 mod running;
 mod session;
+mod sim_command;
+mod simulated;
 mod simulating;
+mod simulation_cause;
 mod simulation_line;
 mod simulation_parse;
 mod simulator;
+mod told;
 mod words;
 
 use cause::cause_of;
@@ -36,6 +41,7 @@ use flushing::replay_and_flush;
 pub use parse::{first_lines_are_read_as_written, lines_are_read_as_written};
 use recent::Recent;
 pub use replaying::{fault_is_the_first, replay};
+pub use simulated::simulate;
 pub use simulating::{simulate_in, simulation_fault_is_the_first};
 pub use simulation_parse::simulation_lines_are_read_as_written;
 pub use simulator::Simulator;
@@ -43,6 +49,7 @@ use std::alloc::Global;
 use std::io;
 use std::io::{BufWriter, Write};
 use std::process::ExitCode;
+use tora_sim::Sim;
 pub use words::numbers_are_read_as_printed;
 
 /// Exit statuses: 0 stands for an end without a fault.
@@ -110,6 +117,14 @@ fn replay_input(rt: &HostRuntime, is_verbose: bool) -> ExitCode {
     status(rt, result)
 }
 
+/// Simulates the lines of a file.
+fn simulate_file(rt: &HostRuntime, path: &str, is_verbose: bool) -> ExitCode {
+    let Ok(mut writer) = BufWriter::new(rt.alloc(), io::writer(rt)) else {
+        return stop(rt, MEMORY, "memory");
+    };
+    sim_command::run::<Sim, HostRuntime, _>(rt, path, is_verbose, &mut writer)
+}
+
 /// Prints help, a version or a fault of usage.
 fn usage(rt: &HostRuntime, error: &clap::Error) -> ExitCode {
     if error.kind() == ErrorKind::OutOfMemory {
@@ -149,6 +164,10 @@ fn main(rt: HostRuntime) -> ExitCode {
                     let is_check = node.get_flag("check");
                     let (mut reader, mut writer) = (rt.stdin(), io::writer(&rt));
                     node_command::run(&rt, path, is_check, is_verbose, &mut reader, &mut writer)
+                }
+                Some(("sim", sim)) => {
+                    let path = sim.get_str("FILE").unwrap_or("");
+                    simulate_file(&rt, path, is_verbose)
                 }
                 _ => replay_input(&rt, is_verbose),
             }

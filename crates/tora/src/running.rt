@@ -4,9 +4,9 @@ ghost use Rattle.tora_core.specs.Numbers.{has_number};
 ghost use Rattle.tora.specs.Gives.{Gives};
 ghost use Rattle.tora.specs.LineText.{numbered, TakesReply};
 ghost use Rattle.tora_world.specs.World.{sent_packets, taken_packets};
-ghost use Rattle.tora.specs.Simulator.{started};
+ghost use Rattle.tora.specs.Simulator.{ArePairs, AreIds, started};
 ghost use Rattle.tora.specs.RunningView.{running_view};
-ghost use Rattle.tora.specs.SimulationText.{begun_in, has_end, with_parted, without_parted, node_line, heights_text, heights_reply, count_text, running_reply, line_reply, event_reply, after_rounds, where_linked, sim_error_number, known_height};
+ghost use Rattle.tora.specs.SimulationText.{begun_in, has_end, with_parted, without_parted, node_line, heights_text, heights_reply, count_text, running_reply, line_reply, event_reply, after_rounds, where_linked, known_height};
 
 use crate::answer::numbered;
 use crate::height_text::{HeightText, HopText};
@@ -17,6 +17,7 @@ use crate::simulator::Simulator;
 use crate::words::LineError;
 use std::alloc::{AllocError, Global};
 use tora_arq::Life;
+use tora_core::CoreError;
 use tora_height::{Entry, Id};
 use tora_world::{Event, SimError};
 
@@ -27,19 +28,9 @@ pub struct Running<S> {
     pub nodes: Vec<Id>,
     pub ends: Vec<(Id, Id)>,
     pub parted: Vec<(Id, Id)>,
+    /// Why the event of the last line was refused, if it was.
+    pub refused: Option<SimError>,
     pub sim: S,
-}
-
-/// The number of a refusal.
-fn sim_error_number(error: SimError) -> u64
-    ensures { result ≡ sim_error_number error }
-{
-    match error {
-        SimError::Memory => 1,
-        SimError::NoNode => 2,
-        SimError::NoDatagram => 3,
-        SimError::NotPossible => 4,
-    }
 }
 
 fn has_number(n: Id, numbers: &[Id]) -> bool
@@ -106,12 +97,28 @@ fn write_heights<S: Simulator>(
     Ok(())
 }
 
+/// The first world; a fault where there is no such topology.
+#[tactic(auto, unfolding(crate::specs::Simulator::started))]
+pub fn start<S: Simulator>(alloc: Global, links: &[(Id, Id)], dests: &[Id]) -> Result<S, LineError>
+    requires links { ArePairs links.now }
+    requires dests { AreIds dests.now }
+    ensures { Gives (λ sim. S.world sim) result (started links.now dests.now) }
+{
+    match S::start(alloc, links, dests) {
+        Ok(sim) => Ok(sim),
+        Err(CoreError::Memory) => Err(LineError::Memory),
+        Err(_) => Err(LineError::Fault),
+    }
+}
+
 impl<S: Simulator> Running<S> {
     /// Begins in the first world; a fault where there is no such topology.
     pub fn new(alloc: Global, dests: &[Id], links: &[(Id, Id)]) -> Result<Running<S>, LineError>
+        requires links { ArePairs links.now }
+        requires dests { AreIds dests.now }
         ensures { Gives (running_view S.world) result (option_map (begun_in dests.now) (started links.now dests.now)) }
     {
-        let sim = S::start(alloc, links, dests)?;
+        let sim: S = start(alloc, links, dests)?;
         let nodes = sim.nodes(alloc)?;
         let ends = sim.ends(alloc)?;
         let mut own = Vec::new(alloc);
@@ -121,6 +128,7 @@ impl<S: Simulator> Running<S> {
             nodes,
             ends,
             parted: Vec::new(alloc),
+            refused: None,
             sim,
         })
     }
@@ -130,9 +138,10 @@ impl<S: Simulator> Running<S> {
         ensures { OnOk result (TakesReply (event_reply (running_view S.world self.old) event.now) (running_view S.world self.new) (string_bytes out.old) (string_bytes out.new)) }
     {
         let refused = self.sim.happen(event)?;
+        self.refused = refused;
         match refused {
             None => Ok(()),
-            Some(error) => numbered(out, "refused ", sim_error_number(error)),
+            Some(error) => numbered(out, "refused ", u64::from(error.number())),
         }
     }
 
@@ -223,6 +232,7 @@ impl<S: Simulator> Running<S> {
         requires { string_bytes out.old ≡ [] }
         ensures { Gives (λ _. ((running_view S.world self.new), string_bytes out.new)) result (line_reply (running_view S.world self.old) line.now) }
     {
+        self.refused = None;
         let Some(line) = simulation_line(line) else {
             return Err(LineError::Fault);
         };

@@ -10,21 +10,14 @@ ghost use Rattle.tora.specs.SimulationText.{Progress, first_progress, first_run,
 
 use crate::ended::{Ended, ReplayError};
 use crate::engine::read_lines;
-use crate::running::Running;
+use crate::link_lines::LinkLines;
+use crate::running::{Running, start};
 use crate::session::FileKind;
 use crate::simulation_parse;
 use crate::simulator::Simulator;
 use crate::words::LineError;
 use std::alloc::{AllocError, Global};
 use std::io::{Read, Write};
-use tora_height::Id;
-
-/// The lines before a simulation runs: the destinations, and the links so far.
-#[derive(Drop)]
-pub struct LinkLines {
-    pub dests: Vec<Id>,
-    pub links: Vec<(Id, Id)>,
-}
 
 /// A simulation file, by what is kept between two of its lines.
 #[derive(Drop)]
@@ -90,7 +83,7 @@ fn end_of_links<S: Simulator>(
     if lines.links.is_empty() {
         return Ok(Some(number));
     }
-    let sim: Result<S, LineError> = S::start(alloc, lines.links.as_slice(), lines.dests.as_slice());
+    let sim: Result<S, LineError> = start(alloc, lines.links.as_slice(), lines.dests.as_slice());
     match sim {
         Ok(_) => Ok(None),
         Err(LineError::Fault) => Ok(Some(number.saturating_sub(1))),
@@ -116,7 +109,7 @@ fn take_line<S: Simulator>(
         }
         Simulation::Links(lines) => {
             if let Some(link) = simulation_parse::link(line) {
-                lines.links.push(link)?;
+                lines.push(link)?;
                 return Ok(());
             }
             *state = Simulation::Runs(behind_links(alloc, lines, line, text)?);

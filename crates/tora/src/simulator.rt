@@ -1,12 +1,11 @@
 //! What the engine asks of a simulator.
 ghost use Rattle.std.specs.Prelude.{◌≡◌, length, option_map, IfOk};
 ghost use Rattle.tora_world.specs.World.{World, refusal_of, world_after, datagram, sent_packets, taken_packets};
-ghost use Rattle.tora.specs.Gives.{Gives};
-ghost use Rattle.tora.specs.Simulator.{started, nodes_of, ends_of, height_at, hop_at};
+ghost use Rattle.tora.specs.Simulator.{ArePairs, AreIds, Starts, nodes_of, ends_of, height_at, hop_at};
 
-use crate::words::LineError;
 use std::alloc::{AllocError, Global};
 use tora_arq::Life;
+use tora_core::CoreError;
 use tora_height::{Entry, Id};
 use tora_world::{Event, SimError};
 
@@ -14,9 +13,11 @@ use tora_world::{Event, SimError};
 pub trait Simulator: Drop {
     ghost world: { Self → World };
 
-    /// The first world of links and destinations; a fault where there is no such topology.
-    fn start(alloc: Global, links: &[(Id, Id)], dests: &[Id]) -> Result<Self, LineError>
-        ensures { Gives (λ sim. world sim) result (started links.now dests.now) };
+    /// The first world of links and destinations, or why there is no such topology.
+    fn start(alloc: Global, links: &[(Id, Id)], dests: &[Id]) -> Result<Self, CoreError>
+        requires links { ArePairs links.now }
+        requires dests { AreIds dests.now }
+        ensures { Starts world links.now dests.now result };
 
     /// Makes an event happen, and says why it is refused, if it is: it then changes nothing.
     fn happen(&mut self, event: &Event) -> Result<Option<SimError>, AllocError>

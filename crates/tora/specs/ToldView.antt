@@ -1,0 +1,14 @@
+-- The kind of file that a simulation is whose refusals are told.
+use Rattle.tora_world.specs.World.{World}
+use Rattle.tora.specs.declared.told.Told.{Told}
+use Rattle.tora.specs.LineText.{text_from}
+use Rattle.tora.specs.Engine.{Kind}
+use Rattle.tora.specs.Kinds.{long_lines_are_faults}
+use Rattle.tora.specs.SimulationView.{progress_of}
+use Rattle.tora.specs.SimulationText.{simulation_rules}
+
+abbrev pub told_kind : {S T : Type 0} → (S → World) → Kind (Told S T)
+told_kind world = record {
+  text = λ s. text_from simulation_rules (progress_of world s.state);
+  long = λ s line h. long_lines_are_faults simulation_rules (progress_of world s.state) line h;
+}

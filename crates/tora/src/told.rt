@@ -1,0 +1,89 @@
+//! A simulation whose refusals and fault are told on standard error.
+ghost use Rattle.std.specs.Prelude.{◌≡◌, ◌≢◌, Ok, IfOk, IfErr, IfSome};
+ghost use Rattle.std.specs.Io.KnownBytes.{IsAtEnd};
+ghost use Rattle.tora.specs.LineText.{fault_of};
+ghost use Rattle.tora.specs.ToldView.{told_kind};
+ghost use Rattle.tora.specs.SimulationText.{first_simulation_fault, Simulates, IsSimulationBegun};
+
+use crate::ended::{Ended, ReplayError};
+use crate::engine::read_lines;
+use crate::session::FileKind;
+use crate::simulating::Simulation;
+use crate::simulation_cause::{SimulationCause, end_cause, simulation_cause};
+use crate::simulator::Simulator;
+use crate::words::LineError;
+use std::alloc::{AllocError, Global};
+use std::io::{Read, Write};
+
+/// A simulation file, and where is told why an event is refused and why a line is a fault.
+#[derive(Drop)]
+pub struct Told<'a, S, T> {
+    rt: &'a T,
+    /// The number of the last line.
+    number: u64,
+    state: Simulation<S>,
+}
+
+/// Tells why a line is a fault.
+pub fn tell_cause<T: Eprint>(rt: &T, number: u64, cause: SimulationCause) {
+    let _ = rt.eprintln(format_args!("tora: line {number}: {cause}"));
+}
+
+/// Tells why the event of a line was refused, if it was.
+fn tell_refusal<S, T: Eprint>(rt: &T, number: u64, state: &Simulation<S>) {
+    if let Simulation::Runs(running) = state {
+        if let Some(error) = running.refused {
+            let _ = rt.eprintln(format_args!("tora: line {number}: refused: {error}"));
+        }
+    }
+}
+
+impl<S: Simulator, T: Eprint> FileKind for Told<'_, S, T> {
+    ghost kind = { told_kind S.world };
+
+    fn take(&mut self, alloc: Global, line: &[u8], text: &mut String) -> Result<(), LineError> {
+        self.number = self.number.saturating_add(1);
+        let taken = self.state.take(alloc, line, text);
+        match taken {
+            Ok(()) => tell_refusal(self.rt, self.number, &self.state),
+            Err(LineError::Fault) => {
+                let cause = simulation_cause(alloc, &self.state, line);
+                tell_cause(self.rt, self.number, cause);
+            }
+            Err(LineError::Memory) => {}
+        }
+        taken
+    }
+
+    fn end(&self, alloc: Global, number: u64) -> Result<Option<u64>, AllocError> {
+        let fault = self.state.end(alloc, number)?;
+        match fault {
+            Some(line) => tell_cause(self.rt, line, end_cause(alloc, &self.state)),
+            None => {}
+        }
+        Ok(fault)
+    }
+}
+
+/// Simulates, and tells on standard error why an event is refused and why a line is a fault, unless it is too long.
+#[tactic(auto, unfolding(crate::specs::Engine::text_of))]
+pub fn simulate_told<S: Simulator, T: Eprint, R: Read, W: Write>(
+    rt: &T,
+    alloc: Global,
+    reader: &mut R,
+    writer: &mut W,
+) -> Result<Ended, ReplayError>
+    ensures whole { IfOk result (λ ended. IfSome (R.remaining reader.old) (λ input.
+        Simulates input (W.contents writer.old) (W.contents writer.new) ended)) }
+    ensures at_end { result ≡ Ok Ended.Whole → IsAtEnd (R.remaining reader.new) }
+    ensures fault { IfOk result (λ ended. IfSome (R.remaining reader.old) (λ input. fault_of ended ≡ first_simulation_fault input)) }
+    ensures begun { IfErr result (λ e. e ≢ ReplayError.Write →
+        IsSimulationBegun (R.remaining reader.old) (R.remaining reader.new) (W.contents writer.old) (W.contents writer.new)) }
+{
+    let state: Told<'_, S, T> = Told {
+        rt,
+        number: 0,
+        state: Simulation::First,
+    };
+    read_lines(alloc, state, reader, writer)
+}
