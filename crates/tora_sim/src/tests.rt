@@ -11,6 +11,7 @@ use std::test::Fail;
 use tora_arq::Life;
 use tora_core::CoreError;
 use tora_height::{Height, Id};
+use tora_packet::{Packet, Update};
 
 /// Whether no number in links is 0.
 fn are_links(links: &[(Id, Id)]) -> bool
@@ -197,5 +198,63 @@ fn sent_datagram_is_read(rt: HostRuntime) -> Result<(), Fail> {
     assert_eq!(&rt; sim.datagrams(), 1);
     assert_eq!(&rt; sim.datagram(1), Some((2, 3)));
     assert_eq!(&rt; sim.datagram(2), None);
+    Ok(())
+}
+
+/// The events by which the link of nodes 1 and 2 comes up, and an update of node 1 for the destination 2 is stepped by
+/// node 2; the datagram of the update is delivered twice.
+const MEETING: [Event; 20] = [
+    Event::Need(1, 2),
+    Event::CoreTurn(1),
+    Event::Open(1, 2),
+    Event::Open(2, 1),
+    Event::Transmit(1, 2),
+    Event::Deliver(1),
+    Event::Transmit(2, 1),
+    Event::Deliver(2),
+    Event::Transmit(1, 2),
+    Event::Deliver(3),
+    Event::Pump(1, 2),
+    Event::Pump(2, 1),
+    Event::CoreTurn(2),
+    Event::CoreTurn(1),
+    Event::Pull(1, 2),
+    Event::Transmit(1, 2),
+    Event::Deliver(4),
+    Event::Deliver(4),
+    Event::Pump(2, 1),
+    Event::CoreTurn(2),
+];
+
+#[test]
+fn sent_and_taken_packets_are_read(rt: HostRuntime) -> Result<(), Fail> {
+    let alloc = rt.alloc();
+    let topology = made(&rt, alloc, &[(1, 2)], &[2]).expect(&rt, "a topology");
+    let mut sim = Sim::new(alloc, &topology).expect(&rt, "a simulator");
+    assert_eq!(&rt; sim.run(&MEETING), Ok(()));
+    assert_eq!(&rt; sim.datagrams(), 4);
+    assert_eq!(&rt; sim.datagram(2), Some((2, 1)));
+    assert_eq!(&rt; sim.datagram(4), Some((1, 2)));
+    let height = Height::new(0, 0, 0, 1, 1).expect(&rt, "a height");
+    assert_eq!(&rt; sim.height(1, 2), Some(Some(height)));
+    assert_eq!(&rt; sim.next_hop(1, 2), Some(2));
+    assert_eq!(&rt; sim.next_hop(2, 2), None);
+    let update = Packet::Upd(Update::new(2, height).expect(&rt, "an update"));
+    let life = Life { own: 1, peer: 1 };
+    assert_eq!(&rt; sim.sent_count(1, 2, life), 1);
+    assert_eq!(&rt;
+        sim.sent(alloc, 1, 2, life)?.as_slice(),
+        [update].as_slice()
+    );
+    assert_eq!(&rt; sim.taken_count(2, 1, life), 1);
+    assert_eq!(&rt;
+        sim.taken(alloc, 2, 1, life)?.as_slice(),
+        [update].as_slice()
+    );
+    let other = Life { own: 1, peer: 2 };
+    assert_eq!(&rt; sim.sent_count(1, 2, other), 0);
+    assert_eq!(&rt; sim.taken(alloc, 2, 1, other)?.len(), 0);
+    assert_eq!(&rt; sim.sent_count(2, 1, life), 0);
+    assert_eq!(&rt; sim.taken_count(1, 2, life), 0);
     Ok(())
 }
