@@ -16,7 +16,7 @@ use Rattle.tora_world.specs.World.{World, own_answers}
 use Rattle.tora_sim.specs.Keyed.{IsFirst}
 use Rattle.tora_sim.specs.Links.{LinkView, is_at, waiting}
 use Rattle.tora_sim.specs.Nodes.{NodeView}
-use Rattle.tora_sim.specs.Lanes.{LanesView, lanes_of, after_offer_at, DidOffer, served_of}
+use Rattle.tora_sim.specs.Lanes.{LanesView, lanes_of, after_offer_at, DidOffer}
 use Rattle.tora_sim.specs.Store.{state_of, world_of, IsStore, AreEndsOf, link_at, lane_in}
 use Rattle.tora_sim.specs.Links as Links
 use Rattle.tora_sim.proofs.Keys.{found}
@@ -102,6 +102,11 @@ module _ (links : List LinkView) (rising : Links.AreRising links) where
       }
 
 -- ---- offers to the lanes of node n
+
+-- the end after an item of its node was served, of which these were the offers and the packets stepped
+abbrev pub served_of : ℕ → List Offer → List Step → LinkView → LinkView
+served_of n offers steps link =
+    if nat_eq link.node n then record link { put = link.put ++ put_to link.peer offers; steps = link.steps ++ stepped_from link.peer steps } else link
 
 module _ (t : Topology) (times : Times) (clock : ℕ) (nodes : List NodeView) (links : List LinkView) (ds : List FrameParts) (h : IsStore (state_of t times clock nodes links ds))
     (n : ℕ) (x : NodeView) (named : x.node ≡ n) (ends : AreEndsOf t links x) (count : x.count ≡ length (neighbours_of t n)) where

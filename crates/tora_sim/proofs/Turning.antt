@@ -22,7 +22,7 @@ use Rattle.tora_sim.specs.Keyed.{IsFirst}
 use Rattle.tora_sim.specs.Links.{LinkView}
 use Rattle.tora_sim.specs.Nodes.{NodeView, is_of}
 use Rattle.tora_sim.specs.Lanes.{LanesView, lanes_of, DidOffer, AreAlike, bare}
-use Rattle.tora_sim.specs.Turns.{IsServed, IsTurned, Turns, after_note}
+use Rattle.tora_sim.specs.Turns.{IsServed, IsTurned, Turns, IsNoted}
 use Rattle.tora_sim.specs.Store.{state_of, world_of, IsStore, IsNodeOf, AreEndsOf, link_at, end_in, file_in, lane_in, put_in, steps_in, node_at, seat_in, items_in, inputs_in, counts_in, arms_in}
 use Rattle.tora_sim.specs.Steps.{IsDone, IsRefused, Does}
 use Rattle.tora_sim.proofs.Stores.{IsSameNode, node_changes, node_changes_by, node_stays, store_set_node}
@@ -124,7 +124,7 @@ module _ (t : Topology) (times : Times) (clock : ℕ) (nodes : List NodeView) (l
     links_is : links' ≡ after
     links_is = go y.seat.stepped (subst (AreStepsAt ks d.item.seat) (ap (λ (v : Serving). v.steps) serving) (steps_at (own_answers w n) ks (Rows.state_of x.seat) d.item)) d.noted
       where
-        go : (o : Option Stepped) → AreStepsAt ks d.item.seat (steps_of o) → after_note d.lanes d.item.seat o links' → links' ≡ given t times clock nodes links ds h n x is_named ends count_is s.offers (steps_of o)
+        go : (o : Option Stepped) → AreStepsAt ks d.item.seat (steps_of o) → IsNoted d.lanes d.item.seat o links' → links' ≡ given t times clock nodes links ds h n x is_named ends count_is s.offers (steps_of o)
         go None a e = e ∙ ap (λ (v : LanesView). v.links) offered.lanes
         go (Some p) (inl none) e = absurd (let z : step_of p ∷ [] ≡ [] = none in cc)
         go (Some p) (inr (k, from, parcel, is)) (link, read_it, e) =

@@ -1,7 +1,6 @@
 -- The lanes from a node's core to its neighbours: the ends of the node's links stand one behind the other among all ends.
-use Rattle.std.specs.Prelude.{◌≡◌, ℕ, ◌==◌, ◌+◌, ◌<◌, ◌≤◌, nat_lt, Bool, List, [], ◌∷◌, ◌++◌, length, map, slice_get, slice_set, Some, if◌then◌else◌}
+use Rattle.std.specs.Prelude.{◌≡◌, ℕ, ◌+◌, ◌<◌, ◌≤◌, nat_lt, Bool, List, [], ◌∷◌, ◌++◌, length, map, slice_get, slice_set, Some, if◌then◌else◌}
 use Rattle.tora_seat.specs.declared.Cargo.{Cargo}
-use Rattle.tora_seat.specs.Serving.{Offer, Step, put_to, stepped_from}
 use Rattle.tora_sim.specs.Links.{LinkView, waiting}
 
 pub record LanesView : Type 0 where
@@ -44,8 +43,3 @@ bare link = record link { room = 0; step_room = 0 }
 -- the same ends but for the memory that they have
 abbrev pub AreAlike : List LinkView → List LinkView → Type 0
 AreAlike before after = map bare after ≡ map bare before
-
--- the end after an item of its node was served, of which these were the offers and the packets stepped
-abbrev pub served_of : ℕ → List Offer → List Step → LinkView → LinkView
-served_of n offers steps link =
-    if link.node == n then record link { put = link.put ++ put_to link.peer offers; steps = link.steps ++ stepped_from link.peer steps } else link

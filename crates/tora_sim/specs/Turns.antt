@@ -25,16 +25,16 @@ pub record IsServed (before : NodeView) (lanes : LanesView) (item : Item) (after
   pub node : after ≡ record before { seat = after.seat; inputs = before.inputs ++ map (λ input. (input, item.now)) after.seat.inputs; items = after.items }
 
 -- the packet that was stepped is noted at the link of the item's seat
-abbrev pub after_note : LanesView → ℕ → Option Stepped → List LinkView → Type 0
-after_note lanes seat None links = links ≡ lanes.links
-after_note lanes seat (Some p) links = (link : LinkView) × (slice_get lanes.links (lanes.first + seat) ≡ Some link) × (links ≡ slice_set lanes.links (lanes.first + seat) (record link { steps = link.steps ++ record { life = p.life; packet = p.packet } ∷ [] }))
+abbrev pub IsNoted : LanesView → ℕ → Option Stepped → List LinkView → Type 0
+IsNoted lanes seat None links = links ≡ lanes.links
+IsNoted lanes seat (Some p) links = (link : LinkView) × (slice_get lanes.links (lanes.first + seat) ≡ Some link) × (links ≡ slice_set lanes.links (lanes.first + seat) (record link { steps = link.steps ++ record { life = p.life; packet = p.packet } ∷ [] }))
 
 -- a node and all link ends after the first item of its lane
 pub record IsTurned (before : NodeView) (links : List LinkView) (after : NodeView) (links_after : List LinkView) : Type 0 where
   pub item : Item
   pub lanes : LanesView
   pub served : IsServed before (lanes_of links before.first before.count) item after lanes
-  pub noted : after_note lanes item.seat after.seat.stepped links_after
+  pub noted : IsNoted lanes item.seat after.seat.stepped links_after
 
 -- or there was no memory, and they are as they were
 abbrev pub Turns : NodeView → List LinkView → Result (Unit {0}) SimError → NodeView → List LinkView → Type 0

@@ -1,7 +1,7 @@
 //! The lanes from a node's core to its neighbours.
 ghost use Rattle.std.specs.Prelude.{◌≡◌, ◌+◌, ◌<◌, ◌≤◌, ⊤, length, OnOk, IfErr, MatchOption};
 ghost use Rattle.tora_sim.specs.Lanes.{lanes_of, AreReady, AreAlike};
-ghost use Rattle.tora_sim.specs.Turns.{after_note};
+ghost use Rattle.tora_sim.specs.Turns.{IsNoted};
 
 use crate::SimError;
 use crate::links::LinkSlot;
@@ -56,7 +56,7 @@ impl NodeLanes {
     /// The ends, with the packet that was stepped, if one was, noted at the end at a place of the node.
     pub fn into_links(self, place: usize, stepped: Option<Stepped>) -> Vec<LinkSlot>
         requires { MatchOption stepped ⊤ (λ _. place < self.count) }
-        ensures { after_note self place stepped result.items }
+        ensures { IsNoted self place stepped result.items }
     {
         let NodeLanes {
             mut links,

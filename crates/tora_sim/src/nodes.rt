@@ -1,6 +1,7 @@
 //! The nodes: the core of each, and the lane into it.
 ghost use Rattle.std.specs.Prelude.{◌≡◌, ◌<◌, ◌≤◌, ◌+◌, ◌++◌, ℕ, None, Some, IfSome, IfNone, IfOk, IfErr, OnErr, MatchResult, find, length, map, slice_index, vec_len, vec_capacity};
-ghost use Rattle.tora_core.specs.Kept.{IsCore};
+ghost use Rattle.tora_core.specs.CoreRun.{core_refusal};
+ghost use Rattle.tora_core.specs.Kept.{IsCore, destinations_of};
 ghost use Rattle.tora_seat.specs.Rows.{first_seat};
 ghost use Rattle.tora_sim.specs.Restarts.{core_again, restarted_node};
 ghost use Rattle.tora_sim.specs.Turns.{IsServed};
@@ -147,10 +148,11 @@ impl NodeSlot {
     /// A new seat of a core of the same node, neighbours and destinations.
     ///
     /// # Errors
-    /// `Memory`: the core was made of these lists before.
+    /// `Memory` alone: a core of these lists was made before.
     pub fn new_seat(&self, alloc: Global) -> Result<CoreSeat, SimError>
         ensures made { IfOk result (λ seat. seat ≡ first_seat (core_again self.now.seat.core)) }
         ensures kept { IsCore self.now.seat.core }
+        ensures accepted { core_refusal self.now.seat.core.me self.now.seat.core.neighbours (destinations_of self.now.seat.core.views) ≡ None }
         ensures memory { IfErr result (λ e. e ≡ SimError.Memory) }
     {
         let core = self.seat.core();
@@ -159,6 +161,7 @@ impl NodeSlot {
                 Ok(seat) => Ok(seat),
                 Err(_) => Err(SimError::Memory),
             },
+            // No such core is refused.
             Err(_) => Err(SimError::Memory),
         }
     }
@@ -200,7 +203,7 @@ impl NodeSlot {
                 note_inputs(&mut self.inputs, self.seat.inputs(), item.now);
                 Ok(item)
             }
-            None => Err(SimError::Memory),
+            None => unreachable!(),
         }
     }
 }

@@ -1,8 +1,11 @@
-use Rattle.std.proofs.Common.{◌<◌, ℕ, zero, suc, List, [], ◌∷◌, length, sym, subst, arith}
+use Rattle.std.proofs.Common.{◌≡◌, ◌<◌, ℕ, zero, suc, List, [], ◌∷◌, length, None, sym, ap, ◌∙◌, subst, arith}
 use Rattle.std.specs.Prelude.{slice_index_or}
 use Rattle.std.specs.List.{AllByRecursion}
 use Rattle.tora_core.specs.View.{View}
 use Rattle.tora_core.specs.Kept.{IsViewOf, destinations_of}
+use Rattle.tora_core.specs.CoreRun.{CoreView, core_refusal}
+use Rattle.tora_sim.specs.Nodes.{NodeView}
+use Rattle.tora_sim.proofs.Served.{not_refused}
 use Rattle.tora_sim.proofs.nodes.NodeSlot.new_seat.Goals as goal
 
 are_positive : (me : ℕ) (up : List ℕ) (views : List View) → AllByRecursion (IsViewOf me up) views → (k d : ℕ) → k < length (destinations_of views) → 0 < slice_index_or (destinations_of views) k d
@@ -14,3 +17,8 @@ pub new-requires-clause-destinations : goal.new-requires-clause-destinations
 new-requires-clause-destinations c =
     subst (λ (ds : List ℕ). (k d : ℕ) → k < length ds → 0 < slice_index_or ds k d) (sym c.destinations.ensures)
     (are_positive c.core-core.result.now.me c.core-core.result.now.up c.core-core.result.now.views c.me.ensures.kept.views)
+
+pub returns-in-Err-clause-accepted : goal.returns-in-Err-clause-accepted
+returns-in-Err-clause-accepted c =
+    subst (λ (core : CoreView). core_refusal core.me core.neighbours (destinations_of core.views) ≡ None)
+    (c.core-core.ensures ∙ ap (λ (v : NodeView). v.seat.core) c.self.view_is) (not_refused c.core-core.result.now c.me.ensures.kept)

@@ -18,8 +18,8 @@ note_inputs-requires c =
     let same : length c.inputs.result.now ≡ length c.serve.new.self.inputs = ap length c.inputs.ensures in
     omega (arith, few, same, room, ks)
 
-pub returns-in-Some-clause-served : goal.returns-in-Some-clause-served
-returns-in-Some-clause-served c =
+pub returns-clause-served : goal.returns-clause-served
+returns-clause-served c =
     let s = c.self.inside in
     let before : NodeView = node_of s.node s.first s.count s.seat s.inputs.items s.items.items s.counts s.sending s.receive in
     let noted : c.note_inputs.new.inputs.items ≡ s.inputs.items ++ map (λ input. (input, c.in-Some.item.now)) c.serve.new.self.inputs =
