@@ -1,0 +1,910 @@
+//! Simulation files.
+use super::*;
+use crate::flushing::{simulate_and_flush, simulate_told_and_flush};
+use crate::session::{FileKind, LONGEST_LINE};
+use crate::simulating::Simulation;
+use crate::simulation_cause::{SimulationCause, simulation_cause};
+
+/// Simulates the front of an input and its end. Where memory was refused it is simulated again, since one refusal is no
+/// reason for a second.
+fn simulated(
+    alloc: Global,
+    front: &[u8],
+    end: &[u8],
+    writer: &mut ArrayWriter,
+) -> Result<Ended, ReplayError> {
+    match simulate(alloc, &mut front.chain(end), writer) {
+        Err(ReplayError::Memory) => {
+            *writer = ArrayWriter::new(0);
+            simulate(alloc, &mut front.chain(end), writer)
+        }
+        ended => ended,
+    }
+}
+
+/// The front of a simulation and its end print the text, and end so.
+fn expect_world(
+    rt: &impl Abort,
+    alloc: Global,
+    (front, end): (&str, &str),
+    text: &str,
+    ended: Ended,
+) {
+    let mut writer = ArrayWriter::new(0);
+    let found = simulated(alloc, front.as_bytes(), end.as_bytes(), &mut writer);
+    assert_eq!(rt; found, Ok(ended), "at {front:?} {end:?}");
+    assert_eq!(rt; writer.text(), text.as_bytes(), "at {front:?} {end:?}");
+}
+
+/// A line of four nodes.
+const FOUR: &str = "dests 4\nlink 1 2\nlink 2 3\nlink 3 4\n";
+
+const FOUND: &str = "node 1 (0,0,0,3,1) hop 2\nnode 2 (0,0,0,2,2) hop 3\n\
+    node 3 (0,0,0,1,3) hop 4\nnode 4 (0,0,0,0,4) hop -\n";
+
+const FOUR_FOUND_AND_LOST: &str = "dests 4\nlink 1 2\nlink 2 3\nlink 3 4\nneed 1 4\nrounds 3\n\
+    heights 4\npart 3 4\nrounds 60\nheights 4\n";
+
+const FOUND_AND_LOST: &str = "node 1 (0,0,0,3,1) hop 2\nnode 2 (0,0,0,2,2) hop 3\n\
+    node 3 (0,0,0,1,3) hop 4\nnode 4 (0,0,0,0,4) hop -\n\
+    node 1 - hop -\nnode 2 - hop -\nnode 3 - hop -\nnode 4 (0,0,0,0,4) hop -\n";
+
+/// The whole of `FOUR_FOUND_AND_LOST`, a few bytes at a time, with a read that fails, counted from 1.
+fn four_in_pieces(size: usize, until_failure: u64, kind: IoErrorKind) -> PieceReader<'static> {
+    PieceReader {
+        bytes: FOUR_FOUND_AND_LOST.as_bytes(),
+        size,
+        until_failure,
+        kind,
+    }
+}
+
+#[test]
+fn route_is_found_and_lost(rt: HostRuntime) {
+    expect_world(
+        &rt,
+        rt.alloc(),
+        (FOUR_FOUND_AND_LOST, ""),
+        FOUND_AND_LOST,
+        Ended::Whole,
+    );
+}
+
+/// A write of a life file fails, so that the node's ends stay closed until it begins anew.
+#[test]
+fn restart_mends_a_life_file(rt: HostRuntime) {
+    expect_world(
+        &rt,
+        rt.alloc(),
+        (
+            FOUR,
+            "need 1 4\narm 2 write\nrounds 3\nheights 4\nrestart 2 -\nrounds 60\nheights 4\n",
+        ),
+        "node 1 - hop -\nnode 2 - hop -\nnode 3 - hop 4\nnode 4 (0,0,0,0,4) hop -\n\
+        node 1 (0,0,0,3,1) hop 2\nnode 2 (0,0,0,2,2) hop 3\nnode 3 (0,0,0,1,3) hop 4\n\
+        node 4 (0,0,0,0,4) hop -\n",
+        Ended::Whole,
+    );
+}
+
+/// Whatever call of whatever node fails between two rounds, the route is found.
+#[test]
+fn route_is_found_whatever_call_fails(rt: HostRuntime) {
+    let places = [
+        ("", "need 1 4\nrounds 63\nheights 4\n"),
+        ("need 1 4\n", "rounds 63\nheights 4\n"),
+        ("need 1 4\nrounds 1\n", "rounds 62\nheights 4\n"),
+        ("need 1 4\nrounds 2\n", "rounds 61\nheights 4\n"),
+        ("need 1 4\nrounds 3\n", "rounds 60\nheights 4\n"),
+    ];
+    let mut refused = 0u64;
+    for (before, after) in places {
+        for node in 1..5 {
+            for call in ["send-lost", "send-gone", "receive"] {
+                let text = format!(in rt.alloc(); "{FOUR}{before}arm {node} {call}\n");
+                let Ok(front) = text else {
+                    refused = refused.saturating_add(1);
+                    continue;
+                };
+                expect_world(&rt, rt.alloc(), (&front, after), FOUND, Ended::Whole);
+            }
+        }
+    }
+    assert!(&rt;
+        refused <= 1,
+        "one refusal of memory at most, not {refused}"
+    );
+}
+
+/// What a core sent and another took, counted by the life that each end writes.
+#[test]
+fn packets_are_counted_by_life(rt: HostRuntime) {
+    expect_world(
+        &rt,
+        rt.alloc(),
+        (
+            "dests 2\nlink 1 2\nneed 1 2\nrounds 3\n",
+            "sent 1 2 1 1\ntaken 2 1 1 1\nsent 1 2 1 2\ntaken 1 2 2 1\n",
+        ),
+        "count 1\ncount 1\ncount 0\ncount 0\n",
+        Ended::Whole,
+    );
+    expect_world(
+        &rt,
+        rt.alloc(),
+        (
+            FOUR,
+            "need 1 4\nrounds 3\nsent 1 2 1 1\ntaken 2 1 1 1\nsent 2 1 1 1\ntaken 1 2 1 1\n",
+        ),
+        "count 2\ncount 2\ncount 2\ncount 2\n",
+        Ended::Whole,
+    );
+}
+
+/// First lines, and a link behind them.
+#[test]
+fn destinations_accepted_and_refused(rt: HostRuntime) {
+    let accepted = [
+        "dests -\n",
+        "dests 4\n",
+        "dests 4294967295\n",
+        "dests 9,1,5\n",
+        "dests 1,2,3,4,5,6,7,8,9,10,11,12,13,14,15,16\n",
+    ];
+    for line in accepted {
+        expect_world(&rt, rt.alloc(), (line, "link 1 2"), "", Ended::Whole);
+        expect_world(
+            &rt,
+            rt.alloc(),
+            (line, "link 1 2\ntick\n"),
+            "",
+            Ended::Whole,
+        );
+        expect_world(&rt, rt.alloc(), (line, ""), "fault 2\n", Ended::Fault(2));
+        expect_world(
+            &rt,
+            rt.alloc(),
+            (line, "tick"),
+            "fault 2\n",
+            Ended::Fault(2),
+        );
+    }
+    let refused = [
+        "",
+        "\n",
+        "dests\n",
+        "dests \n",
+        "dests 0\n",
+        "dests 04\n",
+        "dests 4294967296\n",
+        "dests 4,\n",
+        "dests ,4\n",
+        "dests 4,,5\n",
+        "dests 4 5\n",
+        "dests 4 \n",
+        "dests  4\n",
+        " dests 4\n",
+        "dests -,4\n",
+        "dests --\n",
+        "dests 4\r\n",
+        "Dests 4\n",
+        "dest 4\n",
+        "link 1 2\n",
+        "node 3 links 2 dests 4\n",
+    ];
+    for line in refused {
+        expect_world(&rt, rt.alloc(), (line, ""), "fault 1\n", Ended::Fault(1));
+    }
+}
+
+/// A topology that is refused is a fault of the line behind the links, whatever it is, or of the last link.
+#[test]
+fn topologies_refused(rt: HostRuntime) {
+    let two_links = [
+        ("dests 4\n", "link 1 2\nlink 1 2"),
+        ("dests 4\n", "link 1 2\nlink 2 1"),
+        ("dests 4\n", "link 1 2\nlink 3 3"),
+        ("dests 4,4\n", "link 1 2\nlink 2 3"),
+        (
+            "dests 1,2,3,4,5,6,7,8,9,10,11,12,13,14,15,16,17\n",
+            "link 1 2\nlink 2 3",
+        ),
+    ];
+    for (first, links) in two_links {
+        expect_world(
+            &rt,
+            rt.alloc(),
+            (first, links),
+            "fault 3\n",
+            Ended::Fault(3),
+        );
+        for end in ["\ntick\n", "\n\n", "\nlink 5 0\n", "\nheights 4\ntick\n"] {
+            let text = format!(in rt.alloc(); "{links}{end}");
+            if let Ok(rest) = text {
+                expect_world(
+                    &rt,
+                    rt.alloc(),
+                    (first, &rest),
+                    "fault 4\n",
+                    Ended::Fault(4),
+                );
+            }
+        }
+    }
+    let nine = "link 1 2\nlink 1 3\nlink 1 4\nlink 1 5\nlink 1 6\nlink 1 7\nlink 1 8\nlink 1 9\n";
+    expect_world(&rt, rt.alloc(), ("dests 4\n", nine), "", Ended::Whole);
+    let ten = "dests 4\nlink 10 1\n";
+    expect_world(&rt, rt.alloc(), (ten, nine), "fault 10\n", Ended::Fault(10));
+}
+
+/// More than 64 nodes are refused.
+#[test]
+fn nodes_are_counted(rt: HostRuntime) {
+    let mut refused = 0u64;
+    for (links, wanted) in [(63u64, Ended::Whole), (64u64, Ended::Fault(65))] {
+        match line_of_links(rt.alloc(), links) {
+            None => refused = refused.saturating_add(1),
+            Some(text) => {
+                let mut writer = ArrayWriter::new(0);
+                let found = simulated(rt.alloc(), text.as_bytes(), b"", &mut writer);
+                assert_eq!(&rt; found, Ok(wanted), "at {links} links");
+            }
+        }
+    }
+    assert!(&rt;
+        refused <= 1,
+        "one refusal of memory at most, not {refused}"
+    );
+}
+
+/// A file of so many links in a line, or nothing where memory is refused.
+fn line_of_links(alloc: Global, count: u64) -> Option<String> {
+    let mut text = String::new(alloc);
+    text.push_str("dests 4\n").ok()?;
+    for n in 0..count {
+        let next = n.saturating_add(1);
+        let last = n.saturating_add(2);
+        writeln!(text, "link {next} {last}").ok()?;
+    }
+    Some(text)
+}
+
+/// Two links, and what is printed behind them.
+const THREE: &str = "dests 3,7\nlink 1 2\nlink 2 3\n";
+
+#[test]
+fn links_taken_and_not(rt: HostRuntime) {
+    for line in ["link 4294967295 1\n", "link 3 4", "link 1 3\n"] {
+        expect_world(&rt, rt.alloc(), (THREE, line), "", Ended::Whole);
+    }
+    let faults = [
+        "link\n",
+        "link \n",
+        "link 4\n",
+        "link 4 \n",
+        "link 4 5 6\n",
+        "link 4 5 \n",
+        "link 4  5\n",
+        " link 4 5\n",
+        "link 4 0\n",
+        "link 0 4\n",
+        "link 04 5\n",
+        "link 4 05\n",
+        "link 4 4294967296\n",
+        "link 4,5\n",
+        "link 4 -\n",
+        "link 4 5\r\n",
+        "Link 4 5\n",
+        "dests 4\n",
+    ];
+    for line in faults {
+        expect_world(&rt, rt.alloc(), (THREE, line), "fault 4\n", Ended::Fault(4));
+    }
+    expect_world(
+        &rt,
+        rt.alloc(),
+        (THREE, "tick\nlink 4 5\n"),
+        "fault 5\n",
+        Ended::Fault(5),
+    );
+}
+
+/// Each kind of line behind the links.
+#[test]
+fn lines_taken(rt: HostRuntime) {
+    let rows = [
+        ("need 1 3", ""),
+        ("need 1 9", ""),
+        ("need 9 3", "refused 2\n"),
+        ("need 4294967295 4294967295", "refused 2\n"),
+        ("tick", ""),
+        ("open 1 2", ""),
+        ("open 1 2\nopen 1 2", "refused 4\n"),
+        ("open 1 3", "refused 2\n"),
+        ("open 9 1", "refused 2\n"),
+        ("pull 1 2", "refused 4\n"),
+        ("pull 1 3", "refused 2\n"),
+        ("transmit 1 2", "refused 4\n"),
+        ("transmit 3 1", "refused 2\n"),
+        ("open 1 2\ntransmit 1 2\ndeliver 1\ndeliver 1", ""),
+        ("deliver 0", "refused 3\n"),
+        ("deliver 1", "refused 3\n"),
+        ("deliver 18446744073709551615", "refused 3\n"),
+        ("pump 1 2", "refused 4\n"),
+        ("pump 2 4", "refused 2\n"),
+        ("turn 1", "refused 4\n"),
+        ("turn 9", "refused 2\n"),
+        ("need 1 3\nturn 1\nturn 1", "refused 4\n"),
+        ("arm 1 send-lost", ""),
+        ("arm 1 send-gone", ""),
+        ("arm 1 receive", ""),
+        ("arm 1 read", ""),
+        ("arm 1 write", ""),
+        ("arm 1 sync", ""),
+        ("arm 9 sync", "refused 2\n"),
+        ("restart 1 -", ""),
+        ("restart 1 0123456789abcdefABCDEF0123456789", ""),
+        ("restart 9 -", "refused 2\n"),
+        ("rounds 0", ""),
+        ("rounds 2", ""),
+        ("part 1 2", ""),
+        ("part 2 1\npart 1 2", ""),
+        ("mend 1 2", ""),
+        ("mend 3 2", ""),
+        (
+            "heights 3",
+            "node 1 - hop -\nnode 2 - hop -\nnode 3 (0,0,0,0,3) hop -\n",
+        ),
+        (
+            "heights 7",
+            "node 1 - hop -\nnode 2 - hop -\nnode 3 - hop -\n",
+        ),
+        ("sent 1 2 1 4611686018427387904", "count 0\n"),
+        ("taken 1 2 4611686018427387904 1", "count 0\n"),
+    ];
+    for (line, text) in rows {
+        expect_world(&rt, rt.alloc(), (THREE, line), text, Ended::Whole);
+    }
+}
+
+#[test]
+fn most_rounds(rt: HostRuntime) {
+    let one = "dests -\nlink 1 2\nrounds ";
+    expect_world(&rt, rt.alloc(), (one, "10000"), "", Ended::Whole);
+    expect_world(
+        &rt,
+        rt.alloc(),
+        (one, "10001"),
+        "fault 3\n",
+        Ended::Fault(3),
+    );
+}
+
+/// Lines that name what there is not.
+#[test]
+fn lines_of_other_links(rt: HostRuntime) {
+    let faults = [
+        "part 1 3",
+        "part 1 1",
+        "part 1 9",
+        "mend 1 3",
+        "mend 9 1",
+        "sent 1 3 1 1",
+        "sent 2 2 1 1",
+        "taken 3 1 1 1",
+        "taken 9 1 1 1",
+        "heights 1",
+        "heights 4",
+    ];
+    for line in faults {
+        expect_world(&rt, rt.alloc(), (THREE, line), "fault 4\n", Ended::Fault(4));
+        let text = format!(in rt.alloc(); "tick\n{line}\ntick\n");
+        if let Ok(rest) = text {
+            expect_world(
+                &rt,
+                rt.alloc(),
+                (THREE, &rest),
+                "fault 5\n",
+                Ended::Fault(5),
+            );
+        }
+    }
+}
+
+fn expect_faults(rt: &impl Abort, alloc: Global, lines: &[&str]) {
+    for line in lines {
+        expect_world(rt, alloc, (THREE, *line), "fault 4\n", Ended::Fault(4));
+    }
+}
+
+#[test]
+fn events_that_are_faults(rt: HostRuntime) {
+    let pairs = [
+        "need",
+        "need ",
+        "need 1",
+        "need 1 ",
+        "need 1 3 ",
+        "need 1 3 4",
+        "need 1  3",
+        " need 1 3",
+        "need 0 3",
+        "need 1 0",
+        "need 01 3",
+        "need 1 03",
+        "need 1 4294967296",
+        "need -1 3",
+        "need 1,3",
+        "need 1 -",
+        "Need 1 3",
+        "needs 1 3",
+        "1 need 3",
+        "open 1",
+        "open 1 2 3",
+        "open 0 2",
+        "open 1 0",
+        "open 1 2 ",
+        "open 01 2",
+        "pull 1",
+        "pull 1 2 3",
+        "pull 0 2",
+        "pull 1 02",
+        "pull 1 2 ",
+        "transmit 1",
+        "transmit 1 2 3",
+        "transmit 1 0",
+        "transmit 01 2",
+        "transmit 1 2 ",
+        "pump 1",
+        "pump 1 2 3",
+        "pump 1 0",
+        "pump 1 02",
+        "pump 1 2 ",
+    ];
+    expect_faults(&rt, rt.alloc(), &pairs);
+    let others = [
+        "\n",
+        " ",
+        "tick ",
+        "tick 1",
+        " tick",
+        "Tick",
+        "ticks",
+        "1 tick",
+        "tick\r",
+        "deliver",
+        "deliver ",
+        "deliver 01",
+        "deliver -1",
+        "deliver 1 ",
+        "deliver 1 2",
+        "deliver 18446744073709551616",
+        "deliver 1a",
+        "turn",
+        "turn ",
+        "turn 0",
+        "turn 01",
+        "turn 1 ",
+        "turn 1 2",
+        "turn 4294967296",
+        "\u{e9}",
+        "tick\u{0}",
+    ];
+    expect_faults(&rt, rt.alloc(), &others);
+}
+
+#[test]
+fn calls_and_restarts_that_are_faults(rt: HostRuntime) {
+    let lines = [
+        "arm",
+        "arm 1",
+        "arm 1 ",
+        "arm 0 read",
+        "arm 01 read",
+        "arm read",
+        "arm 1 read ",
+        "arm 1 read write",
+        "arm 1  read",
+        "arm 1 Read",
+        "arm 1 send",
+        "arm 1 send-",
+        "arm 1 lost",
+        "arm 1 receives",
+        "arm 1 syn",
+        "restart",
+        "restart 1",
+        "restart 1 ",
+        "restart 0 -",
+        "restart 01 -",
+        "restart 1 --",
+        "restart 1 - ",
+        "restart 1 - -",
+        "restart 1  -",
+        "restart 1 0123456789abcdef0123456789abcde",
+        "restart 1 0123456789abcdef0123456789abcdef0",
+        "restart 1 0123456789abcdef0123456789abcdef01",
+        "restart 1 0123456789abcdef0123456789abcdeg",
+        "restart 1 0123456789abcdef 123456789abcdef",
+        "restart 1 0x23456789abcdef0123456789abcdef",
+        "restart 1 0123456789abcdef0123456789abcdef ",
+    ];
+    expect_faults(&rt, rt.alloc(), &lines);
+}
+
+#[test]
+fn orders_that_are_faults(rt: HostRuntime) {
+    let lines = [
+        "rounds",
+        "rounds ",
+        "rounds 01",
+        "rounds -1",
+        "rounds 10001",
+        "rounds 1 ",
+        "rounds 1 2",
+        "rounds 18446744073709551616",
+        "round 1",
+        "part 1",
+        "part 1 2 3",
+        "part 0 2",
+        "part 1 2 ",
+        "part 01 2",
+        "part 1 4294967298",
+        "mend 1",
+        "mend 1 2 3",
+        "mend 1 0",
+        "mend 1 2 ",
+        "heights",
+        "heights ",
+        "heights 0",
+        "heights 03",
+        "heights 3 ",
+        "heights 3,7",
+        "heights -",
+        "heights 3 7",
+        "height 3",
+        "sent 1 2",
+        "sent 1 2 1",
+        "sent 1 2 1 ",
+        "sent 1 2 1 1 1",
+        "sent 1 2 1 1 ",
+        "sent 0 2 1 1",
+        "sent 1 0 1 1",
+        "sent 1 2 0 1",
+        "sent 1 2 1 0",
+        "sent 1 2 01 1",
+        "sent 1 2 1 01",
+        "sent 1 2 1 4611686018427387905",
+        "sent 1 2 4611686018427387905 1",
+        "sent 1 2  1 1",
+        "taken 1 2",
+        "taken 1 2 1",
+        "taken 1 2 1 1 1",
+        "taken 1 2 1 1 ",
+        "taken 0 2 1 1",
+        "taken 1 2 0 1",
+        "taken 1 2 1 0",
+        "taken 1 2 1 4611686018427387905",
+        "show",
+        "1 show",
+        "quit",
+    ];
+    expect_faults(&rt, rt.alloc(), &lines);
+}
+
+/// What was printed before a fault stays.
+#[test]
+fn fault_comes_behind_what_was_printed(rt: HostRuntime) {
+    expect_world(
+        &rt,
+        rt.alloc(),
+        (
+            FOUR,
+            "need 1 4\nrounds 3\nheights 4\nturn 9\nheights 3\ntick\n",
+        ),
+        "node 1 (0,0,0,3,1) hop 2\nnode 2 (0,0,0,2,2) hop 3\nnode 3 (0,0,0,1,3) hop 4\n\
+        node 4 (0,0,0,0,4) hop -\nrefused 2\nfault 9\n",
+        Ended::Fault(9),
+    );
+}
+
+/// A line of 4,096 bytes is read, and a longer one is a fault.
+#[test]
+fn longest_simulation_line(rt: HostRuntime) {
+    let mut ids = [b'1'; 4092];
+    for (i, byte) in ids.iter_mut().enumerate() {
+        if i > 0 && i % 2 == 0 {
+            *byte = b',';
+        }
+    }
+    let rows = [
+        (4090, "\nlink 1 2\ntick\n", Ended::Fault(3), "fault 3\n"),
+        (4092, "\nlink 1 2\ntick\n", Ended::Fault(1), "fault 1\n"),
+    ];
+    for (len, end, ended, text) in rows {
+        let mut writer = ArrayWriter::new(0);
+        let ids = ids.get(..len).unwrap_or(&[]);
+        let mut reader = b"dests ".as_slice().chain(ids).chain(end.as_bytes());
+        let found = simulate(rt.alloc(), &mut reader, &mut writer);
+        if found != Err(ReplayError::Memory) {
+            assert_eq!(&rt; found, Ok(ended), "at {len} bytes");
+            assert_eq!(&rt; writer.text(), text.as_bytes(), "at {len} bytes");
+        }
+    }
+}
+
+#[test]
+fn simulation_in_pieces(rt: HostRuntime) {
+    for size in 1..40 {
+        let mut writer = ArrayWriter::new(0);
+        let mut reader = four_in_pieces(size, 0, IoErrorKind::Other);
+        let mut found = simulate(rt.alloc(), &mut reader, &mut writer);
+        if found == Err(ReplayError::Memory) {
+            writer = ArrayWriter::new(0);
+            let mut reader = four_in_pieces(size, 0, IoErrorKind::Other);
+            found = simulate(rt.alloc(), &mut reader, &mut writer);
+        }
+        assert_eq!(&rt; found, Ok(Ended::Whole), "in pieces of {size}");
+        assert_eq!(&rt;
+            writer.text(),
+            FOUND_AND_LOST.as_bytes(),
+            "in pieces of {size}"
+        );
+    }
+}
+
+#[test]
+fn failed_reads_of_a_simulation(rt: HostRuntime) {
+    for call in 1..20 {
+        let mut writer = ArrayWriter::new(0);
+        let mut reader = four_in_pieces(5, call, IoErrorKind::Other);
+        let found = simulate(rt.alloc(), &mut reader, &mut writer);
+        assert!(&rt;
+            matches!(found, Err(ReplayError::Read | ReplayError::Memory)),
+            "at call {call}"
+        );
+        assert!(&rt;
+            FOUND_AND_LOST.as_bytes().starts_with(writer.text()),
+            "at call {call}"
+        );
+    }
+}
+
+#[test]
+fn interrupted_reads_of_a_simulation(rt: HostRuntime) {
+    for call in 1..20 {
+        let mut writer = ArrayWriter::new(0);
+        let mut reader = four_in_pieces(5, call, IoErrorKind::Interrupted);
+        let found = simulate(rt.alloc(), &mut reader, &mut writer);
+        if found != Err(ReplayError::Memory) {
+            assert_eq!(&rt; found, Ok(Ended::Whole), "at call {call}");
+            assert_eq!(&rt; writer.text(), FOUND_AND_LOST.as_bytes(), "at call {call}");
+        }
+    }
+}
+
+#[test]
+fn failed_writes_of_a_simulation(rt: HostRuntime) {
+    for call in 1..3 {
+        let mut writer = ArrayWriter::new(call);
+        let mut reader = four_in_pieces(1000, 0, IoErrorKind::Other);
+        let found = simulate(rt.alloc(), &mut reader, &mut writer);
+        assert!(&rt;
+            matches!(found, Err(ReplayError::Write | ReplayError::Memory)),
+            "at call {call}"
+        );
+        assert!(&rt;
+            FOUND_AND_LOST.as_bytes().starts_with(writer.text()),
+            "at call {call}"
+        );
+    }
+}
+
+/// What is kept behind these lines, or nothing where one is a fault or memory is refused.
+fn state_behind(alloc: Global, lines: &[&str]) -> Option<Simulation<Sim>> {
+    let mut state: Simulation<Sim> = Simulation::First;
+    for line in lines {
+        let mut text = String::new(alloc);
+        if line.len() > LONGEST_LINE {
+            return None;
+        }
+        state.take(alloc, line.as_bytes(), &mut text).ok()?;
+    }
+    Some(state)
+}
+
+/// Behind these lines a line is a fault for this cause, as `-v` says it.
+fn expect_cause(
+    rt: &impl Abort,
+    alloc: Global,
+    lines: &[&str],
+    line: &str,
+    cause: SimulationCause,
+) {
+    let mut found = None;
+    for _ in 0..2 {
+        if found != Some(cause) {
+            let state = state_behind(alloc, lines);
+            found = state.map(|state| simulation_cause(alloc, &state, line.as_bytes()));
+        }
+    }
+    assert_eq!(rt; found, Some(cause), "at {line:?}");
+}
+
+/// Why a first line or a link is a fault, as `-v` says it.
+#[test]
+fn causes_of_faults_before_a_simulation_runs(rt: HostRuntime) {
+    let rows = [
+        ("", SimulationCause::Empty),
+        ("dests 4\r", SimulationCause::CarriageReturn),
+        ("link 1 2", SimulationCause::Dests),
+        ("dests", SimulationCause::Dests),
+        ("dests 0", SimulationCause::List),
+        ("dests 4,", SimulationCause::List),
+    ];
+    for (line, cause) in rows {
+        expect_cause(&rt, rt.alloc(), &[], line, cause);
+    }
+    let rows = [
+        ("tick", SimulationCause::NoLink),
+        ("link 1", SimulationCause::Pair),
+        ("link 1 0", SimulationCause::Pair),
+    ];
+    for (line, cause) in rows {
+        expect_cause(&rt, rt.alloc(), &["dests 4"], line, cause);
+    }
+    let twice = ["dests 4", "link 1 2", "link 2 1"];
+    expect_cause(&rt, rt.alloc(), &twice, "tick", SimulationCause::Repeated);
+    let own = ["dests 4", "link 1 1"];
+    expect_cause(&rt, rt.alloc(), &own, "tick", SimulationCause::OwnLink);
+    let many = [
+        "dests 1,2,3,4,5,6,7,8,9,10,11,12,13,14,15,16,17",
+        "link 1 2",
+    ];
+    expect_cause(&rt, rt.alloc(), &many, "tick", SimulationCause::TooMany);
+    let three = ["dests 4", "link 1 2", "link 2 3"];
+    expect_cause(&rt, rt.alloc(), &three, "link 3", SimulationCause::Pair);
+    expect_cause(&rt, rt.alloc(), &three, "turns", SimulationCause::Word);
+}
+
+/// Why a line behind the links is a fault, as `-v` says it.
+#[test]
+fn causes_of_faults_of_a_simulation(rt: HostRuntime) {
+    let lines = ["dests 3,7", "link 1 2", "link 2 3", "tick"];
+    let rows = [
+        ("", SimulationCause::Empty),
+        ("tick\r", SimulationCause::CarriageReturn),
+        ("1 show", SimulationCause::Word),
+        ("need 1", SimulationCause::Pair),
+        ("open 1 0", SimulationCause::Pair),
+        ("part 1 2 3", SimulationCause::Pair),
+        ("turn 01", SimulationCause::Id),
+        ("heights 3,7", SimulationCause::Id),
+        ("tick 1", SimulationCause::Tick),
+        ("deliver -1", SimulationCause::Deliver),
+        ("arm 1 send", SimulationCause::Arm),
+        ("restart 1 0123", SimulationCause::Restart),
+        ("rounds 10001", SimulationCause::Rounds),
+        ("sent 1 2 0 1", SimulationCause::Life),
+        ("taken 1 2 1", SimulationCause::Life),
+        ("dests 4", SimulationCause::LateDests),
+        ("link 4 5", SimulationCause::LateLink),
+        ("part 1 3", SimulationCause::NoSuchLink),
+        ("mend 9 1", SimulationCause::NoSuchLink),
+        ("sent 1 3 1 1", SimulationCause::NoSuchLink),
+        ("taken 3 1 1 1", SimulationCause::NoSuchLink),
+        ("heights 4", SimulationCause::NoSuchDestination),
+    ];
+    for (line, cause) in rows {
+        expect_cause(&rt, rt.alloc(), &lines, line, cause);
+    }
+}
+
+/// What is told on standard error does not change what is printed.
+#[test]
+fn told_simulation_prints_the_same(rt: HostRuntime) {
+    let rows = [
+        (FOUR_FOUND_AND_LOST, FOUND_AND_LOST, Ended::Whole),
+        (
+            "dests 4\nlink 1 2\nturn 1\nheights 5\n",
+            "refused 4\nfault 4\n",
+            Ended::Fault(4),
+        ),
+        ("", "fault 1\n", Ended::Fault(1)),
+        ("dests 4\nlink 1 1\n", "fault 2\n", Ended::Fault(2)),
+    ];
+    for (input, text, ended) in rows {
+        let mut writer = ArrayWriter::new(0);
+        let mut reader = input.as_bytes();
+        let found = simulate_told_and_flush::<Sim, HostRuntime, &[u8], ArrayWriter>(
+            &rt,
+            rt.alloc(),
+            &mut reader,
+            &mut writer,
+        );
+        if found != Err(ReplayError::Memory) {
+            assert_eq!(&rt; found, Ok(ended), "at {input:?}");
+            assert_eq!(&rt; writer.text(), text.as_bytes(), "at {input:?}");
+        }
+    }
+}
+
+/// A flush that fails at the end is a failed write; all was written.
+#[test]
+fn failed_flushes_of_a_simulation(rt: HostRuntime) {
+    for keeps in [false, true] {
+        let mut writer = ArrayWriter::new(0);
+        writer.keeps = keeps;
+        let mut reader = FOUR_FOUND_AND_LOST.as_bytes();
+        let found = simulate_and_flush::<Sim, &[u8], ArrayWriter>(
+            rt.alloc(),
+            &mut reader,
+            &mut writer,
+        );
+        let wanted = if keeps {
+            Err(ReplayError::Write)
+        } else {
+            Ok(Ended::Whole)
+        };
+        if found != Err(ReplayError::Memory) {
+            assert_eq!(&rt; found, wanted);
+            assert_eq!(&rt; writer.text(), FOUND_AND_LOST.as_bytes());
+        }
+    }
+}
+
+/// Whether the words of a simulation have `-v`, and whether its path is `a.sim`; nothing where they are none.
+fn path_of(rt: &HostRuntime, words: &[&str]) -> Option<(bool, bool)> {
+    let command = command(rt.alloc()).ok()?;
+    let matches = command.try_get_matches_from(words).ok()?;
+    let is_verbose = matches.get_flag("verbose");
+    match matches.subcommand() {
+        Some(("sim", sim)) => Some((is_verbose, sim.get_str("FILE") == Some("a.sim"))),
+        _ => None,
+    }
+}
+
+#[test]
+fn words_of_a_simulation(rt: HostRuntime) {
+    let rows = [
+        (["tora", "sim", "a.sim"].as_slice(), false),
+        (["tora", "-v", "sim", "a.sim"].as_slice(), true),
+        (["tora", "sim", "-v", "a.sim"].as_slice(), true),
+        (["tora", "sim", "a.sim", "-v"].as_slice(), true),
+    ];
+    let mut refused = 0u64;
+    for (words, is_verbose) in rows {
+        match path_of(&rt, words) {
+            None => refused = refused.saturating_add(1),
+            Some(found) => assert_eq!(&rt; found, (is_verbose, true), "at {words:?}"),
+        }
+    }
+    assert!(&rt;
+        refused <= 1,
+        "one refusal of memory at most, not {refused}"
+    );
+    let faults = [
+        ["tora", "sim"].as_slice(),
+        ["tora", "sim", "a.sim", "b.sim"].as_slice(),
+        ["tora", "a.sim"].as_slice(),
+    ];
+    for words in faults {
+        assert_eq!(&rt; path_of(&rt, words), None, "at {words:?}");
+    }
+}
+
+/// Where memory is refused, that is answered, and what was written begins the text.
+#[test]
+fn want_of_memory_in_a_simulation(rt: HostRuntime) {
+    let mut writer = ArrayWriter::new(0);
+    let mut reader = four_in_pieces(1000, 0, IoErrorKind::Other);
+    let found = simulate(rt.alloc(), &mut reader, &mut writer);
+    if found == Ok(Ended::Whole) {
+        assert_eq!(&rt; writer.text(), FOUND_AND_LOST.as_bytes());
+    } else {
+        assert_eq!(&rt; found, Err(ReplayError::Memory));
+    }
+    assert!(&rt;
+        FOUND_AND_LOST.as_bytes().starts_with(writer.text()),
+        "what was written begins the text"
+    );
+}
