@@ -137,7 +137,10 @@ fn line_of_four_joins(rt: HostRuntime) -> Result<(), Fail> {
 fn line_of_four_detects_a_partition(rt: HostRuntime) -> Result<(), Fail> {
     let mut line = joined(&rt, rt.alloc())?;
     line[2].hears(&rt, 4, 7, What::Down(LIFE, Reason::Silent));
-    assert_eq!(&rt; line[2].seat.core().height(4), Some(height(&rt, 7, 3, 0, 0, 3)));
+    assert_eq!(&rt;
+        line[2].seat.core().height(4),
+        Some(height(&rt, 7, 3, 0, 0, 3))
+    );
     hands_on(&rt, &mut line, 7);
     let rows = [
         (None, None),
