@@ -9,3 +9,4 @@ pub mod LinkFacts
 pub mod LinkRuns
 pub mod PeerUpdates
 pub mod Polls
+pub mod Texts

@@ -79,6 +79,20 @@ impl Life {
     }
 }
 
+/// A life as `OWN/PEER`.
+impl fmt::Display for Life {
+    ghost use Rattle.std.specs.Prelude.{Some};
+    ghost use Rattle.tora_arq.specs.Texts.{written_life};
+
+    ghost output = { λ life. Some (written_life life) };
+
+    fn fmt<W: fmt::Write>(&self, f: &mut fmt::Formatter<W>) -> fmt::Result {
+        let own = self.own;
+        let peer = self.peer;
+        write!(f, "{own}/{peer}")
+    }
+}
+
 /// The times of a link end, each at least 1. Own profile.
 #[derive(Clone, Copy, Debug, PartialEq, Eq, Hash)]
 pub struct Times {
@@ -131,17 +145,22 @@ pub enum Verdict {
     Busy,
 }
 
+/// A verdict in one lowercase word.
 impl fmt::Display for Verdict {
-    /// Writes the verdict in one lowercase word.
+    ghost use Rattle.std.specs.Prelude.{Some};
+    ghost use Rattle.tora_arq.specs.Texts.{written_verdict};
+
+    ghost output = { λ v. Some (written_verdict v) };
+
     fn fmt<W: fmt::Write>(&self, f: &mut fmt::Formatter<W>) -> fmt::Result {
-        f.write_str(match self {
-            Verdict::Accepted => "accepted",
-            Verdict::Repeated => "repeated",
-            Verdict::Ahead => "ahead",
-            Verdict::Stale => "stale",
-            Verdict::Foreign => "foreign",
-            Verdict::Busy => "busy",
-        })
+        match self {
+            Verdict::Accepted => f.write_str("accepted"),
+            Verdict::Repeated => f.write_str("repeated"),
+            Verdict::Ahead => f.write_str("ahead"),
+            Verdict::Stale => f.write_str("stale"),
+            Verdict::Foreign => f.write_str("foreign"),
+            Verdict::Busy => f.write_str("busy"),
+        }
     }
 }
 
@@ -160,16 +179,21 @@ pub enum Reason {
     Spent,
 }
 
+/// A reason in lowercase words.
 impl fmt::Display for Reason {
-    /// Writes the reason in lowercase words.
+    ghost use Rattle.std.specs.Prelude.{Some};
+    ghost use Rattle.tora_arq.specs.Texts.{written_reason};
+
+    ghost output = { λ r. Some (written_reason r) };
+
     fn fmt<W: fmt::Write>(&self, f: &mut fmt::Formatter<W>) -> fmt::Result {
-        f.write_str(match self {
-            Reason::Silent => "silent",
-            Reason::NewPeer => "new peer",
-            Reason::Full => "full",
-            Reason::Cut => "cut",
-            Reason::Spent => "spent",
-        })
+        match self {
+            Reason::Silent => f.write_str("silent"),
+            Reason::NewPeer => f.write_str("new peer"),
+            Reason::Full => f.write_str("full"),
+            Reason::Cut => f.write_str("cut"),
+            Reason::Spent => f.write_str("spent"),
+        }
     }
 }
 

@@ -461,7 +461,10 @@ fn example_of_the_documentation(rt: HostRuntime) -> Result<(), Fail> {
 #[test]
 fn errors_are_printed_with_their_cause(rt: HostRuntime) -> Result<(), Fail> {
     let rows = [
-        (SubmitError::WrongLife(query(&rt, 4)), "the life is not the bound one"),
+        (
+            SubmitError::WrongLife(query(&rt, 4)),
+            "the life is not the bound one",
+        ),
         (SubmitError::Full, "the send queue is full"),
         (SubmitError::Spent, "the numbers of packets are used up"),
     ];

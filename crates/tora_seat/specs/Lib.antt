@@ -4,3 +4,4 @@ pub mod Rows
 pub mod Bodies
 pub mod SeatLaws
 pub mod Serves
+pub mod Texts

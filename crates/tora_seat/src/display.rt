@@ -2,36 +2,56 @@
 use crate::{Answer, Cargo, Item, What};
 use std::fmt;
 
+/// A word, and behind it the life, the packet, the reason or the destination.
 impl fmt::Display for What {
+    ghost use Rattle.std.specs.Prelude.{Some};
+    ghost use Rattle.tora_seat.specs.Texts.{written_what};
+
+    ghost output = { λ what. Some (written_what what) };
+
     fn fmt<W: fmt::Write>(&self, f: &mut fmt::Formatter<W>) -> fmt::Result {
         match self {
-            What::Up(life) => write!(f, "up {}/{}", life.own, life.peer),
-            What::Packet(life, packet) => {
-                write!(f, "packet {}/{} {packet:?}", life.own, life.peer)
-            }
-            What::Down(life, reason) => { write!(f, "down {}/{} {reason:?}", life.own, life.peer) }
+            What::Up(life) => write!(f, "up {life}"),
+            What::Packet(life, packet) => write!(f, "packet {life} {packet}"),
+            What::Down(life, reason) => write!(f, "down {life} {reason}"),
             What::Beat => f.write_str("beat"),
-            What::Need(d) => write!(f, "need {d}"),
+            What::Need(d) => {
+                let d = *d;
+                write!(f, "need {d}")
+            }
             What::Show => f.write_str("show"),
             What::Quit => f.write_str("quit"),
         }
     }
 }
 
+/// The seat, the number, the tick, and what is told.
 impl fmt::Display for Item {
+    ghost use Rattle.std.specs.Prelude.{Some};
+    ghost use Rattle.tora_seat.specs.Texts.{written_item};
+
+    ghost output = { λ item. Some (written_item item) };
+
     fn fmt<W: fmt::Write>(&self, f: &mut fmt::Formatter<W>) -> fmt::Result {
-        write!(f, "{} {} {} ", self.seat, self.number, self.now)?;
-        write!(f, "{}", self.what)
+        let seat = self.seat;
+        let number = self.number;
+        let now = self.now;
+        let what = &self.what;
+        write!(f, "{seat} {number} {now} {what}")
     }
 }
 
+/// A packet with its life, or the life that is cut.
 impl fmt::Display for Cargo {
+    ghost use Rattle.std.specs.Prelude.{Some};
+    ghost use Rattle.tora_seat.specs.Texts.{written_cargo};
+
+    ghost output = { λ cargo. Some (written_cargo cargo) };
+
     fn fmt<W: fmt::Write>(&self, f: &mut fmt::Formatter<W>) -> fmt::Result {
         match self {
-            Cargo::Packet(life, packet) => {
-                write!(f, "packet {}/{} {packet:?}", life.own, life.peer)
-            }
-            Cargo::Cut(life) => write!(f, "cut {}/{}", life.own, life.peer),
+            Cargo::Packet(life, packet) => write!(f, "packet {life} {packet}"),
+            Cargo::Cut(life) => write!(f, "cut {life}"),
         }
     }
 }

@@ -1,0 +1,28 @@
+-- Items, cargoes and what they tell, as text.
+use Rattle.std.specs.Prelude.{ℕ, codes, List, ◌++◌}
+use Rattle.std.specs.Fmt.{decimal}
+use Rattle.tora_packet.specs.PacketText.{written_packet}
+use Rattle.tora_arq.specs.Texts.{written_life, written_reason}
+use Rattle.tora_seat.specs.declared.What.{What}
+use Rattle.tora_seat.specs.declared.What.TheVariants as Tells
+use Rattle.tora_seat.specs.declared.Item.{Item}
+use Rattle.tora_seat.specs.declared.Cargo.{Cargo}
+use Rattle.tora_seat.specs.declared.Cargo.TheVariants as Gives
+
+-- a word, and behind it the life, the packet, the reason or the destination
+abbrev pub written_what : What → List ℕ
+written_what (Tells.Up life) = codes "up " ++ written_life life
+written_what (Tells.Packet life packet) = codes "packet " ++ written_life life ++ codes " " ++ written_packet packet
+written_what (Tells.Down life reason) = codes "down " ++ written_life life ++ codes " " ++ written_reason reason
+written_what (Tells.Need d) = codes "need " ++ decimal d
+written_what Tells.Beat = codes "beat"
+written_what Tells.Show = codes "show"
+written_what Tells.Quit = codes "quit"
+
+-- the seat, the number, the tick, and what is told
+abbrev pub written_item : Item → List ℕ
+written_item item = decimal item.seat ++ codes " " ++ decimal item.number ++ codes " " ++ decimal item.now ++ codes " " ++ written_what item.what
+
+abbrev pub written_cargo : Cargo → List ℕ
+written_cargo (Gives.Packet life packet) = codes "packet " ++ written_life life ++ codes " " ++ written_packet packet
+written_cargo (Gives.Cut life) = codes "cut " ++ written_life life
