@@ -5,6 +5,7 @@ use std::process::Abort;
 use std::test::*;
 use tora_core::CoreError;
 
+mod simulation_causes;
 mod simulations;
 
 /// A reader that gives a few bytes at a time, and fails at one of its calls, counted from 1.
