@@ -84,6 +84,31 @@ Exit statuses:
   2  usage
   5  memory was refused";
 
+/// What `--help` of `node` says of its configuration and commands.
+const NODE: &str = "\
+The configuration, a TOML file, has every one of these keys and no other:
+  node = I           the number of the node
+  dests = [D, ..]    the destinations of its table, at most 16
+  life_dir = \"DIR\"   the folder of its life files, made where it is missing
+  [[link]]           one to eight times, for each link:
+  peer = K           its neighbour
+  local = PORT       the UDP port of 127.0.0.1 that is bound for it
+  remote = PORT      the port of 127.0.0.1 that the neighbour binds for it
+
+Commands on standard input, each a line:
+  need D             a route to destination D is needed
+  show               prints the table
+  quit               ends the node, as the end of the input does
+Another line is told on standard error and passed over.
+
+Exit statuses:
+  0  a command or the end of the input ended it
+  1  the configuration is at fault, or output failed
+  2  usage
+  3  a socket can't be bound, or it failed
+  4  a life file can't be opened or gives no number
+  5  memory was refused";
+
 /// The command line of the program.
 pub fn command<'a>(alloc: Global) -> Result<Command<'a>, AllocError> {
     let verbose = Arg::new(alloc, "verbose")
@@ -111,6 +136,7 @@ pub fn command<'a>(alloc: Global) -> Result<Command<'a>, AllocError> {
         .help("Reads the configuration, says what is wrong with it, and ends");
     let node = Command::new(alloc, "node")
         .about("Runs a node over UDP on the loopback, with its commands on standard input")
+        .after_help(NODE)
         .arg(config)?
         .arg(check)?;
     Command::new(alloc, "tora")
