@@ -11,13 +11,12 @@ mod paced_hub;
 
 use paced_hub::{Course, PacedHub};
 use std::alloc::Global;
-use std::io;
 use std::net::Net;
 use std::sync::Wait;
 use std::sync::atomic::{AtomicU64, Ordering};
-use std::thread;
 use std::thread::Threads;
 use std::time::{Clock, Instant};
+use std::{io, thread};
 use tora_arq::{Life, LinkEnd, Times};
 use tora_height::{Height, Id};
 use tora_lane::Cargo;
@@ -75,7 +74,9 @@ fn run_end<R: Clock + Wait>(
     let Ok(file) = LifeFile::open(MemDisk::new()) else {
         return None;
     };
-    let room = usize::try_from(course.count).ok()?.saturating_add(OTHER_PUTS);
+    let room = usize::try_from(course.count)
+        .ok()?
+        .saturating_add(OTHER_PUTS);
     let hub = PacedHub {
         list: ListHub::new(alloc, room, cargoes).ok()?,
         course,

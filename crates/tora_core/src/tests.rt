@@ -549,8 +549,14 @@ fn inputs_are_printed_in_words(rt: HostRuntime) -> Result<(), Fail> {
 fn errors_of_a_core_are_printed_with_their_cause(rt: HostRuntime) -> Result<(), Fail> {
     let rows = [
         (CoreError::Memory, "there is not enough memory"),
-        (CoreError::TooMany, "there are too many neighbours or too many destinations"),
-        (CoreError::Repeated, "a neighbour or a destination is named twice"),
+        (
+            CoreError::TooMany,
+            "there are too many neighbours or too many destinations",
+        ),
+        (
+            CoreError::Repeated,
+            "a neighbour or a destination is named twice",
+        ),
         (CoreError::OwnId, "the node itself is among its neighbours"),
     ];
     for (error, text) in rows {
@@ -563,11 +569,20 @@ fn errors_of_a_core_are_printed_with_their_cause(rt: HostRuntime) -> Result<(), 
 #[test]
 fn refusals_are_printed_with_their_cause(rt: HostRuntime) -> Result<(), Fail> {
     let rows = [
-        (StepError::UnknownNeighbour, "the neighbour is not configured"),
+        (
+            StepError::UnknownNeighbour,
+            "the neighbour is not configured",
+        ),
         (StepError::AlreadyUp, "the link is up already"),
         (StepError::NotUp, "the link is not up"),
-        (StepError::WrongSender, "the update is not of the neighbour that sent it"),
-        (StepError::UnknownDestination, "the destination is not in the table"),
+        (
+            StepError::WrongSender,
+            "the update is not of the neighbour that sent it",
+        ),
+        (
+            StepError::UnknownDestination,
+            "the destination is not in the table",
+        ),
     ];
     for (error, text) in rows {
         let printed = format!(in rt.alloc(); "{error}")?;
@@ -582,7 +597,22 @@ fn refusals_are_printed_with_their_cause(rt: HostRuntime) -> Result<(), Fail> {
 fn largest_table_is_shown(rt: HostRuntime) -> Result<(), Fail> {
     let neighbours = [2, 3, 4, 5, 6, 7, 8, 9];
     let destinations = [
-        1, 2, 3, 4, 5, 6, 7, 8, 9, 10, 11, 12, 13, 14, 15, 4_294_967_295,
+        1,
+        2,
+        3,
+        4,
+        5,
+        6,
+        7,
+        8,
+        9,
+        10,
+        11,
+        12,
+        13,
+        14,
+        15,
+        4_294_967_295,
     ];
     let mut core = Core::new(rt.alloc(), 1, &neighbours, &destinations)?;
     for k in neighbours {
@@ -590,7 +620,10 @@ fn largest_table_is_shown(rt: HostRuntime) -> Result<(), Fail> {
     }
     let text = core.show(rt.alloc())?;
     assert_eq!(&rt; text.lines().count(), 16 * 9);
-    assert_eq!(&rt; text.lines().next(), Some("to 1 height (0,0,0,0,1) flag 0 hop -"));
+    assert_eq!(&rt;
+        text.lines().next(),
+        Some("to 1 height (0,0,0,0,1) flag 0 hop -")
+    );
     assert_eq!(&rt; text.lines().last(), Some("via 9 - none"));
     Ok(())
 }

@@ -258,11 +258,23 @@ fn errors_are_printed_with_their_cause(rt: HostRuntime) -> Result<(), Fail> {
         (FrameError::Long, "too many bytes"),
         (FrameError::Version, "the version is not 1"),
         (FrameError::Kind, "the kind is not 1, 2 or 3"),
-        (FrameError::Length, "the payload length is none that the kind has"),
-        (FrameError::Id, "the sender or the receiver is 0, or the two are equal"),
+        (
+            FrameError::Length,
+            "the payload length is none that the kind has",
+        ),
+        (
+            FrameError::Id,
+            "the sender or the receiver is 0, or the two are equal",
+        ),
         (FrameError::Life, "a life is out of its range"),
-        (FrameError::Number, "a number or a count is out of its range"),
-        (FrameError::Packet(PacketError::Kind), "the packet is refused: the kind is not 1, 2 or 3"),
+        (
+            FrameError::Number,
+            "a number or a count is out of its range",
+        ),
+        (
+            FrameError::Packet(PacketError::Kind),
+            "the packet is refused: the kind is not 1, 2 or 3",
+        ),
     ];
     for (error, text) in rows {
         let printed = format!(in rt.alloc(); "{error}")?;

@@ -215,7 +215,10 @@ fn example_of_the_documentation(rt: HostRuntime) -> Result<(), Fail> {
 fn errors_are_printed_with_their_cause(rt: HostRuntime) -> Result<(), Fail> {
     let rows = [
         (LifeError::Disk, "the disk failed"),
-        (LifeError::Failed, "an earlier draw failed: the file is to be opened again"),
+        (
+            LifeError::Failed,
+            "an earlier draw failed: the file is to be opened again",
+        ),
         (LifeError::Spent, "no number is left"),
         (LifeError::Damaged, "the file is longer than two slots"),
     ];

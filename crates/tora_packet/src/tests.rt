@@ -133,7 +133,10 @@ fn errors_are_printed_with_their_cause(rt: HostRuntime) -> Result<(), Fail> {
         (PacketError::Version, "the version is not 1"),
         (PacketError::Kind, "the kind is not 1, 2 or 3"),
         (PacketError::Reserved, "a byte that has to be zero is not"),
-        (PacketError::Height, "the destination, the height or the level is out of range"),
+        (
+            PacketError::Height,
+            "the destination, the height or the level is out of range",
+        ),
     ];
     for (error, text) in rows {
         let printed = format!(in rt.alloc(); "{error}")?;
