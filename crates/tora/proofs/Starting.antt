@@ -1,12 +1,12 @@
 -- What the simulator's own clauses say, as the engine asks for it.
-use Rattle.std.proofs.Common.{◌≡◌, ◌⊎◌, inl, inr, refl, ap, arith, ℕ, ◌<◌, List, Some, None}
+use Rattle.std.proofs.Common.{◌≡◌, inl, inr, refl, ap, arith, ℕ, ◌<◌, List, Some, None}
 use Rattle.std.proofs.lemmas.List.Elements.{All-map}
 use Rattle.tora_arq.specs.declared.TheConstants.Times.{STANDARD}
 use Rattle.tora_world.specs.declared.Event.{Event}
 use Rattle.tora_world.specs.declared.SimError.{SimError}
 use Rattle.tora_world.specs.Errors.{sim_error_number}
 use Rattle.tora_world.specs.Topology.{Link, topology_fault}
-use Rattle.tora_world.specs.World.{World, first_world, refusal_of, world_after, world_by}
+use Rattle.tora_world.specs.World.{World, first_world, world_after, world_by}
 use Rattle.tora_sim.specs.Topologies.{link_in, AreNumbers}
 use Rattle.tora_sim.specs.Steps.{IsRefused}
 use Rattle.tora.specs.Simulator.{ArePairs, AreIds, topology_of, started}
