@@ -1,5 +1,7 @@
 -- What holds of each configuration that is read.
-use Rattle.std.specs.Prelude.{◌≡◌, ◌≢◌, ℕ, ◌+◌, ◌<◌, List, map, length, slice_index, All, None}
+use Rattle.std.specs.Prelude.{codes, string_bytes, ◌≡◌, ℕ, ◌+◌, ◌<◌, ℤ, pos, List, map, length, slice_index, All, Option, Some, None, option_and_then, IsPermutation}
+use Rattle.toml.specs.Data.{Data, Members, as_integer, as_str, as_array, get, get_member}
+use Rattle.toml.specs.View.{items_of}
 use Rattle.tora_core.specs.CoreRun.{core_refusal}
 use Rattle.tora_config.specs.declared.LinkConfig.{LinkConfig}
 use Rattle.tora_config.specs.declared.NodeConfig.{NodeConfig}
@@ -25,3 +27,37 @@ pub record IsNodeConfig (c : NodeConfig) : Type 0 where
   pub some_link : 0 < length c.links.items
   pub ascending : IsAscending (peers_of c.links.items)
   pub accepted : core_refusal c.node (peers_of c.links.items) c.dests.items ≡ None
+
+-- ---- what a text says
+
+-- the whole number, the text and the values of a list at a key of a table
+abbrev pub number_at : List ℕ → Members → Option ℤ
+number_at key table = option_and_then as_integer (get_member key table)
+
+abbrev pub text_at : List ℕ → Members → Option (List ℕ)
+text_at key table = option_and_then as_str (get_member key table)
+
+abbrev pub IsListAt : List ℕ → Members → List Data → Type 0
+IsListAt key table values = option_and_then as_array (get_member key table) ≡ Some (items_of values)
+
+-- the whole number at a key of a value, which is a table
+abbrev pub number_in : List ℕ → Data → Option ℤ
+number_in key value = option_and_then as_integer (get key value)
+
+-- the three numbers that a value says of a link, and those of the link
+abbrev pub says_of_link : Data → Option ℤ × (Option ℤ × Option ℤ)
+says_of_link value = (number_in (codes "peer") value, (number_in (codes "local") value, number_in (codes "remote") value))
+
+abbrev pub said_link : LinkConfig → Option ℤ × (Option ℤ × Option ℤ)
+said_link link = (Some (pos link.peer), (Some (pos link.local), Some (pos link.remote)))
+
+-- The links are those that the list says, in another order.
+abbrev pub AreLinksOf : List Data → List LinkConfig → Type 0
+AreLinksOf values links = (written : List LinkConfig) × (map says_of_link values ≡ map said_link written) × IsPermutation written links
+
+-- The configuration is what the table of a text says, key by key.
+pub record IsWritten (table : Members) (c : NodeConfig) : Type 0 where
+  pub node : number_at (codes "node") table ≡ Some (pos c.node)
+  pub dests : (values : List Data) × IsListAt (codes "dests") table values × (map as_integer values ≡ map (λ d. Some (pos d)) c.dests.items)
+  pub life_dir : text_at (codes "life_dir") table ≡ Some (string_bytes c.life_dir)
+  pub links : (values : List Data) × IsListAt (codes "link") table values × AreLinksOf values c.links.items

@@ -1,8 +1,10 @@
 //! Texts to configurations.
-ghost use Rattle.std.specs.Prelude.{◌≡◌, ◌+◌, ◌<◌, ℕ, length, All, None, IfOk, OnOk, IfErr, IsTrue, Option};
+ghost use Rattle.std.specs.Prelude.{codes, ◌≡◌, ◌+◌, ◌<◌, ℕ, pos, List, map, length, All, Some, None, IfOk, OnOk, IfErr, IsPermutation, IsTrue, Option};
+ghost use Rattle.toml.specs.Data.{Data, Members, as_integer};
 ghost use Rattle.toml.specs.Parse.{parse_document};
+ghost use Rattle.toml.specs.View.{view, table_view};
 ghost use Rattle.tora_core.specs.CoreRun.{core_refusal};
-ghost use Rattle.tora_config.specs.NodeConfig.{IsLinkConfig, IsNodeConfig, IsAscending, peers_of};
+ghost use Rattle.tora_config.specs.NodeConfig.{IsLinkConfig, IsNodeConfig, IsAscending, peers_of, IsListAt, AreLinksOf, says_of_link, said_link, IsWritten};
 
 use crate::fault::{ConfigError, Place, Reason};
 use crate::values::{id_at, id_of, list_at, port_at, text_at};
@@ -33,11 +35,13 @@ fn check_link_keys(alloc: Global, n: usize, table: &Table) -> Result<(), ConfigE
 }
 
 fn dests_in(alloc: Global, table: &Table) -> Result<Vec<Id>, ConfigError>
-    ensures { IfOk result (λ dests. All (λ d. 0 < d) dests.items) }
+    ensures above { IfOk result (λ dests. All (λ d. 0 < d) dests.items) }
+    ensures exact { IfOk result (λ dests. (values : List Data) × IsListAt (codes "dests") (table_view table.now) values × (map as_integer values ≡ map (λ d. Some (pos d)) dests.items)) }
 {
     let mut dests = Vec::new(alloc);
     let mut n = 0usize;
-    for value in list_at(table, "dests", Place::Dests)? {
+    let values = list_at(table, "dests", Place::Dests)?;
+    for value in values {
         n = n.saturating_add(1);
         match id_of(value) {
             Ok(dest) => {
@@ -54,7 +58,8 @@ fn dests_in(alloc: Global, table: &Table) -> Result<Vec<Id>, ConfigError>
 
 // The link with the number n, from 1 on.
 fn link_of(alloc: Global, n: usize, value: &Value) -> Result<LinkConfig, ConfigError>
-    ensures { IfOk result IsLinkConfig }
+    ensures range { IfOk result IsLinkConfig }
+    ensures exact { IfOk result (λ link. says_of_link (view value.now) ≡ said_link link) }
 {
     let Some(table) = value.as_table() else {
         return Err(ConfigError::Value(Place::Link(n), Reason::NoTable));
@@ -91,13 +96,26 @@ fn check_link(
     Ok(())
 }
 
+// The links by ascending peer.
+fn in_order(links: Vec<LinkConfig>) -> Vec<LinkConfig>
+    ensures same { IsPermutation links.items result.items }
+    ensures len { length result.items ≡ length links.items }
+    ensures links { All IsLinkConfig links.items → All IsLinkConfig result.items }
+{
+    let mut links = links;
+    links.as_mut_slice().sort_unstable_by_key(|link| link.peer);
+    links
+}
+
 fn links_in(alloc: Global, table: &Table, node: Id) -> Result<Vec<LinkConfig>, ConfigError>
     ensures links { IfOk result (λ links. All IsLinkConfig links.items) }
     ensures some_link { IfOk result (λ links. 0 < length links.items) }
+    ensures exact { IfOk result (λ links. (values : List Data) × IsListAt (codes "link") (table_view table.now) values × AreLinksOf values links.items) }
 {
     let mut links = Vec::new(alloc);
     let mut n = 0usize;
-    for value in list_at(table, "link", Place::Links)? {
+    let values = list_at(table, "link", Place::Links)?;
+    for value in values {
         n = n.saturating_add(1);
         let link = link_of(alloc, n, value)?;
         check_link(n, node, links.as_slice(), &link)?;
@@ -106,8 +124,7 @@ fn links_in(alloc: Global, table: &Table, node: Id) -> Result<Vec<LinkConfig>, C
     if links.is_empty() {
         return Err(ConfigError::Value(Place::Links, Reason::Missing));
     }
-    links.as_mut_slice().sort_unstable_by_key(|link| link.peer);
-    Ok(links)
+    Ok(in_order(links))
 }
 
 fn peers_of(alloc: Global, links: &[LinkConfig]) -> Result<Vec<Id>, AllocError>
@@ -158,7 +175,8 @@ fn check_core(
 /// and `link`, in this order (of each link in turn `UnknownLinkKey`, then `peer`, `local` and `remote`, then `peer` and
 /// `local` beside those of the links before it), and then `Core`. `Memory` may come at any point.
 pub fn read_config(alloc: Global, text: &str) -> Result<NodeConfig, ConfigError>
-    ensures { IfOk result IsNodeConfig }
+    ensures range { IfOk result IsNodeConfig }
+    ensures written { IfOk result (λ c. (table : Members) × (parse_document text.now ≡ Some table) × IsWritten table c) }
 {
     let table = match toml::table_from_str(alloc, text) {
         Ok(table) => table,

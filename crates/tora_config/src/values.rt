@@ -1,7 +1,8 @@
 //! The values of keys.
-ghost use Rattle.std.specs.Prelude.{◌≡◌, ◌<◌, pos, Some, IfOk};
-ghost use Rattle.toml.specs.Data.{as_integer};
-ghost use Rattle.toml.specs.View.{view};
+ghost use Rattle.std.specs.Prelude.{string_bytes, ◌≡◌, ◌<◌, pos, map, Some, IfOk};
+ghost use Rattle.toml.specs.Data.{as_integer, get_member};
+ghost use Rattle.toml.specs.View.{view, table_view};
+ghost use Rattle.tora_config.specs.NodeConfig.{number_at, text_at, IsListAt};
 
 use crate::fault::{ConfigError, Place, Reason};
 use std::alloc::Global;
@@ -47,7 +48,9 @@ pub fn port_of(value: &Value) -> Result<u16, Reason>
 }
 
 /// The value at a key, which is required.
-pub fn value_at<'a>(table: &'a Table, key: &str, place: Place) -> Result<&'a Value, ConfigError> {
+pub fn value_at<'a>(table: &'a Table, key: &str, place: Place) -> Result<&'a Value, ConfigError>
+    ensures { IfOk result (λ v. get_member key.now (table_view table.now) ≡ Some (view v.now)) }
+{
     match table.get(key) {
         Some(value) => Ok(value),
         None => Err(ConfigError::Value(place, Reason::Missing)),
@@ -56,7 +59,8 @@ pub fn value_at<'a>(table: &'a Table, key: &str, place: Place) -> Result<&'a Val
 
 /// The number of a node at a key.
 pub fn id_at(table: &Table, key: &str, place: Place) -> Result<Id, ConfigError>
-    ensures { IfOk result (λ n. 0 < n) }
+    ensures above { IfOk result (λ n. 0 < n) }
+    ensures exact { IfOk result (λ n. number_at key.now (table_view table.now) ≡ Some (pos n)) }
 {
     let value = value_at(table, key, place)?;
     match id_of(value) {
@@ -67,7 +71,8 @@ pub fn id_at(table: &Table, key: &str, place: Place) -> Result<Id, ConfigError>
 
 /// A port at a key.
 pub fn port_at(table: &Table, key: &str, place: Place) -> Result<u16, ConfigError>
-    ensures { IfOk result (λ n. 0 < n) }
+    ensures above { IfOk result (λ n. 0 < n) }
+    ensures exact { IfOk result (λ n. number_at key.now (table_view table.now) ≡ Some (pos n)) }
 {
     let value = value_at(table, key, place)?;
     match port_of(value) {
@@ -77,12 +82,9 @@ pub fn port_at(table: &Table, key: &str, place: Place) -> Result<u16, ConfigErro
 }
 
 /// A text at a key.
-pub fn text_at(
-    alloc: Global,
-    table: &Table,
-    key: &str,
-    place: Place,
-) -> Result<String, ConfigError> {
+pub fn text_at(alloc: Global, table: &Table, key: &str, place: Place) -> Result<String, ConfigError>
+    ensures { IfOk result (λ text. text_at key.now (table_view table.now) ≡ Some (string_bytes text)) }
+{
     let value = value_at(table, key, place)?;
     match value.as_str() {
         Some(text) => Ok(String::from_str(alloc, text)?),
@@ -91,7 +93,9 @@ pub fn text_at(
 }
 
 /// The values of a list at a key.
-pub fn list_at<'a>(table: &'a Table, key: &str, place: Place) -> Result<&'a [Value], ConfigError> {
+pub fn list_at<'a>(table: &'a Table, key: &str, place: Place) -> Result<&'a [Value], ConfigError>
+    ensures { IfOk result (λ values. IsListAt key.now (table_view table.now) (map view values.now)) }
+{
     let value = value_at(table, key, place)?;
     match value.as_array() {
         Some(list) => Ok(list.as_slice()),

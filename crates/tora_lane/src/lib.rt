@@ -4,6 +4,18 @@
 //! is what the seat has put, numbered from 1 without gaps. The lane to a neighbour is a ring with one producer and one
 //! consumer: what was received and then what is waiting is what was sent. Putting into the lane into the core and taking
 //! from it may wait. Sending to a neighbour and taking there wait for nobody, and take no memory. Own profile.
+//!
+//! ```rust
+//! let Lanes { mut core, mut links, mut outs, .. } = lanes(rt, alloc, 1)?;
+//! let (mut port, mut take) = links.remove(0);
+//! port.put(rt, 7, What::Beat)?; // by the thread of the link
+//! let item = core.take(rt)?; // by the thread of the core
+//! assert_eq!(rt; (item.seat, item.number, item.now), (0, 1, 7));
+//! let cut = Cargo::Cut(Life { own: 5, peer: 9 });
+//! assert_eq!(rt; outs[0].send(cut), Ok(())); // by the thread of the core
+//! assert_eq!(rt; take.take(), Some(cut)); // by the thread of the link
+//! assert_eq!(rt; take.take(), None);
+//! ```
 #![tactic(auto)]
 
 mod errors;

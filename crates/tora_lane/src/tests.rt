@@ -13,6 +13,8 @@ use std::thread;
 use std::thread::{Threads, join};
 use tora_arq::Life;
 
+mod documented;
+
 /// How many items each seat puts, and how many cargoes go to each link.
 const EACH: u64 = 1000;
 

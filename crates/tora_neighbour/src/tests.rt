@@ -15,6 +15,7 @@ use tora_lane::{Cargo, What};
 use tora_life::{Disk, DiskCall, LifeError, LifeFile, MemDisk};
 
 mod datagrams;
+mod documented;
 mod runs;
 mod sockets;
 

@@ -2,6 +2,12 @@
 //!
 //! The core is owned by one thread, which takes items from a lane and serves them one after another. Each neighbour's
 //! thread drives the end of its link over a wire. The commands are read by the thread that runs the node.
+//!
+//! ```rust
+//! let config = Config::new(alloc, 1, &[3, 2], &[4])?; // node 1 between nodes 2 and 3, with destination 4
+//! assert_eq!(rt; config.peers(), &[2, 3]);
+//! assert_eq!(rt; command_of(b"need 4"), Command::Need(4));
+//! ```
 #![tactic(auto)]
 
 mod commands;

@@ -407,3 +407,13 @@ fn lines_that_are_commands(rt: HostRuntime) {
         assert_eq!(&rt; command_of(line), Command::Unknown);
     }
 }
+
+#[test]
+fn documented_configuration(rt: HostRuntime) -> Result<(), Fail> {
+    let config = Config::new(rt.alloc(), 1, &[3, 2], &[4])
+        .ok()
+        .ok_or("a configuration")?;
+    assert_eq!(&rt; config.peers(), [2, 3].as_slice());
+    assert_eq!(&rt; command_of(b"need 4".as_slice()), Command::Need(4));
+    Ok(())
+}

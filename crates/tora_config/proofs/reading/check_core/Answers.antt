@@ -1,4 +1,4 @@
-use Rattle.std.proofs.Common.{◌≡◌, ◌<◌, ℕ, List, sym, ◌∙◌, subst}
+use Rattle.std.proofs.Common.{◌<◌, ℕ, List, sym, ◌∙◌, subst}
 use Rattle.std.specs.Prelude.{All}
 use Rattle.std.proofs.lemmas.List.Elements.{All-map}
 use Rattle.tora_config.specs.declared.LinkConfig.{LinkConfig}

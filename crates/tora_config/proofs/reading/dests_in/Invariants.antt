@@ -1,6 +1,10 @@
-use Rattle.std.proofs.Common.{◌<◌}
-use Rattle.std.specs.Prelude.{All}
+use Rattle.std.proofs.Common.{◌≡◌, ◌<◌, pos, map, take, Some, All}
+use Rattle.toml.specs.Data.{as_integer}
+use Rattle.toml.specs.View.{view}
 use Rattle.tora_config.proofs.reading.dests_in.Given as goal
 
 abbrev pub invariant-loop-value : goal.invariant-loop-value
-invariant-loop-value l = All (λ d. 0 < d) l.dests.items
+invariant-loop-value l = record {
+  above : All (λ d. 0 < d) l.dests.items;
+  exact : map (λ v. as_integer (view v)) (take l.value-index l.values) ≡ map (λ d. Some (pos d)) l.dests.items;
+}

@@ -1,0 +1,13 @@
+#!/usr/bin/env bash
+# Hands random and mutated inputs to the program for SECONDS: replay files (with packets in hexadecimal), simulation files
+# and configurations; then random and mutated datagrams to a running node while it keeps its route, for as long again.
+# A run must end within 20 seconds, by no signal, with an exit status that the manual page names for its word. The seed is printed;
+# with it the same inputs come in the same order. What fails is kept under KEPT, and the status is then 1.
+# usage: bench/fuzz.sh SECONDS [SEED] [KEPT]
+set -eu
+top=$(cd "$(dirname "$0")/.." && pwd)
+seconds=${1:?seconds}
+seed=${2:-$(od -An -N4 -tu4 /dev/urandom | tr -d ' ')}
+kept=${3:-$PWD/fuzz-kept}
+"$top/tora" --version >/dev/null
+exec python3 "$top/bench/fuzz.py" "$top" "$seconds" "$seed" "$kept"

@@ -1,0 +1,7 @@
+use Rattle.toml.proofs.Views.{table_get}
+use Rattle.tora_config.proofs.values.value_at.Goals as goal
+
+pub returns-in-Some : goal.returns-in-Some
+returns-in-Some c =
+    let found = table_get c.get.result c.args.key.now c.args.table.now.entries c.get.ensures.value in
+    rw (← rw c.in-Some.is at found)
