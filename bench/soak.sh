@@ -1,0 +1,14 @@
+#!/usr/bin/env bash
+# A ring of five nodes, as processes over UDP on the loopback, for MINUTES: every few seconds one of them is killed with -9 and
+# started again on the same life files, each third time with a life file torn (the slot that the next draw writes is overwritten
+# by half). After each kill a route from every node has to come back. At the end each node's entries have to be its neighbours'
+# heights (the destination's may be missing, since it never asks), and the walk by next hops from every node has to reach the
+# destination. Prints the kills, the repairs, the slowest
+# repair, and each node's memory soon after the start and at the end.
+# usage: bench/soak.sh MINUTES [SEED]
+set -eu
+top=$(cd "$(dirname "$0")/.." && pwd)
+minutes=${1:?minutes}
+seed=${2:-$(od -An -N4 -tu4 /dev/urandom | tr -d ' ')}
+"$top/tora" --version >/dev/null
+exec python3 "$top/bench/soak.py" "$top" "$minutes" "$seed"
