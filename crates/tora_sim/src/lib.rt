@@ -3,9 +3,11 @@
 
 mod files;
 mod first;
+mod hints;
 mod lanes;
 mod links;
 mod nodes;
+mod possible;
 mod readers;
 mod restarts;
 mod sim;
