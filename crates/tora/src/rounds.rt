@@ -43,12 +43,21 @@ fn either(a: bool, b: bool) -> bool
     a || b
 }
 
-/// Makes an event happen until it is refused, and so many times at most, and says whether it ever did.
-fn repeat<S: Simulator>(sim: &mut S, event: &Event, most: u64) -> Result<bool, AllocError>
+/// Makes an event happen until it is refused, and so many times at most, and says whether it ever did. The place is that of
+/// its node or link end.
+fn repeat<S: Simulator>(
+    sim: &mut S,
+    place: usize,
+    event: &Event,
+    most: u64,
+) -> Result<bool, AllocError>
     ensures { IfOk result (λ some. Happened (S.world sim.old) (repeats most event.now (S.world sim.old)) (S.world sim.new) some) }
 {
     let mut some = false;
     for _ in 0..most {
+        if !sim.may_happen(place, event) {
+            return Ok(some);
+        }
         let refused = sim.happen(event)?;
         match refused {
             None => some = true,
@@ -63,8 +72,8 @@ fn turn_cores<S: Simulator>(sim: &mut S, nodes: &[Id]) -> Result<bool, AllocErro
     ensures { IfOk result (λ some. Happened (S.world sim.old) (each_core nodes.now (S.world sim.old)) (S.world sim.new) some) }
 {
     let mut some = false;
-    for n in nodes {
-        let any = repeat(sim, &Event::CoreTurn(*n), MOST_TIMES)?;
+    for (place, n) in nodes.iter().enumerate() {
+        let any = repeat(sim, place, &Event::CoreTurn(*n), MOST_TIMES)?;
         some = either(some, any);
     }
     Ok(some)
@@ -80,8 +89,8 @@ fn turn_ends<S: Simulator>(
     ensures { IfOk result (λ some. Happened (S.world sim.old) (each (λ e. repeats most (end_event kind e)) ends.now (S.world sim.old)) (S.world sim.new) some) }
 {
     let mut some = false;
-    for end in ends {
-        let any = repeat(sim, &kind.event(*end), most)?;
+    for (place, end) in ends.iter().enumerate() {
+        let any = repeat(sim, place, &kind.event(*end), most)?;
         some = either(some, any);
     }
     Ok(some)
@@ -111,7 +120,7 @@ fn deliver<S: Simulator>(sim: &mut S, parted: &[(Id, Id)], i: u64) -> Result<boo
     if is_parted(parted, sender, receiver) {
         return Ok(false);
     }
-    repeat(sim, &Event::Deliver(i), 1)
+    repeat(sim, 0, &Event::Deliver(i), 1)
 }
 
 /// Delivers the datagrams behind the first ones.
@@ -179,7 +188,7 @@ fn round<S: Simulator>(
 ) -> Result<(), AllocError>
     ensures { IfOk result (λ _. S.world sim.new ≡ world_after_all (S.world sim.old) (round nodes.now ends.now parted.now (S.world sim.old))) }
 {
-    repeat(sim, &Event::Tick, 1)?;
+    repeat(sim, 0, &Event::Tick, 1)?;
     turn_ends(sim, ends, EndTurn::Open, 1)?;
     make_passes(sim, nodes, ends, parted)?;
     Ok(())
