@@ -74,6 +74,12 @@ impossible w events now some j event o stop =
     let left : repeats (suc j) event now ≡ [] = rw stop refl in
     ends w events now some (rw left at o)
 
+-- no plan of it has an event
+pub idle : (w : World) (most : ℕ) (event : Event) → is_some (refusal_of w event) ≡ true → Happened w (repeats most event w) w false
+unfolding repeats
+idle w zero event stop = record { after_is = refl; some_is = refl }
+idle w (suc k) event stop = rw stop (record { after_is = refl; some_is = refl })
+
 pub no_more : (w : World) (events : List Event) (now : World) (some : Bool) (event : Event) → Onward w events now some (repeats zero event now) → Happened w events now some
 unfolding repeats
 no_more w events now some event o = ends w events now some o

@@ -28,6 +28,7 @@ impl Simulator for Sim {
         }
     }
 
+    #[inline(always)]
     fn may_happen(&self, place: usize, event: &Event) -> bool {
         Sim::may_happen(self, place, event)
     }

@@ -17,6 +17,7 @@ impl Sim {
     /// The place says where to look: the place of the node among `nodes` for a `CoreTurn`, and that of the link end among
     /// `ends` for `Open`, `Pull`, `Transmit` and `Pump`, both from 0 on. What stands there is looked at alone, and nothing
     /// is searched. Where another node or end stands there, and for every other event, the answer is `true`.
+    #[inline(always)]
     pub fn may_happen(&self, place: usize, event: &Event) -> bool
         // What stands at the place has something to do, or is another.
         ensures value { result ≡ may_happen self.now.nodes self.now.links self.now.clock place event.now }
@@ -27,6 +28,7 @@ impl Sim {
     }
 }
 
+#[inline(always)]
 fn may_be(
     nodes: &Vec<NodeSlot>,
     links: &Vec<LinkSlot>,
@@ -50,6 +52,7 @@ fn may_be(
     }
 }
 
+#[inline(always)]
 fn may_turn(nodes: &[NodeSlot], place: usize, n: Id) -> bool
     ensures { result ≡ node_may n (slice_get nodes.now place) }
 {
@@ -59,6 +62,7 @@ fn may_turn(nodes: &[NodeSlot], place: usize, n: Id) -> bool
     }
 }
 
+#[inline(always)]
 fn may_open(links: &[LinkSlot], place: usize, n: Id, k: Id) -> bool
     ensures { result ≡ end_may n k (λ link. is_closed link.state) (slice_get links.now place) }
 {
@@ -68,6 +72,7 @@ fn may_open(links: &[LinkSlot], place: usize, n: Id, k: Id) -> bool
     }
 }
 
+#[inline(always)]
 fn may_pull(links: &[LinkSlot], place: usize, n: Id, k: Id) -> bool
     ensures { result ≡ end_may n k has_cargo (slice_get links.now place) }
 {
@@ -77,6 +82,7 @@ fn may_pull(links: &[LinkSlot], place: usize, n: Id, k: Id) -> bool
     }
 }
 
+#[inline(always)]
 fn may_transmit(links: &[LinkSlot], clock: u64, place: usize, n: Id, k: Id) -> bool
     ensures { result ≡ end_may n k (λ link. is_some (frame_due link.settings link.state clock)) (slice_get links.now place) }
 {
@@ -86,6 +92,7 @@ fn may_transmit(links: &[LinkSlot], clock: u64, place: usize, n: Id, k: Id) -> b
     }
 }
 
+#[inline(always)]
 fn may_pump(links: &[LinkSlot], place: usize, n: Id, k: Id) -> bool
     ensures { result ≡ end_may n k (λ link. is_some (first_event link.state)) (slice_get links.now place) }
 {
