@@ -13,6 +13,7 @@ pub mod KindLaws
 pub mod RoundLaws
 pub mod SimulationLaws
 pub mod Flushed
+pub mod EndingLaws
 pub mod SimulationFound
 pub mod SimulationHere
 pub mod LinkPairs

@@ -1,5 +1,5 @@
 -- How a plan of events is carried out, step by step.
-use Rattle.std.proofs.Common.{◌≡◌, ℕ, zero, suc, ◌+◌, ◌-◌, ◌<◌, ◌≤◌, Bool, true, false, not, ◌||◌, List, [], ◌∷◌, ◌++◌, length, drop, get_or, None, Some, refl, sym, ap, ◌∙◌, arith}
+use Rattle.std.proofs.Common.{◌≡◌, ℕ, zero, suc, ◌+◌, ◌-◌, ◌<◌, ◌≤◌, Bool, true, false, not, ◌||◌, List, [], ◌∷◌, ◌++◌, length, drop, get_or, is_some, None, Some, refl, sym, ap, ◌∙◌, arith}
 use Rattle.std.proofs.lemmas.List.{drop_more, drop_all}
 use Rattle.tora_world.specs.declared.Event.{Event}
 use Rattle.tora_world.specs.declared.SimError.{SimError}
@@ -66,6 +66,19 @@ refused w events now next some j event error o stop e =
     let left : repeats (suc j) event now ≡ [] = rw stop refl in
     let o' : Onward w events now some [] = rw left at o in
     rw (e, same) (ends w events now some o')
+
+-- it is refused, and so was not asked for
+pub impossible : (w : World) (events : List Event) (now : World) (some : Bool) (j : ℕ) (event : Event) → Onward w events now some (repeats (suc j) event now) → is_some (refusal_of now event) ≡ true → Happened w events now some
+unfolding repeats
+impossible w events now some j event o stop =
+    let left : repeats (suc j) event now ≡ [] = rw stop refl in
+    ends w events now some (rw left at o)
+
+-- no plan of it has an event
+pub idle : (w : World) (most : ℕ) (event : Event) → is_some (refusal_of w event) ≡ true → Happened w (repeats most event w) w false
+unfolding repeats
+idle w zero event stop = record { after_is = refl; some_is = refl }
+idle w (suc k) event stop = rw stop (record { after_is = refl; some_is = refl })
 
 pub no_more : (w : World) (events : List Event) (now : World) (some : Bool) (event : Event) → Onward w events now some (repeats zero event now) → Happened w events now some
 unfolding repeats

@@ -7,9 +7,9 @@ use Rattle.tora_world.specs.declared.SimError.{SimError}
 use Rattle.tora_world.specs.Errors.{sim_error_number}
 use Rattle.tora_world.specs.Topology.{Link, topology_fault}
 use Rattle.tora_world.specs.World.{World, first_world, world_after, world_by}
-use Rattle.tora_sim.specs.Topologies.{link_in, AreNumbers}
+use Rattle.tora_sim.specs.Topologies.{link_in, topology_of, AreNumbers}
 use Rattle.tora_sim.specs.Steps.{IsRefused}
-use Rattle.tora.specs.Simulator.{ArePairs, AreIds, topology_of, started}
+use Rattle.tora.specs.Simulator.{ArePairs, AreIds, started}
 
 -- no number of the topology is 0
 pub numbers_of : (links : List (ℕ × ℕ)) (dests : List ℕ) → ArePairs links → AreIds dests → AreNumbers (topology_of links dests)

@@ -15,5 +15,6 @@ pub mod SimulationText
 pub mod RunningView
 pub mod SimulationView
 pub mod Statuses
+pub mod Endings
 pub mod SimulationGrammar
 pub mod ToldView

@@ -14,7 +14,8 @@ use Rattle.tora.specs.LineText.{Rules, numbered, whole_text, fault_of, IsFirstFa
 use Rattle.tora.specs.Engine.{IsWholeText, IsFrontOfText}
 use Rattle.tora.specs.SimulationLines.{dests_of, link_of, simulation_line_of}
 use Rattle.tora.specs.Rounds.{is_same_pair, is_parted, rounds}
-use Rattle.tora.specs.Simulator.{started, nodes_of, ends_of, height_at, hop_at}
+use Rattle.tora_sim.specs.Readers.{ends_in, height_at, hop_at}
+use Rattle.tora.specs.Simulator.{started, nodes_of}
 use Rattle.tora.specs.declared.ended.Ended.{Ended}
 use Rattle.tora.specs.declared.simulation_line.SimulationLine.{SimulationLine}
 use Rattle.tora.specs.declared.simulation_line.SimulationLine.TheVariants.{Happens, Rounds, Part, Mend, Heights, Sent, Taken}
@@ -36,7 +37,7 @@ pub data Progress : Type 0 where
 
 -- a simulation of these destinations that begins in a world
 abbrev pub begun_in : List ℕ → World → RunningView
-begun_in dests w = record { dests = dests; nodes = nodes_of w; ends = ends_of w; parted = []; world = w }
+begun_in dests w = record { dests = dests; nodes = nodes_of w; ends = ends_in w.topology; parted = []; world = w }
 
 -- ---- a line behind the links
 

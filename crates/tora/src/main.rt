@@ -19,6 +19,7 @@ mod link_lines;
 mod node_command;
 mod parse;
 mod recent;
+mod replay_command;
 mod replaying;
 mod rounds;
 mod running;
@@ -33,19 +34,15 @@ mod simulator;
 mod told;
 mod words;
 
-use cause::cause_of;
 use clap::error::ErrorKind;
 use command::command;
 pub use ended::{Ended, ReplayError};
-use flushing::replay_and_flush;
 pub use parse::{first_lines_are_read_as_written, lines_are_read_as_written};
-use recent::Recent;
 pub use replaying::{fault_is_the_first, replay};
 pub use simulated::simulate;
 pub use simulating::{simulate_in, simulation_fault_is_the_first};
 pub use simulation_parse::simulation_lines_are_read_as_written;
 pub use simulator::Simulator;
-use std::alloc::Global;
 use std::io;
 use std::io::{BufWriter, Write};
 use std::process::ExitCode;
@@ -84,37 +81,12 @@ fn status(rt: &impl Eprint, ended: Result<Ended, ReplayError>) -> ExitCode
     }
 }
 
-/// Replays standard input, and then says why a line is a fault.
-fn replay_verbosely<W: Write>(rt: &HostRuntime, writer: &mut W) -> ExitCode {
-    let alloc = rt.alloc();
-    let mut reader = Recent::new(alloc, rt.stdin());
-    let result = replay_and_flush(alloc, &mut reader, writer);
-    let code = status(rt, result);
-    let _ = match result {
-        Ok(Ended::Whole) => Ok(()),
-        Ok(Ended::Fault(number)) if reader.is_lossy() => {
-            rt.eprintln(format_args!("tora: line {number} was not kept"))
-        }
-        Ok(Ended::Fault(number)) => {
-            let cause = cause_of(alloc, number, reader.line(number));
-            rt.eprintln(format_args!("tora: line {number}: {cause}"))
-        }
-        Err(error) => rt.eprintln(format_args!("tora: {error}")),
-    };
-    code
-}
-
 /// Replays standard input.
 fn replay_input(rt: &HostRuntime, is_verbose: bool) -> ExitCode {
-    let alloc = rt.alloc();
-    let Ok(mut writer) = BufWriter::new(alloc, io::writer(rt)) else {
+    let Ok(mut writer) = BufWriter::new(rt.alloc(), io::writer(rt)) else {
         return stop(rt, MEMORY, "memory");
     };
-    if is_verbose {
-        return replay_verbosely(rt, &mut writer);
-    }
-    let result = replay_and_flush(alloc, &mut rt.stdin(), &mut writer);
-    status(rt, result)
+    replay_command::run(rt, rt.stdin(), is_verbose, &mut writer)
 }
 
 /// Simulates the lines of a file.

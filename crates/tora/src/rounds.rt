@@ -1,7 +1,8 @@
 //! Rounds of a simulation.
 ghost use Rattle.std.specs.Prelude.{◌≡◌, ◌||◌, IfOk};
 ghost use Rattle.tora_world.specs.World.{World, world_after_all};
-ghost use Rattle.tora.specs.Rounds.{repeats, each, each_core, each_end, end_event, is_same_pair, is_parted, delivery, deliveries, new_deliveries, pass, passes, round, rounds, Happened};
+ghost use Rattle.tora_world.specs.declared.Event.TheVariants.{CoreTurn};
+ghost use Rattle.tora.specs.Rounds.{repeats, while_possible, each, each_core, each_end, end_event, is_same_pair, is_parted, delivery, deliveries, new_deliveries, pass, passes, round, rounds, Happened};
 
 use crate::simulator::Simulator;
 use std::alloc::AllocError;
@@ -24,6 +25,7 @@ pub enum EndTurn {
 }
 
 impl EndTurn {
+    #[inline(always)]
     fn event(self, end: (Id, Id)) -> Event
         ensures { result ≡ end_event self end }
     {
@@ -43,12 +45,22 @@ fn either(a: bool, b: bool) -> bool
     a || b
 }
 
-/// Makes an event happen until it is refused, and so many times at most, and says whether it ever did.
-fn repeat<S: Simulator>(sim: &mut S, event: &Event, most: u64) -> Result<bool, AllocError>
+/// Makes an event happen until it is refused, and so many times at most, and says whether it ever did. The place is that of
+/// its node or link end.
+#[inline(never)]
+fn repeat<S: Simulator>(
+    sim: &mut S,
+    place: usize,
+    event: &Event,
+    most: u64,
+) -> Result<bool, AllocError>
     ensures { IfOk result (λ some. Happened (S.world sim.old) (repeats most event.now (S.world sim.old)) (S.world sim.new) some) }
 {
     let mut some = false;
     for _ in 0..most {
+        if !sim.may_happen(place, event) {
+            return Ok(some);
+        }
         let refused = sim.happen(event)?;
         match refused {
             None => some = true,
@@ -58,19 +70,49 @@ fn repeat<S: Simulator>(sim: &mut S, event: &Event, most: u64) -> Result<bool, A
     Ok(some)
 }
 
+/// Lets a core take its items.
+#[inline(always)]
+fn turn_core<S: Simulator>(sim: &mut S, place: usize, n: Id) -> Result<bool, AllocError>
+    ensures { IfOk result (λ some. Happened (S.world sim.old) (while_possible (CoreTurn n) (S.world sim.old)) (S.world sim.new) some) }
+{
+    if !sim.may_happen(place, &Event::CoreTurn(n)) {
+        return Ok(false);
+    }
+    repeat(sim, place, &Event::CoreTurn(n), MOST_TIMES)
+}
+
 /// Lets each core take its items.
+#[inline(always)]
 fn turn_cores<S: Simulator>(sim: &mut S, nodes: &[Id]) -> Result<bool, AllocError>
     ensures { IfOk result (λ some. Happened (S.world sim.old) (each_core nodes.now (S.world sim.old)) (S.world sim.new) some) }
 {
     let mut some = false;
-    for n in nodes {
-        let any = repeat(sim, &Event::CoreTurn(*n), MOST_TIMES)?;
+    for (place, n) in nodes.iter().enumerate() {
+        let any = turn_core(sim, place, *n)?;
         some = either(some, any);
     }
     Ok(some)
 }
 
+/// Gives a link end its turn, so many times at most.
+#[inline(always)]
+fn turn_end<S: Simulator>(
+    sim: &mut S,
+    kind: EndTurn,
+    place: usize,
+    end: (Id, Id),
+    most: u64,
+) -> Result<bool, AllocError>
+    ensures { IfOk result (λ some. Happened (S.world sim.old) (repeats most (end_event kind end) (S.world sim.old)) (S.world sim.new) some) }
+{
+    if !sim.may_happen(place, &kind.event(end)) {
+        return Ok(false);
+    }
+    repeat(sim, place, &kind.event(end), most)
+}
+
 /// Gives each link end its turn, so many times at most.
+#[inline(always)]
 fn turn_ends<S: Simulator>(
     sim: &mut S,
     ends: &[(Id, Id)],
@@ -80,8 +122,8 @@ fn turn_ends<S: Simulator>(
     ensures { IfOk result (λ some. Happened (S.world sim.old) (each (λ e. repeats most (end_event kind e)) ends.now (S.world sim.old)) (S.world sim.new) some) }
 {
     let mut some = false;
-    for end in ends {
-        let any = repeat(sim, &kind.event(*end), most)?;
+    for (place, end) in ends.iter().enumerate() {
+        let any = turn_end(sim, kind, place, *end, most)?;
         some = either(some, any);
     }
     Ok(some)
@@ -111,7 +153,7 @@ fn deliver<S: Simulator>(sim: &mut S, parted: &[(Id, Id)], i: u64) -> Result<boo
     if is_parted(parted, sender, receiver) {
         return Ok(false);
     }
-    repeat(sim, &Event::Deliver(i), 1)
+    repeat(sim, 0, &Event::Deliver(i), 1)
 }
 
 /// Delivers the datagrams behind the first ones.
@@ -179,7 +221,7 @@ fn round<S: Simulator>(
 ) -> Result<(), AllocError>
     ensures { IfOk result (λ _. S.world sim.new ≡ world_after_all (S.world sim.old) (round nodes.now ends.now parted.now (S.world sim.old))) }
 {
-    repeat(sim, &Event::Tick, 1)?;
+    repeat(sim, 0, &Event::Tick, 1)?;
     turn_ends(sim, ends, EndTurn::Open, 1)?;
     make_passes(sim, nodes, ends, parted)?;
     Ok(())

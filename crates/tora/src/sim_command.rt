@@ -1,5 +1,10 @@
 //! `tora sim FILE`: a simulation of a file of lines.
-use crate::ended::Ended;
+ghost use Rattle.std.specs.Prelude.{◌≡◌, ◌⊎◌};
+ghost use Rattle.std.specs.Process.{exit_status};
+ghost use Rattle.tora.specs.Endings.{EndsBy, EndsFile};
+ghost use Rattle.tora.specs.SimulationText.{simulation_rules};
+
+use crate::ended::{Ended, ReplayError};
 use crate::flushing::{simulate_and_flush, simulate_told_and_flush};
 use crate::recent::Recent;
 use crate::session::LONGEST_LINE;
@@ -7,14 +12,15 @@ use crate::simulation_cause::SimulationCause;
 use crate::simulator::Simulator;
 use crate::told::tell_cause;
 use crate::{INPUT, MEMORY, status, stop};
-use std::fs::File;
-use std::io;
 use std::io::{ErrorKind, Read, Write};
 use std::process::ExitCode;
 use std::rt::Files;
+use std::{fs, io};
 
 /// Says why there is no file, and ends with the status of the cause.
-fn refuse<R: Eprint>(rt: &R, path: &str, error: &io::Error, is_verbose: bool) -> ExitCode {
+fn refuse<R: Eprint>(rt: &R, path: &str, error: &io::Error, is_verbose: bool) -> ExitCode
+    ensures { (exit_status result ≡ 1) ⊎ (exit_status result ≡ 5) }
+{
     if error.kind() == ErrorKind::OutOfMemory {
         return stop(rt, MEMORY, "memory");
     }
@@ -25,16 +31,9 @@ fn refuse<R: Eprint>(rt: &R, path: &str, error: &io::Error, is_verbose: bool) ->
     code
 }
 
-/// Simulates, and says why events are refused, why a line is a fault, and what failed.
-fn simulate_verbosely<S: Simulator, T: AllocGlobal + Eprint, R: Read + Drop, W: Write>(
-    rt: &T,
-    reader: R,
-    writer: &mut W,
-) -> ExitCode {
-    let alloc = rt.alloc();
-    let mut reader = Recent::new(alloc, reader);
-    let result = simulate_told_and_flush::<S, T, Recent<R>, W>(rt, alloc, &mut reader, writer);
-    match result {
+/// Says why a line is too long, or what failed: what else is a fault was told as it came.
+fn tell<T: Eprint, R: Read>(rt: &T, reader: &Recent<R>, ended: Result<Ended, ReplayError>) {
+    match ended {
         Ok(Ended::Whole) => {}
         Ok(Ended::Fault(number)) => {
             let len = reader.line(number).map_or(0, |line| line.len());
@@ -46,24 +45,65 @@ fn simulate_verbosely<S: Simulator, T: AllocGlobal + Eprint, R: Read + Drop, W: 
             let _ = rt.eprintln(format_args!("tora: {error}"));
         }
     }
+}
+
+/// Simulates, and says why events are refused, why a line is a fault, and what failed.
+fn simulate_verbosely<S: Simulator, T: AllocGlobal + Eprint, R: Read + Drop, W: Write>(
+    rt: &T,
+    reader: R,
+    writer: &mut W,
+) -> ExitCode
+    ensures { EndsBy simulation_rules (R.remaining reader) (W.contents writer.old) (W.contents writer.new) (exit_status result) }
+{
+    let alloc = rt.alloc();
+    let mut reader = Recent::new(alloc, reader);
+    let result = simulate_told_and_flush::<S, T, Recent<R>, W>(rt, alloc, &mut reader, writer);
+    tell(rt, &reader, result);
     status(rt, result)
 }
 
-/// Simulates the lines of the file at a path, and ends with a status: 0 at the end of the file, 1 where a line is a fault
-/// or the file can't be opened or read or the output can't be written, 5 where memory was refused.
-pub fn run<S: Simulator, T: Files<File = File> + AllocGlobal + Eprint, W: Write>(
+/// Simulates, and says no more than the cause of a status.
+fn simulate_quietly<S: Simulator, T: AllocGlobal + Eprint, R: Read + Drop, W: Write>(
+    rt: &T,
+    reader: R,
+    writer: &mut W,
+) -> ExitCode
+    ensures { EndsBy simulation_rules (R.remaining reader) (W.contents writer.old) (W.contents writer.new) (exit_status result) }
+{
+    let mut reader = reader;
+    let result = simulate_and_flush::<S, R, W>(rt.alloc(), &mut reader, writer);
+    status(rt, result)
+}
+
+/// Simulates the lines that a reader gives, and ends with a status: 0 at its end, 1 where a line is a fault or reading or
+/// writing failed, 5 where memory was refused.
+pub fn run_over<S: Simulator, T: AllocGlobal + Eprint, R: Read + Drop, W: Write>(
+    rt: &T,
+    reader: R,
+    is_verbose: bool,
+    writer: &mut W,
+) -> ExitCode
+    ensures { EndsBy simulation_rules (R.remaining reader) (W.contents writer.old) (W.contents writer.new) (exit_status result) }
+{
+    if is_verbose {
+        simulate_verbosely::<S, T, R, W>(rt, reader, writer)
+    } else {
+        simulate_quietly::<S, T, R, W>(rt, reader, writer)
+    }
+}
+
+/// Simulates the lines of the file at a path, and ends with a status: that of `run_over` over the file, 1 where it can't be
+/// opened, and 5 where memory was refused for that. Nothing is written where it is not opened.
+pub fn run<S: Simulator, T: Files + AllocGlobal + Eprint, W: Write>(
     rt: &T,
     path: &str,
     is_verbose: bool,
     writer: &mut W,
-) -> ExitCode {
-    let mut file = match File::open(rt, path) {
-        Ok(file) => file,
-        Err(error) => return refuse(rt, path, &error, is_verbose),
-    };
-    if is_verbose {
-        return simulate_verbosely::<S, T, File, W>(rt, file, writer);
+) -> ExitCode
+    ensures { EndsFile T.File.remaining simulation_rules (W.contents writer.old) (W.contents writer.new) (exit_status result) }
+{
+    match fs::open(rt, path) {
+        Ok(file) => run_over::<S, T, T::File, W>(rt, file, is_verbose, writer),
+        Err(error) => refuse(rt, path, &error, is_verbose),
     }
-    let result = simulate_and_flush::<S, File, W>(rt.alloc(), &mut file, writer);
-    status(rt, result)
 }

@@ -28,6 +28,11 @@ impl Simulator for Sim {
         }
     }
 
+    #[inline(always)]
+    fn may_happen(&self, place: usize, event: &Event) -> bool {
+        Sim::may_happen(self, place, event)
+    }
+
     fn happen(&mut self, event: &Event) -> Result<Option<SimError>, AllocError> {
         match self.step(event) {
             Ok(()) => Ok(None),

@@ -3,6 +3,7 @@ use Rattle.std.proofs.Common.{◌≡◌, ℕ, zero, suc, ◌<◌, ◌≤◌, Boo
 use borrow.Author.Tests.{ltb-true, ltb-false}
 use Rattle.std.specs.Result.{result_ok}
 use Rattle.std.proofs.lemmas.Bool.Decides.{nat_tests}
+use Rattle.std.proofs.lemmas.List.{get_or_default}
 use Rattle.std.proofs.lemmas.Bool.{cases_Bool, and_parts}
 use Rattle.std.specs.Ordering.{nat_cmp, ordering_then, ordering_index}
 use Rattle.std.specs.declared.cmp.Ordering.{Ordering}
@@ -83,6 +84,13 @@ place_first n k links i h lt e = record {
       elim (h j i d less lt) [ inl x ↦ (let p = at.0 in let q : (get_or links j d).node < (get_or links i d).node = x in absurd (omega arith)) | inr x ↦ (let p = at.1 in let q = x.1 in absurd (omega arith)) ]);
 }
 
+equal_compared : (n k : ℕ) (link : LinkView) → is_at n k link ≡ true → compared n k link ≡ Equal
+equal_compared n k link e = let p = and_parts _ _ e in let a = eqb-true link.node n p.0 in let b = eqb-true link.peer k p.1 in grind (arith, nat_tests)
+
+-- a read of the end at a place finds the first one
+pub read_first : (n k : ℕ) (links : List LinkView) (i : ℕ) (x : LinkView) → AreRising links → i < length links → x ≡ get_or links i x → is_at n k x ≡ true → IsFirst (is_at n k) links i
+read_first n k links i x h lt read e = place_first n k links i h lt (λ d. equal_compared n k (get_or links i d) (subst (λ y. is_at n k y ≡ true) (read ∙ get_or_default links i x d lt) e))
+
 pub place_none : (n k : ℕ) (links : List LinkView) (i : ℕ) → AreRising links → IsBinarySearchResult (compared n k) links (Err i) → find (is_at n k) links ≡ None
 place_none n k links i h e =
     let parts = e (indexes_rise n k links h) in
@@ -135,6 +143,13 @@ node_first n nodes i h lt e = record {
       let q : (get_or nodes j d).node < (get_or nodes i d).node = h j i d less lt in
       absurd (omega arith));
 }
+
+node_compared : (n : ℕ) (node : NodeView) → is_of n node ≡ true → ordered n node ≡ Equal
+node_compared n node e = let a = eqb-true node.node n e in grind (arith, nat_tests)
+
+-- a read of the node at a place finds the first one
+pub read_first_node : (n : ℕ) (nodes : List NodeView) (i : ℕ) (x : NodeView) → Nodes.AreRising nodes → i < length nodes → x ≡ get_or nodes i x → is_of n x ≡ true → IsFirst (is_of n) nodes i
+read_first_node n nodes i x h lt read e = node_first n nodes i h lt (λ d. node_compared n (get_or nodes i d) (subst (λ y. is_of n y ≡ true) (read ∙ get_or_default nodes i x d lt) e))
 
 node_none : (n : ℕ) (nodes : List NodeView) (i : ℕ) → Nodes.AreRising nodes → IsBinarySearchResult (ordered n) nodes (Err i) → find (is_of n) nodes ≡ None
 node_none n nodes i h e =

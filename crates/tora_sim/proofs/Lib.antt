@@ -25,4 +25,5 @@ pub mod KeyLists
 pub mod FirstStore
 pub mod FreshEnds
 pub mod Restarting
+pub mod Possibles
 pub mod NodeEnds

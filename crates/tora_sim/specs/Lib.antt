@@ -6,6 +6,7 @@ pub mod Topologies
 pub mod Store
 pub mod Steps
 pub mod Readers
+pub mod Possible
 pub mod Firsts
 pub mod Lanes
 pub mod Turns

@@ -9,6 +9,7 @@ ghost use Rattle.tora_sim.specs.Firsts.{IsFirstEnd, AreAdded, IsMade};
 
 use crate::SimError;
 use crate::files::open;
+use crate::hints::Hints;
 use crate::links::LinkSlot;
 use crate::nodes::{NodeSlot, Sending};
 use crate::sim::Sim;
@@ -45,6 +46,7 @@ impl Sim {
         for n in named.as_slice() {
             add_node(alloc, &own, *n, &mut nodes, &mut links)?;
         }
+        let hints = Hints::new(&nodes);
         Ok(Sim {
             topology: own,
             times: Times::STANDARD,
@@ -52,6 +54,7 @@ impl Sim {
             nodes,
             links,
             datagrams: Vec::new(alloc),
+            hints,
         })
     }
 }

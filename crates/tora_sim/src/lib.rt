@@ -1,11 +1,26 @@
 //! A simulated world of nodes, links and datagrams.
+//!
+//! `Sim` is the world that the prefix law speaks of, with its cores, link ends, life files and lanes, as a value: `step` lets
+//! one event happen, or refuses it and changes nothing. Nothing happens by itself, and nothing is random. All datagrams that
+//! were ever sent stay, so that each can be delivered late, twice or never. Own profile.
+//!
+//! ```rust
+//! let topology = Topology::new(alloc, &[(1, 2)], &[2])?; // one link, and tables for the destination 2
+//! let mut sim = Sim::new(alloc, &topology)?;
+//! sim.run(&[Event::Open(1, 2), Event::Transmit(1, 2)])?; // the end of node 1 sends its first HELLO
+//! assert_eq!(rt; sim.datagram(1), Some((1, 2)));
+//! assert_eq!(rt; sim.step(&Event::Pull(1, 2)), Err(SimError::NotPossible)); // no cargo waits
+//! assert_eq!(rt; sim.height(2, 2), Some(Some(Height::zero(2))));
+//! ```
 #![tactic(auto)]
 
 mod files;
 mod first;
+mod hints;
 mod lanes;
 mod links;
 mod nodes;
+mod possible;
 mod readers;
 mod restarts;
 mod sim;

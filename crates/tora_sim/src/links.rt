@@ -11,10 +11,12 @@ ghost use Rattle.tora_sim.specs.Lanes.{after_offer_at, has_place, bare, HasRoom}
 
 use crate::SimError;
 use crate::files::FileSlot;
+use crate::hints::Hints;
 use std::alloc::Global;
 use std::marker::Model;
 use std::mem;
 use tora_arq::{Life, LinkEnd, LinkEvent, lives_are_bound_once};
+use tora_core::MOST_NEIGHBOURS;
 use tora_frame::Frame;
 use tora_height::Id;
 use tora_life::{DiskCall, MemDisk};
@@ -59,6 +61,13 @@ impl LinkSlot {
         ensures { result ≡ (self.now.node, self.now.peer) }
     {
         (self.node, self.peer)
+    }
+
+    /// Whether it is the end of node `n` towards `k`.
+    pub fn is_end(&self, n: Id, k: Id) -> bool
+        ensures { result ≡ is_at n k self.now }
+    {
+        self.node == n && self.peer == k
     }
 
     /// The place of the peer among the node's neighbours.
@@ -244,12 +253,34 @@ fn give(end: &mut LinkEnd, cargo: &Cargo)
 }
 
 /// The place of the end of node `n` towards `k`.
-pub fn place(links: &Vec<LinkSlot>, n: Id, k: Id) -> Option<usize>
+pub fn place(links: &Vec<LinkSlot>, hints: &Hints, n: Id, k: Id) -> Option<usize>
     requires { AreRising links.now.items }
     ensures first { IfSome result (λ i. IsFirst (is_at n k) links.now.items i) }
     ensures none { IfNone result (find (is_at n k) links.now.items ≡ None) }
 {
-    search(links, n, k)
+    match near(links, hints.first_end(n), n, k) {
+        Some(at) => Some(at),
+        None => search(links, n, k),
+    }
+}
+
+/// The place of the end, where it is among the eight from the place `first` on.
+fn near(links: &[LinkSlot], first: usize, n: Id, k: Id) -> Option<usize>
+    requires { AreRising links.now }
+    ensures { IfSome result (λ i. IsFirst (is_at n k) links.now i) }
+{
+    for seat in 0..MOST_NEIGHBOURS {
+        let at = first.saturating_add(seat);
+        match links.get(at) {
+            Some(link) => {
+                if link.is_end(n, k) {
+                    return Some(at);
+                }
+            }
+            None => return None,
+        }
+    }
+    None
 }
 
 fn search(links: &[LinkSlot], n: Id, k: Id) -> Option<usize>

@@ -9,6 +9,7 @@ ghost use Rattle.tora_sim.specs.Keyed.{IsFirst};
 ghost use Rattle.tora_sim.specs.Nodes.{NodeView, is_of, AreRising, after_item};
 
 use crate::SimError;
+use crate::hints::Hints;
 use crate::lanes::NodeLanes;
 use std::alloc::Global;
 use std::collections::VecDeque;
@@ -59,10 +60,17 @@ impl Model for NodeSlot {
 
 impl NodeSlot {
     /// Its number, by which the nodes are in order.
-    fn key(&self) -> Id
+    pub fn key(&self) -> Id
         ensures { result ≡ self.now.node }
     {
         self.node
+    }
+
+    /// Whether it is node `n`.
+    pub fn is_node(&self, n: Id) -> bool
+        ensures { result ≡ is_of n self.now }
+    {
+        self.node == n
     }
 
     /// How many neighbours it has.
@@ -219,12 +227,26 @@ fn note_inputs(inputs: &mut Vec<(Input, u64)>, accepted: &[Input], now: u64)
 }
 
 /// The place of a node.
-pub fn place(nodes: &Vec<NodeSlot>, n: Id) -> Option<usize>
+pub fn place(nodes: &Vec<NodeSlot>, hints: &Hints, n: Id) -> Option<usize>
     requires { AreRising nodes.now.items }
     ensures first { IfSome result (λ i. IsFirst (is_of n) nodes.now.items i) }
     ensures none { IfNone result (find (is_of n) nodes.now.items ≡ None) }
 {
-    search(nodes, n)
+    match near(nodes, hints.node(n), n) {
+        Some(at) => Some(at),
+        None => search(nodes, n),
+    }
+}
+
+/// The place, where the node stands there.
+fn near(nodes: &[NodeSlot], place: usize, n: Id) -> Option<usize>
+    requires { AreRising nodes.now }
+    ensures { IfSome result (λ i. IsFirst (is_of n) nodes.now i) }
+{
+    match nodes.get(place) {
+        Some(node) => { if node.is_node(n) { Some(place) } else { None } }
+        None => None,
+    }
 }
 
 fn search(nodes: &[NodeSlot], n: Id) -> Option<usize>

@@ -79,7 +79,7 @@ impl Sim {
     pub fn height(&self, n: Id, d: Id) -> Option<Entry>
         ensures { result ≡ height_at (world_of self.now) n d }
     {
-        match node_place(&self.nodes, n) {
+        match node_place(&self.nodes, &self.hints, n) {
             Some(at) => self.nodes[at].height(d),
             None => None,
         }
@@ -89,7 +89,7 @@ impl Sim {
     pub fn next_hop(&self, n: Id, d: Id) -> Option<Id>
         ensures { result ≡ hop_at (world_of self.now) n d }
     {
-        match node_place(&self.nodes, n) {
+        match node_place(&self.nodes, &self.hints, n) {
             Some(at) => self.nodes[at].next_hop(d),
             None => None,
         }
@@ -100,7 +100,7 @@ impl Sim {
     pub fn sent_count(&self, a: Id, b: Id, life: Life) -> usize
         ensures { result ≡ length (sent_packets (world_of self.now) a b life) }
     {
-        match place(&self.links, a, b) {
+        match place(&self.links, &self.hints, a, b) {
             Some(at) => self.links[at].sent_count(life),
             None => 0,
         }
@@ -116,7 +116,7 @@ impl Sim {
     pub fn sent(&self, alloc: Global, a: Id, b: Id, life: Life) -> Result<Vec<Packet>, AllocError>
         ensures { IfOk result (λ v. v.items ≡ sent_packets (world_of self.now) a b life) }
     {
-        match place(&self.links, a, b) {
+        match place(&self.links, &self.hints, a, b) {
             Some(at) => self.links[at].sent(alloc, life),
             None => Ok(Vec::new(alloc)),
         }
@@ -127,7 +127,7 @@ impl Sim {
     pub fn taken_count(&self, b: Id, a: Id, life: Life) -> usize
         ensures { result ≡ length (taken_packets (world_of self.now) b a life) }
     {
-        match place(&self.links, b, a) {
+        match place(&self.links, &self.hints, b, a) {
             Some(at) => self.links[at].taken_count(life),
             None => 0,
         }
@@ -143,7 +143,7 @@ impl Sim {
     pub fn taken(&self, alloc: Global, b: Id, a: Id, life: Life) -> Result<Vec<Packet>, AllocError>
         ensures { IfOk result (λ v. v.items ≡ taken_packets (world_of self.now) b a life) }
     {
-        match place(&self.links, b, a) {
+        match place(&self.links, &self.hints, b, a) {
             Some(at) => self.links[at].taken(alloc, life),
             None => Ok(Vec::new(alloc)),
         }

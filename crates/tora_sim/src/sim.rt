@@ -7,6 +7,7 @@ ghost use Rattle.tora_sim.specs.Store.{numbered, call_of};
 ghost use Rattle.tora_sim.specs.Keyed.{IsFirst};
 ghost use Rattle.tora_sim.specs.Steps.{Does, Runs};
 
+use crate::hints::Hints;
 use crate::lanes::make_room;
 use crate::links::{LinkSlot, arm, place, tick};
 use crate::nodes::{NodeSlot, Sending, place as node_place};
@@ -33,6 +34,8 @@ pub struct Sim {
     pub(crate) nodes: Vec<NodeSlot>,
     pub(crate) links: Vec<LinkSlot>,
     pub(crate) datagrams: Vec<Frame>,
+    /// Where the nodes and the link ends may stand.
+    pub(crate) hints: Hints,
 }
 
 impl Model for Sim {
@@ -62,7 +65,7 @@ impl Sim {
     pub(crate) fn open(&mut self, n: Id, k: Id) -> Result<(), SimError>
         ensures { Does self.old (Open n k) result self.new }
     {
-        let Some(at) = place(&self.links, n, k) else {
+        let Some(at) = place(&self.links, &self.hints, n, k) else {
             return Err(SimError::NoNode);
         };
         if !self.links[at].is_closed() {
@@ -76,7 +79,7 @@ impl Sim {
     pub(crate) fn pull(&mut self, n: Id, k: Id) -> Result<(), SimError>
         ensures { Does self.old (Pull n k) result self.new }
     {
-        let Some(at) = place(&self.links, n, k) else {
+        let Some(at) = place(&self.links, &self.hints, n, k) else {
             return Err(SimError::NoNode);
         };
         if !self.links[at].has_cargo() {
@@ -90,7 +93,7 @@ impl Sim {
     pub(crate) fn need(&mut self, n: Id, d: Id) -> Result<(), SimError>
         ensures { Does self.old (Need n d) result self.new }
     {
-        let Some(home) = node_place(&self.nodes, n) else {
+        let Some(home) = node_place(&self.nodes, &self.hints, n) else {
             return Err(SimError::NoNode);
         };
         if self.nodes[home].waiting() >= MOST_ITEMS {
@@ -104,13 +107,13 @@ impl Sim {
     pub(crate) fn transmit(&mut self, n: Id, k: Id) -> Result<(), SimError>
         ensures { Does self.old (Transmit n k) result self.new }
     {
-        let Some(at) = place(&self.links, n, k) else {
+        let Some(at) = place(&self.links, &self.hints, n, k) else {
             return Err(SimError::NoNode);
         };
         if !self.links[at].has_frame_due(self.clock) {
             return Err(SimError::NotPossible);
         }
-        let Some(home) = node_place(&self.nodes, n) else {
+        let Some(home) = node_place(&self.nodes, &self.hints, n) else {
             return Err(SimError::NoNode);
         };
         if self.datagrams.reserve(1).is_err() {
@@ -128,13 +131,13 @@ impl Sim {
     pub(crate) fn pump(&mut self, n: Id, k: Id) -> Result<(), SimError>
         ensures { Does self.old (Pump n k) result self.new }
     {
-        let Some(at) = place(&self.links, n, k) else {
+        let Some(at) = place(&self.links, &self.hints, n, k) else {
             return Err(SimError::NoNode);
         };
         let Some(event) = self.links[at].next_event() else {
             return Err(SimError::NotPossible);
         };
-        let Some(home) = node_place(&self.nodes, n) else {
+        let Some(home) = node_place(&self.nodes, &self.hints, n) else {
             return Err(SimError::NoNode);
         };
         if self.nodes[home].waiting() >= MOST_ITEMS {
@@ -158,14 +161,14 @@ impl Sim {
             return Err(SimError::NoDatagram);
         };
         let header = frame.header();
-        let Some(home) = node_place(&self.nodes, header.receiver) else {
+        let Some(home) = node_place(&self.nodes, &self.hints, header.receiver) else {
             return Err(SimError::NoDatagram);
         };
         if self.nodes[home].receive() {
             self.nodes[home].arm_receive(false);
             return Ok(());
         }
-        let Some(at) = place(&self.links, header.receiver, header.sender) else {
+        let Some(at) = place(&self.links, &self.hints, header.receiver, header.sender) else {
             return Err(SimError::NoDatagram);
         };
         self.links[at].receive(&frame, self.clock);
@@ -176,7 +179,7 @@ impl Sim {
     pub(crate) fn core_turn(&mut self, n: Id) -> Result<(), SimError>
         ensures { Does self.old (CoreTurn n) result self.new }
     {
-        let Some(home) = node_place(&self.nodes, n) else {
+        let Some(home) = node_place(&self.nodes, &self.hints, n) else {
             return Err(SimError::NoNode);
         };
         if self.nodes[home].waiting() == 0 {
@@ -194,7 +197,7 @@ impl Sim {
     pub(crate) fn restart(&mut self, n: Id, torn: Option<[u8; 16]>) -> Result<(), SimError>
         ensures { Does self.old (Restart n torn) result self.new }
     {
-        let Some(home) = node_place(&self.nodes, n) else {
+        let Some(home) = node_place(&self.nodes, &self.hints, n) else {
             return Err(SimError::NoNode);
         };
         let alloc = *self.nodes.allocator();
@@ -215,7 +218,7 @@ impl Sim {
     pub(crate) fn arm(&mut self, n: Id, call: Call) -> Result<(), SimError>
         ensures { Does self.old (Arm n call) result self.new }
     {
-        let Some(home) = node_place(&self.nodes, n) else {
+        let Some(home) = node_place(&self.nodes, &self.hints, n) else {
             return Err(SimError::NoNode);
         };
         match call {

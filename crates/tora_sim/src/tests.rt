@@ -10,7 +10,7 @@ use std::process::Abort;
 use std::test::Fail;
 use tora_arq::Life;
 use tora_core::CoreError;
-use tora_height::{Height, Id};
+use tora_height::{Entry, Height, Id};
 use tora_packet::{Packet, Update};
 
 /// Whether no number in links is 0.
@@ -154,24 +154,72 @@ fn row(rt: &impl Abort, alloc: Global) -> Sim {
     Sim::new(alloc, &topology).expect(rt, "a simulator")
 }
 
+/// Lets events happen, each of which is possible.
+fn run(rt: &impl Abort, sim: &mut Sim, events: &[Event]) {
+    assert_eq!(rt; sim.run(events), Ok(()));
+}
+
+/// Sees what is told of a datagram.
+fn sees_datagram(rt: &impl Abort, sim: &Sim, i: u64, way: Option<(Id, Id)>) {
+    assert_eq!(rt; sim.datagram(i), way);
+}
+
+/// Sees a node's height and next hop for a destination.
+fn sees_route(rt: &impl Abort, sim: &Sim, n: Id, d: Id, height: Option<Entry>, hop: Option<Id>) {
+    assert_eq!(rt; sim.height(n, d), height);
+    assert_eq!(rt; sim.next_hop(n, d), hop);
+}
+
+/// Sees the packets that the core of `a` sent to `b` in a life, as the end of `a` writes it.
+fn sees_sent(
+    rt: &impl Abort,
+    alloc: Global,
+    sim: &Sim,
+    lane: (Id, Id, Life),
+    packets: &[Packet],
+) -> Result<(), Fail> {
+    let (a, b, life) = lane;
+    assert_eq!(rt; sim.sent_count(a, b, life), packets.len());
+    assert_eq!(rt; sim.sent(alloc, a, b, life)?.as_slice(), packets);
+    Ok(())
+}
+
+/// Sees the packets of `a` that the core of `b` took in a life, as the end of `b` writes it.
+fn sees_taken(
+    rt: &impl Abort,
+    alloc: Global,
+    sim: &Sim,
+    lane: (Id, Id, Life),
+    packets: &[Packet],
+) -> Result<(), Fail> {
+    let (b, a, life) = lane;
+    assert_eq!(rt; sim.taken_count(b, a, life), packets.len());
+    assert_eq!(rt; sim.taken(alloc, b, a, life)?.as_slice(), packets);
+    Ok(())
+}
+
+/// Sees the lists of a world of nodes 1, 2 and 3 in a row at its start.
+fn sees_row(rt: &impl Abort, alloc: Global, sim: &Sim) -> Result<(), Fail> {
+    let ends = [(1, 2), (2, 1), (2, 3), (3, 2)];
+    assert_eq!(rt; sim.nodes(alloc)?.as_slice(), [1, 2, 3].as_slice());
+    assert_eq!(rt; sim.ends(alloc)?.as_slice(), ends.as_slice());
+    assert_eq!(rt; sim.topology().links(), [(3, 2), (1, 2)].as_slice());
+    assert_eq!(rt; sim.clock(), 0);
+    assert_eq!(rt; sim.datagrams(), 0);
+    Ok(())
+}
+
 #[test]
 fn first_world_is_read(rt: HostRuntime) -> Result<(), Fail> {
-    let alloc = rt.alloc();
-    let sim = row(&rt, alloc);
-    assert_eq!(&rt; sim.nodes(alloc)?.as_slice(), [1, 2, 3].as_slice());
-    let ends = [(1, 2), (2, 1), (2, 3), (3, 2)];
-    assert_eq!(&rt; sim.ends(alloc)?.as_slice(), ends.as_slice());
-    assert_eq!(&rt; sim.topology().links(), [(3, 2), (1, 2)].as_slice());
-    assert_eq!(&rt; sim.clock(), 0);
-    assert_eq!(&rt; sim.datagrams(), 0);
-    assert_eq!(&rt; sim.datagram(0), None);
-    assert_eq!(&rt; sim.datagram(1), None);
+    let sim = row(&rt, rt.alloc());
+    sees_row(&rt, rt.alloc(), &sim)?;
+    sees_datagram(&rt, &sim, 0, None);
+    sees_datagram(&rt, &sim, 1, None);
     let zero = Height::zero(3);
-    assert_eq!(&rt; sim.height(3, 3), Some(Some(zero)));
-    assert_eq!(&rt; sim.height(1, 3), Some(None));
-    assert_eq!(&rt; sim.height(1, 2), None);
-    assert_eq!(&rt; sim.height(4, 3), None);
-    assert_eq!(&rt; sim.next_hop(1, 3), None);
+    sees_route(&rt, &sim, 3, 3, Some(Some(zero)), None);
+    sees_route(&rt, &sim, 1, 3, Some(None), None);
+    sees_route(&rt, &sim, 1, 2, None, None);
+    sees_route(&rt, &sim, 4, 3, None, None);
     Ok(())
 }
 
@@ -180,30 +228,48 @@ fn nothing_is_sent_or_taken_yet(rt: HostRuntime) -> Result<(), Fail> {
     let alloc = rt.alloc();
     let sim = row(&rt, alloc);
     let life = Life { own: 1, peer: 1 };
-    assert_eq!(&rt; sim.sent_count(1, 2, life), 0);
-    assert_eq!(&rt; sim.sent(alloc, 1, 2, life)?.len(), 0);
-    assert_eq!(&rt; sim.taken_count(2, 1, life), 0);
-    assert_eq!(&rt; sim.taken(alloc, 2, 1, life)?.len(), 0);
-    assert_eq!(&rt; sim.sent(alloc, 1, 3, life)?.len(), 0);
-    assert_eq!(&rt; sim.taken(alloc, 3, 1, life)?.len(), 0);
-    Ok(())
+    sees_sent(&rt, alloc, &sim, (1, 2, life), &[])?;
+    sees_taken(&rt, alloc, &sim, (2, 1, life), &[])?;
+    sees_sent(&rt, alloc, &sim, (1, 3, life), &[])?;
+    sees_taken(&rt, alloc, &sim, (3, 1, life), &[])
 }
 
 #[test]
 fn sent_datagram_is_read(rt: HostRuntime) -> Result<(), Fail> {
     let mut sim = row(&rt, rt.alloc());
     let events = [Event::Tick, Event::Open(2, 3), Event::Transmit(2, 3)];
-    assert_eq!(&rt; sim.run(&events), Ok(()));
+    run(&rt, &mut sim, &events);
     assert_eq!(&rt; sim.clock(), 1);
     assert_eq!(&rt; sim.datagrams(), 1);
-    assert_eq!(&rt; sim.datagram(1), Some((2, 3)));
-    assert_eq!(&rt; sim.datagram(2), None);
+    sees_datagram(&rt, &sim, 1, Some((2, 3)));
+    sees_datagram(&rt, &sim, 2, None);
     Ok(())
 }
 
-/// The events by which the link of nodes 1 and 2 comes up, and an update of node 1 for the destination 2 is stepped by
-/// node 2; the datagram of the update is delivered twice.
-const MEETING: [Event; 20] = [
+/// Sees which events may be possible, by the places of their nodes and ends.
+fn sees_possible(rt: &impl Abort, sim: &Sim, place: usize, event: Event, is_possible: bool) {
+    assert_eq!(rt; sim.may_happen(place, &event), is_possible);
+}
+
+#[test]
+fn places_tell_what_is_impossible(rt: HostRuntime) -> Result<(), Fail> {
+    let mut sim = row(&rt, rt.alloc());
+    run(&rt, &mut sim, &[Event::Open(2, 3), Event::Need(2, 3)]);
+    sees_possible(&rt, &sim, 2, Event::Open(2, 3), false);
+    sees_possible(&rt, &sim, 3, Event::Open(3, 2), true);
+    sees_possible(&rt, &sim, 2, Event::Transmit(2, 3), true);
+    sees_possible(&rt, &sim, 3, Event::Transmit(3, 2), false);
+    sees_possible(&rt, &sim, 2, Event::Pull(2, 3), false);
+    sees_possible(&rt, &sim, 2, Event::Pump(2, 3), false);
+    sees_possible(&rt, &sim, 1, Event::CoreTurn(2), true);
+    sees_possible(&rt, &sim, 0, Event::CoreTurn(1), false);
+    // At the place of another nothing is known.
+    sees_possible(&rt, &sim, 1, Event::Open(2, 3), true);
+    Ok(())
+}
+
+/// The events by which the link of nodes 1 and 2 comes up.
+const MEETING: [Event; 14] = [
     Event::Need(1, 2),
     Event::CoreTurn(1),
     Event::Open(1, 2),
@@ -218,6 +284,11 @@ const MEETING: [Event; 20] = [
     Event::Pump(2, 1),
     Event::CoreTurn(2),
     Event::CoreTurn(1),
+];
+
+/// The events by which an update of node 1 for the destination 2 is stepped by node 2; the datagram of the update is
+/// delivered twice.
+const UPDATING: [Event; 6] = [
     Event::Pull(1, 2),
     Event::Transmit(1, 2),
     Event::Deliver(4),
@@ -226,35 +297,44 @@ const MEETING: [Event; 20] = [
     Event::CoreTurn(2),
 ];
 
+/// The world of nodes 1 and 2 after their meeting and the update.
+fn met(rt: &impl Abort, alloc: Global) -> Sim {
+    let topology = made(rt, alloc, &[(1, 2)], &[2]).expect(rt, "a topology");
+    let mut sim = Sim::new(alloc, &topology).expect(rt, "a simulator");
+    run(rt, &mut sim, &MEETING);
+    run(rt, &mut sim, &UPDATING);
+    sim
+}
+
 #[test]
 fn sent_and_taken_packets_are_read(rt: HostRuntime) -> Result<(), Fail> {
     let alloc = rt.alloc();
-    let topology = made(&rt, alloc, &[(1, 2)], &[2]).expect(&rt, "a topology");
-    let mut sim = Sim::new(alloc, &topology).expect(&rt, "a simulator");
-    assert_eq!(&rt; sim.run(&MEETING), Ok(()));
+    let sim = met(&rt, alloc);
     assert_eq!(&rt; sim.datagrams(), 4);
-    assert_eq!(&rt; sim.datagram(2), Some((2, 1)));
-    assert_eq!(&rt; sim.datagram(4), Some((1, 2)));
+    sees_datagram(&rt, &sim, 2, Some((2, 1)));
+    sees_datagram(&rt, &sim, 4, Some((1, 2)));
     let height = Height::new(0, 0, 0, 1, 1).expect(&rt, "a height");
-    assert_eq!(&rt; sim.height(1, 2), Some(Some(height)));
-    assert_eq!(&rt; sim.next_hop(1, 2), Some(2));
-    assert_eq!(&rt; sim.next_hop(2, 2), None);
+    sees_route(&rt, &sim, 1, 2, Some(Some(height)), Some(2));
+    sees_route(&rt, &sim, 2, 2, Some(Some(Height::zero(2))), None);
     let update = Packet::Upd(Update::new(2, height).expect(&rt, "an update"));
     let life = Life { own: 1, peer: 1 };
-    assert_eq!(&rt; sim.sent_count(1, 2, life), 1);
-    assert_eq!(&rt;
-        sim.sent(alloc, 1, 2, life)?.as_slice(),
-        [update].as_slice()
-    );
-    assert_eq!(&rt; sim.taken_count(2, 1, life), 1);
-    assert_eq!(&rt;
-        sim.taken(alloc, 2, 1, life)?.as_slice(),
-        [update].as_slice()
-    );
+    sees_sent(&rt, alloc, &sim, (1, 2, life), &[update])?;
+    sees_taken(&rt, alloc, &sim, (2, 1, life), &[update])?;
     let other = Life { own: 1, peer: 2 };
-    assert_eq!(&rt; sim.sent_count(1, 2, other), 0);
-    assert_eq!(&rt; sim.taken(alloc, 2, 1, other)?.len(), 0);
-    assert_eq!(&rt; sim.sent_count(2, 1, life), 0);
-    assert_eq!(&rt; sim.taken_count(1, 2, life), 0);
+    sees_sent(&rt, alloc, &sim, (1, 2, other), &[])?;
+    sees_taken(&rt, alloc, &sim, (2, 1, other), &[])?;
+    sees_sent(&rt, alloc, &sim, (2, 1, life), &[])?;
+    sees_taken(&rt, alloc, &sim, (1, 2, life), &[])
+}
+
+#[test]
+fn example_of_the_documentation(rt: HostRuntime) -> Result<(), Fail> {
+    let alloc = rt.alloc();
+    let topology = made(&rt, alloc, &[(1, 2)], &[2]).expect(&rt, "a topology");
+    let mut sim = Sim::new(alloc, &topology).expect(&rt, "a simulator");
+    run(&rt, &mut sim, &[Event::Open(1, 2), Event::Transmit(1, 2)]);
+    sees_datagram(&rt, &sim, 1, Some((1, 2)));
+    assert_eq!(&rt; sim.step(&Event::Pull(1, 2)), Err(SimError::NotPossible));
+    sees_route(&rt, &sim, 2, 2, Some(Some(Height::zero(2))), None);
     Ok(())
 }

@@ -1,7 +1,13 @@
 use Rattle.std.proofs.Common.{◌≡◌, ◌∙◌, suc, ◌+◌, ◌-◌, sym, arith}
 use Rattle.tora.specs.Rounds.{repeats}
-use Rattle.tora.proofs.RoundLaws.{again, refused, no_more}
+use Rattle.tora.proofs.RoundLaws.{again, refused, impossible, no_more}
 use Rattle.tora.proofs.rounds.repeat.Goals as goal
+
+pub returns-then-not-may_happen : goal.returns-then-not-may_happen
+returns-then-not-may_happen g c =
+    let k : c.args.most - c.loop.counter ≡ suc (c.args.most - (c.loop.counter + 1)) = omega (arith, c.loop-test.true) in
+    impossible (g.S.Simulator.world c.args.sim.now) (repeats c.args.most c.args.event.now (g.S.Simulator.world c.args.sim.now)) (g.S.Simulator.world c.loop.sim) c.loop.some
+    (c.args.most - (c.loop.counter + 1)) c.args.event.now (rw k at c.loop.invariant) (c.may_happen.ensures c.if-not-may_happen.true)
 
 pub returns-in-Some : goal.returns-in-Some
 returns-in-Some g c =

@@ -1,0 +1,56 @@
+//! Guesses of where the nodes and the link ends stand.
+ghost use Rattle.std.specs.Prelude.{◌<◌};
+
+use crate::nodes::NodeSlot;
+use tora_height::Id;
+
+/// How many guesses there are of each kind.
+const PLACES: usize = 256;
+
+/// Guesses of where a node and its first link end stand, by the last eight bits of its number.
+///
+/// A guess may be wrong, as where two numbers end in the same bits: who takes one looks what stands there, and searches
+/// where it is another.
+#[derive(Clone, Copy)]
+pub struct Hints {
+    nodes: [u16; 256],
+    ends: [u16; 256],
+}
+
+/// A place as it is kept; one that does not fit is kept as the first.
+fn kept(place: usize) -> u16 {
+    u16::try_from(place).unwrap_or(0)
+}
+
+/// The bits of a number that a guess goes by.
+fn bits(n: Id) -> usize
+    ensures { result < 256 }
+{
+    n as usize % PLACES
+}
+
+impl Hints {
+    /// The guesses for these nodes.
+    pub fn new(nodes: &[NodeSlot]) -> Hints {
+        let mut hints = Hints {
+            nodes: [0; 256],
+            ends: [0; 256],
+        };
+        for (place, node) in nodes.iter().enumerate() {
+            let at = bits(node.key());
+            hints.nodes[at] = kept(place);
+            hints.ends[at] = kept(node.first());
+        }
+        hints
+    }
+
+    /// Where a node may stand among the nodes.
+    pub fn node(&self, n: Id) -> usize {
+        usize::from(self.nodes[bits(n)])
+    }
+
+    /// Where the first link end of a node may stand among the link ends.
+    pub fn first_end(&self, n: Id) -> usize {
+        usize::from(self.ends[bits(n)])
+    }
+}

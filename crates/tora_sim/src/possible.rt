@@ -1,0 +1,103 @@
+//! Which events may be possible now, told by what is stored at a place.
+ghost use Rattle.std.specs.Prelude.{◌≡◌, true, false, is_some, nat_lt, length, slice_get};
+ghost use Rattle.tora_arq.specs.LinkEnd.{is_closed, first_event, frame_due};
+ghost use Rattle.tora_world.specs.World.{refusal_of};
+ghost use Rattle.tora_sim.specs.Store.{world_of};
+ghost use Rattle.tora_sim.specs.Possible.{end_may, node_may, may_happen, has_cargo};
+
+use crate::Event;
+use crate::links::LinkSlot;
+use crate::nodes::NodeSlot;
+use crate::sim::Sim;
+use tora_height::Id;
+
+impl Sim {
+    /// Whether an event may be possible now: where the answer is `false`, `step` refuses it.
+    ///
+    /// The place says where to look: the place of the node among `nodes` for a `CoreTurn`, and that of the link end among
+    /// `ends` for `Open`, `Pull`, `Transmit` and `Pump`, both from 0 on. What stands there is looked at alone, and nothing
+    /// is searched. Where another node or end stands there, and for every other event, the answer is `true`.
+    #[inline(always)]
+    pub fn may_happen(&self, place: usize, event: &Event) -> bool
+        // What stands at the place has something to do, or is another.
+        ensures value { result ≡ may_happen self.now.nodes self.now.links self.now.clock place event.now }
+        // No event that is possible is left out.
+        ensures refused { result ≡ false → is_some (refusal_of (world_of self.now) event.now) ≡ true }
+    {
+        may_be(&self.nodes, &self.links, self.clock, place, event)
+    }
+}
+
+#[inline(always)]
+fn may_be(
+    nodes: &Vec<NodeSlot>,
+    links: &Vec<LinkSlot>,
+    clock: u64,
+    place: usize,
+    event: &Event,
+) -> bool
+    ensures { result ≡ may_happen nodes.now.items links.now.items clock place event.now }
+{
+    match event {
+        Event::Need(_, _) => true,
+        Event::Tick => true,
+        Event::Open(n, k) => may_open(links, place, *n, *k),
+        Event::Pull(n, k) => may_pull(links, place, *n, *k),
+        Event::Transmit(n, k) => may_transmit(links, clock, place, *n, *k),
+        Event::Deliver(_) => true,
+        Event::Pump(n, k) => may_pump(links, place, *n, *k),
+        Event::CoreTurn(n) => may_turn(nodes, place, *n),
+        Event::Arm(_, _) => true,
+        Event::Restart(_, _) => true,
+    }
+}
+
+#[inline(always)]
+fn may_turn(nodes: &[NodeSlot], place: usize, n: Id) -> bool
+    ensures { result ≡ node_may n (slice_get nodes.now place) }
+{
+    match nodes.get(place) {
+        Some(node) => !node.is_node(n) || node.waiting() > 0,
+        None => true,
+    }
+}
+
+#[inline(always)]
+fn may_open(links: &[LinkSlot], place: usize, n: Id, k: Id) -> bool
+    ensures { result ≡ end_may n k (λ link. is_closed link.state) (slice_get links.now place) }
+{
+    match links.get(place) {
+        Some(link) => !link.is_end(n, k) || link.is_closed(),
+        None => true,
+    }
+}
+
+#[inline(always)]
+fn may_pull(links: &[LinkSlot], place: usize, n: Id, k: Id) -> bool
+    ensures { result ≡ end_may n k has_cargo (slice_get links.now place) }
+{
+    match links.get(place) {
+        Some(link) => !link.is_end(n, k) || link.has_cargo(),
+        None => true,
+    }
+}
+
+#[inline(always)]
+fn may_transmit(links: &[LinkSlot], clock: u64, place: usize, n: Id, k: Id) -> bool
+    ensures { result ≡ end_may n k (λ link. is_some (frame_due link.settings link.state clock)) (slice_get links.now place) }
+{
+    match links.get(place) {
+        Some(link) => !link.is_end(n, k) || link.has_frame_due(clock),
+        None => true,
+    }
+}
+
+#[inline(always)]
+fn may_pump(links: &[LinkSlot], place: usize, n: Id, k: Id) -> bool
+    ensures { result ≡ end_may n k (λ link. is_some (first_event link.state)) (slice_get links.now place) }
+{
+    match links.get(place) {
+        Some(link) => !link.is_end(n, k) || link.next_event().is_some(),
+        None => true,
+    }
+}
