@@ -103,7 +103,7 @@ fn send_again<R: Wait>(rt: &R, put: &mut OutPut, cargo: Cargo)
 
 /// Takes this many items, and answers how many tell what their seat put with that number.
 fn take_items<R: Wait>(rt: &R, core: &mut CorePort, count: u64) -> u64
-    requires { count ≤ 3 * EACH }
+    requires { count ≤ (MOST_LINKS + 1) * EACH }
     ensures { core.new.lane ≡ core.old.lane }
 {
     let mut good = 0;
@@ -308,6 +308,49 @@ fn lane_order(rt: HostRuntime) -> Result<(), Fail> {
     Ok(())
 }
 
+/// The core's port, its ends of all lanes, and how many items were taken as they should be.
+#[derive(Drop)]
+struct WholeCore {
+    core: CorePort,
+    outs: Vec<OutPut>,
+    taken: u64,
+}
+
+/// The thread of a link, on what stays where it is.
+fn run_side<R: Wait>(rt: &R, side: &mut LinkSide, seat: usize)
+    ensures { side.new.port.lane ≡ side.old.port.lane }
+{
+    side.put = put_all(rt, &mut side.port, seat, EACH);
+    side.taken = take_all(rt, &mut side.take);
+}
+
+/// Runs each link in a thread of its own.
+fn run_sides<R: Threads + Wait + Sync>(rt: &R, sides: Vec<LinkSide>) -> Vec<LinkSide> {
+    let mut sides = sides;
+    thread::for_each_mut(rt, &mut sides, MOST_LINKS, &|seat, side: &mut LinkSide| {
+        run_side(rt, side, seat)
+    });
+    sides
+}
+
+/// The core's thread: all items are taken before the first cargo is sent.
+fn run_whole_core<R: Wait>(rt: &R, side: WholeCore) -> WholeCore
+    ensures { result.core.lane ≡ side.core.lane }
+{
+    let WholeCore {
+        mut core,
+        mut outs,
+        taken: _,
+    } = side;
+    let taken = take_items(rt, &mut core, (MOST_LINKS as u64 + 1) * EACH);
+    for number in 0..EACH {
+        for put in outs.iter_mut() {
+            send_again(rt, put, cargo(number + 1));
+        }
+    }
+    WholeCore { core, outs, taken }
+}
+
 /// Puts items of two seats from two threads, so many of each.
 fn put_both<R: Threads + Wait + Sync>(
     rt: &R,
@@ -383,8 +426,8 @@ fn ports_tell_that_the_other_side_ended(rt: HostRuntime) -> Result<(), Fail> {
 }
 
 #[test]
-fn node_has_one_to_eight_links(rt: HostRuntime) -> Result<(), Fail> {
-    for (links, refused) in [(0, true), (1, false), (8, false), (9, true)] {
+fn node_has_one_to_32_links(rt: HostRuntime) -> Result<(), Fail> {
+    for (links, refused) in [(0, true), (1, false), (32, false), (33, true)] {
         match lanes(&rt, rt.alloc(), links) {
             Ok(made) => assert!(&rt;
                 !refused && made.links.len() == links && made.outs.len() == links
