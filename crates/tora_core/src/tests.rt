@@ -368,6 +368,13 @@ fn want_of_memory_is_answered(rt: HostRuntime) -> Result<(), Fail> {
             Ok(text) => assert_eq!(rt; text.as_str(), "to 4 height - flag 0 hop -\n"),
         },
     }
+    match core_of(&rt, rt.alloc(), &NUMBERS[1..33], &NUMBERS[..64]) {
+        Err(error) => assert_eq!(rt; error, CoreError::Memory),
+        Ok(core) => match core.show(rt.alloc()) {
+            Err(error) => assert_eq!(rt; error, CoreError::Memory),
+            Ok(text) => assert_eq!(rt; text.lines().count(), 64),
+        },
+    }
     Ok(())
 }
 
@@ -591,14 +598,12 @@ fn refusals_are_printed_with_their_cause(rt: HostRuntime) -> Result<(), Fail> {
     Ok(())
 }
 
-/// So many numbers, from `first` on.
-fn numbers_from(alloc: Global, first: Id, count: Id) -> Result<Vec<Id>, Fail> {
-    let mut numbers = Vec::new(alloc);
-    for n in 0..count.min(100) {
-        numbers.push(first.min(100) + n)?;
-    }
-    Ok(numbers)
-}
+/// The numbers from 1 to 65.
+const NUMBERS: [Id; 65] = [
+    1, 2, 3, 4, 5, 6, 7, 8, 9, 10, 11, 12, 13, 14, 15, 16, 17, 18, 19, 20, 21, 22, 23, 24, 25, 26,
+    27, 28, 29, 30, 31, 32, 33, 34, 35, 36, 37, 38, 39, 40, 41, 42, 43, 44, 45, 46, 47, 48, 49, 50,
+    51, 52, 53, 54, 55, 56, 57, 58, 59, 60, 61, 62, 63, 64, 65,
+];
 
 /// Whether no number is 0.
 fn are_numbers(numbers: &[Id]) -> bool
@@ -631,30 +636,28 @@ fn core_of(
 fn tables_are_taken_up_to_their_limits(rt: HostRuntime) -> Result<(), Fail> {
     let alloc = rt.alloc();
     let many = Some(CoreError::TooMany);
-    let most = numbers_from(alloc, 2, 32)?;
-    let more = numbers_from(alloc, 2, 33)?;
-    let table = numbers_from(alloc, 1, 64)?;
-    let larger = numbers_from(alloc, 1, 65)?;
-    assert_eq!(&rt; core_of(&rt, alloc, &more, &[4]).err(), many);
-    assert_eq!(&rt; core_of(&rt, alloc, &[2], &larger).err(), many);
-    assert_eq!(&rt; core_of(&rt, alloc, &more, &larger).err(), many);
-    assert!(&rt; core_of(&rt, alloc, &most, &[4]).is_ok());
-    assert!(&rt; core_of(&rt, alloc, &[2], &table).is_ok());
-    let core = core_of(&rt, alloc, &most, &table)?;
-    assert_eq!(&rt; core.neighbours(), most.as_slice());
-    assert_eq!(&rt; core.destinations(), table.as_slice());
+    let (most, more) = (&NUMBERS[1..33], &NUMBERS[1..34]);
+    let (table, larger) = (&NUMBERS[..64], &NUMBERS[..]);
+    assert_eq!(&rt; core_of(&rt, alloc, more, &[4]).err(), many);
+    assert_eq!(&rt; core_of(&rt, alloc, &[2], larger).err(), many);
+    assert_eq!(&rt; core_of(&rt, alloc, more, larger).err(), many);
+    assert!(&rt; core_of(&rt, alloc, most, &[4]).is_ok());
+    assert!(&rt; core_of(&rt, alloc, &[2], table).is_ok());
+    let core = core_of(&rt, alloc, most, table)?;
+    assert_eq!(&rt; core.neighbours(), most);
+    assert_eq!(&rt; core.destinations(), table);
     Ok(())
 }
 
 // A link that comes up where a route to each of 64 destinations is required sends a packet for each of them.
 #[test]
 fn a_list_of_packets_holds_one_for_each_destination(rt: HostRuntime) -> Result<(), Fail> {
-    let table = numbers_from(rt.alloc(), 10, 64)?;
-    let mut core = core_of(&rt, rt.alloc(), &[2, 3], &table)?;
-    for d in &table {
+    let table = &NUMBERS[1..];
+    let mut core = core_of(&rt, rt.alloc(), &[70, 71], table)?;
+    for d in table {
         core.step(Input::Need(*d), 1)?;
     }
-    let sends = core.step(Input::LinkUp(2), 2)?;
+    let sends = core.step(Input::LinkUp(70), 2)?;
     assert_eq!(&rt; sends.len(), 64);
     for (packet, d) in sends.iter().zip(table.iter()) {
         assert_eq!(&rt; packet.destination(), *d);
@@ -666,11 +669,9 @@ fn a_list_of_packets_holds_one_for_each_destination(rt: HostRuntime) -> Result<(
 // for each neighbour.
 #[test]
 fn largest_table_is_shown(rt: HostRuntime) -> Result<(), Fail> {
-    let neighbours = numbers_from(rt.alloc(), 2, 32)?;
-    let mut destinations = numbers_from(rt.alloc(), 1, 63)?;
-    destinations.push(4_294_967_295)?;
-    let mut core = core_of(&rt, rt.alloc(), &neighbours, &destinations)?;
-    for k in &neighbours {
+    let neighbours = &NUMBERS[1..33];
+    let mut core = core_of(&rt, rt.alloc(), neighbours, &NUMBERS[..64])?;
+    for k in neighbours {
         core.step(Input::LinkUp(*k), 1)?;
     }
     let text = core.show(rt.alloc())?;

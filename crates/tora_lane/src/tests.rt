@@ -1,5 +1,5 @@
 //! Threads over the lanes of a node.
-ghost use Rattle.std.specs.Prelude.{◌≡◌, ℕ, ◌*◌, ◌≤◌};
+ghost use Rattle.std.specs.Prelude.{◌≡◌, ℕ, ◌+◌, ◌*◌, ◌≤◌};
 ghost use Rattle.tora_lane.specs.NodeLanes.{AreLinks};
 ghost use Rattle.tora_lane.specs.Out.{AreEndsOf};
 ghost use Rattle.tora_lane.specs.Ports.{IsPortOf};
@@ -317,9 +317,7 @@ struct WholeCore {
 }
 
 /// The thread of a link, on what stays where it is.
-fn run_side<R: Wait>(rt: &R, side: &mut LinkSide, seat: usize)
-    ensures { side.new.port.lane ≡ side.old.port.lane }
-{
+fn run_side<R: Wait>(rt: &R, side: &mut LinkSide, seat: usize) {
     side.put = put_all(rt, &mut side.port, seat, EACH);
     side.taken = take_all(rt, &mut side.take);
 }
@@ -334,9 +332,7 @@ fn run_sides<R: Threads + Wait + Sync>(rt: &R, sides: Vec<LinkSide>) -> Vec<Link
 }
 
 /// The core's thread: all items are taken before the first cargo is sent.
-fn run_whole_core<R: Wait>(rt: &R, side: WholeCore) -> WholeCore
-    ensures { result.core.lane ≡ side.core.lane }
-{
+fn run_whole_core<R: Wait>(rt: &R, side: WholeCore) -> WholeCore {
     let WholeCore {
         mut core,
         mut outs,
@@ -349,6 +345,72 @@ fn run_whole_core<R: Wait>(rt: &R, side: WholeCore) -> WholeCore
         }
     }
     WholeCore { core, outs, taken }
+}
+
+/// Runs the command seat and the core: answers how many items the command seat put, and the core's side.
+fn run_rest<R: Threads + Wait + Sync>(
+    rt: &R,
+    command: InPort,
+    core: WholeCore,
+) -> (u64, WholeCore) {
+    join(
+        rt,
+        move || put_from(rt, command, MOST_LINKS, EACH).1,
+        move || run_whole_core(rt, core),
+    )
+}
+
+/// The lanes of a node with as many links as there may be.
+fn most_links<R: Wait + Abort>(rt: &R, alloc: Global) -> (WholeCore, Vec<LinkSide>, InPort) {
+    let Ok(
+        Lanes {
+            core,
+            command,
+            links,
+            outs,
+        },
+    ) = lanes(rt, alloc, MOST_LINKS)
+    else {
+        panic!(rt; "no memory");
+    };
+    let mut sides = Vec::new(alloc);
+    for (port, take) in links {
+        let side = LinkSide {
+            port,
+            take,
+            put: 0,
+            taken: 0,
+        };
+        assert!(rt; sides.push(side).is_ok());
+    }
+    let core = WholeCore {
+        core,
+        outs,
+        taken: 0,
+    };
+    (core, sides, command)
+}
+
+// 32 link seats and the command seat put 1,000 items each, and 1,000 cargoes go to each link, all from threads of their own.
+#[test]
+fn lane_order_of_the_most_links(rt: HostRuntime) -> Result<(), Fail> {
+    let (core, sides, command) = most_links(&rt, rt.alloc());
+    let (sides, rest) = join(
+        &rt,
+        move || run_sides(&rt, sides),
+        move || run_rest(&rt, command, core),
+    );
+    let (put, core) = rest;
+    assert_eq!(&rt; put, EACH);
+    assert_eq!(&rt; core.taken, (MOST_LINKS as u64 + 1) * EACH);
+    assert_eq!(&rt; sides.len(), 32);
+    for side in &sides {
+        assert_eq!(&rt; (side.put, side.taken), (EACH, EACH));
+    }
+    let mut port = core.core;
+    drop(sides);
+    assert!(&rt; port.take(&rt).is_err());
+    Ok(())
 }
 
 /// Puts items of two seats from two threads, so many of each.

@@ -237,11 +237,18 @@ fn topologies_refused(rt: HostRuntime) {
     }
     expect_world(&rt, rt.alloc(), ("dests 4\n", STAR), "", Ended::Whole);
     let more = "dests 4\nlink 34 1\n";
-    expect_world(&rt, rt.alloc(), (more, STAR), "fault 34\n", Ended::Fault(34));
+    expect_world(
+        &rt,
+        rt.alloc(),
+        (more, STAR),
+        "fault 34\n",
+        Ended::Fault(34),
+    );
 }
 
 /// A node with 32 neighbours.
-const STAR: &str = "link 1 2\nlink 1 3\nlink 1 4\nlink 1 5\nlink 1 6\nlink 1 7\nlink 1 8\nlink 1 9\n\
+const STAR: &str =
+    "link 1 2\nlink 1 3\nlink 1 4\nlink 1 5\nlink 1 6\nlink 1 7\nlink 1 8\nlink 1 9\n\
     link 1 10\nlink 1 11\nlink 1 12\nlink 1 13\nlink 1 14\nlink 1 15\nlink 1 16\nlink 1 17\n\
     link 1 18\nlink 1 19\nlink 1 20\nlink 1 21\nlink 1 22\nlink 1 23\nlink 1 24\nlink 1 25\n\
     link 1 26\nlink 1 27\nlink 1 28\nlink 1 29\nlink 1 30\nlink 1 31\nlink 1 32\nlink 1 33\n";
@@ -265,7 +272,13 @@ fn star_of_thirty_three(rt: HostRuntime) {
     }
     let larger = format!(in rt.alloc(); "dests 2\n{STAR}link 1 34\nrounds 1\n");
     if let Ok(front) = larger {
-        expect_world(&rt, rt.alloc(), (&front, end), "fault 35\n", Ended::Fault(35));
+        expect_world(
+            &rt,
+            rt.alloc(),
+            (&front, end),
+            "fault 35\n",
+            Ended::Fault(35),
+        );
     }
 }
 
