@@ -6,7 +6,7 @@ ghost use Rattle.tora.specs.Answers.{answer, step_reply, replied, send_line, sen
 
 use crate::line::{Line, Order};
 use std::alloc::AllocError;
-use tora_core::{Core, Input};
+use tora_core::{Core, Input, Sends};
 use tora_packet::{LONGEST_PACKET, Packet, encode};
 
 /// Puts a word, a number and the end of the line behind a text.
@@ -41,13 +41,19 @@ fn send_all(out: &mut String, packets: &[Packet]) -> Result<(), AllocError>
     Ok(())
 }
 
-/// Steps the core, and puts the sends or the refusal behind a text.
+/// Steps the core, and puts the sends, which are in the list then, or the refusal behind a text.
 #[tactic(auto, unfolding(crate::specs::Answers::step_reply))]
-fn step(core: &mut Core, input: Input, now: u64, out: &mut String) -> Result<(), AllocError>
+fn step(
+    core: &mut Core,
+    input: Input,
+    now: u64,
+    sends: &mut Sends,
+    out: &mut String,
+) -> Result<(), AllocError>
     ensures { OnOk result (TakesReply (step_reply core.old input now) core.new (string_bytes out.old) (string_bytes out.new)) }
 {
-    match core.step(input, now) {
-        Ok(sends) => send_all(out, sends.as_slice()),
+    match core.step_into(&input, now, sends) {
+        Ok(()) => send_all(out, sends.as_slice()),
         Err(error) => numbered(out, "refused ", u64::from(error.number())),
     }
 }
@@ -61,17 +67,22 @@ fn show(core: &Core, out: &mut String) -> Result<(), AllocError>
     out.push_str(&text)
 }
 
-/// Takes a line, and puts what is printed for it behind a text.
+/// Takes a line, and puts what is printed for it behind a text. What the list of packets held goes.
 #[tactic(auto, unfolding(crate::specs::Answers::answer))]
-pub fn answer(core: &mut Core, line: Line, out: &mut String) -> Result<(), AllocError>
+pub fn answer(
+    core: &mut Core,
+    line: Line,
+    sends: &mut Sends,
+    out: &mut String,
+) -> Result<(), AllocError>
     ensures { OnOk result (TakesReply (answer core.old line) core.new (string_bytes out.old) (string_bytes out.new)) }
 {
     let now = line.now;
     match line.order {
-        Order::Up(k) => step(core, Input::LinkUp(k), now, out),
-        Order::Down(k) => step(core, Input::LinkDown(k), now, out),
-        Order::Need(d) => step(core, Input::Need(d), now, out),
-        Order::From(k, Ok(packet)) => step(core, Input::Packet(k, packet), now, out),
+        Order::Up(k) => step(core, Input::LinkUp(k), now, sends, out),
+        Order::Down(k) => step(core, Input::LinkDown(k), now, sends, out),
+        Order::Need(d) => step(core, Input::Need(d), now, sends, out),
+        Order::From(k, Ok(packet)) => { step(core, Input::Packet(k, packet), now, sends, out) }
         Order::From(_, Err(error)) => numbered(out, "bad ", u64::from(error.number())),
         Order::Show => show(core, out),
     }

@@ -88,9 +88,9 @@ Exit statuses:
 const NODE: &str = "\
 The configuration, a TOML file, has every one of these keys and no other:
   node = I           the number of the node
-  dests = [D, ..]    the destinations of its table, at most 16
+  dests = [D, ..]    the destinations of its table, at most 64
   life_dir = \"DIR\"   the folder of its life files, made where it is missing
-  [[link]]           one to eight times, for each link:
+  [[link]]           one to 32 times, for each link:
   peer = K           its neighbour
   local = PORT       the UDP port of 127.0.0.1 that is bound for it
   remote = PORT      the port of 127.0.0.1 that the neighbour binds for it

@@ -16,41 +16,62 @@ use crate::session::FileKind;
 use crate::words::LineError;
 use std::alloc::{AllocError, Global};
 use std::io::{Read, Write};
-use tora_core::{Core, CoreError};
+use std::marker::Model;
+use tora_core::{Core, CoreError, Sends};
 
 /// The core that the first line makes.
 #[tactic(auto, unfolding(crate::specs::ReplayText::core_of))]
-fn first(alloc: Global, line: &[u8]) -> Result<Core, LineError>
+fn first(alloc: Global, line: &[u8]) -> Result<Replaying, LineError>
     ensures { Gives (λ core. core) result (option_and_then core_of (header_of line.now)) }
 {
     let header = parse::header(alloc, line)?;
     match Core::new(alloc, header.node, &header.links, &header.dests) {
-        Ok(core) => Ok(core),
+        Ok(core) => Ok(Replaying {
+            core,
+            sends: Sends::new(),
+        }),
         Err(CoreError::Memory) => Err(LineError::Memory),
         Err(_) => Err(LineError::Fault),
     }
 }
 
-fn next(core: &mut Core, line: &[u8], text: &mut String) -> Result<(), LineError>
-    requires short { length line.now ≤ 4096 }
-    requires empty { string_bytes text.old ≡ [] }
-    ensures { Gives (λ _. (core.new, string_bytes text.new)) result (next_reply core.old line.now) }
-{
-    let Some(line) = parse::line(line) else {
-        return Err(LineError::Fault);
-    };
-    answer(core, line, text)?;
-    Ok(())
+/// What a replay keeps between two lines: the core, and a list for the packets of a step. A contract sees the core alone.
+#[derive(Drop)]
+pub struct Replaying {
+    core: Core,
+    sends: Sends,
 }
 
-/// A replay file: the core, once the first line is taken.
-impl FileKind for Option<Core> {
+impl Model for Replaying {
+    ghost use Rattle.tora_core.specs.CoreRun.{CoreView};
+
+    ghost Value = { CoreView };
+
+    ghost view = { λ r. r.core };
+}
+
+impl Replaying {
+    fn next(&mut self, line: &[u8], text: &mut String) -> Result<(), LineError>
+        requires short { length line.now ≤ 4096 }
+        requires empty { string_bytes text.old ≡ [] }
+        ensures { Gives (λ _. (self.new, string_bytes text.new)) result (next_reply self.old line.now) }
+    {
+        let Some(line) = parse::line(line) else {
+            return Err(LineError::Fault);
+        };
+        answer(&mut self.core, line, &mut self.sends, text)?;
+        Ok(())
+    }
+}
+
+/// A replay file: what is kept, once the first line is taken.
+impl FileKind for Option<Replaying> {
     ghost kind = { kind_of replay_rules };
 
     #[tactic(auto, unfolding(crate::specs::ReplayText::replay_reply), using(crate::proofs::KindLaws::goes_on, crate::proofs::KindLaws::is_fault))]
     fn take(&mut self, alloc: Global, line: &[u8], text: &mut String) -> Result<(), LineError> {
         match self {
-            Some(core) => next(core, line, text),
+            Some(replaying) => replaying.next(line, text),
             None => {
                 *self = Some(first(alloc, line)?);
                 Ok(())
@@ -95,8 +116,8 @@ pub fn replay<R: Read, W: Write>(
     ensures begun { IfErr result (λ e. e ≢ ReplayError.Write →
         IsBegun (R.remaining reader.old) (R.remaining reader.new) (W.contents writer.old) (W.contents writer.new)) }
 {
-    let core: Option<Core> = None;
-    read_lines(alloc, core, reader, writer)
+    let state: Option<Replaying> = None;
+    read_lines(alloc, state, reader, writer)
 }
 
 /// The line whose number a fault gives is the first that is none: all lines before it are taken, and it is not.

@@ -26,7 +26,7 @@ pub enum SimulationCause {
     List,
     #[error("behind the first line a line `link A B` is required")]
     NoLink,
-    #[error("the links and destinations are refused: there are more than 64 nodes, 8 neighbours of a node or 16 destinations")]
+    #[error("the links and destinations are refused: there are more than 64 nodes, 32 neighbours of a node or 64 destinations")]
     TooMany,
     #[error("the links and destinations are refused: a link, either way round, or a destination stands twice")]
     Repeated,

@@ -253,7 +253,12 @@ fn first_lines_accepted_and_refused(rt: HostRuntime) {
         "node 4 links 2 dests 4",
         "node 3 links 4 dests 4",
         "node 4294967295 links 1 dests 1",
-        "node 9 links 1,2,3,4,5,6,7,8 dests 1,2,3,4,5,6,7,8,9,10,11,12,13,14,15,16",
+        "node 33 links 1,2,3,4,5,6,7,8,9,10,11,12,13,14,15,16,\
+        17,18,19,20,21,22,23,24,25,26,27,28,29,30,31,32 dests \
+        1,2,3,4,5,6,7,8,9,10,11,12,13,14,15,16,\
+        17,18,19,20,21,22,23,24,25,26,27,28,29,30,31,32,\
+        33,34,35,36,37,38,39,40,41,42,43,44,45,46,47,48,\
+        49,50,51,52,53,54,55,56,57,58,59,60,61,62,63,64",
     ];
     for line in accepted {
         expect_text(&rt, rt.alloc(), (line, ""), "", Ended::Whole);
@@ -279,8 +284,14 @@ fn first_lines_accepted_and_refused(rt: HostRuntime) {
         "node 3 links 2,2 dests 4",
         "node 3 links 2 dests 4,4",
         "node 3 links 3 dests 4",
-        "node 10 links 1,2,3,4,5,6,7,8,9 dests 4",
-        "node 3 links 2 dests 1,2,3,4,5,6,7,8,9,10,11,12,13,14,15,16,17",
+        "node 34 links 1,2,3,4,5,6,7,8,9,10,11,12,13,14,15,16,\
+        17,18,19,20,21,22,23,24,25,26,27,28,29,30,31,32,\
+        33 dests 4",
+        "node 3 links 2 dests 1,2,3,4,5,6,7,8,9,10,11,12,13,14,15,16,\
+        17,18,19,20,21,22,23,24,25,26,27,28,29,30,31,32,\
+        33,34,35,36,37,38,39,40,41,42,43,44,45,46,47,48,\
+        49,50,51,52,53,54,55,56,57,58,59,60,61,62,63,64,\
+        65",
         "1 show",
     ];
     for line in refused {
@@ -494,7 +505,9 @@ fn causes_of_first_faults(rt: HostRuntime) {
         ),
         ("node 3 links 3 dests 4", Cause::Refused(CoreError::OwnId)),
         (
-            "node 10 links 1,2,3,4,5,6,7,8,9 dests 4",
+            "node 34 links 1,2,3,4,5,6,7,8,9,10,11,12,13,14,15,16,\
+        17,18,19,20,21,22,23,24,25,26,27,28,29,30,31,32,\
+        33 dests 4",
             Cause::Refused(CoreError::TooMany),
         ),
     ];

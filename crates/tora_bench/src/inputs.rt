@@ -11,6 +11,72 @@ const NEIGHBOURS: [Id; 8] = [1, 2, 3, 4, 5, 6, 7, 8];
 
 const DESTINATIONS: [Id; 16] = [5, 6, 7, 8, 9, 10, 11, 12, 13, 14, 15, 16, 17, 18, 19, 20];
 
+/// As many neighbours and destinations as there may be.
+const MOST_NEIGHBOURS: [Id; 32] = [
+    1, 2, 3, 4, 5, 6, 7, 8, 9, 10, 11, 12, 13, 14, 15, 16, 17, 18, 19, 20, 21, 22, 23, 24, 25, 26,
+    27, 28, 29, 30, 31, 32,
+];
+
+const MOST_DESTINATIONS: [Id; 64] = [
+    17, 18, 19, 20, 21, 22, 23, 24, 25, 26, 27, 28, 29, 30, 31, 32, 33, 34, 35, 36, 37, 38, 39, 40,
+    41, 42, 43, 44, 45, 46, 47, 48, 49, 50, 51, 52, 53, 54, 55, 56, 57, 58, 59, 60, 61, 62, 63, 64,
+    65, 66, 67, 68, 69, 70, 71, 72, 73, 74, 75, 76, 77, 78, 79, 80,
+];
+
+/// How large the table of a core is.
+#[derive(Clone, Copy)]
+pub enum Size {
+    /// One neighbour and one destination.
+    Least,
+    /// 8 neighbours and 16 destinations, of which four are neighbours.
+    Small,
+    /// 32 neighbours and 64 destinations, of which 16 are neighbours.
+    Large,
+}
+
+impl Size {
+    /// The last neighbour; the first is 1.
+    fn last_neighbour(self) -> u8
+        ensures { (1 ≤ result) × (result ≤ 32) }
+    {
+        match self {
+            Size::Least => 1,
+            Size::Small => 8,
+            Size::Large => 32,
+        }
+    }
+
+    /// The name of a mix at this size.
+    pub fn name(self, small: &'static str, large: &'static str) -> &'static str {
+        match self {
+            Size::Least | Size::Small => small,
+            Size::Large => large,
+        }
+    }
+
+    /// The first destination.
+    fn first_destination(self) -> Id
+        ensures { (1 ≤ result) × (result ≤ 17) }
+    {
+        match self {
+            Size::Least => 1,
+            Size::Small => 5,
+            Size::Large => 17,
+        }
+    }
+
+    /// The last destination.
+    fn last_destination(self) -> u8
+        ensures { (17 ≤ result) × (result ≤ 80) }
+    {
+        match self {
+            Size::Least => 17,
+            Size::Small => 20,
+            Size::Large => 80,
+        }
+    }
+}
+
 /// A generator of numbers: xorshift on 64 bits.
 #[derive(Drop)]
 pub struct Random {
@@ -41,8 +107,12 @@ impl Random {
 }
 
 /// A core with no link up.
-pub fn fresh_core(alloc: Global) -> Option<Core> {
-    Core::new(alloc, 100, &NEIGHBOURS, &DESTINATIONS).ok()
+pub fn fresh_core(alloc: Global, size: Size) -> Option<Core> {
+    match size {
+        Size::Least => Core::new(alloc, 100, &[1], &[17]).ok(),
+        Size::Small => Core::new(alloc, 100, &NEIGHBOURS, &DESTINATIONS).ok(),
+        Size::Large => Core::new(alloc, 100, &MOST_NEIGHBOURS, &MOST_DESTINATIONS).ok(),
+    }
 }
 
 /// A core with one destination and all links up, which needs a route.
@@ -61,12 +131,13 @@ fn update(k: Id, destination: Id, height: Option<Height>) -> Option<Input> {
 }
 
 /// A core with all links up, whose destinations that are no neighbours have a route by neighbour 1.
-pub fn routed_core(alloc: Global) -> Option<Core> {
-    let mut core = fresh_core(alloc)?;
-    for k in NEIGHBOURS {
-        core.step(Input::LinkUp(k), 0).ok()?;
+pub fn routed_core(alloc: Global, size: Size) -> Option<Core> {
+    let mut core = fresh_core(alloc, size)?;
+    let last = u32::from(size.last_neighbour());
+    for k in 0..last {
+        core.step(Input::LinkUp(k + 1), 0).ok()?;
     }
-    for d in 9..21 {
+    for d in last + 1..u32::from(size.last_destination()) + 1 {
         core.step(Input::Need(d), 0).ok()?;
         let input = update(1, d, Height::new(0, 0, 0, 1, 1).ok())?;
         core.step(input, 0).ok()?;
@@ -75,9 +146,12 @@ pub fn routed_core(alloc: Global) -> Option<Core> {
 }
 
 /// An update that leaves the height as it is.
-pub fn quiet_update(i: u32) -> Option<Input> {
-    let k = 2 + i % 7;
-    let d = 9 + i % 12;
+pub fn quiet_update(size: Size, i: u32) -> Option<Input> {
+    let (k, d) = match size {
+        Size::Least => (1, 17),
+        Size::Small => (2 + i % 7, 9 + i % 12),
+        Size::Large => (2 + i % 31, 33 + i % 48),
+    };
     let delta = 2 + (i % 5) as i32;
     update(k, d, Height::new(0, 0, 0, delta, k).ok())
 }
@@ -109,19 +183,26 @@ fn mixed_packet(random: &mut Random, now: u64, k: Id, d: Id, choice: u32) -> Opt
     update(k, d, height.ok())
 }
 
-/// Mixed inputs: about one in twenty a link, one in twenty a need, the others packets of up neighbours.
-pub fn mixed_inputs(alloc: Global, count: u32) -> Result<Vec<(u64, Input)>, AllocError> {
+/// Mixed inputs for a core of a size: about one in twenty a link, one in twenty a need, the others packets of up neighbours.
+pub fn mixed_inputs(
+    alloc: Global,
+    size: Size,
+    count: u32,
+) -> Result<Vec<(u64, Input)>, AllocError> {
     let mut random = Random::new(88172645463325253);
-    let mut up = [true; 8];
+    let mut up = [true; 32];
     let mut inputs = Vec::new(alloc);
-    for k in NEIGHBOURS {
-        inputs.push((0, Input::LinkUp(k)))?;
+    let last = size.last_neighbour();
+    for k in 0..u32::from(last) {
+        inputs.push((0, Input::LinkUp(k + 1)))?;
     }
+    let first = size.first_destination();
+    let more = size.last_destination() - first as u8;
     let mut now = 1u64;
     for _ in 0..count {
         now = now.saturating_add(u64::from(random.up_to(2)));
-        let place = random.up_to(7);
-        let (k, d) = (place + 1, 5 + random.up_to(15));
+        let place = random.up_to(last - 1);
+        let (k, d) = (place + 1, first + random.up_to(more));
         let choice = random.up_to(99);
         let is_up = up[place as usize];
         let input = if choice < 5 {

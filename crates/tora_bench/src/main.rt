@@ -1,14 +1,17 @@
 //! Times the calls of the lower crates, for the scripts under `bench/`. With no words it prints nothing.
 //!
-//! `tora_bench core N` times N steps of a core on four mixes of inputs, `tora_bench link N` N packets that go from one link
-//! end to another and are acknowledged, one at a time and a window at a time. Each line is a name, nanoseconds an operation
-//! (the best of seven runs), and a number that depends on every result.
+//! `tora_bench hold-least N`, `hold-small N` and `hold-large N` hold N cores at once. `tora_bench core N` times N steps of a
+//! core on mixes of inputs, four with 8 neighbours and 16 destinations, three with 32 and 64, `tora_bench link N` N packets
+//! that go from one link end to another and are acknowledged, one at a time and a window at a time. Each line is a name,
+//! nanoseconds an operation (the best of seven runs), and a number that depends on every result.
 #![tactic(auto)]
 
 mod inputs;
 mod links;
 
-use inputs::{fresh_core, mixed_inputs, quiet_update, reacting_update, routed_core, small_core};
+use inputs::{
+    Size, fresh_core, mixed_inputs, quiet_update, reacting_update, routed_core, small_core,
+};
 use links::{run_link, run_window};
 use std::alloc::Global;
 use std::io;
@@ -67,11 +70,11 @@ fn sent(core: &mut Core, input: &Option<Input>, now: u64, sends: &mut Sends) -> 
     }
 }
 
-fn run_quiet(core: &mut Core, steps: u32) -> u64 {
+fn run_quiet(size: Size, core: &mut Core, steps: u32) -> u64 {
     let mut sends = Sends::new();
     let mut sum = 0u64;
     for i in 0..steps {
-        sum = sum.wrapping_add(sent(core, &quiet_update(i), 1, &mut sends));
+        sum = sum.wrapping_add(sent(core, &quiet_update(size, i), 1, &mut sends));
     }
     sum
 }
@@ -99,10 +102,10 @@ fn run_links(core: &mut Core, steps: u32) -> u64 {
 /// What is timed.
 #[derive(Clone, Copy)]
 enum Mix {
-    Mixed,
-    Quiet,
+    Mixed(Size),
+    Quiet(Size),
     Reacting,
-    Links,
+    Links(Size),
     Link,
     Window,
 }
@@ -110,10 +113,10 @@ enum Mix {
 impl Mix {
     fn name(self) -> &'static str {
         match self {
-            Mix::Mixed => "core-mixed",
-            Mix::Quiet => "core-quiet",
+            Mix::Mixed(size) => size.name("core-mixed", "core-large-mixed"),
+            Mix::Quiet(size) => size.name("core-quiet", "core-large-quiet"),
             Mix::Reacting => "core-reacting",
-            Mix::Links => "core-links",
+            Mix::Links(size) => size.name("core-links", "core-large-links"),
             Mix::Link => "link-packet",
             Mix::Window => "link-window",
         }
@@ -122,18 +125,19 @@ impl Mix {
     /// A new core for a run, where the mix wants one.
     fn core(self, alloc: Global) -> Option<Core> {
         match self {
-            Mix::Mixed => fresh_core(alloc),
+            Mix::Mixed(size) => fresh_core(alloc, size),
             Mix::Reacting => small_core(alloc),
-            Mix::Quiet | Mix::Links | Mix::Link | Mix::Window => routed_core(alloc),
+            Mix::Quiet(size) | Mix::Links(size) => routed_core(alloc, size),
+            Mix::Link | Mix::Window => fresh_core(alloc, Size::Least),
         }
     }
 
     fn run(self, alloc: Global, core: &mut Core, inputs: &[(u64, Input)], steps: u32) -> u64 {
         match self {
-            Mix::Mixed => run_mixed(core, inputs),
-            Mix::Quiet => run_quiet(core, steps),
+            Mix::Mixed(_) => run_mixed(core, inputs),
+            Mix::Quiet(size) => run_quiet(size, core, steps),
             Mix::Reacting => run_reacting(core, steps),
-            Mix::Links => run_links(core, steps),
+            Mix::Links(_) => run_links(core, steps),
             Mix::Link => run_link(alloc, steps).unwrap_or(0),
             Mix::Window => run_window(alloc, steps).unwrap_or(0),
         }
@@ -142,8 +146,10 @@ impl Mix {
     /// How many operations a run has.
     fn count(self, inputs: &[(u64, Input)], steps: u32) -> u64 {
         match self {
-            Mix::Mixed => inputs.len() as u64,
-            Mix::Quiet | Mix::Reacting | Mix::Links | Mix::Link | Mix::Window => u64::from(steps),
+            Mix::Mixed(_) => inputs.len() as u64,
+            Mix::Quiet(_) | Mix::Reacting | Mix::Links(_) | Mix::Link | Mix::Window => {
+                u64::from(steps)
+            }
         }
     }
 }
@@ -169,6 +175,29 @@ fn time(rt: &HostRuntime, mix: Mix, inputs: &[(u64, Input)], steps: u32) -> io::
     println!(rt; "{name} {whole}.{part:02} ns/op check {sum:016x}")
 }
 
+/// The size of the cores that `hold-least`, `hold-small` and `hold-large` make.
+fn size_named(word: &str) -> Option<Size> {
+    match word {
+        "hold-least" => Some(Size::Least),
+        "hold-small" => Some(Size::Small),
+        "hold-large" => Some(Size::Large),
+        _ => None,
+    }
+}
+
+/// Makes so many cores and holds them all at once, for a script that looks at the memory of the process.
+fn hold(rt: &HostRuntime, size: Size, count: u32) -> io::Result<()> {
+    let mut cores = Vec::new(rt.alloc());
+    for _ in 0..count {
+        let Some(core) = fresh_core(rt.alloc(), size) else {
+            return rt.eprintln("tora_bench: memory");
+        };
+        cores.push(core)?;
+    }
+    let held = cores.len();
+    println!(rt; "{held} cores")
+}
+
 fn main(rt: HostRuntime) -> io::Result<()> {
     let words = std::env::args(&rt)?.collect::<Vec<String>>(rt.alloc())?;
     let Some(word) = words.get(1) else {
@@ -178,18 +207,20 @@ fn main(rt: HostRuntime) -> io::Result<()> {
         Some(number) => number.as_str().parse::<u32>().unwrap_or(STEPS),
         None => STEPS,
     };
-    let inputs = mixed_inputs(rt.alloc(), steps)?;
-    let mixes = [
-        Mix::Mixed,
-        Mix::Quiet,
-        Mix::Reacting,
-        Mix::Links,
-        Mix::Link,
-        Mix::Window,
-    ];
-    for mix in mixes {
+    if let Some(size) = size_named(word.as_str()) {
+        return hold(&rt, size, steps);
+    }
+    for size in [Size::Small, Size::Large] {
+        let inputs = mixed_inputs(rt.alloc(), size, steps)?;
+        for mix in [Mix::Mixed(size), Mix::Quiet(size), Mix::Links(size)] {
+            if mix.name().starts_with(word.as_str()) {
+                time(&rt, mix, inputs.as_slice(), steps)?;
+            }
+        }
+    }
+    for mix in [Mix::Reacting, Mix::Link, Mix::Window] {
         if mix.name().starts_with(word.as_str()) {
-            time(&rt, mix, inputs.as_slice(), steps)?;
+            time(&rt, mix, &[], steps)?;
         }
     }
     Ok(())

@@ -297,24 +297,27 @@ fn repeated_and_unknown_keys(rt: HostRuntime) -> Result<(), Fail> {
 fn what_a_core_refuses(rt: HostRuntime) -> Result<(), Fail> {
     let alloc = rt.alloc();
     let mut links = String::from_str(alloc, HEAD)?;
-    for n in 2..10u32 {
+    for n in 2..34u32 {
         let link = format!(in alloc; "[[link]]\npeer = {n}\nlocal = {n}\nremote = 1\n")?;
         links.push_str(link.as_str())?;
     }
     assert!(&rt; read_config(alloc, links.as_str()).is_ok());
-    links.push_str("[[link]]\npeer = 10\nlocal = 10\nremote = 1\n")?;
+    links.push_str("[[link]]\npeer = 34\nlocal = 34\nremote = 1\n")?;
     match read_config(alloc, links.as_str()) {
         Err(ConfigError::Core(CoreError::TooMany)) => {}
         other => panic!(&rt; "{other:?}"),
     }
     let most =
-        "node = 1\nlife_dir = \"n1\"\ndests = [1, 2, 3, 4, 5, 6, 7, 8, 9, 10, 11, 12, 13, 14, 15, 16";
+        "node = 1\nlife_dir = \"n1\"\ndests = [1, 2, 3, 4, 5, 6, 7, 8, 9, 10, 11, 12, 13, 14, 15, 16, \
+        17, 18, 19, 20, 21, 22, 23, 24, 25, 26, 27, 28, 29, 30, 31, 32, \
+        33, 34, 35, 36, 37, 38, 39, 40, 41, 42, 43, 44, 45, 46, 47, 48, \
+        49, 50, 51, 52, 53, 54, 55, 56, 57, 58, 59, 60, 61, 62, 63, 64";
     let mut dests = String::from_str(alloc, most)?;
     dests.push_str("]\n")?;
     dests.push_str(LINK)?;
     assert!(&rt; read_config(alloc, dests.as_str()).is_ok());
     let mut more = String::from_str(alloc, most)?;
-    more.push_str(", 17]\n")?;
+    more.push_str(", 65]\n")?;
     more.push_str(LINK)?;
     match read_config(alloc, more.as_str()) {
         Err(ConfigError::Core(CoreError::TooMany)) => {}

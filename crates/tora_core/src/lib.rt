@@ -49,10 +49,10 @@ use tora_height::Id;
 use tora_packet::Packet;
 
 /// The most neighbours of a node. Own profile.
-pub const MOST_NEIGHBOURS: usize = 8;
+pub const MOST_NEIGHBOURS: usize = 32;
 
 /// The most destinations of a table. Own profile.
-pub const MOST_DESTINATIONS: usize = 16;
+pub const MOST_DESTINATIONS: usize = 64;
 
 /// What a core takes in.
 #[derive(Clone, Copy, Debug, PartialEq, Eq, Hash)]

@@ -1,6 +1,6 @@
 //! The core of a node.
 ghost use Rattle.std.specs.Prelude.{◌≡◌, ◌<◌, ℕ, All, IfErr, IfNone, IfOk, MatchOption, None, OnErr, [], OnOk, option_copied, IsOk, string_bytes};
-ghost use Rattle.tora_core.specs.CoreRun.{downstream_of, link_fault, core_after, core_refusal, entry_of, first_core, flag_of, height_of, hop_of, refusal_of, sends_of, view_of};
+ghost use Rattle.tora_core.specs.CoreRun.{downstream_of, link_fault, core_after, core_refusal, entry_of, first_core, flag_of, has_destination, height_of, hop_of, refusal_of, sends_of, view_of};
 ghost use Rattle.tora_core.specs.Numbers.{has_number};
 ghost use Rattle.tora_core.specs.Kept.{IsCore, IsInput, destinations_of};
 ghost use Rattle.tora_core.specs.ShowText.{show_text};
@@ -12,7 +12,7 @@ use crate::destination::Destination;
 use crate::errors::{CoreError, StepError};
 use crate::numbers::{ascending, has_number, has_repeat, insert_number, remove_number};
 use crate::show::text_of;
-use crate::table::{first_views, has_destination, step};
+use crate::table::{first_views, step};
 use crate::{Input, MOST_DESTINATIONS, MOST_NEIGHBOURS, Sends};
 use arrayvec::ArrayVec;
 use std::alloc::Global;
@@ -178,7 +178,7 @@ impl Core {
     {
         match input {
             Input::Need(d) => {
-                if has_destination(*d, &self.views) {
+                if self.has_destination(*d) {
                     None
                 } else {
                     Some(StepError::UnknownDestination)
@@ -201,12 +201,17 @@ impl Core {
     fn fault_of_link(&self, k: Id, is_up: bool) -> Option<StepError>
         ensures { result ≡ link_fault self.now k is_up }
     {
-        if !self.has_neighbour(k) {
+        // A link that is up is that of a neighbour.
+        if has_number(k, self.up.as_slice()) {
+            if is_up {
+                None
+            } else {
+                Some(StepError::AlreadyUp)
+            }
+        } else if !self.has_neighbour(k) {
             Some(StepError::UnknownNeighbour)
-        } else if is_up && !self.is_up(k) {
+        } else if is_up {
             Some(StepError::NotUp)
-        } else if !is_up && self.is_up(k) {
-            Some(StepError::AlreadyUp)
         } else {
             None
         }
@@ -216,6 +221,12 @@ impl Core {
         ensures { result ≡ has_number k self.now.neighbours }
     {
         has_number(k, self.neighbours.as_slice())
+    }
+
+    fn has_destination(&self, d: Id) -> bool
+        ensures { result ≡ has_destination d self.now.views }
+    {
+        has_number(d, self.destinations.as_slice())
     }
 
     /// The view of a destination.

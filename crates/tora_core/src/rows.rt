@@ -1,5 +1,5 @@
 //! The rows of a view, read and changed.
-ghost use Rattle.std.specs.Prelude.{◌≡◌, ◌<◌, ◌≤◌, ◌+◌, ◌^◌, ◌≤ℤ◌, pos, neg_ℤ, IfSome, fold, filter, nat_lt, position, length, slice_index_or, option_map, option_copied, find, ◌==◌, None};
+ghost use Rattle.std.specs.Prelude.{◌≡◌, false, ◌<◌, ◌≤◌, ◌+◌, ◌^◌, ◌≤ℤ◌, pos, neg_ℤ, IfSome, fold, filter, nat_lt, position, length, slice_index_or, option_map, option_copied, find, ◌==◌, None};
 ghost use Rattle.std.specs.List.{list_any, list_all};
 ghost use Rattle.arrayvec.specs.ArrayVec.{array_vec_len};
 ghost use Rattle.tora_height.specs.Height.{IsLevel};
@@ -173,23 +173,33 @@ pub fn is_entry_at(level: Level, entry: Entry) -> bool
     }
 }
 
-fn clear_row(destination: Id, level: Level, row: &mut Row)
-    ensures { row.new ≡ cleared_row destination level row.old }
+/// Erases the entry at a level, but for that of the destination. Answers whether it was there.
+fn clear_row(destination: Id, level: Level, row: &mut Row) -> bool
+    ensures row { row.new ≡ cleared_row destination level row.old }
+    ensures none { result ≡ false → row.new ≡ row.old }
 {
     let other = row.neighbour != destination;
     let at = is_entry_at(level, row.entry);
     if other && at {
         row.entry = None;
+        true
+    } else {
+        false
     }
 }
 
-/// Erases the entries at a level, but for that of the destination.
-pub fn clear_level(destination: Id, level: Level, rows: &mut [Row])
-    ensures { rows.new ≡ all_cleared destination level rows.old }
+/// Erases the entries at a level, but for that of the destination. Answers whether there were some.
+pub fn clear_level(destination: Id, level: Level, rows: &mut [Row]) -> bool
+    ensures rows { rows.new ≡ all_cleared destination level rows.old }
+    ensures none { result ≡ false → rows.new ≡ rows.old }
 {
+    let mut cleared = false;
     for row in rows.iter_mut() {
-        clear_row(destination, level, row);
+        if clear_row(destination, level, row) {
+            cleared = true;
+        }
     }
+    cleared
 }
 
 fn row_of(k: Id, rows: &[Row]) -> Option<&Row>

@@ -33,12 +33,6 @@ pub fn first_views(
     Ok(views)
 }
 
-pub fn has_destination(d: Id, views: &[Destination]) -> bool
-    ensures { result ≡ has_destination d views.now }
-{
-    views.iter().any(|view| view.destination() == d)
-}
-
 /// Takes an input in, and lists the packets to every up neighbour. `destinations` are those of the views, and `up` the
 /// neighbours whose link is up before the input. It takes no memory.
 pub fn step(

@@ -1,5 +1,5 @@
 //! Worked runs of the rules, and texts.
-ghost use Rattle.std.specs.Prelude.{◌<◌, ◌≤◌, All};
+ghost use Rattle.std.specs.Prelude.{◌<◌, ◌≤◌, ◌≡◌, true, All};
 
 use super::*;
 use crate::plain::{Plain, told_by};
@@ -368,6 +368,13 @@ fn want_of_memory_is_answered(rt: HostRuntime) -> Result<(), Fail> {
             Ok(text) => assert_eq!(rt; text.as_str(), "to 4 height - flag 0 hop -\n"),
         },
     }
+    match core_of(&rt, rt.alloc(), &NUMBERS[1..33], &NUMBERS[..64]) {
+        Err(error) => assert_eq!(rt; error, CoreError::Memory),
+        Ok(core) => match core.show(rt.alloc()) {
+            Err(error) => assert_eq!(rt; error, CoreError::Memory),
+            Ok(text) => assert_eq!(rt; text.lines().count(), 64),
+        },
+    }
     Ok(())
 }
 
@@ -375,11 +382,11 @@ fn want_of_memory_is_answered(rt: HostRuntime) -> Result<(), Fail> {
 fn numbers_of_the_errors(rt: HostRuntime) -> Result<(), Fail> {
     let alloc = rt.alloc();
     assert_eq!(rt;
-        Core::new(alloc, 1, &[2; 9], &[4]).err(),
+        Core::new(alloc, 1, &[2; 33], &[4]).err(),
         Some(CoreError::TooMany)
     );
     assert_eq!(rt;
-        Core::new(alloc, 1, &[2], &[4; 17]).err(),
+        Core::new(alloc, 1, &[2], &[4; 65]).err(),
         Some(CoreError::TooMany)
     );
     assert_eq!(rt;
@@ -591,39 +598,88 @@ fn refusals_are_printed_with_their_cause(rt: HostRuntime) -> Result<(), Fail> {
     Ok(())
 }
 
-// Eight neighbours that are up and sixteen destinations, one of them the node itself: each destination has a line for itself
-// and one for each neighbour.
+/// The numbers from 1 to 65.
+const NUMBERS: [Id; 65] = [
+    1, 2, 3, 4, 5, 6, 7, 8, 9, 10, 11, 12, 13, 14, 15, 16, 17, 18, 19, 20, 21, 22, 23, 24, 25, 26,
+    27, 28, 29, 30, 31, 32, 33, 34, 35, 36, 37, 38, 39, 40, 41, 42, 43, 44, 45, 46, 47, 48, 49, 50,
+    51, 52, 53, 54, 55, 56, 57, 58, 59, 60, 61, 62, 63, 64, 65,
+];
+
+/// Whether no number is 0.
+fn are_numbers(numbers: &[Id]) -> bool
+    ensures { result ≡ true → All (λ n. 0 < n) numbers.now }
+{
+    for n in numbers {
+        if *n == 0 {
+            return false;
+        }
+    }
+    true
+}
+
+/// The core of node 1 with these neighbours and destinations, none of which is 0.
+fn core_of(
+    rt: &impl Abort,
+    alloc: Global,
+    neighbours: &[Id],
+    destinations: &[Id],
+) -> Result<Core, CoreError> {
+    let neighbours_are = are_numbers(neighbours);
+    let destinations_are = are_numbers(destinations);
+    assert!(rt; neighbours_are);
+    assert!(rt; destinations_are);
+    Core::new(alloc, 1, neighbours, destinations)
+}
+
+// As many neighbours and destinations as there may be are taken, and one more of either is not.
+#[test]
+fn tables_are_taken_up_to_their_limits(rt: HostRuntime) -> Result<(), Fail> {
+    let alloc = rt.alloc();
+    let many = Some(CoreError::TooMany);
+    let (most, more) = (&NUMBERS[1..33], &NUMBERS[1..34]);
+    let (table, larger) = (&NUMBERS[..64], &NUMBERS[..]);
+    assert_eq!(&rt; core_of(&rt, alloc, more, &[4]).err(), many);
+    assert_eq!(&rt; core_of(&rt, alloc, &[2], larger).err(), many);
+    assert_eq!(&rt; core_of(&rt, alloc, more, larger).err(), many);
+    assert!(&rt; core_of(&rt, alloc, most, &[4]).is_ok());
+    assert!(&rt; core_of(&rt, alloc, &[2], table).is_ok());
+    let core = core_of(&rt, alloc, most, table)?;
+    assert_eq!(&rt; core.neighbours(), most);
+    assert_eq!(&rt; core.destinations(), table);
+    Ok(())
+}
+
+// A link that comes up where a route to each of 64 destinations is required sends a packet for each of them.
+#[test]
+fn a_list_of_packets_holds_one_for_each_destination(rt: HostRuntime) -> Result<(), Fail> {
+    let table = &NUMBERS[1..];
+    let mut core = core_of(&rt, rt.alloc(), &[70, 71], table)?;
+    for d in table {
+        core.step(Input::Need(*d), 1)?;
+    }
+    let sends = core.step(Input::LinkUp(70), 2)?;
+    assert_eq!(&rt; sends.len(), 64);
+    for (packet, d) in sends.iter().zip(table.iter()) {
+        assert_eq!(&rt; packet.destination(), *d);
+    }
+    Ok(())
+}
+
+// 32 neighbours that are up and 64 destinations, one of them the node itself: each destination has a line for itself and one
+// for each neighbour.
 #[test]
 fn largest_table_is_shown(rt: HostRuntime) -> Result<(), Fail> {
-    let neighbours = [2, 3, 4, 5, 6, 7, 8, 9];
-    let destinations = [
-        1,
-        2,
-        3,
-        4,
-        5,
-        6,
-        7,
-        8,
-        9,
-        10,
-        11,
-        12,
-        13,
-        14,
-        15,
-        4_294_967_295,
-    ];
-    let mut core = Core::new(rt.alloc(), 1, &neighbours, &destinations)?;
+    let neighbours = &NUMBERS[1..33];
+    let mut core = core_of(&rt, rt.alloc(), neighbours, &NUMBERS[..64])?;
     for k in neighbours {
-        core.step(Input::LinkUp(k), 1)?;
+        core.step(Input::LinkUp(*k), 1)?;
     }
     let text = core.show(rt.alloc())?;
-    assert_eq!(&rt; text.lines().count(), 16 * 9);
+    assert_eq!(&rt; text.lines().count(), 64 * 33);
     assert_eq!(&rt;
         text.lines().next(),
         Some("to 1 height (0,0,0,0,1) flag 0 hop -")
     );
-    assert_eq!(&rt; text.lines().last(), Some("via 9 - none"));
+    assert_eq!(&rt; text.lines().last(), Some("via 33 - none"));
     Ok(())
 }

@@ -10,8 +10,8 @@ pub enum LaneError {
     /// There is not enough memory.
     #[error("there is not enough memory")]
     Memory,
-    /// There is no link, or there are more than 8.
-    #[error("there is no link, or there are more than 8")]
+    /// There is no link, or there are more than 32.
+    #[error("there is no link, or there are more than 32")]
     TooMany,
 }
 

@@ -1,7 +1,8 @@
 //! How much lanes hold.
+use tora_core::MOST_NEIGHBOURS;
 
 /// The most links of a node. Own profile.
-pub const MOST_LINKS: usize = 8;
+pub const MOST_LINKS: usize = MOST_NEIGHBOURS;
 
 /// How many items the lane into the core can hold. Own profile.
 pub const CORE_LANE_ROOM: usize = 1024;

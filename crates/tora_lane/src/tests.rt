@@ -1,5 +1,5 @@
 //! Threads over the lanes of a node.
-ghost use Rattle.std.specs.Prelude.{◌≡◌, ℕ, ◌*◌, ◌≤◌};
+ghost use Rattle.std.specs.Prelude.{◌≡◌, ℕ, ◌+◌, ◌*◌, ◌≤◌};
 ghost use Rattle.tora_lane.specs.NodeLanes.{AreLinks};
 ghost use Rattle.tora_lane.specs.Out.{AreEndsOf};
 ghost use Rattle.tora_lane.specs.Ports.{IsPortOf};
@@ -105,7 +105,7 @@ fn send_again<R: Wait>(rt: &R, put: &mut OutPut, cargo: Cargo)
 
 /// Takes this many items, and answers how many tell what their seat put with that number.
 fn take_items<R: Wait>(rt: &R, core: &mut CorePort, count: u64) -> u64
-    requires { count ≤ 3 * EACH }
+    requires { count ≤ (MOST_LINKS + 1) * EACH }
     ensures { core.new.lane ≡ core.old.lane }
 {
     let mut good = 0;
@@ -310,6 +310,111 @@ fn lane_order(rt: HostRuntime) -> Result<(), Fail> {
     Ok(())
 }
 
+/// The core's port, its ends of all lanes, and how many items were taken as they should be.
+#[derive(Drop)]
+struct WholeCore {
+    core: CorePort,
+    outs: Vec<OutPut>,
+    taken: u64,
+}
+
+/// The thread of a link, on what stays where it is.
+fn run_side<R: Wait>(rt: &R, side: &mut LinkSide, seat: usize) {
+    side.put = put_all(rt, &mut side.port, seat, EACH);
+    side.taken = take_all(rt, &mut side.take);
+}
+
+/// Runs each link in a thread of its own.
+fn run_sides<R: Threads + Wait + Sync>(rt: &R, sides: Vec<LinkSide>) -> Vec<LinkSide> {
+    let mut sides = sides;
+    thread::for_each_mut(rt, &mut sides, MOST_LINKS, &|seat, side: &mut LinkSide| {
+        run_side(rt, side, seat)
+    });
+    sides
+}
+
+/// The core's thread: all items are taken before the first cargo is sent.
+fn run_whole_core<R: Wait>(rt: &R, side: WholeCore) -> WholeCore {
+    let WholeCore {
+        mut core,
+        mut outs,
+        taken: _,
+    } = side;
+    let taken = take_items(rt, &mut core, (MOST_LINKS as u64 + 1) * EACH);
+    for number in 0..EACH {
+        for put in outs.iter_mut() {
+            send_again(rt, put, cargo(number + 1));
+        }
+    }
+    WholeCore { core, outs, taken }
+}
+
+/// Runs the command seat and the core: answers how many items the command seat put, and the core's side.
+fn run_rest<R: Threads + Wait + Sync>(
+    rt: &R,
+    command: InPort,
+    core: WholeCore,
+) -> (u64, WholeCore) {
+    join(
+        rt,
+        move || put_from(rt, command, MOST_LINKS, EACH).1,
+        move || run_whole_core(rt, core),
+    )
+}
+
+/// The lanes of a node with as many links as there may be.
+fn most_links<R: Wait + Abort>(rt: &R, alloc: Global) -> (WholeCore, Vec<LinkSide>, InPort) {
+    let Ok(
+        Lanes {
+            core,
+            command,
+            links,
+            outs,
+        },
+    ) = lanes(rt, alloc, MOST_LINKS)
+    else {
+        panic!(rt; "no memory");
+    };
+    let mut sides = Vec::new(alloc);
+    for (port, take) in links {
+        let side = LinkSide {
+            port,
+            take,
+            put: 0,
+            taken: 0,
+        };
+        assert!(rt; sides.push(side).is_ok());
+    }
+    let core = WholeCore {
+        core,
+        outs,
+        taken: 0,
+    };
+    (core, sides, command)
+}
+
+// 32 link seats and the command seat put 1,000 items each, and 1,000 cargoes go to each link, all from threads of their own.
+#[test]
+fn lane_order_of_the_most_links(rt: HostRuntime) -> Result<(), Fail> {
+    let (core, sides, command) = most_links(&rt, rt.alloc());
+    let (sides, rest) = join(
+        &rt,
+        move || run_sides(&rt, sides),
+        move || run_rest(&rt, command, core),
+    );
+    let (put, core) = rest;
+    assert_eq!(&rt; put, EACH);
+    assert_eq!(&rt; core.taken, (MOST_LINKS as u64 + 1) * EACH);
+    assert_eq!(&rt; sides.len(), 32);
+    for side in &sides {
+        assert_eq!(&rt; (side.put, side.taken), (EACH, EACH));
+    }
+    let mut port = core.core;
+    drop(sides);
+    assert!(&rt; port.take(&rt).is_err());
+    Ok(())
+}
+
 /// Puts items of two seats from two threads, so many of each.
 fn put_both<R: Threads + Wait + Sync>(
     rt: &R,
@@ -385,8 +490,8 @@ fn ports_tell_that_the_other_side_ended(rt: HostRuntime) -> Result<(), Fail> {
 }
 
 #[test]
-fn node_has_one_to_eight_links(rt: HostRuntime) -> Result<(), Fail> {
-    for (links, refused) in [(0, true), (1, false), (8, false), (9, true)] {
+fn node_has_one_to_32_links(rt: HostRuntime) -> Result<(), Fail> {
+    for (links, refused) in [(0, true), (1, false), (32, false), (33, true)] {
         match lanes(&rt, rt.alloc(), links) {
             Ok(made) => assert!(&rt;
                 !refused && made.links.len() == links && made.outs.len() == links

@@ -159,7 +159,7 @@ module _ (order : PutInOrder) (stays : StaysInOrder) (t : Topology) (h : IsTopol
       let e = fun_ext (λ (n : ℕ). fun_ext (link-read end_in first_end refl (λ x f. f.state) n)) in
       let d = fun_ext (λ (n : ℕ). fun_ext (link-read file_in (opened (fresh_state [])) refl (λ x f. f.file) n)) in
       let w = fun_ext (node-read items_in [] refl (λ x f. f.items)) in
-      let c = fun_ext (node-read counts_in (λ seat. 0) refl (λ x f. fun_ext (λ (seat : ℕ). ap (λ (cs : List ℕ). slice_index cs seat) f.counts ∙ zeros 9 seat))) in
+      let c = fun_ext (node-read counts_in (λ seat. 0) refl (λ x f. fun_ext (λ (seat : ℕ). ap (λ (cs : List ℕ). slice_index cs seat) f.counts ∙ zeros 33 seat))) in
       let l = fun_ext (λ (n : ℕ). fun_ext (link-read lane_in [] refl (λ x f. ap₂ (λ p xs. drop p xs) f.pulled f.put) n)) in
       let a = fun_ext (node-read arms_in (record { sending = Goes; receive = false }) refl (λ x f. ap₂ (λ p q. record { sending = sending_of p; receive = q }) f.sending f.receive)) in
       let p = fun_ext (λ (n : ℕ). fun_ext (link-read put_in [] refl (λ x f. f.put) n)) in

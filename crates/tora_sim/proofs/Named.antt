@@ -166,22 +166,22 @@ split-different n (k ∷ ns) =
     let rest = split-different n ns in
     cond_both (has_number k (different ns)) (different ns) (with_number k (different ns)) (IsSplit n) (λ _. rest) (λ absent. split-more n k (different ns) absent rest)
 
--- where there are ten, more than eight are others
-pub many-of-ten : (n : ℕ) (links : List (ℕ × ℕ)) → 9 < length (different (other_ends n (links_in links))) → nat_lt 8 (length (different_neighbours n (links_in links))) ≡ true
-many-of-ten n links more =
+-- where there are more than 33, more than 32 are others
+pub many-above : (n : ℕ) (links : List (ℕ × ℕ)) → 33 < length (different (other_ends n (links_in links))) → nat_lt 32 (length (different_neighbours n (links_in links))) ≡ true
+many-above n links more =
     let ns : List ℕ = different (other_ends n (links_in links)) in
     let e = split-different n (other_ends n (links_in links)) in
     go (has_number n ns) refl e
   where
     go : (b : Bool) → has_number n (different (other_ends n (links_in links))) ≡ b → IsSplit n (different (other_ends n (links_in links)))
-        → nat_lt 8 (length (different_neighbours n (links_in links))) ≡ true
+        → nat_lt 32 (length (different_neighbours n (links_in links))) ≡ true
     go b is e =
         let all : length (different_neighbours n (links_in links)) + one_if b ≡ length (different (other_ends n (links_in links))) =
         subst (λ d. length (different_neighbours n (links_in links)) + one_if d ≡ length (different (other_ends n (links_in links)))) is e in
-        let some : 8 < length (different_neighbours n (links_in links)) = few b all in
+        let some : 32 < length (different_neighbours n (links_in links)) = few b all in
         grind (arith, nat_tests)
       where
-        few : (d : Bool) → length (different_neighbours n (links_in links)) + one_if d ≡ length (different (other_ends n (links_in links))) → 8 < length (different_neighbours n (links_in links))
+        few : (d : Bool) → length (different_neighbours n (links_in links)) + one_if d ≡ length (different (other_ends n (links_in links))) → 32 < length (different_neighbours n (links_in links))
         few true h = omega arith
         few false h = omega arith
 
@@ -190,7 +190,7 @@ fresh_node k ns absent = ap (λ b. length (cond b ns (with_number k ns))) absent
 
 -- too many after a link are too many
 pub many-ends : (n : ℕ) (links : List (ℕ × ℕ)) (left : ℕ) (items : List ℕ) (d : ℕ × ℕ) → 0 < left → left ≤ length links → items ≡ ends_from n links left
-    → 9 < length (with_end n (link_in (get_or links (left - 1) d)) items) → nat_lt 8 (length (different_neighbours n (links_in links))) ≡ true
+    → 33 < length (with_end n (link_in (get_or links (left - 1) d)) items) → nat_lt 32 (length (different_neighbours n (links_in links))) ≡ true
 many-ends n links left items d some within is more =
     let i : ℕ = left - 1 in
     let next : i + 1 ≡ left = omega arith in
@@ -198,22 +198,22 @@ many-ends n links left items d some within is more =
     let is_step : ends_from n links i ≡ with_end n (link_in (get_or links i d)) items = ends-step n links i d (omega arith) ∙ ap (with_end n (link_in (get_or links i d))) same in
     let fewer = ends-fewer n links i in
     let size = ap length is_step in
-    many-of-ten n links (omega arith)
+    many-above n links (omega arith)
 
--- of at most nine, eight or fewer are others, or all nine are
-pub few-of-nine : (n : ℕ) (links : List (ℕ × ℕ)) (b : Bool) → b ≡ has_number n (different (other_ends n (links_in links)))
-    → length (different (other_ends n (links_in links))) ≤ 9 → 8 < length (different (other_ends n (links_in links)))
-    → not b ≡ nat_lt 8 (length (different_neighbours n (links_in links)))
-few-of-nine n links b is most more = go b (subst (λ d. length (different_neighbours n (links_in links)) + one_if d ≡ length (different (other_ends n (links_in links)))) (sym is) (split-different n (other_ends n (links_in links))))
+-- of at most 33, 32 or fewer are others, or all 33 are
+pub few-of-most : (n : ℕ) (links : List (ℕ × ℕ)) (b : Bool) → b ≡ has_number n (different (other_ends n (links_in links)))
+    → length (different (other_ends n (links_in links))) ≤ 33 → 32 < length (different (other_ends n (links_in links)))
+    → not b ≡ nat_lt 32 (length (different_neighbours n (links_in links)))
+few-of-most n links b is most more = go b (subst (λ d. length (different_neighbours n (links_in links)) + one_if d ≡ length (different (other_ends n (links_in links)))) (sym is) (split-different n (other_ends n (links_in links))))
   where
-    go : (d : Bool) → length (different_neighbours n (links_in links)) + one_if d ≡ length (different (other_ends n (links_in links))) → not d ≡ nat_lt 8 (length (different_neighbours n (links_in links)))
-    go true e = let few : length (different_neighbours n (links_in links)) ≤ 8 = omega arith in grind (arith, nat_tests)
-    go false e = let many : 8 < length (different_neighbours n (links_in links)) = omega arith in grind (arith, nat_tests)
+    go : (d : Bool) → length (different_neighbours n (links_in links)) + one_if d ≡ length (different (other_ends n (links_in links))) → not d ≡ nat_lt 32 (length (different_neighbours n (links_in links)))
+    go true e = let few : length (different_neighbours n (links_in links)) ≤ 32 = omega arith in grind (arith, nat_tests)
+    go false e = let many : 32 < length (different_neighbours n (links_in links)) = omega arith in grind (arith, nat_tests)
 
-pub few-of-eight : (n : ℕ) (links : List (ℕ × ℕ)) (m : ℕ) → m ≡ length (different (other_ends n (links_in links))) → m ≤ 8
-    → nat_lt 8 m ≡ nat_lt 8 (length (different_neighbours n (links_in links)))
-few-of-eight n links m is few = go (has_number n (different (other_ends n (links_in links)))) (split-different n (other_ends n (links_in links)))
+pub few-within : (n : ℕ) (links : List (ℕ × ℕ)) (m : ℕ) → m ≡ length (different (other_ends n (links_in links))) → m ≤ 32
+    → nat_lt 32 m ≡ nat_lt 32 (length (different_neighbours n (links_in links)))
+few-within n links m is few = go (has_number n (different (other_ends n (links_in links)))) (split-different n (other_ends n (links_in links)))
   where
-    go : (d : Bool) → length (different_neighbours n (links_in links)) + one_if d ≡ length (different (other_ends n (links_in links))) → nat_lt 8 m ≡ nat_lt 8 (length (different_neighbours n (links_in links)))
-    go true e = let fewer : length (different_neighbours n (links_in links)) ≤ 8 = omega arith in grind (arith, nat_tests)
-    go false e = let fewer : length (different_neighbours n (links_in links)) ≤ 8 = omega arith in grind (arith, nat_tests)
+    go : (d : Bool) → length (different_neighbours n (links_in links)) + one_if d ≡ length (different (other_ends n (links_in links))) → nat_lt 32 m ≡ nat_lt 32 (length (different_neighbours n (links_in links)))
+    go true e = let fewer : length (different_neighbours n (links_in links)) ≤ 32 = omega arith in grind (arith, nat_tests)
+    go false e = let fewer : length (different_neighbours n (links_in links)) ≤ 32 = omega arith in grind (arith, nat_tests)

@@ -62,7 +62,7 @@ module _ (t : Topology) (times : Times) (clock : ℕ) (nodes : List NodeView) (l
   room_is b e = ap (λ o. nat_lt (length (items_in o)) 1024) is_there ∙ e
 
   -- an item of a seat of the node
-  module _ (seat : ℕ) (what : What) (lt : seat < 9) where
+  module _ (seat : ℕ) (what : What) (lt : seat < 33) where
     abbrev new : NodeView
     new = after_item x seat clock what
 
@@ -128,7 +128,7 @@ module _ (t : Topology) (times : Times) (clock : ℕ) (nodes : List NodeView) (l
   abbrev pub IsPut : ℕ → What → NodeView → Result (Unit {0}) SimError → Type 0
   IsPut seat what y r = MatchResult r (λ _. y ≡ after_item x seat clock what) (λ e. (e ≡ Refused.Memory) × (y ≡ x))
 
-  pub put_store : (seat : ℕ) (what : What) (y : NodeView) (r : Result (Unit {0}) SimError) → seat < 9 → IsPut seat what y r → IsStore (state_of t times clock (set nodes i y) links ds)
+  pub put_store : (seat : ℕ) (what : What) (y : NodeView) (r : Result (Unit {0}) SimError) → seat < 33 → IsPut seat what y r → IsStore (state_of t times clock (set nodes i y) links ds)
   put_store seat what y (Ok u) lt f = subst (λ z. IsStore (state_of t times clock (set nodes i z) links ds)) (sym f) (item_store seat what lt)
   put_store seat what y (Err e) lt f = subst (λ z. IsStore (state_of t times clock z links ds)) (sym (same_nodes y f.1)) h
 

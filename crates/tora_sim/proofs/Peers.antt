@@ -119,7 +119,7 @@ stay-ascending ns asc = stay-on [] ns asc (none-below ns)
 pub neighbours-ascend : PutInOrder → (t : Topology) → IsTopology t → (n : ℕ) → IsAscending (neighbours_of t n)
 neighbours-ascend order t h n = order (other_ends n t.links) (others-once n t.links (sound t h.sound).links)
 
-pub few-neighbours : (t : Topology) → IsTopology t → (n : ℕ) → length (neighbours_of t n) ≤ 8
+pub few-neighbours : (t : Topology) → IsTopology t → (n : ℕ) → length (neighbours_of t n) ≤ 32
 few-neighbours t h n = let few = few-ends t (sound t h.sound) n in omega (arith, length-ascending (other_ends n t.links))
 
 pub nodes-ascend : StaysInOrder → (links : List Link) → IsAscending (nodes_in links)

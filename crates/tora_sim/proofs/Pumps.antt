@@ -78,7 +78,7 @@ module _ (t : Topology) (times : Times) (clock : ℕ) (nodes : List NodeView) (l
     seat_is : x.seat ≡ place_of k (neighbours_of t n)
     seat_is = (h.each_link i x at).seat ∙ ap₂ (λ p m. place_of p (neighbours_of t m)) ends_of_it.1 ends_of_it.0
 
-    pub seat_room : x.seat < 9
+    pub seat_room : x.seat < 33
     seat_room = (h.each_link i x at).room
 
     pumped_world : nat_lt (length y.items) 1024 ≡ true → world_of (state_of t times clock (set nodes j (after_item y x.seat clock (what_of event))) (set links i polled) ds) ≡ world_after w (Happens.Pump n k)

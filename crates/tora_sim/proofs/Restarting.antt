@@ -1,9 +1,10 @@
 -- A node restarts.
 use Rattle.std.proofs.Common.{◌≡◌, ℕ, zero, suc, ◌<◌, ◌⊎◌, ◌&&◌, inl, inr, Bool, true, false, true≢false, List, [], ◌∷◌, ◌++◌, map, length, set, get_or, slice_get, Option, Some, None, refl, sym, ap, ap₂, ◌∙◌, subst, arith, is_some, if◌then◌else◌, nat_eq, nat_lt, eqb-true, option_map, append_assoc, append-nil, fold}
+use Rattle.tora_sim.specs.declared.nodes.TheConstants.{MOST_SEATS}
 use Rattle.std.proofs.lemmas.Bool.{cases_Bool, and_parts}
 use Rattle.std.proofs.lemmas.Bool.Decides.{nat_tests}
 use Rattle.std.proofs.lemmas.List.{drop_all}
-use Rattle.std.specs.Prelude.{slice_index_or}
+use Rattle.std.specs.Prelude.{replicate, slice_index_or}
 use Rattle.std.specs.List.{AllByRecursion}
 use mathlib.Core.Path.{fun_ext}
 use Rattle.tora_frame.specs.FrameParts.{FrameParts}
@@ -89,14 +90,10 @@ pub new_state : (core : CoreView) → Rows.state_of (Rows.first_seat core) ≡ r
 new_state core =
     ap₂ (λ (c p : ℕ → Option Life). record { core = core; current = c; pending = p }) (fun_ext (λ k. no_current core.neighbours k)) (fun_ext (λ k. no_pending core.neighbours k))
 
-abbrev AllZero : List ℕ → Type 0
-AllZero [] = Unit {0}
-AllZero (c ∷ cs) = (c ≡ 0) × AllZero cs
-
-zeros : (cs : List ℕ) (seat : ℕ) → AllZero cs → get_or cs seat 0 ≡ 0
-zeros [] seat h = refl
-zeros (c ∷ cs) zero h = h.0
-zeros (c ∷ cs) (suc seat) h = zeros cs seat h.1
+zeros : (count seat : ℕ) → ◌≡◌ {A = ℕ} (get_or (replicate count 0) seat 0) 0
+zeros zero seat = refl
+zeros (suc count) zero = refl
+zeros (suc count) (suc seat) = zeros count seat
 
 module _ (t : Topology) (times : Times) (clock : ℕ) (nodes : List NodeView) (links : List LinkView) (ds : List FrameParts) (h : IsStore (state_of t times clock nodes links ds))
     (n i : ℕ) (x : NodeView) (first : IsFirst (is_of n) nodes i) (read : x ≡ slice_index_or nodes i x) (torn : Option (List ℕ)) where
@@ -228,7 +225,7 @@ module _ (t : Topology) (times : Times) (clock : ℕ) (nodes : List NodeView) (l
         let inputs = node_changes n nodes i x y first at same inputs_in in
         let items = node_changes n nodes i x y first at same items_in in
         let counts = node_changes n nodes i x y first at same counts_in
-        ∙ ap (λ (f : ℕ → ℕ). put_one (λ a. counts_in (node_at nodes a)) n f) (fun_ext (λ seat. zeros y.counts seat (refl, (refl, (refl, (refl, (refl, (refl, (refl, (refl, (refl, tt))))))))))) in
+        ∙ ap (λ (f : ℕ → ℕ). put_one (λ a. counts_in (node_at nodes a)) n f) (fun_ext (λ seat. zeros MOST_SEATS seat)) in
         let arms = node_stays n nodes i x y first at same arms_in refl in
         let u = world_of (state_of t times clock (set nodes i y) links ds) in
         links_same u ends_fresh files_reopen lanes_empty puts steps

@@ -17,8 +17,8 @@ abbrev pub sorted_on : List ℕ → List ℕ → List ℕ
 sorted_on acc ns = fold (λ sorted n. with_number n sorted) acc ns
 
 -- one number more at its place, and one less behind it
-pub neighbour-put : (acc new rest whole all : List ℕ) (k : ℕ) → new ≡ with_number k acc → whole ≡ k ∷ rest → length acc + length whole ≤ 8 → sorted_on acc whole ≡ all
-    → (length new + length rest ≤ 8) × (sorted_on new rest ≡ all)
+pub neighbour-put : (acc new rest whole all : List ℕ) (k : ℕ) → new ≡ with_number k acc → whole ≡ k ∷ rest → length acc + length whole ≤ 32 → sorted_on acc whole ≡ all
+    → (length new + length rest ≤ 32) × (sorted_on new rest ≡ all)
 neighbour-put acc new rest whole all k put is room e =
     let a = ap length put in
     let b = ap length is in
@@ -48,7 +48,7 @@ no-cause false false false e = (refl, refl, refl)
 
 pub record IsSound (t : Topology) : Type 0 where
   pub nodes : length (nodes_in t.links) ≤ 64
-  pub neighbours : list_any (λ n. nat_lt 8 (length (different_neighbours n t.links))) (nodes_in t.links) ≡ false
+  pub neighbours : list_any (λ n. nat_lt 32 (length (different_neighbours n t.links))) (nodes_in t.links) ≡ false
   pub links : has_repeated_link t.links ≡ false
   pub destinations : has_repeat t.destinations ≡ false
   pub others : has_own_link t.links ≡ false
@@ -57,9 +57,9 @@ pub sound : (t : Topology) → topology_fault t ≡ None → IsSound t
 sound t e =
     let h = no-cause (has_too_many t) (has_repeated_link t.links || has_repeat t.destinations) (has_own_link t.links) e in
     let many : Bool = nat_lt 64 (length (nodes_in t.links)) in
-    let some : Bool = list_any (λ n. nat_lt 8 (length (different_neighbours n t.links))) (nodes_in t.links) in
-    let first : (nat_lt 64 (length (nodes_in t.links)) || list_any (λ n. nat_lt 8 (length (different_neighbours n t.links))) (nodes_in t.links)) ≡ false = or-false-left _ (nat_lt 16 (length t.destinations)) h.0 in
-    let few : nat_lt 64 (length (nodes_in t.links)) ≡ false = or-false-left _ (list_any (λ n. nat_lt 8 (length (different_neighbours n t.links))) (nodes_in t.links)) first in
+    let some : Bool = list_any (λ n. nat_lt 32 (length (different_neighbours n t.links))) (nodes_in t.links) in
+    let first : (nat_lt 64 (length (nodes_in t.links)) || list_any (λ n. nat_lt 32 (length (different_neighbours n t.links))) (nodes_in t.links)) ≡ false = or-false-left _ (nat_lt 64 (length t.destinations)) h.0 in
+    let few : nat_lt 64 (length (nodes_in t.links)) ≡ false = or-false-left _ (list_any (λ n. nat_lt 32 (length (different_neighbours n t.links))) (nodes_in t.links)) first in
     record {
       nodes = grind (arith, nat_tests);
       neighbours = or-false-right (nat_lt 64 (length (nodes_in t.links))) _ first;
@@ -184,19 +184,19 @@ none-any p n (m ∷ ns) none there = go (none-any p n ns (or-false-right (p m) (
     go rest true e h = subst (λ k. p k ≡ false) (eqb-true m n e) (or-false-left (p m) (list_any p ns) none)
     go rest false e h = rest h
 
--- a node has at most eight neighbours
-pub few-ends : (t : Topology) → IsSound t → (n : ℕ) → length (other_ends n t.links) ≤ 8
+-- a node has at most 32 neighbours
+pub few-ends : (t : Topology) → IsSound t → (n : ℕ) → length (other_ends n t.links) ≤ 32
 few-ends t h n = go (has_number n (nodes_in t.links)) refl
   where
-    go : (b : Bool) → has_number n (nodes_in t.links) ≡ b → length (other_ends n t.links) ≤ 8
-    go false e = subst (λ (ns : List ℕ). length ns ≤ 8) (sym (unnamed n t.links e)) (omega arith)
+    go : (b : Bool) → has_number n (nodes_in t.links) ≡ b → length (other_ends n t.links) ≤ 32
+    go false e = subst (λ (ns : List ℕ). length ns ≤ 32) (sym (unnamed n t.links e)) (omega arith)
     go true e =
-        let few = none-any (λ m. nat_lt 8 (length (different_neighbours m t.links))) n (nodes_in t.links) h.neighbours e in
+        let few = none-any (λ m. nat_lt 32 (length (different_neighbours m t.links))) n (nodes_in t.links) h.neighbours e in
         let size = length-different (other_ends n t.links) (others-once n t.links h.links) in
         let apart : has_number n (different (other_ends n t.links)) ≡ false = has-different n (other_ends n t.links) ∙ others-apart n t.links h.others in
         let split : length (without_number n (different (other_ends n t.links))) + one_if false ≡ length (different (other_ends n t.links)) =
         subst (λ b. length (without_number n (different (other_ends n t.links))) + one_if b ≡ length (different (other_ends n t.links))) apart (split-different n (other_ends n t.links)) in
-        let bound : length (different_neighbours n t.links) ≤ 8 = grind (arith, nat_tests) in
+        let bound : length (different_neighbours n t.links) ≤ 32 = grind (arith, nat_tests) in
         omega arith
 
 -- ---- the other ends from a place on

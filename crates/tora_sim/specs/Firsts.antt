@@ -9,6 +9,7 @@ use Rattle.tora_life.specs.LifeRun.{opened}
 use Rattle.tora_seat.specs.Rows.{first_seat}
 use Rattle.tora_world.specs.Topology.{Topology, neighbours_of, new_core}
 use Rattle.tora_world.specs.World.{place_of}
+use Rattle.tora_sim.specs.declared.nodes.TheConstants.{MOST_SEATS}
 use Rattle.tora_sim.specs.declared.nodes.Sending.TheVariants.{Goes}
 use Rattle.tora_sim.specs.Links.{LinkView}
 use Rattle.tora_sim.specs.Nodes.{NodeView}
@@ -35,7 +36,7 @@ pub record IsFirstNode (t : Topology) (node : NodeView) : Type 0 where
   pub seat : node.seat ≡ first_seat (new_core t node.node)
   pub inputs : node.inputs ≡ []
   pub items : node.items ≡ []
-  pub counts : node.counts ≡ replicate 9 0
+  pub counts : node.counts ≡ replicate MOST_SEATS 0
   pub sending : node.sending ≡ Goes
   pub receive : node.receive ≡ false
 

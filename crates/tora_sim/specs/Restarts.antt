@@ -1,11 +1,12 @@
 -- A node and its link ends after a restart.
-use Rattle.std.specs.Prelude.{◌≡◌, ℕ, ◌+◌, ◌<◌, List, [], ◌∷◌, length, slice_get, Option, Some}
+use Rattle.std.specs.Prelude.{◌≡◌, ℕ, ◌+◌, ◌<◌, List, [], length, replicate, slice_get, Option, Some}
 use Rattle.tora_arq.specs.LinkEnd.{first_end}
 use Rattle.tora_arq.specs.EndRange.{LinkEndView, link_end_of}
 use Rattle.tora_core.specs.CoreRun.{CoreView, first_core}
 use Rattle.tora_core.specs.Kept.{destinations_of}
 use Rattle.tora_seat.specs.Rows.{SeatView}
 use Rattle.tora_world.specs.World.{reopened}
+use Rattle.tora_sim.specs.declared.nodes.TheConstants.{MOST_SEATS}
 use Rattle.tora_sim.specs.Links.{LinkView}
 use Rattle.tora_sim.specs.Nodes.{NodeView}
 
@@ -19,7 +20,7 @@ core_again core = first_core core.me core.neighbours (destinations_of core.views
 
 -- a node: its lane is empty, and its core has accepted nothing
 abbrev pub restarted_node : SeatView → NodeView → NodeView
-restarted_node seat node = record node { seat = seat; inputs = []; items = []; counts = 0 ∷ 0 ∷ 0 ∷ 0 ∷ 0 ∷ 0 ∷ 0 ∷ 0 ∷ 0 ∷ [] }
+restarted_node seat node = record node { seat = seat; inputs = []; items = []; counts = replicate MOST_SEATS 0 }
 
 -- there is a fresh end for each of so many link ends from a place on
 abbrev pub AreFresh : List LinkView → ℕ → ℕ → List LinkEndView → Type 0

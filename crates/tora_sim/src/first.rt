@@ -11,7 +11,7 @@ use crate::SimError;
 use crate::files::open;
 use crate::hints::Hints;
 use crate::links::LinkSlot;
-use crate::nodes::{NodeSlot, Sending};
+use crate::nodes::{MOST_SEATS, NodeSlot, Sending};
 use crate::sim::Sim;
 use crate::topology::Topology;
 use std::alloc::Global;
@@ -82,7 +82,7 @@ fn add_node(
         seat,
         inputs: Vec::new(alloc),
         items: VecDeque::new(alloc),
-        counts: [0; 9],
+        counts: [0; MOST_SEATS],
         sending: Sending::Goes,
         receive: false,
     };

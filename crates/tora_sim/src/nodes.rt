@@ -14,12 +14,15 @@ use crate::lanes::NodeLanes;
 use std::alloc::Global;
 use std::collections::VecDeque;
 use std::marker::Model;
-use tora_core::{Core, Input, tables_stay};
+use tora_core::{Core, Input, MOST_NEIGHBOURS, tables_stay};
 use tora_height::Id;
 use tora_seat::{
     CoreSeat, Item, Stepped, What, accepted_inputs_make_the_core, items_step_few_inputs,
     offers_are_their_own_answers,
 };
+
+/// The most seats of a node's core: one for each neighbour, and that of the commands.
+pub(crate) const MOST_SEATS: usize = MOST_NEIGHBOURS + 1;
 
 /// What becomes of the next datagram that a node sends.
 #[derive(Clone, Copy, Debug, PartialEq, Eq)]
@@ -44,7 +47,7 @@ pub struct NodeSlot {
     /// The lane into its core.
     pub(crate) items: VecDeque<Item>,
     /// How many items each seat has put since the node's last restart.
-    pub(crate) counts: [u64; 9],
+    pub(crate) counts: [u64; MOST_SEATS],
     pub(crate) sending: Sending,
     /// Whether the next datagram for it is not handed over.
     pub(crate) receive: bool,
@@ -87,7 +90,10 @@ impl NodeSlot {
         self.items.len()
     }
 
-    /// What becomes of the next datagram that it sends.
+    /// The most seats of a node's core: one for each neighbour, and that of the commands.
+pub(crate) const MOST_SEATS: usize = MOST_NEIGHBOURS + 1;
+
+/// What becomes of the next datagram that it sends.
     pub fn sending(&self) -> Sending
         ensures { result ≡ self.now.sending }
     {
@@ -120,7 +126,7 @@ impl NodeSlot {
     /// # Errors
     /// `Memory`, which changes nothing: also where the seat has put 2^64 - 1 items.
     pub fn put_item(&mut self, seat: usize, now: u64, what: What) -> Result<(), SimError>
-        requires { seat < 9 }
+        requires { seat < MOST_SEATS }
         ensures { MatchResult result (λ _. self.new ≡ after_item self.old seat now what) (λ e. (e ≡ SimError.Memory) × (self.new ≡ self.old)) }
     {
         let Some(number) = self.counts[seat].checked_add(1) else {
@@ -181,7 +187,7 @@ impl NodeSlot {
         self.seat = seat;
         self.inputs.clear();
         self.items.clear();
-        self.counts = [0; 9];
+        self.counts = [0; MOST_SEATS];
     }
 
     /// Serves the first item of the lane over the lanes to the neighbours, and notes the inputs that the core accepted.

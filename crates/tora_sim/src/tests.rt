@@ -105,10 +105,10 @@ fn too_many_are_refused(rt: HostRuntime) -> Result<(), Fail> {
     let many = Some(CoreError::TooMany);
     sees(&rt, alloc, &chain(alloc, 64)?, &[1], None);
     sees(&rt, alloc, &chain(alloc, 65)?, &[1], many);
-    sees(&rt, alloc, &star(alloc, 8)?, &[1], None);
-    sees(&rt, alloc, &star(alloc, 9)?, &[1], many);
-    sees(&rt, alloc, &[(1, 2)], &destinations(alloc, 16)?, None);
-    sees(&rt, alloc, &[(1, 2)], &destinations(alloc, 17)?, many);
+    sees(&rt, alloc, &star(alloc, 32)?, &[1], None);
+    sees(&rt, alloc, &star(alloc, 33)?, &[1], many);
+    sees(&rt, alloc, &[(1, 2)], &destinations(alloc, 64)?, None);
+    sees(&rt, alloc, &[(1, 2)], &destinations(alloc, 65)?, many);
     Ok(())
 }
 
@@ -126,7 +126,7 @@ fn repeats_and_own_links_are_refused(rt: HostRuntime) -> Result<(), Fail> {
 #[test]
 fn first_cause_is_told(rt: HostRuntime) -> Result<(), Fail> {
     let alloc = rt.alloc();
-    let mut links = star(alloc, 9)?;
+    let mut links = star(alloc, 33)?;
     links.push((1, 1))?;
     links.push((1, 1))?;
     sees(&rt, alloc, &links, &[1, 1], Some(CoreError::TooMany));

@@ -15,9 +15,13 @@ use tora_height::Id;
 /// The most nodes of a world. Own profile.
 pub const MOST_NODES: usize = 64;
 
+/// The most nodes at the other ends of a node's links: one more than its neighbours, since a link of the node to itself
+/// names the node.
+const MOST_ENDS: usize = MOST_NEIGHBOURS + 1;
+
 /// The links of a world and the destinations that each node's table has.
 ///
-/// There are at most 64 nodes, each with at most 8 neighbours, and at most 16 destinations. No link, either way round,
+/// There are at most 64 nodes, each with at most 32 neighbours, and at most 64 destinations. No link, either way round,
 /// and no destination is named twice, and no link leads from a node to itself. No number is 0.
 #[derive(Debug, Drop)]
 pub struct Topology {
@@ -119,7 +123,7 @@ impl Topology {
 
 /// The neighbours that links give a node, in ascending order.
 fn neighbours_of(links: &[(Id, Id)], n: Id) -> ArrayVec<Id, MOST_NEIGHBOURS>
-    requires { length (other_ends n (links_in links.now)) ≤ 8 }
+    requires { length (other_ends n (links_in links.now)) ≤ MOST_NEIGHBOURS }
     ensures { result.items ≡ ascending (other_ends n (links_in links.now)) }
 {
     let mut neighbours = ArrayVec::new();
@@ -151,7 +155,8 @@ fn fault_of(links: &[(Id, Id)], destinations: &[Id]) -> Option<CoreError>
     None
 }
 
-/// Whether there are more than 64 nodes, 8 neighbours of a node, or 16 destinations.
+/// Whether there are more than `MOST_NODES` nodes, `MOST_NEIGHBOURS` neighbours of a node, or `MOST_DESTINATIONS`
+/// destinations.
 fn has_too_many(links: &[(Id, Id)], destinations: &[Id]) -> bool
     ensures { result ≡ has_too_many (topology_of links.now destinations.now) }
 {
@@ -165,7 +170,7 @@ fn has_too_many(links: &[(Id, Id)], destinations: &[Id]) -> bool
 }
 
 fn some_has_many_neighbours(nodes: &[Id], links: &[(Id, Id)]) -> bool
-    ensures { result ≡ list_any (λ n. nat_lt 8 (length (different_neighbours n (links_in links.now)))) nodes.now }
+    ensures { result ≡ list_any (λ n. nat_lt MOST_NEIGHBOURS (length (different_neighbours n (links_in links.now)))) nodes.now }
 {
     nodes.iter().any(|n| has_many_neighbours(*n, links))
 }
@@ -189,12 +194,11 @@ fn nodes_of(links: &[(Id, Id)]) -> Option<ArrayVec<Id, MOST_NODES>>
     Some(nodes)
 }
 
-/// Whether the links of a node name more than 8 others.
+/// Whether the links of a node name more than `MOST_NEIGHBOURS` others.
 fn has_many_neighbours(n: Id, links: &[(Id, Id)]) -> bool
-    ensures { result ≡ nat_lt 8 (length (different_neighbours n (links_in links.now))) }
+    ensures { result ≡ nat_lt MOST_NEIGHBOURS (length (different_neighbours n (links_in links.now))) }
 {
-    // One more, since a link of the node to itself names the node.
-    let mut ends: ArrayVec<Id, 9> = ArrayVec::new();
+    let mut ends: ArrayVec<Id, MOST_ENDS> = ArrayVec::new();
     let mut left = links.len();
     while left > 0 {
         left -= 1;

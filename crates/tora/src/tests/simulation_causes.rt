@@ -62,7 +62,11 @@ fn causes_of_faults_before_a_simulation_runs(rt: HostRuntime) {
     let own = ["dests 4", "link 1 1"];
     expect_cause(&rt, rt.alloc(), &own, "tick", SimulationCause::OwnLink);
     let many = [
-        "dests 1,2,3,4,5,6,7,8,9,10,11,12,13,14,15,16,17",
+        "dests 1,2,3,4,5,6,7,8,9,10,11,12,13,14,15,16,\
+        17,18,19,20,21,22,23,24,25,26,27,28,29,30,31,32,\
+        33,34,35,36,37,38,39,40,41,42,43,44,45,46,47,48,\
+        49,50,51,52,53,54,55,56,57,58,59,60,61,62,63,64,\
+        65",
         "link 1 2",
     ];
     expect_cause(&rt, rt.alloc(), &many, "tick", SimulationCause::TooMany);

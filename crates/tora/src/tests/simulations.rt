@@ -146,7 +146,10 @@ fn destinations_accepted_and_refused(rt: HostRuntime) {
         "dests 4\n",
         "dests 4294967295\n",
         "dests 9,1,5\n",
-        "dests 1,2,3,4,5,6,7,8,9,10,11,12,13,14,15,16\n",
+        "dests 1,2,3,4,5,6,7,8,9,10,11,12,13,14,15,16,\
+        17,18,19,20,21,22,23,24,25,26,27,28,29,30,31,32,\
+        33,34,35,36,37,38,39,40,41,42,43,44,45,46,47,48,\
+        49,50,51,52,53,54,55,56,57,58,59,60,61,62,63,64\n",
     ];
     for line in accepted {
         expect_world(&rt, rt.alloc(), (line, "link 1 2"), "", Ended::Whole);
@@ -203,7 +206,11 @@ fn topologies_refused(rt: HostRuntime) {
         ("dests 4\n", "link 1 2\nlink 3 3"),
         ("dests 4,4\n", "link 1 2\nlink 2 3"),
         (
-            "dests 1,2,3,4,5,6,7,8,9,10,11,12,13,14,15,16,17\n",
+            "dests 1,2,3,4,5,6,7,8,9,10,11,12,13,14,15,16,\
+            17,18,19,20,21,22,23,24,25,26,27,28,29,30,31,32,\
+            33,34,35,36,37,38,39,40,41,42,43,44,45,46,47,48,\
+            49,50,51,52,53,54,55,56,57,58,59,60,61,62,63,64,\
+            65\n",
             "link 1 2\nlink 2 3",
         ),
     ];
@@ -228,10 +235,51 @@ fn topologies_refused(rt: HostRuntime) {
             }
         }
     }
-    let nine = "link 1 2\nlink 1 3\nlink 1 4\nlink 1 5\nlink 1 6\nlink 1 7\nlink 1 8\nlink 1 9\n";
-    expect_world(&rt, rt.alloc(), ("dests 4\n", nine), "", Ended::Whole);
-    let ten = "dests 4\nlink 10 1\n";
-    expect_world(&rt, rt.alloc(), (ten, nine), "fault 10\n", Ended::Fault(10));
+    expect_world(&rt, rt.alloc(), ("dests 4\n", STAR), "", Ended::Whole);
+    let more = "dests 4\nlink 34 1\n";
+    expect_world(
+        &rt,
+        rt.alloc(),
+        (more, STAR),
+        "fault 34\n",
+        Ended::Fault(34),
+    );
+}
+
+/// A node with 32 neighbours.
+const STAR: &str =
+    "link 1 2\nlink 1 3\nlink 1 4\nlink 1 5\nlink 1 6\nlink 1 7\nlink 1 8\nlink 1 9\n\
+    link 1 10\nlink 1 11\nlink 1 12\nlink 1 13\nlink 1 14\nlink 1 15\nlink 1 16\nlink 1 17\n\
+    link 1 18\nlink 1 19\nlink 1 20\nlink 1 21\nlink 1 22\nlink 1 23\nlink 1 24\nlink 1 25\n\
+    link 1 26\nlink 1 27\nlink 1 28\nlink 1 29\nlink 1 30\nlink 1 31\nlink 1 32\nlink 1 33\n";
+
+const STAR_FOUND: &str = "node 1 (0,0,0,1,1) hop 2\nnode 2 (0,0,0,0,2) hop -\n\
+    node 3 - hop 1\nnode 4 - hop 1\nnode 5 - hop 1\nnode 6 - hop 1\nnode 7 - hop 1\n\
+    node 8 - hop 1\nnode 9 - hop 1\nnode 10 - hop 1\nnode 11 - hop 1\nnode 12 - hop 1\n\
+    node 13 - hop 1\nnode 14 - hop 1\nnode 15 - hop 1\nnode 16 - hop 1\nnode 17 - hop 1\n\
+    node 18 - hop 1\nnode 19 - hop 1\nnode 20 - hop 1\nnode 21 - hop 1\nnode 22 - hop 1\n\
+    node 23 - hop 1\nnode 24 - hop 1\nnode 25 - hop 1\nnode 26 - hop 1\nnode 27 - hop 1\n\
+    node 28 - hop 1\nnode 29 - hop 1\nnode 30 - hop 1\nnode 31 - hop 1\nnode 32 - hop 1\n\
+    node 33 (0,0,0,2,33) hop 1\n";
+
+/// A leaf of the largest star asks for a route to another leaf; the others hear the answer.
+#[test]
+fn star_of_thirty_three(rt: HostRuntime) {
+    let end = "need 33 2\nrounds 3\nheights 2\n";
+    let largest = format!(in rt.alloc(); "dests 2\n{STAR}rounds 1\n");
+    if let Ok(front) = largest {
+        expect_world(&rt, rt.alloc(), (&front, end), STAR_FOUND, Ended::Whole);
+    }
+    let larger = format!(in rt.alloc(); "dests 2\n{STAR}link 1 34\nrounds 1\n");
+    if let Ok(front) = larger {
+        expect_world(
+            &rt,
+            rt.alloc(),
+            (&front, end),
+            "fault 35\n",
+            Ended::Fault(35),
+        );
+    }
 }
 
 /// More than 64 nodes are refused.

@@ -1,7 +1,10 @@
-use Rattle.std.proofs.Common.{◌≡◌, ◌++◌, map, take, drop}
+use Rattle.std.proofs.Common.{◌≡◌, ◌++◌, false, map, take, drop}
 use Rattle.tora_core.specs.View.{cleared_row}
 use Rattle.tora_core.proofs.rows.clear_level.Given as goal
 
--- the rows so far are changed, the others are not
+-- the rows so far are changed, the others are not, and where none was cleared nothing is changed
 abbrev pub invariant-loop-row : goal.invariant-loop-row
-invariant-loop-row l = l.rows ≡ map (cleared_row l.destination l.level) (take l.row-index l.initial.rows) ++ drop l.row-index l.initial.rows
+invariant-loop-row l = record {
+  rows : l.rows ≡ map (cleared_row l.destination l.level) (take l.row-index l.initial.rows) ++ drop l.row-index l.initial.rows;
+  none : l.cleared ≡ false → l.rows ≡ l.initial.rows;
+}

@@ -7,7 +7,7 @@ use Rattle.tora_sim.proofs.first.add_node.Goals as goal
 
 pub returns : goal.returns
 returns c =
-    let node : NodeView = node_of c.args.n c.len-first.result c.len-count.result c.in_ok-seat.seat c.new.result.items c.new-2.result.items (replicate 9 0) Goes false in
+    let node : NodeView = node_of c.args.n c.len-first.result c.len-count.result c.in_ok-seat.seat c.new.result.items c.new-2.result.items (replicate 33 0) Goes false in
     let put : c.push.new.self.items ≡ c.args.nodes.now.items ++ node ∷ [] =
     c.push.ensures.items ∙ ap (λ b. if b then c.args.nodes.now.items ++ node ∷ [] else c.args.nodes.now.items) c.if-is_err.ensures.negation in
     let first : c.len-first.result ≡ length c.args.links.now.items = omega (arith, c.len-first.ensures, c.args.links.now.ok.0) in

@@ -1,6 +1,6 @@
 use Rattle.std.proofs.Common.{◌≡◌, length, sym, ap, ◌∙◌, arith}
 use Rattle.tora_core.specs.Numbers.{has_number}
-use Rattle.tora_sim.proofs.Named.{ends_from, many-ends, few-of-nine, few-of-eight}
+use Rattle.tora_sim.proofs.Named.{ends_from, many-ends, few-of-most, few-within}
 use Rattle.tora_sim.proofs.topology.has_many_neighbours.Goals as goal
 
 pub returns-then-not-put_end : goal.returns-then-not-put_end
@@ -13,10 +13,10 @@ returns-then-len-gt-MOST_NEIGHBOURS c =
     let none : c.loop-left.left ≡ 0 = omega arith in
     let all : c.loop-left.ends.items ≡ ends_from c.args.n c.args.links.now 0 = c.loop-left.invariant.ends ∙ ap (ends_from c.args.n c.args.links.now) none in
     let size : length (ends_from c.args.n c.args.links.now 0) ≡ c.len.result = sym (c.len.ensures.value ∙ ap length all) in
-    few-of-nine c.args.n c.args.links.now c.has_number.result (c.has_number.ensures ∙ ap (has_number c.args.n) (c.as_slice.ensures.value ∙ all)) (omega (arith, c.len.ensures.fits)) (omega arith)
+    few-of-most c.args.n c.args.links.now c.has_number.result (c.has_number.ensures ∙ ap (has_number c.args.n) (c.as_slice.ensures.value ∙ all)) (omega (arith, c.len.ensures.fits)) (omega arith)
 
 pub returns-else-len-gt-MOST_NEIGHBOURS : goal.returns-else-len-gt-MOST_NEIGHBOURS
 returns-else-len-gt-MOST_NEIGHBOURS c =
     let none : c.loop-left.left ≡ 0 = omega arith in
     let all : c.loop-left.ends.items ≡ ends_from c.args.n c.args.links.now 0 = c.loop-left.invariant.ends ∙ ap (ends_from c.args.n c.args.links.now) none in
-    few-of-eight c.args.n c.args.links.now c.len.result (c.len.ensures.value ∙ ap length all) c.if-len-gt-MOST_NEIGHBOURS.false
+    few-within c.args.n c.args.links.now c.len.result (c.len.ensures.value ∙ ap length all) c.if-len-gt-MOST_NEIGHBOURS.false

@@ -22,7 +22,7 @@ returns-then-waiting-ge-MOST_ITEMS c =
 pub put_item-requires : goal.put_item-requires
 put_item-requires c =
     let s = c.self.inside in
-    subst (λ m. m < 9) (sym c.count-seat.ensures)
+    subst (λ m. m < 33) (sym c.count-seat.ensures)
     (of_node s.topology s.times s.clock s.nodes.items s.links.items s.datagrams.items c.self.invariant c.args.n c.in-Some.home c.index-2.result.now c.in-Some.ensures.first c.index-2.ensures).room
 
 module _ (c : goal.After-self-1) where
