@@ -56,7 +56,7 @@ module _ (n : ℕ) (s : State) (floor : IsFloorOfDisk n s) where
   abbrev synced : Bool → State
   synced fails =
       if fails then record s { sync_fails = false; failures = failures_more s.failures }
-      else record s { synced = s.bytes; synced_len = s.len; written = replicate 64 false; reach = s.len }
+      else record s { synced = s.bytes; synced_len = s.len; written = replicate 80 false; reach = s.len }
 
   open_floor : (fails : Bool) → let answer : Result (Unit {0}) DiskError = if fails then Err (record {}) else Ok tt in
       IsFloor n (opened_as (by_result answer (numbers_read (read_answer (synced fails) 0 zeros) (bytes_read (synced fails) 0 zeros)) (Err Disk)) (by_result answer (after_read (synced fails)) (synced fails)))
@@ -130,9 +130,9 @@ crash_left_by n torn disk floor =
     record { whole = crash_whole torn (state_in disk) whole; images = crash_images torn (state_in disk) whole }
 
 pub seen_fresh : (file : List ℕ) → seen_of (fresh_state file) ≡ file
-seen_fresh file = take_at file (replicate (64 - length file) 0) (length file) refl
+seen_fresh file = take_at file (replicate (80 - length file) 0) (length file) refl
 
-pub fresh_floor : (file : List ℕ) → length file ≤ 64 → IsFloor (file_value file) (opened (fresh_state file))
+pub fresh_floor : (file : List ℕ) → length file ≤ 80 → IsFloor (file_value file) (opened (fresh_state file))
 fresh_floor file fits = opened_floor (file_value file) (fresh_state file) (record { whole = whole; images = images })
   where
     whole : IsWhole (fresh_state file)
@@ -143,7 +143,7 @@ fresh_floor file fits = opened_floor (file_value file) (fresh_state file) (recor
 
     images : (c : List ℕ) → MayLeave (fresh_state file) c → file_value file ≤ file_value c
     images c (inl seen) = value c seen
-    images c (inr image) = value c (clean (length file) 64 (synced_of (fresh_state file)) c (omega (arith, length-take (length file) (replicate 64 false), length-take (length file) (filled file), whole.bytes, length-replicate 64 false)) image)
+    images c (inr image) = value c (clean (length file) 80 (synced_of (fresh_state file)) c (omega (arith, length-take (length file) (replicate 80 false), length-take (length file) (filled file), whole.bytes, length-replicate 80 false)) image)
 
 pub rises : (n : ℕ) (disk : LifeDisk) (events : List LifeEvent) → IsFloor n disk → IsRun disk events → RisesAbove n (drawn_numbers disk events)
 rises n disk [] floor run = tt

@@ -10,4 +10,5 @@ pub mod Numbers
 pub mod Past
 pub mod Slots
 pub mod State
+pub mod Tags
 pub mod TornBytes

@@ -14,10 +14,10 @@ ghost use Rattle.tora_life.specs.LifeRun.{LifeDisk, LifeEvent, Draw, MayHappen, 
 /// their clauses on the calls of the disk say. It goes by a floor, a number such that neither it nor a lesser one
 /// is drawn again. The other clauses are its steps, for a law over many life files.
 pub fn drawn_life_numbers_rise()
-    ensures rise { (file : List ℕ) (events : List LifeEvent) → length file ≤ 64 → IsRun (opened (fresh_state file)) events → RisesAbove (file_value file) (drawn_numbers (opened (fresh_state file)) events) }
+    ensures rise { (file : List ℕ) (events : List LifeEvent) → length file ≤ 80 → IsRun (opened (fresh_state file)) events → RisesAbove (file_value file) (drawn_numbers (opened (fresh_state file)) events) }
 
     // The value of the file is the first floor, and a number drawn is the next. No event lowers it.
-    ensures first { (file : List ℕ) → length file ≤ 64 → IsFloor (file_value file) (opened (fresh_state file)) }
+    ensures first { (file : List ℕ) → length file ≤ 80 → IsFloor (file_value file) (opened (fresh_state file)) }
     ensures draw { (n x : ℕ) (disk : LifeDisk) → IsFloor n disk → drawn_by Draw disk ≡ x ∷ [] → (n < x) × IsFloor x (after_event Draw disk) }
     ensures keep { (n : ℕ) (event : LifeEvent) (disk : LifeDisk) → IsFloor n disk → MayHappen event disk → IsFloor n (after_event event disk) }
 

@@ -32,6 +32,7 @@ mod numbers;
 mod slot_writing;
 mod slots;
 mod state;
+mod tags;
 mod tearing;
 mod whole_read;
 
@@ -42,6 +43,7 @@ pub use life_file::{LifeFile, OpenFault};
 pub use mem_disk::MemDisk;
 pub use numbers::LifeError;
 pub use state::DiskCall;
+pub use tags::{Owner, Tag};
 
 #[cfg(test)]
 mod tests;
