@@ -17,13 +17,13 @@ pub length-slot_of : (bound : ℕ) → length (slot_of bound) ≡ 16
 unfolding slot_of
 length-slot_of bound = refl
 
-pick : (slot : List ℕ) (bound : ℕ) → length slot ≡ 16 → number_of (take 8 slot) ≡ bound → number_of (take 8 (drop 8 slot)) ≡ 2 ^ 64 - 1 - bound → slot_bound slot ≡ bound
+pick : (slot : List ℕ) (bound : ℕ) → bound < 2 ^ 64 → length slot ≡ 16 → number_of (take 8 slot) ≡ bound → number_of (take 8 (drop 8 slot)) ≡ 2 ^ 64 - 1 - bound → slot_bound slot ≡ bound
 unfolding slot_bound
-pick slot bound long one other = grind (arith, nat_tests)
+pick slot bound below long one other = grind (arith, nat_tests)
 
-spelled : (xs ys : List ℕ) (bound : ℕ) → length xs ≡ 8 → length ys ≡ 8 → number_of xs ≡ bound → number_of ys ≡ 2 ^ 64 - 1 - bound → slot_bound (xs ++ ys) ≡ bound
-spelled xs ys bound a b one other =
-    pick (xs ++ ys) bound (omega (arith, length-append xs ys)) (ap number_of (take_at xs ys 8 a) ∙ one)
+spelled : (xs ys : List ℕ) (bound : ℕ) → bound < 2 ^ 64 → length xs ≡ 8 → length ys ≡ 8 → number_of xs ≡ bound → number_of ys ≡ 2 ^ 64 - 1 - bound → slot_bound (xs ++ ys) ≡ bound
+spelled xs ys bound below a b one other =
+    pick (xs ++ ys) bound below (omega (arith, length-append xs ys)) (ap number_of (take_at xs ys 8 a) ∙ one)
     (ap (λ (l : List ℕ). number_of (take 8 l)) (drop_at xs ys 8 a) ∙ ap number_of (take_all 8 ys (omega (arith, b))) ∙ other)
 
 number_back : (n : ℕ) → n < 2 ^ 64 → number_of (to_be_bytes w64 n) ≡ n
@@ -33,7 +33,7 @@ number_back n below = from_be_bytes-to_be_bytes_8 n below
 pub slot_bound-slot_of : (bound : ℕ) → bound < 2 ^ 64 → slot_bound (slot_of bound) ≡ bound
 unfolding slot_of
 slot_bound-slot_of bound below =
-    spelled (to_be_bytes w64 bound) (to_be_bytes w64 (2 ^ 64 - 1 - bound)) bound refl refl (number_back bound below) (number_back (2 ^ 64 - 1 - bound) (omega arith))
+    spelled (to_be_bytes w64 bound) (to_be_bytes w64 (2 ^ 64 - 1 - bound)) bound below refl refl (number_back bound below) (number_back (2 ^ 64 - 1 - bound) (omega arith))
 
 pub kept_below : (slot : Slot) (file : List ℕ) → kept_bound slot file ≤ file_value file
 kept_below First file = omega arith
@@ -103,7 +103,7 @@ replaced slot bound at file bytes new images here is below le holds only =
       kept = written_keeps file bytes new long slot le held;
     }
 
-counted : (slot : List ℕ) → 0 < slot_bound slot → 16 ≤ length slot
+pub counted : (slot : List ℕ) → 0 < slot_bound slot → 16 ≤ length slot
 unfolding slot_bound
 counted slot some = grind (arith, nat_tests)
 

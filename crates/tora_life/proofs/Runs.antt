@@ -5,7 +5,7 @@ use Rattle.std.proofs.lemmas.Bool.Decides.{nat_tests}
 use Rattle.tora_life.specs.declared.disk.DiskError.{DiskError}
 use Rattle.tora_life.specs.declared.numbers.Numbers.{Numbers}
 use Rattle.tora_life.specs.declared.numbers.LifeError.{LifeError}
-use Rattle.tora_life.specs.declared.numbers.LifeError.TheVariants.{Disk, Failed, Spent, Damaged}
+use Rattle.tora_life.specs.declared.numbers.LifeError.TheVariants.{Disk, Failed, Spent, Damaged, Foreign}
 use Rattle.tora_life.specs.declared.state.State.{State}
 use Rattle.tora_life.specs.declared.state.DiskCall.{DiskCall}
 use Rattle.tora_life.specs.Disk.{IsOnlyImage, IsRead}
@@ -103,6 +103,7 @@ draw_step n numbers s le (Err Disk) is after goes = record { whole = goes.0; kep
 draw_step n numbers s le (Err Failed) is after goes = record { whole = goes.0; kept = goes.1; drawn = le }
 draw_step n numbers s le (Err Spent) is after goes = record { whole = goes.0; kept = goes.1; drawn = le }
 draw_step n numbers s le (Err Damaged) is after goes = record { whole = goes.0; kept = goes.1; drawn = le }
+draw_step n numbers s le (Err Foreign) is after goes = record { whole = goes.0; kept = goes.1; drawn = le }
 
 step : (n : ℕ) (event : LifeEvent) (disk : LifeDisk) → IsFloor n disk → MayHappen event disk → Step n (drawn_by event disk) (after_event event disk)
 step n Draw (Opened numbers s) floor may = draw_step n numbers s floor.drawn (draw_answer numbers s) (drawn_is numbers s) (draw_state numbers s) (draw_keeps numbers s floor.whole floor.kept)

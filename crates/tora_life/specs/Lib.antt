@@ -6,6 +6,7 @@ pub mod FileView
 pub mod InMemory
 pub mod LifeFile
 pub mod LifeRun
+pub mod Migration
 pub mod Numbers
 pub mod Past
 pub mod Slots

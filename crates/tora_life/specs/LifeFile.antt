@@ -1,15 +1,16 @@
 -- What the bytes of a life file stand for.
-use Rattle.std.specs.Prelude.{ℕ, ◌-◌, ◌^◌, ◌≤◌, zero, suc, max, List, ◌++◌, length, take, drop, if◌then◌else◌, ◌&&◌, ◌==◌, nat_le}
+use Rattle.std.specs.Prelude.{ℕ, ◌+◌, ◌-◌, ◌^◌, ◌≤◌, zero, suc, max, List, ◌++◌, length, take, drop, if◌then◌else◌, ◌&&◌, ◌==◌, nat_le}
 use Rattle.std.specs.Int.{w64, from_be_bytes, to_be_bytes}
 
 -- the number that eight bytes spell, the greatest byte first
 unfoldable pub number_of : List ℕ → ℕ
 number_of bytes = from_be_bytes w64 bytes
 
--- the bound that a slot spells: eight bytes and their bitwise complement. A slot that is not complementary, or not wholly there, counts as 0
+-- the bound that a slot spells: eight bytes and their bitwise complement, which add up to 2^64 - 1. A slot that is not complementary, or
+-- not wholly there, counts as 0
 unfoldable pub slot_bound : List ℕ → ℕ
 slot_bound slot =
-    if nat_le 16 (length slot) && (number_of (take 8 (drop 8 slot)) == 2 ^ 64 - 1 - number_of (take 8 slot)) then number_of (take 8 slot) else 0
+    if nat_le 16 (length slot) && (number_of (take 8 slot) + number_of (take 8 (drop 8 slot)) == 2 ^ 64 - 1) then number_of (take 8 slot) else 0
 
 -- slot i of a file: slot 0 is its first sixteen bytes
 abbrev pub slot_value : List ℕ → ℕ → ℕ

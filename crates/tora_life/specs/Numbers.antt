@@ -2,7 +2,7 @@
 use Rattle.std.specs.Prelude.{◌≡◌, ℕ, ◌+◌, ◌^◌, ◌<◌, ◌≤◌, max, Bool, true, false, if◌then◌else◌, ◌==◌, nat_le, Result, Ok, Err, IsTrue, IsFalse, List}
 use Rattle.tora_life.specs.declared.numbers.Numbers.{Numbers}
 use Rattle.tora_life.specs.declared.numbers.LifeError.{LifeError}
-use Rattle.tora_life.specs.declared.numbers.LifeError.TheVariants.{Disk, Failed, Spent, Damaged}
+use Rattle.tora_life.specs.declared.numbers.LifeError.TheVariants.{Disk, Failed, Spent, Damaged, Foreign}
 use Rattle.tora_life.specs.declared.slots.Slot.{Slot}
 use Rattle.tora_life.specs.declared.slots.Slot.TheVariants.{First, Second}
 use Rattle.tora_life.specs.Disk.{IsOnlyImage}
@@ -47,6 +47,7 @@ numbers_after (Err Disk) numbers = record numbers { failed = true }
 numbers_after (Err Failed) numbers = numbers
 numbers_after (Err Spent) numbers = numbers
 numbers_after (Err Damaged) numbers = numbers
+numbers_after (Err Foreign) numbers = numbers
 
 -- what an open life file keeps of its numbers and its disk
 pub record IsKept {D : Type 0} (tells : D → Bool) (seen : D → List ℕ) (may_leave : D → List ℕ → Type 0) (numbers : Numbers) (disk : D) : Type 0 where

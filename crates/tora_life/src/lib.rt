@@ -28,6 +28,7 @@ mod file_disk;
 mod laws;
 mod life_file;
 mod mem_disk;
+mod migration;
 mod numbers;
 mod slot_writing;
 mod slots;
