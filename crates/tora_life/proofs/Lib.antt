@@ -3,6 +3,7 @@ pub mod Draws
 pub mod Images
 pub mod Migrations
 pub mod Moments
+pub mod OnOks
 pub mod Opens
 pub mod Past
 pub mod ReadOn

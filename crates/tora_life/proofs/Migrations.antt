@@ -12,7 +12,7 @@ use Rattle.tora_life.specs.declared.migration.Version.TheVariants.{Untagged, Tag
 use Rattle.tora_life.specs.declared.tags.Owner.{Owner}
 use Rattle.tora_life.specs.declared.tags.Tag.{Tag}
 use Rattle.tora_life.specs.declared.tags.Tag.TheVariants.{Absent, Strange, Of}
-use Rattle.tora_life.specs.Disk.{Holds, Torn}
+use Rattle.tora_life.specs.Disk.{Holds, Torn, IsTornFrom, IsOnlyImage}
 use Rattle.tora_life.specs.LifeFile.{number_of, slot_bound, slot_value, file_value}
 use Rattle.tora_life.specs.Migration.{version_by, version_of, slot_filled, migrated, migration_place, migration_bytes}
 use Rattle.tora_life.specs.Tags.{tag_read, tag_of}
@@ -282,3 +282,11 @@ module _ (file c : List ℕ) (n : ℕ) (torn : Torn (migration_place file) n fil
 
   pub torn_value : file_value file ≤ file_value c
   torn_value = omega (arith, at_least (slot_value file 0) (slot_value c 0) kept_0, at_least (slot_value file 1) (slot_value c 1) kept_1)
+
+pub migration_done : (owner : Owner) (file seen new : List ℕ) (at : ℕ) (bytes : List ℕ) → file ≡ seen → length file ≤ 64 → at ≡ migration_place file → bytes ≡ migration_bytes owner file → Holds seen at bytes new → new ≡ migrated owner file
+migration_done owner file seen new at bytes whole fits here is holds =
+    migration_held owner file new fits (subst (λ (l : List ℕ). Holds l (migration_place file) (migration_bytes owner file) new) (sym whole) (subst (λ (p : ℕ × List ℕ). Holds seen p.0 p.1 new) (λ i. (here i, is i)) holds))
+
+pub migration_torn : (file seen : List ℕ) (at n : ℕ) (old : List ℕ → Type 0) → file ≡ seen → at ≡ migration_place file → IsOnlyImage seen old → (c : List ℕ) → IsTornFrom at n old c → file_value file ≤ file_value c
+migration_torn file seen at n old whole here only c from =
+    torn_value file c n (subst (λ (p : ℕ). Torn p n file c) here (subst (λ (l : List ℕ). Torn at n l c) (only from.0 from.1 ∙ sym whole) from.2))

@@ -1,6 +1,8 @@
 -- What the bytes of a life file stand for.
-use Rattle.std.specs.Prelude.{ℕ, ◌+◌, ◌-◌, ◌^◌, ◌≤◌, zero, suc, max, List, ◌++◌, length, take, drop, if◌then◌else◌, ◌&&◌, ◌==◌, nat_le}
+use Rattle.std.specs.Prelude.{◌≡◌, ℕ, ◌+◌, ◌-◌, ◌^◌, ◌≤◌, zero, suc, max, List, ◌++◌, length, take, drop, if◌then◌else◌, ◌&&◌, ◌==◌, nat_le}
 use Rattle.std.specs.Int.{w64, from_be_bytes, to_be_bytes}
+use Rattle.tora_life.specs.declared.tags.Owner.{Owner}
+use Rattle.tora_life.specs.Tags.{tag_of}
 
 -- the number that eight bytes spell, the greatest byte first
 unfoldable pub number_of : List ℕ → ℕ
@@ -25,7 +27,7 @@ file_value file = max (slot_value file 0) (slot_value file 1)
 unfoldable pub slot_of : ℕ → List ℕ
 slot_of bound = to_be_bytes w64 bound ++ to_be_bytes w64 (2 ^ 64 - 1 - bound)
 
--- a file that opens, and draws no number again up to n
-pub record Covers (n : ℕ) (file : List ℕ) : Type 0 where
+-- a file that opens for its owner, has its tag, and draws no number again up to n
+pub record Covers (owner : Owner) (n : ℕ) (file : List ℕ) : Type 0 where
   pub value : n ≤ file_value file
-  pub short : length file ≤ 32
+  pub tag : drop 32 file ≡ tag_of owner

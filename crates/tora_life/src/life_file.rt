@@ -8,7 +8,7 @@ ghost use Rattle.tora_life.specs.Calls.{SyncsAndReads, WritesAndSyncs};
 use crate::disk::Disk;
 use crate::mem_disk::MemDisk;
 use crate::numbers::{LAST_NUMBER, LifeError, Numbers, RESERVED};
-use crate::slot_writing::replace_slot;
+use crate::writing::replace_slot;
 use crate::state::DiskCall;
 use std::marker::Model;
 use thiserror::Error;
