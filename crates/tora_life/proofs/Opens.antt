@@ -21,16 +21,16 @@ read_numbers file first second drawn a b d =
     λ i. record { first = a' i; second = b' i; drawn = d' i; failed = false }
 
 -- what is kept once a file is opened, of which these bytes were read
-pub opened_kept : {D : Type 0} (tells : D → Bool) (seen : D → List ℕ) (may_leave : D → List ℕ → Type 0) (owner : Owner) (numbers : Numbers) (disk : D) (bytes : List ℕ) → numbers ≡ numbers_of bytes → (IsTrue (tells disk) → seen disk ≡ migrated owner bytes) → (IsTrue (tells disk) → IsOnlyImage (seen disk) (may_leave disk))
+pub opened_kept : {D : Type 0} (tells : D → Bool) (seen : D → List ℕ) (may_leave : D → List ℕ → Type 0) (owner : Owner) (numbers : Numbers) (disk : D) (bytes : List ℕ) → numbers.drawn ≡ value_of numbers → (IsTrue (tells disk) → numbers ≡ numbers_of bytes) → (IsTrue (tells disk) → seen disk ≡ migrated owner bytes) → (IsTrue (tells disk) → IsOnlyImage (seen disk) (may_leave disk))
     → IsKept tells seen may_leave owner numbers disk
-opened_kept tells seen may_leave owner numbers disk bytes is whole only = record {
-  room = subst (λ (n : Numbers). n.drawn ≤ value_of n) (sym is) (omega arith);
-  reach = subst (λ (n : Numbers). n.drawn < value_of n → value_of n ≤ 2 ^ 62) (sym is) (λ less. absurd (omega arith));
+opened_kept tells seen may_leave owner numbers disk bytes used is whole only = record {
+  room = omega (arith, used);
+  reach = λ less. absurd (omega (arith, used, less));
   images = λ told c left.
-      subst (λ (n : Numbers). Covers owner n.drawn c) (sym is) (subst (λ (l : List ℕ). Covers owner (file_value bytes) l) (sym (only told c left ∙ whole told)) (record { value = omega (arith, migrated_value owner bytes); tag = migrated_tag owner bytes }));
+      subst (λ (n : Numbers). Covers owner n.drawn c) (sym (is told)) (subst (λ (l : List ℕ). Covers owner (file_value bytes) l) (sym (only told c left ∙ whole told)) (record { value = omega (arith, migrated_value owner bytes); tag = migrated_tag owner bytes }));
   only = λ told sound. only told;
-  first = λ told sound. ap (λ (n : Numbers). n.first) is ∙ sym (migrated_slot_0 owner bytes) ∙ ap (λ (l : List ℕ). slot_value l 0) (sym (whole told));
-  second = λ told sound. ap (λ (n : Numbers). n.second) is ∙ sym (migrated_slot_1 owner bytes) ∙ ap (λ (l : List ℕ). slot_value l 1) (sym (whole told));
+  first = λ told sound. ap (λ (n : Numbers). n.first) (is told) ∙ sym (migrated_slot_0 owner bytes) ∙ ap (λ (l : List ℕ). slot_value l 0) (sym (whole told));
+  second = λ told sound. ap (λ (n : Numbers). n.second) (is told) ∙ sym (migrated_slot_1 owner bytes) ∙ ap (λ (l : List ℕ). slot_value l 1) (sym (whole told));
 }
 
 -- ---- what was read

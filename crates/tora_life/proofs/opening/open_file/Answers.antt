@@ -1,13 +1,14 @@
-use Rattle.std.proofs.Common.{◌≡◌, ◌⊎◌, ◌≤◌, inl, inr, List, ℕ, take, replicate, refl, Result, Ok, Err, IfOk, OnOk, IsTrue, sym, subst, ◌∙◌}
+use Rattle.std.proofs.Common.{◌≡◌, ◌⊎◌, ◌≤◌, IsOk, ap, inl, inr, List, ℕ, take, replicate, refl, Result, Ok, Err, IfOk, OnOk, IsTrue, sym, subst, ◌∙◌}
 use Rattle.tora_life.specs.declared.migration.Version.{Version}
 use Rattle.tora_life.specs.declared.numbers.LifeError.{LifeError}
 use Rattle.tora_life.specs.declared.numbers.Numbers.{Numbers}
 use Rattle.tora_life.specs.Calls.{Migrates}
 use Rattle.tora_life.specs.Disk.{IsRead}
 use Rattle.tora_life.specs.LifeFile.{file_value}
-use Rattle.tora_life.specs.Migration.{migrated}
+use Rattle.tora_life.specs.Migration.{version_of, migrated}
 use Rattle.tora_life.specs.Numbers.{numbers_of}
 use Rattle.tora_life.proofs.Moments.{started, goes_on, weaker, both}
+use Rattle.tora_life.proofs.OnOks.{if_any}
 use Rattle.tora_life.proofs.Opens.{read_all, read_version}
 use Rattle.tora_life.proofs.opening.open_file.Goals as goal
 
@@ -73,3 +74,7 @@ returns-in-Err-clause-calls g c =
     (Ok c.in-Ok.field-0, c.sync.new.self, c.in-Ok.ensures.call,
     (Ok c.in-Ok-read.count, c.read.new.buf, c.read.new.self, c.in-Ok-read.ensures.call,
     subst (λ (v : Result Version LifeError). Migrates d.writes d.syncs c.args.owner (take c.in-Ok-read.count c.read.new.buf) v c.read.new.self (Err c.in-Err.error) c.read.new.self) (sym c.in-Err.is ∙ c.found_version.ensures) (refl, refl)))
+
+pub returns-in-Ok-found_version-clause-opens : goal.returns-in-Ok-found_version-clause-opens
+returns-in-Ok-found_version-clause-opens g c = λ told.
+    if_any c.open_version.result (subst (λ (v : Result Version LifeError). IsOk v) (sym (sym (ap (version_of c.args.owner) (whole g c.before told)) ∙ sym c.found_version.ensures ∙ c.in-Ok-found_version.is)) refl)
