@@ -1,6 +1,7 @@
 pub mod Bounds
 pub mod Draws
 pub mod Images
+pub mod InMemory
 pub mod Migrations
 pub mod Moments
 pub mod OnOks

@@ -1,5 +1,5 @@
 //! Files of version 1, half migrated ones and foreign ones, and a crash at each call of the disk.
-ghost use Rattle.std.specs.Prelude.{◌<◌, ◌≢◌};
+ghost use Rattle.std.specs.Prelude.{◌<◌, ◌≤◌, ◌≢◌};
 
 use super::{SLOT_OF_16, SLOT_OF_32, SLOT_OF_900, disk_of, draws, first_draw, opened};
 use crate::tags::tag_bytes;
@@ -19,10 +19,19 @@ const SLOT_OF_48: [u8; 16] = [
 // Two slots, and a tag.
 fn file_of(first: [u8; 16], second: [u8; 16], tag: [u8; 32]) -> [u8; 64] {
     let mut file = [0; 64];
-    file[..16].copy_from_slice(&first);
-    file[16..32].copy_from_slice(&second);
-    file[32..].copy_from_slice(&tag);
+    let (slots, back) = file.split_at_mut(32);
+    let (front, middle) = slots.split_at_mut(16);
+    front.copy_from_slice(&first);
+    middle.copy_from_slice(&second);
+    back.copy_from_slice(&tag);
     file
+}
+
+// The first bytes of a file.
+fn cut(file: &[u8; 64], length: usize) -> &[u8]
+    requires { length ≤ 64 }
+{
+    &file[..length]
 }
 
 fn refusal(rt: &impl Abort, bytes: &[u8], me: u32, peer: u32) -> LifeError
@@ -95,40 +104,24 @@ fn tags_are_read(rt: HostRuntime) -> Result<(), Fail> {
     Ok(())
 }
 
-// What version 1 left after so many draws since the file was made: no byte, one slot, or two.
-fn old_file(rt: &impl Abort, drawn: u64) -> (MemDisk, u64) {
-    let mut two = [0; 32];
-    two[..16].copy_from_slice(&SLOT_OF_16);
-    two[16..].copy_from_slice(&SLOT_OF_32);
-    match drawn {
-        0 => (MemDisk::new(), 0),
-        1..=16 => (disk_of(rt, &two[..16]), 16),
-        17..=32 => (disk_of(rt, &two), 32),
-        _ => {
-            two[..16].copy_from_slice(&SLOT_OF_48);
-            (disk_of(rt, &two), 48)
-        }
-    }
-}
-
+// What version 1 left after so many draws since the file was made (no byte, one slot, or two), and the next number.
 #[test]
 fn files_of_version_1_go_on_above_their_numbers(rt: HostRuntime) -> Result<(), Fail> {
-    for drawn in 0..49 {
-        let (disk, bound) = old_file(&rt, drawn);
-        let mut file = opened(&rt, disk);
-        draws(&rt, &mut file, bound + 1, bound + 40);
-        let bytes = file.close();
-        assert_eq!(&rt; &bytes.bytes()[32..], TAG_OF_1_AND_2.as_slice());
-    }
+    let two = file_of(SLOT_OF_16, SLOT_OF_32, [0; 32]);
+    let three = file_of(SLOT_OF_48, SLOT_OF_32, [0; 32]);
+    assert_eq!(&rt; first_draw(&rt, &[]), Ok(1));
+    assert_eq!(&rt; first_draw(&rt, cut(&two, 16)), Ok(17));
+    assert_eq!(&rt; first_draw(&rt, cut(&two, 32)), Ok(33));
+    assert_eq!(&rt; first_draw(&rt, cut(&three, 32)), Ok(49));
+    let mut file = opened(&rt, disk_of(&rt, cut(&three, 32)));
+    draws(&rt, &mut file, 49, 90);
     Ok(())
 }
 
-// A slot that was torn off is filled up so that it counts as 0, and one that is whole stays.
+// A slot that is not wholly there counts as 0, as before, and one that is whole stays.
 #[test]
 fn short_files_are_filled_up(rt: HostRuntime) -> Result<(), Fail> {
-    let mut slots = [0; 32];
-    slots[..16].copy_from_slice(&SLOT_OF_16);
-    slots[16..].copy_from_slice(&SLOT_OF_32);
+    let two = file_of(SLOT_OF_16, SLOT_OF_32, [0; 32]);
     for length in 0..33 {
         let first = if length < 16 {
             1
@@ -137,17 +130,15 @@ fn short_files_are_filled_up(rt: HostRuntime) -> Result<(), Fail> {
         } else {
             33
         };
-        let file = opened(&rt, disk_of(&rt, &slots[..length]));
-        let disk = file.close();
-        assert_eq!(&rt; &disk.bytes()[..length], &slots[..length]);
-        let mut file = opened(&rt, disk);
+        let file = opened(&rt, disk_of(&rt, cut(&two, length)));
+        let mut file = opened(&rt, file.close());
         assert_eq!(&rt; file.draw(), Ok(first));
     }
     // Any bytes behind the slots that are no whole tag are written over.
     let mut half = file_of(SLOT_OF_16, SLOT_OF_32, TAG_OF_1_AND_2);
     half[48] = 0;
     for length in 33..65 {
-        assert_eq!(&rt; first_draw(&rt, &half[..length]), Ok(33));
+        assert_eq!(&rt; first_draw(&rt, cut(&half, length)), Ok(33));
     }
     Ok(())
 }
@@ -228,8 +219,8 @@ fn old_disk(rt: &impl Abort, kind: u64) -> (MemDisk, u64) {
     match kind {
         0 => (MemDisk::new(), 0),
         1 => (disk_of(rt, &SLOT_OF_16), 16),
-        2 => (disk_of(rt, &half[..32]), 32),
-        3 => (disk_of(rt, &half[..40]), 32),
+        2 => (disk_of(rt, cut(&half, 32)), 32),
+        3 => (disk_of(rt, cut(&half, 40)), 32),
         _ => (
             disk_of(rt, &file_of(SLOT_OF_16, SLOT_OF_32, TAG_OF_1_AND_2)),
             32,
