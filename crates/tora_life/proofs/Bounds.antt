@@ -1,29 +1,31 @@
 -- What a write of a slot leaves of both.
 use Rattle.std.proofs.Common.{◌≡◌, ◌≤◌, ◌<◌, ◌^◌, ◌+◌, ◌-◌, inl, inr, ℕ, List, [], ◌∷◌, ◌++◌, length, take, drop, refl, sym, ◌∙◌, ap, subst, arith, length-append, length-take, append_assoc, ◌⊎◌, nat_le, zero, suc, min, if◌then◌else◌}
 use Rattle.std.proofs.lemmas.Bool.Decides.{nat_tests}
-use Rattle.std.proofs.lemmas.List.{take_at, drop_at, take_all, drop_all}
+use Rattle.std.proofs.lemmas.List.{take_at, drop_at, take_all, drop_all, drop-drop}
 use Rattle.std.proofs.lemmas.Nat.{from_be_bytes-to_be_bytes_8}
 use Rattle.std.specs.Int.{w64, to_be_bytes}
+use Rattle.tora_life.specs.declared.tags.Owner.{Owner}
 use Rattle.tora_life.specs.declared.slots.Slot.{Slot}
 use Rattle.tora_life.specs.declared.slots.Slot.TheVariants.{First, Second}
-use Rattle.tora_life.specs.Disk.{Holds, Torn, Follows, IsOnlyImage, IsRead}
+use Rattle.tora_life.specs.Disk.{Holds, Torn, IsTornFrom, IsOnlyImage, IsRead}
 use Rattle.tora_life.specs.LifeFile.{number_of, slot_bound, slot_of, file_value, slot_value, Covers}
 use Rattle.tora_life.specs.declared.numbers.Numbers.{Numbers}
 use Rattle.tora_life.specs.Numbers.{lesser_slot}
 use Rattle.tora_life.specs.Calls.{place_of}
+use Rattle.tora_life.specs.Tags.{tag_of}
 use Rattle.tora_life.specs.Slots.{kept_bound, written_bound, IsReplaced}
 
 pub length-slot_of : (bound : ℕ) → length (slot_of bound) ≡ 16
 unfolding slot_of
 length-slot_of bound = refl
 
-pick : (slot : List ℕ) (bound : ℕ) → length slot ≡ 16 → number_of (take 8 slot) ≡ bound → number_of (take 8 (drop 8 slot)) ≡ 2 ^ 64 - 1 - bound → slot_bound slot ≡ bound
+pick : (slot : List ℕ) (bound : ℕ) → bound < 2 ^ 64 → length slot ≡ 16 → number_of (take 8 slot) ≡ bound → number_of (take 8 (drop 8 slot)) ≡ 2 ^ 64 - 1 - bound → slot_bound slot ≡ bound
 unfolding slot_bound
-pick slot bound long one other = grind (arith, nat_tests)
+pick slot bound below long one other = grind (arith, nat_tests)
 
-spelled : (xs ys : List ℕ) (bound : ℕ) → length xs ≡ 8 → length ys ≡ 8 → number_of xs ≡ bound → number_of ys ≡ 2 ^ 64 - 1 - bound → slot_bound (xs ++ ys) ≡ bound
-spelled xs ys bound a b one other =
-    pick (xs ++ ys) bound (omega (arith, length-append xs ys)) (ap number_of (take_at xs ys 8 a) ∙ one)
+spelled : (xs ys : List ℕ) (bound : ℕ) → bound < 2 ^ 64 → length xs ≡ 8 → length ys ≡ 8 → number_of xs ≡ bound → number_of ys ≡ 2 ^ 64 - 1 - bound → slot_bound (xs ++ ys) ≡ bound
+spelled xs ys bound below a b one other =
+    pick (xs ++ ys) bound below (omega (arith, length-append xs ys)) (ap number_of (take_at xs ys 8 a) ∙ one)
     (ap (λ (l : List ℕ). number_of (take 8 l)) (drop_at xs ys 8 a) ∙ ap number_of (take_all 8 ys (omega (arith, b))) ∙ other)
 
 number_back : (n : ℕ) → n < 2 ^ 64 → number_of (to_be_bytes w64 n) ≡ n
@@ -33,7 +35,7 @@ number_back n below = from_be_bytes-to_be_bytes_8 n below
 pub slot_bound-slot_of : (bound : ℕ) → bound < 2 ^ 64 → slot_bound (slot_of bound) ≡ bound
 unfolding slot_of
 slot_bound-slot_of bound below =
-    spelled (to_be_bytes w64 bound) (to_be_bytes w64 (2 ^ 64 - 1 - bound)) bound refl refl (number_back bound below) (number_back (2 ^ 64 - 1 - bound) (omega arith))
+    spelled (to_be_bytes w64 bound) (to_be_bytes w64 (2 ^ 64 - 1 - bound)) bound below refl refl (number_back bound below) (number_back (2 ^ 64 - 1 - bound) (omega arith))
 
 pub kept_below : (slot : Slot) (file : List ℕ) → kept_bound slot file ≤ file_value file
 kept_below First file = omega arith
@@ -47,7 +49,7 @@ take_none : (l : List ℕ) → take 0 l ≡ []
 take_none [] = refl
 take_none (x ∷ l) = refl
 
-drop_none : (l : List ℕ) → drop 0 l ≡ l
+pub drop_none : (l : List ℕ) → drop 0 l ≡ l
 drop_none [] = refl
 drop_none (x ∷ l) = refl
 
@@ -69,28 +71,19 @@ module _ (old bytes new : List ℕ) (long : length bytes ≡ 16) where
       ap (λ (l : List ℕ). slot_bound (take 16 l)) (ap (λ (l : List ℕ). drop 16 l) (from_second holds) ∙ drop_at (take 16 old) (bytes ++ drop (16 + length bytes) old) 16 (omega (arith, length-take 16 old, le)))
       ∙ ap slot_bound (take_at bytes (drop (16 + length bytes) old) 16 long)
 
-torn_covers : (slot : Slot) (old new : List ℕ) → length old ≤ 32 → Torn (place_of slot) 16 old new → Covers (kept_bound slot old) new
-torn_covers First old new short torn = record {
-  value = subst (λ (k : ℕ). k ≤ file_value new) (torn_keeps First old new torn) (kept_below First new);
-  short = omega (arith, torn.no_longer);
-}
-torn_covers Second old new short torn = record {
-  value = subst (λ (k : ℕ). k ≤ file_value new) (torn_keeps Second old new torn) (kept_below Second new);
-  short = omega (arith, torn.no_longer);
-}
+torn_tag : (slot : Slot) (old new : List ℕ) → Torn (place_of slot) 16 old new → drop 32 new ≡ drop 32 old
+torn_tag First old new torn = sym (drop-drop 16 16 new) ∙ ap (λ (l : List ℕ). drop 16 l) torn.after ∙ drop-drop 16 16 old
+torn_tag Second old new torn = torn.after
 
--- after the write, whatever a crash makes of it
-pub images_keep : (slot : Slot) (file : List ℕ) (at n : ℕ) (old new : List ℕ → Type 0) → at ≡ place_of slot → n ≡ 16 → length file ≤ 32 → IsOnlyImage file old → Follows (Torn at n) old new → (c : List ℕ) → new c → Covers (kept_bound slot file) c
-images_keep slot file at n old new here is short only follows c left =
-    let from = follows c left in
+torn_covers : (owner : Owner) (slot : Slot) (old new : List ℕ) → drop 32 old ≡ tag_of owner → Torn (place_of slot) 16 old new → Covers owner (kept_bound slot old) new
+torn_covers owner slot old new tag torn =
+    record { value = subst (λ (k : ℕ). k ≤ file_value new) (torn_keeps slot old new torn) (kept_below slot new); tag = torn_tag slot old new torn ∙ tag }
+
+-- after the write of a slot, whatever a crash makes of it
+pub images_keep : (owner : Owner) (slot : Slot) (file : List ℕ) (at n : ℕ) (old : List ℕ → Type 0) → at ≡ place_of slot → n ≡ 16 → drop 32 file ≡ tag_of owner → IsOnlyImage file old → (c : List ℕ) → IsTornFrom at n old c → Covers owner (kept_bound slot file) c
+images_keep owner slot file at n old here is tag only c from =
     let torn : Torn (place_of slot) 16 file c = subst (λ (f : List ℕ). Torn (place_of slot) 16 f c) (only from.0 from.1) (subst (λ (k : ℕ). Torn (place_of slot) k from.0 c) is (subst (λ (p : ℕ). Torn p n from.0 c) here from.2)) in
-    torn_covers slot file c short torn
-
--- and before it
-pub image_keeps : (slot : Slot) (file : List ℕ) (old : List ℕ → Type 0) → length file ≤ 32 → IsOnlyImage file old → (c : List ℕ) → old c → Covers (kept_bound slot file) c
-image_keeps slot file old short only c left =
-    let is : file ≡ c = sym (only c left) in
-    subst (λ (f : List ℕ). Covers (kept_bound slot file) f) is (record { value = kept_below slot file; short = short })
+    torn_covers owner slot file c tag torn
 
 -- once it is on the disk
 pub replaced : (slot : Slot) (bound at : ℕ) (file bytes new : List ℕ) (images : List ℕ → Type 0) → at ≡ place_of slot → bytes ≡ slot_of bound → bound < 2 ^ 64 → place_of slot ≤ length file → Holds file at bytes new → IsOnlyImage new images → IsReplaced slot bound file new images
@@ -103,7 +96,7 @@ replaced slot bound at file bytes new images here is below le holds only =
       kept = written_keeps file bytes new long slot le held;
     }
 
-counted : (slot : List ℕ) → 0 < slot_bound slot → 16 ≤ length slot
+pub counted : (slot : List ℕ) → 0 < slot_bound slot → 16 ≤ length slot
 unfolding slot_bound
 counted slot some = grind (arith, nat_tests)
 

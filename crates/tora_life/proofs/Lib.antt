@@ -1,7 +1,10 @@
 pub mod Bounds
 pub mod Draws
 pub mod Images
+pub mod InMemory
+pub mod Migrations
 pub mod Moments
+pub mod OnOks
 pub mod Opens
 pub mod Past
 pub mod ReadOn

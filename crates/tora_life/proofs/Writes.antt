@@ -78,22 +78,22 @@ module _ (s : State) (whole : IsWhole s) (at : ℕ) (bytes : List ℕ) (place : 
   at_len : at ≤ s.len
   at_len = omega (arith, place, length-take s.len s.bytes)
 
-  new_marks : at + n ≤ 64 → marks_of (marked s at n) ≡ mark at n (marks_of s)
+  new_marks : at + n ≤ 80 → marks_of (marked s at n) ≡ mark at n (marks_of s)
   new_marks fits =
       let long : length (replicate n true) ≡ n = length-replicate n true in
       ap (λ (j : ℕ). take (max s.reach (at + j)) (over at (replicate n true) s.written)) (sym long)
       ∙ over_take at s.reach (replicate n true) s.written (omega (arith, at_len, whole.len)) (omega (arith, long, fits, whole.written))
       ∙ marks_over at n (marks_of s) (omega (arith, length-take s.reach s.written, at_len, whole.len, whole.reach, whole.written))
 
-  back : at + n ≤ 64 → (c : List ℕ) → IsImage (synced_of s) (marks_of (marked s at n)) c → (d : List ℕ) × MayLeave s d × Torn at n d c
+  back : at + n ≤ 80 → (c : List ℕ) → IsImage (synced_of s) (marks_of (marked s at n)) c → (d : List ℕ) × MayLeave s d × Torn at n d c
   back fits c image =
       let was = torn_back at n (synced_of s) (marks_of s) c (omega (arith, length-take s.reach s.written, at_len, whole.len, whole.reach, whole.written)) (subst (λ (ms : List Bool). IsImage (synced_of s) ms c) (new_marks fits) image) in
       (was.0, inr was.1, was.2)
 
-  held : at + n ≤ 64 → take (max s.len (at + n)) (over at bytes s.bytes) ≡ over at bytes (seen_of s)
+  held : at + n ≤ 80 → take (max s.len (at + n)) (over at bytes s.bytes) ≡ over at bytes (seen_of s)
   held fits = over_take at s.len bytes s.bytes at_len (omega (arith, fits, whole.bytes))
 
-  fits_if : false ≡ nat_lt 64 (at + n) → at + n ≤ 64
+  fits_if : false ≡ nat_lt 80 (at + n) → at + n ≤ 80
   fits_if is = grind (arith, nat_tests)
 
   abbrev after : Bool → Bool → State
@@ -102,7 +102,7 @@ module _ (s : State) (whole : IsWhole s) (at : ℕ) (bytes : List ℕ) (place : 
       else if fails then record (marked s at n) { write_fails = false; failures = failures_more s.failures }
       else record (marked s at n) { bytes = over at bytes s.bytes; len = max s.len (at + n) }
 
-  crash_of : (long fails : Bool) → long ≡ nat_lt 64 (at + n) → (c : List ℕ) → MayLeave (after long fails) c → (d : List ℕ) × MayLeave s d × Torn at n d c
+  crash_of : (long fails : Bool) → long ≡ nat_lt 80 (at + n) → (c : List ℕ) → MayLeave (after long fails) c → (d : List ℕ) × MayLeave s d × Torn at n d c
   crash_of true fails is c left = (c, left, torn_same at n c)
   crash_of false true is c (inl seen) = (c, inl seen, torn_same at n c)
   crash_of false true is c (inr image) = back (fits_if is) c image
@@ -111,25 +111,25 @@ module _ (s : State) (whole : IsWhole s) (at : ℕ) (bytes : List ℕ) (place : 
   crash_of false false is c (inr image) = back (fits_if is) c image
 
   pub write_crash : (c : List ℕ) → MayLeave (after_write s at bytes) c → (d : List ℕ) × MayLeave s d × Torn at n d c
-  write_crash c left = crash_of (nat_lt 64 (at + n)) s.write_fails refl c left
+  write_crash c left = crash_of (nat_lt 80 (at + n)) s.write_fails refl c left
 
-  held_of : (long fails : Bool) → long ≡ nat_lt 64 (at + n) → let answer : Result (Unit {0}) DiskError = if long || fails then Err (record {}) else Ok tt in OnOk answer (Holds (seen_of s) at bytes (seen_of (after long fails)))
+  held_of : (long fails : Bool) → long ≡ nat_lt 80 (at + n) → let answer : Result (Unit {0}) DiskError = if long || fails then Err (record {}) else Ok tt in OnOk answer (Holds (seen_of s) at bytes (seen_of (after long fails)))
   held_of true fails is = tt
   held_of false true is = tt
   held_of false false is = held (fits_if is)
 
   pub write_held : OnOk (write_answer s at bytes) (Holds (seen_of s) at bytes (seen_of (after_write s at bytes)))
-  write_held = held_of (nat_lt 64 (at + n)) s.write_fails refl
+  write_held = held_of (nat_lt 80 (at + n)) s.write_fails refl
 
 module _ (s : State) (whole : IsWhole s) where
   abbrev pub synced : Bool → State
   synced fails =
       if fails then record s { sync_fails = false; failures = failures_more s.failures }
-      else record s { synced = s.bytes; synced_len = s.len; written = replicate 64 false; reach = s.len }
+      else record s { synced = s.bytes; synced_len = s.len; written = replicate 80 false; reach = s.len }
 
   pub only : (c : List ℕ) → MayLeave (synced false) c → c ≡ seen_of s
   only c (inl seen) = seen
-  only c (inr image) = clean s.len 64 (seen_of s) c (omega (arith, length-take s.len (replicate 64 false), length-take s.len s.bytes, whole.bytes, length-replicate 64 false)) image
+  only c (inr image) = clean s.len 80 (seen_of s) c (omega (arith, length-take s.len (replicate 80 false), length-take s.len s.bytes, whole.bytes, length-replicate 80 false)) image
 
   durable_of : (fails : Bool) → let answer : Result (Unit {0}) DiskError = if fails then Err (record {}) else Ok tt in OnOk answer (IsOnlyImage (seen_of s) (MayLeave (synced fails)))
   durable_of true = tt

@@ -1,12 +1,15 @@
 -- The calls of the disk that a life file makes, in their order.
-use Rattle.std.specs.Prelude.{◌≡◌, ℕ, Bool, if◌then◌else◌, nat_le, Result, Ok, Err, is_ok, List, take, replicate, MatchResult}
+use Rattle.std.specs.Prelude.{◌≡◌, ℕ, Bool, if◌then◌else◌, Result, Ok, Err, is_ok, List, [], take, replicate, MatchResult}
 use Rattle.tora_life.specs.declared.disk.DiskError.{DiskError}
+use Rattle.tora_life.specs.declared.migration.Version.{Version}
+use Rattle.tora_life.specs.declared.migration.Version.TheVariants.{Untagged, Tagged}
 use Rattle.tora_life.specs.declared.numbers.Numbers.{Numbers}
 use Rattle.tora_life.specs.declared.numbers.LifeError.{LifeError}
-use Rattle.tora_life.specs.declared.numbers.LifeError.TheVariants.{Disk, Damaged}
+use Rattle.tora_life.specs.declared.numbers.LifeError.TheVariants.{Disk}
 use Rattle.tora_life.specs.declared.slots.Slot.{Slot}
 use Rattle.tora_life.specs.declared.slots.Slot.TheVariants.{First, Second}
-use Rattle.tora_life.specs.LifeFile.{slot_of}
+use Rattle.tora_life.specs.declared.tags.Owner.{Owner}
+use Rattle.tora_life.specs.Migration.{version_of, migration_place, migration_bytes}
 use Rattle.tora_life.specs.Numbers.{numbers_of}
 
 -- where a slot begins
@@ -14,19 +17,36 @@ abbrev pub place_of : Slot → ℕ
 place_of First = 0
 place_of Second = 16
 
--- what a read into 33 bytes tells of a life file: no more than 32 may be there
-abbrev pub numbers_read : Result ℕ DiskError → List ℕ → Result Numbers LifeError
-numbers_read (Ok count) bytes = if nat_le count 32 then Ok (numbers_of (take count bytes)) else Err Damaged
-numbers_read (Err _) bytes = Err Disk
-
--- a sync, and then one read of 33 bytes where the sync has succeeded
-abbrev pub SyncsAndReads : {D : Type 0} → (D → Result (Unit {0}) DiskError → D → Type 0) → (D → ℕ → List ℕ → Result ℕ DiskError → List ℕ → D → Type 0) → D → Result Numbers LifeError → D → Type 0
-SyncsAndReads {D = D} syncs reads old answer new =
-    (synced : Result (Unit {0}) DiskError) × (between : D) × syncs old synced between
-    × MatchResult synced (λ _. (count : Result ℕ DiskError) × (bytes : List ℕ) × reads between 0 (replicate 33 0) count bytes new × (answer ≡ numbers_read count bytes)) (λ _. (new ≡ between) × (answer ≡ Err Disk))
-
--- one write of the slot with this bound, and then a sync where the write has succeeded
-abbrev pub WritesAndSyncs : {D : Type 0} → (D → ℕ → List ℕ → Result (Unit {0}) DiskError → D → Type 0) → (D → Result (Unit {0}) DiskError → D → Type 0) → Slot → ℕ → D → Bool → D → Type 0
-WritesAndSyncs {D = D} writes syncs slot bound old ok new =
-    (written : Result (Unit {0}) DiskError) × (between : D) × writes old (place_of slot) (slot_of bound) written between
+-- one write of these bytes at a place, and then a sync where the write has succeeded
+abbrev pub WritesAndSyncs : {D : Type 0} → (D → ℕ → List ℕ → Result (Unit {0}) DiskError → D → Type 0) → (D → Result (Unit {0}) DiskError → D → Type 0) → ℕ → List ℕ → D → Bool → D → Type 0
+WritesAndSyncs {D = D} writes syncs at bytes old ok new =
+    (written : Result (Unit {0}) DiskError) × (between : D) × writes old at bytes written between
     × MatchResult written (λ _. (synced : Result (Unit {0}) DiskError) × syncs between synced new × (is_ok synced ≡ ok)) (λ _. (new ≡ between) × (is_ok written ≡ ok))
+
+-- what a read into 65 bytes gave of a life file: all of one that has no more than 64
+abbrev pub file_read : Result ℕ DiskError → List ℕ → List ℕ
+file_read (Ok count) bytes = take count bytes
+file_read (Err _) bytes = []
+
+abbrev pub version_read : Owner → Result ℕ DiskError → List ℕ → Result Version LifeError
+version_read owner (Ok count) bytes = version_of owner (take count bytes)
+version_read owner (Err _) bytes = Err Disk
+
+-- what opening a file that was read answers, where its migration succeeds or fails
+abbrev pub answer_after : Bool → List ℕ → Result Numbers LifeError
+answer_after ok file = if ok then Ok (numbers_of file) else Err Disk
+
+-- once a file was read: no call more where it has its tag or is refused, and otherwise one write up to its tag's end, and a sync
+abbrev pub Migrates : {D : Type 0} → (D → ℕ → List ℕ → Result (Unit {0}) DiskError → D → Type 0) → (D → Result (Unit {0}) DiskError → D → Type 0) → Owner → List ℕ → Result Version LifeError → D → Result Numbers LifeError → D → Type 0
+Migrates writes syncs owner file (Err error) old answer new = (new ≡ old) × (answer ≡ Err error)
+Migrates writes syncs owner file (Ok Tagged) old answer new = (new ≡ old) × (answer ≡ Ok (numbers_of file))
+Migrates writes syncs owner file (Ok Untagged) old answer new =
+    (ok : Bool) × WritesAndSyncs writes syncs (migration_place file) (migration_bytes owner file) old ok new × (answer ≡ answer_after ok file)
+
+-- a sync, then one read of 65 bytes where the sync has succeeded, and then the migration of a file without a tag
+abbrev pub OpensBy : {D : Type 0} → (D → Result (Unit {0}) DiskError → D → Type 0) → (D → ℕ → List ℕ → Result ℕ DiskError → List ℕ → D → Type 0) → (D → ℕ → List ℕ → Result (Unit {0}) DiskError → D → Type 0) → Owner → D → Result Numbers LifeError → D → Type 0
+OpensBy {D = D} syncs reads writes owner old answer new =
+    (synced : Result (Unit {0}) DiskError) × (between : D) × syncs old synced between
+    × MatchResult synced
+    (λ _. (count : Result ℕ DiskError) × (bytes : List ℕ) × (after : D) × reads between 0 (replicate 65 0) count bytes after × Migrates writes syncs owner (file_read count bytes) (version_read owner count bytes) after answer new)
+    (λ _. (new ≡ between) × (answer ≡ Err Disk))

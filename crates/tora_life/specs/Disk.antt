@@ -13,6 +13,10 @@ pub record Torn (at n : ℕ) (old new : List ℕ) : Type 0 where
   pub no_shorter : length old ≤ length new
   pub no_longer : length new ≤ max (length old) (at + n)
 
+-- a file that is one of these, or a torn one
+abbrev pub IsTornFrom : ℕ → ℕ → (List ℕ → Type 0) → List ℕ → Type 0
+IsTornFrom at n old file = (d : List ℕ) × old d × Torn at n d file
+
 -- each new image is an old one after a step
 abbrev pub Follows : (List ℕ → List ℕ → Type 0) → (List ℕ → Type 0) → (List ℕ → Type 0) → Type 0
 Follows step old new = (c : List ℕ) → new c → (d : List ℕ) × old d × step d c

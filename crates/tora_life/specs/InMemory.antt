@@ -1,13 +1,17 @@
 -- A life file on a disk in memory: what its calls answer and leave, as functions of its numbers and the state of the disk.
-use Rattle.std.specs.Prelude.{ℕ, ◌+◌, ◌^◌, Result, Ok, Err, if◌then◌else◌, ◌==◌, nat_lt, true, replicate}
+use Rattle.std.specs.Prelude.{ℕ, ◌+◌, ◌^◌, List, Result, Ok, Err, if◌then◌else◌, ◌==◌, nat_lt, true, replicate}
 use Rattle.tora_life.specs.declared.numbers.Numbers.{Numbers}
 use Rattle.tora_life.specs.declared.numbers.LifeError.{LifeError}
 use Rattle.tora_life.specs.declared.numbers.LifeError.TheVariants.{Disk, Failed, Spent}
 use Rattle.tora_life.specs.declared.disk.DiskError.{DiskError}
 use Rattle.tora_life.specs.declared.state.State.{State}
 use Rattle.tora_life.specs.LifeFile.{slot_of}
-use Rattle.tora_life.specs.Numbers.{value_of, lesser_slot, IsKept}
-use Rattle.tora_life.specs.Calls.{place_of, numbers_read}
+use Rattle.tora_life.specs.declared.migration.Version.{Version}
+use Rattle.tora_life.specs.declared.migration.Version.TheVariants.{Untagged, Tagged}
+use Rattle.tora_life.specs.declared.tags.Owner.{Owner}
+use Rattle.tora_life.specs.Migration.{migration_place, migration_bytes}
+use Rattle.tora_life.specs.Numbers.{value_of, lesser_slot, numbers_of, IsKept}
+use Rattle.tora_life.specs.Calls.{place_of, file_read, version_read}
 use Rattle.tora_life.specs.State.{read_answer, bytes_read, after_read, write_answer, after_write, sync_answer, after_sync, seen_of, MayLeave}
 
 -- the first where the device call has succeeded, the second where it has failed
@@ -15,12 +19,43 @@ abbrev pub by_result : {A T : Type 0} → Result T DiskError → A → A → A
 by_result (Ok _) ok err = ok
 by_result (Err _) ok err = err
 
--- `open`: a sync, and then one read of 33 bytes
-abbrev pub open_answer : State → Result Numbers LifeError
-open_answer s = let synced = after_sync s in by_result (sync_answer s) (numbers_read (read_answer synced 0 (replicate 33 0)) (bytes_read synced 0 (replicate 33 0))) (Err Disk)
+-- the read of `open`, and what it leaves in the buffer
+abbrev pub count_read : State → Result ℕ DiskError
+count_read s = read_answer s 0 (replicate 65 0)
 
-abbrev pub open_state : State → State
-open_state s = by_result (sync_answer s) (after_read (after_sync s)) (after_sync s)
+abbrev pub buffer_read : State → List ℕ
+buffer_read s = bytes_read s 0 (replicate 65 0)
+
+-- the write of a migration
+abbrev pub migration_answer : Owner → List ℕ → State → Result (Unit {0}) DiskError
+migration_answer owner file s = write_answer s (migration_place file) (migration_bytes owner file)
+
+abbrev pub migration_state : Owner → List ℕ → State → State
+migration_state owner file s = after_write s (migration_place file) (migration_bytes owner file)
+
+-- once a file was read
+abbrev pub version_answer : Owner → List ℕ → Result Version LifeError → State → Result Numbers LifeError
+version_answer owner file (Err error) s = Err error
+version_answer owner file (Ok Tagged) s = Ok (numbers_of file)
+version_answer owner file (Ok Untagged) s = by_result (migration_answer owner file s) (by_result (sync_answer (migration_state owner file s)) (Ok (numbers_of file)) (Err Disk)) (Err Disk)
+
+abbrev pub version_state : Owner → List ℕ → Result Version LifeError → State → State
+version_state owner file (Err error) s = s
+version_state owner file (Ok Tagged) s = s
+version_state owner file (Ok Untagged) s = by_result (migration_answer owner file s) (after_sync (migration_state owner file s)) (migration_state owner file s)
+
+-- `open`: a sync, then one read of 65 bytes, and then the migration of a file without a tag
+abbrev pub open_answer : Owner → State → Result Numbers LifeError
+open_answer owner s =
+    let synced = after_sync s in
+    let count = count_read synced in
+    let bytes = buffer_read synced in by_result (sync_answer s) (version_answer owner (file_read count bytes) (version_read owner count bytes) (after_read synced)) (Err Disk)
+
+abbrev pub open_state : Owner → State → State
+open_state owner s =
+    let synced = after_sync s in
+    let count = count_read synced in
+    let bytes = buffer_read synced in by_result (sync_answer s) (version_state owner (file_read count bytes) (version_read owner count bytes) (after_read synced)) synced
 
 -- the write of a draw that reserves numbers
 abbrev pub slot_answer : Numbers → State → Result (Unit {0}) DiskError
@@ -46,6 +81,6 @@ draw_state numbers s =
     else by_result (slot_answer numbers s) (after_sync (slot_state numbers s)) (slot_state numbers s))
     else s
 
--- what an open life file keeps of its numbers and such a disk
-abbrev pub IsKeptOn : Numbers → State → Type 0
-IsKeptOn numbers s = IsKept (λ _. true) seen_of MayLeave numbers s
+-- what an open life file keeps of its owner, its numbers and such a disk
+abbrev pub IsKeptOn : Owner → Numbers → State → Type 0
+IsKeptOn owner numbers s = IsKept (λ _. true) seen_of MayLeave owner numbers s

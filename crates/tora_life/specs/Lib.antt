@@ -3,11 +3,14 @@ pub mod Disk
 pub mod DiskView
 pub mod Errors
 pub mod FileView
+pub mod FuseDisk
 pub mod InMemory
 pub mod LifeFile
 pub mod LifeRun
+pub mod Migration
 pub mod Numbers
 pub mod Past
 pub mod Slots
 pub mod State
+pub mod Tags
 pub mod TornBytes

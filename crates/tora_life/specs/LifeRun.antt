@@ -2,6 +2,7 @@
 use Rattle.std.specs.Prelude.{ℕ, ◌≤◌, ◌<◌, ⊤, List, [], ◌∷◌, ◌++◌, Result, Ok, Err}
 use Rattle.tora_life.specs.declared.numbers.Numbers.{Numbers}
 use Rattle.tora_life.specs.declared.numbers.LifeError.{LifeError}
+use Rattle.tora_life.specs.declared.tags.Owner.{Owner}
 use Rattle.tora_life.specs.declared.state.State.{State}
 use Rattle.tora_life.specs.declared.state.DiskCall.{DiskCall}
 use Rattle.tora_life.specs.LifeFile.{file_value}
@@ -9,24 +10,28 @@ use Rattle.tora_life.specs.Numbers.{numbers_after}
 use Rattle.tora_life.specs.State.{IsWhole, MayLeave, armed}
 use Rattle.tora_life.specs.InMemory.{open_answer, open_state, draw_answer, draw_state, IsKeptOn}
 
--- an open life file with its numbers, or the disk of one that did not open
+-- an open life file with its owner and its numbers, or the disk of one that did not open for its owner
 pub data LifeDisk : Type 0 where
-  Opened : Numbers → State → LifeDisk
-  Unopened : State → LifeDisk
+  Opened : Owner → Numbers → State → LifeDisk
+  Unopened : Owner → State → LifeDisk
 
 abbrev pub state_in : LifeDisk → State
-state_in (Opened numbers s) = s
-state_in (Unopened s) = s
+state_in (Opened owner numbers s) = s
+state_in (Unopened owner s) = s
 
-abbrev pub opened_as : Result Numbers LifeError → State → LifeDisk
-opened_as (Ok numbers) s = Opened numbers s
-opened_as (Err _) s = Unopened s
+abbrev pub owner_in : LifeDisk → Owner
+owner_in (Opened owner numbers s) = owner
+owner_in (Unopened owner s) = owner
 
--- a disk once its life file is opened
-abbrev pub opened : State → LifeDisk
-opened s = opened_as (open_answer s) (open_state s)
+abbrev pub opened_as : Owner → Result Numbers LifeError → State → LifeDisk
+opened_as owner (Ok numbers) s = Opened owner numbers s
+opened_as owner (Err _) s = Unopened owner s
 
--- a draw; the next such call of the disk is made to fail; a crash leaves the disk so, and the file is opened again
+-- a disk once its life file is opened for an owner
+abbrev pub opened : Owner → State → LifeDisk
+opened owner s = opened_as owner (open_answer owner s) (open_state owner s)
+
+-- a draw; the next such call of the disk is made to fail; a crash leaves the disk so, and the file is opened again for its owner
 pub data LifeEvent : Type 0 where
   Draw : LifeEvent
   Arm : DiskCall → LifeEvent
@@ -44,11 +49,11 @@ MayHappen (Arm call) disk = ⊤
 MayHappen (Restart new) disk = IsLeftBy (state_in disk) new
 
 abbrev pub after_event : LifeEvent → LifeDisk → LifeDisk
-after_event Draw (Opened numbers s) = Opened (numbers_after (draw_answer numbers s) numbers) (draw_state numbers s)
-after_event Draw (Unopened s) = Unopened s
-after_event (Arm call) (Opened numbers s) = Opened numbers (armed call s)
-after_event (Arm call) (Unopened s) = Unopened (armed call s)
-after_event (Restart new) disk = opened new
+after_event Draw (Opened owner numbers s) = Opened owner (numbers_after (draw_answer numbers s) numbers) (draw_state numbers s)
+after_event Draw (Unopened owner s) = Unopened owner s
+after_event (Arm call) (Opened owner numbers s) = Opened owner numbers (armed call s)
+after_event (Arm call) (Unopened owner s) = Unopened owner (armed call s)
+after_event (Restart new) disk = opened (owner_in disk) new
 
 abbrev pub number_in : Result ℕ LifeError → List ℕ
 number_in (Ok n) = n ∷ []
@@ -56,8 +61,8 @@ number_in (Err _) = []
 
 -- the number that an event draws, if any
 abbrev pub drawn_by : LifeEvent → LifeDisk → List ℕ
-drawn_by Draw (Opened numbers s) = number_in (draw_answer numbers s)
-drawn_by Draw (Unopened s) = []
+drawn_by Draw (Opened owner numbers s) = number_in (draw_answer numbers s)
+drawn_by Draw (Unopened owner s) = []
 drawn_by (Arm call) disk = []
 drawn_by (Restart new) disk = []
 
@@ -75,9 +80,9 @@ abbrev pub RisesAbove : ℕ → List ℕ → Type 0
 RisesAbove n [] = ⊤
 RisesAbove n (x ∷ xs) = (n < x) × RisesAbove x xs
 
-pub record IsFloorOfOpen (n : ℕ) (numbers : Numbers) (s : State) : Type 0 where
+pub record IsFloorOfOpen (n : ℕ) (owner : Owner) (numbers : Numbers) (s : State) : Type 0 where
   pub whole : IsWhole s
-  pub kept : IsKeptOn numbers s
+  pub kept : IsKeptOn owner numbers s
   pub drawn : n ≤ numbers.drawn
 
 pub record IsFloorOfDisk (n : ℕ) (s : State) : Type 0 where
@@ -86,5 +91,5 @@ pub record IsFloorOfDisk (n : ℕ) (s : State) : Type 0 where
 
 -- n or a lesser number is never drawn again
 abbrev pub IsFloor : ℕ → LifeDisk → Type 0
-IsFloor n (Opened numbers s) = IsFloorOfOpen n numbers s
-IsFloor n (Unopened s) = IsFloorOfDisk n s
+IsFloor n (Opened owner numbers s) = IsFloorOfOpen n owner numbers s
+IsFloor n (Unopened owner s) = IsFloorOfDisk n s

@@ -2,9 +2,10 @@
 use Rattle.std.specs.Prelude.{◌≡◌, ℕ, ◌+◌, ◌^◌, ◌<◌, ◌≤◌, max, Bool, true, false, if◌then◌else◌, ◌==◌, nat_le, Result, Ok, Err, IsTrue, IsFalse, List}
 use Rattle.tora_life.specs.declared.numbers.Numbers.{Numbers}
 use Rattle.tora_life.specs.declared.numbers.LifeError.{LifeError}
-use Rattle.tora_life.specs.declared.numbers.LifeError.TheVariants.{Disk, Failed, Spent, Damaged}
+use Rattle.tora_life.specs.declared.numbers.LifeError.TheVariants.{Disk, Failed, Spent, Damaged, Foreign}
 use Rattle.tora_life.specs.declared.slots.Slot.{Slot}
 use Rattle.tora_life.specs.declared.slots.Slot.TheVariants.{First, Second}
+use Rattle.tora_life.specs.declared.tags.Owner.{Owner}
 use Rattle.tora_life.specs.Disk.{IsOnlyImage}
 use Rattle.tora_life.specs.LifeFile.{slot_value, file_value, Covers}
 
@@ -47,14 +48,15 @@ numbers_after (Err Disk) numbers = record numbers { failed = true }
 numbers_after (Err Failed) numbers = numbers
 numbers_after (Err Spent) numbers = numbers
 numbers_after (Err Damaged) numbers = numbers
+numbers_after (Err Foreign) numbers = numbers
 
--- what an open life file keeps of its numbers and its disk
-pub record IsKept {D : Type 0} (tells : D → Bool) (seen : D → List ℕ) (may_leave : D → List ℕ → Type 0) (numbers : Numbers) (disk : D) : Type 0 where
+-- what an open life file keeps of its owner, its numbers and its disk
+pub record IsKept {D : Type 0} (tells : D → Bool) (seen : D → List ℕ) (may_leave : D → List ℕ → Type 0) (owner : Owner) (numbers : Numbers) (disk : D) : Type 0 where
   pub room : numbers.drawn ≤ value_of numbers
   -- a number that is left to draw is at most 2^62
   pub reach : numbers.drawn < value_of numbers → value_of numbers ≤ 2 ^ 62
-  -- whatever a crash leaves opens, and covers each number that was drawn
-  pub images : IsTrue (tells disk) → (c : List ℕ) → may_leave disk c → Covers numbers.drawn c
+  -- whatever a crash leaves opens for the owner, and covers each number that was drawn
+  pub images : IsTrue (tells disk) → (c : List ℕ) → may_leave disk c → Covers owner numbers.drawn c
   -- unless a call has failed, the bounds are those of the file, and all of it is on the disk
   pub only : IsTrue (tells disk) → IsFalse numbers.failed → IsOnlyImage (seen disk) (may_leave disk)
   pub first : IsTrue (tells disk) → IsFalse numbers.failed → numbers.first ≡ slot_value (seen disk) 0

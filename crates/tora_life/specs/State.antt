@@ -34,18 +34,18 @@ MayLeave s file = (file ≡ seen_of s) ⊎ IsImage (synced_of s) (marks_of s) fi
 pub record IsWhole (s : State) : Type 0 where
   pub len : s.len ≤ s.reach
   pub synced_len : s.synced_len ≤ s.reach
-  pub reach : s.reach ≤ 64
-  pub bytes : length s.bytes ≡ 64
-  pub synced : length s.synced ≡ 64
-  pub written : length s.written ≡ 64
+  pub reach : s.reach ≤ 80
+  pub bytes : length s.bytes ≡ 80
+  pub synced : length s.synced ≡ 80
+  pub written : length s.written ≡ 80
 
 -- bytes of the file, and zeros after them
 abbrev pub filled : List ℕ → List ℕ
-filled file = file ++ replicate (64 - length file) 0
+filled file = file ++ replicate (80 - length file) 0
 
 -- a disk that has a file on it, nothing written since, and no call armed to fail
 abbrev pub fresh_state : List ℕ → State
-fresh_state file = record { bytes = filled file; len = length file; synced = filled file; synced_len = length file; written = replicate 64 false; reach = length file; read_fails = false; write_fails = false; sync_fails = false; failures = 0 }
+fresh_state file = record { bytes = filled file; len = length file; synced = filled file; synced_len = length file; written = replicate 80 false; reach = length file; read_fails = false; write_fails = false; sync_fails = false; failures = 0 }
 
 -- these in the place of those that stand there
 abbrev pub over : {A : Type 0} → ℕ → List A → List A → List A
@@ -71,14 +71,14 @@ after_read s = if s.read_fails then record s { read_fails = false; failures = fa
 abbrev pub marked : State → ℕ → ℕ → State
 marked s at n = record s { written = over at (replicate n true) s.written; reach = max s.reach (at + n) }
 
--- a write past 64 bytes fails, and so does an armed one
+-- a write past 80 bytes fails, and so does an armed one
 abbrev pub write_answer : State → ℕ → List ℕ → Result (Unit {0}) DiskError
-write_answer s at bytes = if nat_lt 64 (at + length bytes) || s.write_fails then Err (record {}) else Ok tt
+write_answer s at bytes = if nat_lt 80 (at + length bytes) || s.write_fails then Err (record {}) else Ok tt
 
--- a write past 64 bytes marks nothing; an armed one marks its range and keeps the old bytes
+-- a write past 80 bytes marks nothing; an armed one marks its range and keeps the old bytes
 abbrev pub after_write : State → ℕ → List ℕ → State
 after_write s at bytes =
-    if nat_lt 64 (at + length bytes) then record s { write_fails = false; failures = failures_more s.failures }
+    if nat_lt 80 (at + length bytes) then record s { write_fails = false; failures = failures_more s.failures }
     else if s.write_fails then record (marked s at (length bytes)) { write_fails = false; failures = failures_more s.failures }
     else record (marked s at (length bytes)) { bytes = over at bytes s.bytes; len = max s.len (at + length bytes) }
 
@@ -90,7 +90,7 @@ sync_answer s = if s.sync_fails then Err (record {}) else Ok tt
 abbrev pub after_sync : State → State
 after_sync s =
     if s.sync_fails then record s { sync_fails = false; failures = failures_more s.failures }
-    else record s { synced = s.bytes; synced_len = s.len; written = replicate 64 false; reach = s.len }
+    else record s { synced = s.bytes; synced_len = s.len; written = replicate 80 false; reach = s.len }
 
 -- the next such call fails
 abbrev pub armed : DiskCall → State → State

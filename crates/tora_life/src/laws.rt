@@ -1,5 +1,6 @@
 //! The law of the life file over all runs.
 ghost use Rattle.std.specs.Prelude.{◌≡◌, ◌⊎◌, ◌<◌, ◌≤◌, ℕ, List, [], ◌∷◌, length, Option};
+ghost use Rattle.tora_life.specs.declared.tags.Owner.{Owner};
 ghost use Rattle.tora_life.specs.LifeFile.{file_value};
 ghost use Rattle.tora_life.specs.State.{fresh_state, after_crash};
 ghost use Rattle.tora_life.specs.LifeRun.{LifeDisk, LifeEvent, Draw, MayHappen, IsLeftBy, IsRun, IsFloor, RisesAbove, opened, state_in, after_event, drawn_by, drawn_numbers};
@@ -7,17 +8,18 @@ ghost use Rattle.tora_life.specs.LifeRun.{LifeDisk, LifeEvent, Draw, MayHappen, 
 /// Drawn life numbers rise across crashes. The function does nothing: its contract is a law.
 ///
 /// In every run of draws, failing calls of the disk, and crashes that leave whatever the disk might have left, each
-/// number drawn is greater than all numbers drawn before it, and than the value of the file at first. A crash
+/// number drawn is greater than all numbers drawn before it, and than the value of the file at first. The file may be any at
+/// first: one of version 1, one that was torn while it was migrated, or one with a tag. A crash
 /// inside a draw is one after a draw whose write or sync was armed to fail: the same bytes may be torn.
 ///
 /// The law is stated over the functions that `open` and `draw` of a `LifeFile` over a `MemDisk` compute, as
 /// their clauses on the calls of the disk say. It goes by a floor, a number such that neither it nor a lesser one
 /// is drawn again. The other clauses are its steps, for a law over many life files.
 pub fn drawn_life_numbers_rise()
-    ensures rise { (file : List ℕ) (events : List LifeEvent) → length file ≤ 64 → IsRun (opened (fresh_state file)) events → RisesAbove (file_value file) (drawn_numbers (opened (fresh_state file)) events) }
+    ensures rise { (owner : Owner) (file : List ℕ) (events : List LifeEvent) → length file ≤ 80 → IsRun (opened owner (fresh_state file)) events → RisesAbove (file_value file) (drawn_numbers (opened owner (fresh_state file)) events) }
 
     // The value of the file is the first floor, and a number drawn is the next. No event lowers it.
-    ensures first { (file : List ℕ) → length file ≤ 64 → IsFloor (file_value file) (opened (fresh_state file)) }
+    ensures first { (owner : Owner) (file : List ℕ) → length file ≤ 80 → IsFloor (file_value file) (opened owner (fresh_state file)) }
     ensures draw { (n x : ℕ) (disk : LifeDisk) → IsFloor n disk → drawn_by Draw disk ≡ x ∷ [] → (n < x) × IsFloor x (after_event Draw disk) }
     ensures keep { (n : ℕ) (event : LifeEvent) (disk : LifeDisk) → IsFloor n disk → MayHappen event disk → IsFloor n (after_event event disk) }
 

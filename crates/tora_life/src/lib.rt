@@ -13,11 +13,12 @@
 //! The rules of the life file are this project's own profile. No call takes memory.
 //!
 //! ```rust
-//! let mut file = LifeFile::open(MemDisk::new())?;
+//! // The file of node 1 for its link to node 2.
+//! let mut file = LifeFile::open(MemDisk::new(), 1, 2)?;
 //! assert_eq!(rt; file.draw(), Ok(1));
 //! let mut disk = file.close();
 //! disk.crash(None); // what was not synced is lost
-//! let mut file = LifeFile::open(disk)?;
+//! let mut file = LifeFile::open(disk, 1, 2)?;
 //! assert_eq!(rt; file.draw(), Ok(17));
 //! ```
 #![tactic(auto)]
@@ -25,23 +26,29 @@
 mod call_record;
 mod disk;
 mod file_disk;
+mod fuse_disk;
 mod laws;
 mod life_file;
 mod mem_disk;
+mod migration;
 mod numbers;
-mod slot_writing;
+mod opening;
+mod writing;
 mod slots;
 mod state;
+mod tags;
 mod tearing;
 mod whole_read;
 
 pub use disk::{Disk, DiskError};
 pub use file_disk::FileDisk;
+pub use fuse_disk::{FuseDisk, FuseMode};
 pub use laws::drawn_life_numbers_rise;
 pub use life_file::{LifeFile, OpenFault};
 pub use mem_disk::MemDisk;
 pub use numbers::LifeError;
 pub use state::DiskCall;
+pub use tags::{Owner, Tag};
 
 #[cfg(test)]
 mod tests;

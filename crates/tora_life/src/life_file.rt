@@ -1,15 +1,18 @@
 //! A life file: numbers that rise across crashes.
-ghost use Rattle.std.specs.Prelude.{◌≡◌, ◌⊎◌, ◌↔◌, ◌+◌, ◌^◌, ◌<◌, ◌≤◌, ℕ, List, length, Ok, Err, is_ok, IfOk, IfErr, OnOk, IsErrOf, IsTrue, IsFalse};
+ghost use Rattle.std.specs.Prelude.{◌≡◌, ◌≢◌, ◌⊎◌, ◌↔◌, ◌+◌, ◌^◌, ◌<◌, ◌≤◌, ℕ, List, Ok, Err, is_ok, IsOk, IfOk, IfErr, OnOk, IsErrOf, IsTrue, IsFalse};
 ghost use Rattle.tora_life.specs.Disk.{HasCause, IsOnlyImage, LeavesOnly};
-ghost use Rattle.tora_life.specs.LifeFile.{Covers};
+ghost use Rattle.tora_life.specs.LifeFile.{Covers, file_value, slot_of};
+ghost use Rattle.tora_life.specs.Migration.{version_of, migrated};
 ghost use Rattle.tora_life.specs.Numbers.{value_of, lesser_slot, Reserves, IsSpent, IsKept, numbers_after, numbers_of};
-ghost use Rattle.tora_life.specs.Calls.{SyncsAndReads, WritesAndSyncs};
+ghost use Rattle.tora_life.specs.Calls.{OpensBy, WritesAndSyncs, place_of};
 
 use crate::disk::Disk;
 use crate::mem_disk::MemDisk;
 use crate::numbers::{LAST_NUMBER, LifeError, Numbers, RESERVED};
-use crate::slot_writing::replace_slot;
+use crate::opening::open_file;
 use crate::state::DiskCall;
+use crate::tags::Owner;
+use crate::writing::replace_slot;
 use std::marker::Model;
 use thiserror::Error;
 
@@ -17,7 +20,7 @@ use thiserror::Error;
 #[derive(Debug, Drop, Error)]
 #[error("the life file did not open: {error}")]
 pub struct OpenFault<D> {
-    /// `Disk` or `Damaged`.
+    /// `Disk`, `Damaged` or `Foreign`.
     pub error: LifeError,
     /// The disk after the calls that were made of it.
     pub disk: D,
@@ -35,16 +38,20 @@ impl<D: Drop> From<OpenFault<D>> for LifeError {
 
 /// An open life file on a disk, which draws numbers from 1 to 2^62. Own profile.
 ///
+/// It is of one end of a link: behind its two slots stands a tag with the node and the peer, so that a file that was copied
+/// to another node is refused before a number is drawn from it.
+///
 /// Its value is the greater of the two bounds that its slots spell. Numbers are reserved sixteen at a time: with
 /// value v, and none left up to v, the lesser slot (slot 0 at a tie) is written with v + 16 and synced, and
 /// only then v + 1 to v + 16 are drawn. The other slot stays whole meanwhile, so that a torn
 /// write can't lower the value.
 ///
-/// Contracts see its disk and its numbers, and of a disk that tells its bytes they know `IsKept`: whatever a
-/// crash leaves opens, and has a value at least the greatest number drawn.
+/// Contracts see its disk, its owner and its numbers, and of a disk that tells its bytes they know `IsKept`: whatever a
+/// crash leaves opens for the owner, and has a value at least the greatest number drawn.
 #[derive(Debug, Drop)]
 pub struct LifeFile<D: Disk> {
     disk: D,
+    owner: Owner,
     numbers: Numbers,
 }
 
@@ -55,77 +62,78 @@ impl<D: Disk> Model for LifeFile<D> {
 
     ghost use Rattle.tora_life.specs.Numbers.{IsKept};
 
-    ghost view = { λ f. record { disk = f.disk; numbers = f.numbers } };
+    ghost view = { λ f. record { disk = f.disk; owner = f.owner; numbers = f.numbers } };
 
-    ghost invariant = { λ f. IsKept D.tells D.seen D.may_leave f.numbers f.disk };
+    ghost invariant = { λ f. IsKept D.tells D.seen D.may_leave f.owner f.numbers f.disk };
 }
 
 impl<D: Disk> LifeFile<D> {
-    /// Opens the life file on a disk: a sync, and then one read of 33 bytes. The first number to draw is the one
-    /// after the file's value, 1 for an empty file. The sync comes first since what was read and isn't on the
-    /// disk might be gone after a crash.
+    /// Opens the life file of the node `me` for its link to `peer`, both not 0 and not the same: a sync, and then one read of
+    /// 65 bytes. The first number to draw is the one after the file's value, 1 for an empty file. The sync comes first
+    /// since what was read and isn't on the disk might be gone after a crash.
+    ///
+    /// A file without a tag is of version 1, or was torn while it was migrated. It is migrated: one write from the lower of
+    /// its length and 32 to the end of the tag, and then a sync. Slots that are not wholly there are filled up so that they
+    /// count as 0, as before. No file that a crash leaves meanwhile has a lesser value.
     ///
     /// # Errors
     ///
-    /// With the disk given back, in this order: `Disk` where the sync or the read fails, `Damaged` for a file longer than
-    /// 32 bytes.
-    pub fn open(disk: D) -> Result<LifeFile<D>, OpenFault<D>>
-        // The file's only image is what was read, and it has two slots at most.
+    /// With the disk given back, in this order: `Disk` where the sync or the read fails; `Damaged` for a file longer than 64
+    /// bytes or with a tag of another kind; `Foreign` for one with the tag of another node or another peer; `Disk` where the
+    /// write of the migration or its sync fails. At `Damaged` and `Foreign` nothing was written.
+    pub fn open(disk: D, me: u32, peer: u32) -> Result<LifeFile<D>, OpenFault<D>>
+        requires me { 0 < me }
+        requires peer { 0 < peer }
+        requires distinct { me ≢ peer }
+
+        // The file's only image is the first 32 bytes of what was read, filled up, and the tag.
         ensures numbers { IsTrue (D.tells disk) → IfOk result (λ file. file.numbers ≡ numbers_of (D.seen disk)) }
-        ensures seen { IsTrue (D.tells disk) → IfOk result (λ file. D.seen file.disk ≡ D.seen disk) }
-        ensures only { IsTrue (D.tells disk) → IfOk result (λ file. IsOnlyImage (D.seen disk) (D.may_leave file.disk)) }
-        ensures short { IsTrue (D.tells disk) → OnOk result (length (D.seen disk) ≤ 32) }
-        ensures kept { IfOk result (λ file. IsKept D.tells D.seen D.may_leave file.numbers file.disk) }
+        ensures owner { IfOk result (λ file. file.owner ≡ record { node = me; peer = peer }) }
+        ensures seen { IsTrue (D.tells disk) → IfOk result (λ file. D.seen file.disk ≡ migrated (record { node = me; peer = peer }) (D.seen disk)) }
+        ensures only { IsTrue (D.tells disk) → IfOk result (λ file. IsOnlyImage (D.seen file.disk) (D.may_leave file.disk)) }
+        ensures kept { IfOk result (λ file. IsKept D.tells D.seen D.may_leave file.owner file.numbers file.disk) }
         ensures sound { IfOk result (λ file. IsFalse file.numbers.failed) }
 
-        // A crash at any moment of the call leaves one of the images from before it.
-        ensures any_moment { IsTrue (D.tells disk) → IfOk result (λ file. LeavesOnly D.moment D.left_since disk file.disk (D.may_leave disk)) }
-        ensures any_moment_err { IsTrue (D.tells disk) → IfErr result (λ fault. LeavesOnly D.moment D.left_since disk fault.disk (D.may_leave disk)) }
+        // A crash at any moment of the call leaves one of the images from before it, or a file whose value is no less than
+        // that of what was read.
+        ensures any_moment { IsTrue (D.tells disk) → IfOk result (λ file. LeavesOnly D.moment D.left_since disk file.disk (λ c. D.may_leave disk c ⊎ (file_value (D.seen disk) ≤ file_value c))) }
+        ensures any_moment_err { IsTrue (D.tells disk) → IfErr result (λ fault. LeavesOnly D.moment D.left_since disk fault.disk (λ c. D.may_leave disk c ⊎ (file_value (D.seen disk) ≤ file_value c))) }
         ensures tells { IfOk result (λ file. D.tells file.disk ≡ D.tells disk) }
         ensures tells_err { IfErr result (λ fault. D.tells fault.disk ≡ D.tells disk) }
 
-        // When each error comes.
-        ensures errors { IfErr result (λ fault. (fault.error ≡ LifeError.Disk) ⊎ (fault.error ≡ LifeError.Damaged)) }
-        ensures damaged { IsTrue (D.tells disk) → IfErr result (λ fault. fault.error ≡ LifeError.Damaged → 32 < length (D.seen disk)) }
+        // When each error comes: `Damaged` and `Foreign` exactly where the file's bytes say so, and then nothing was written.
+        ensures errors { IfErr result (λ fault. (fault.error ≡ LifeError.Disk) ⊎ ((fault.error ≡ LifeError.Damaged) ⊎ (fault.error ≡ LifeError.Foreign))) }
+        ensures opens { IsTrue (D.tells disk) → OnOk result (IsOk (version_of (record { node = me; peer = peer }) (D.seen disk))) }
+        ensures refused { IsTrue (D.tells disk) → IfErr result (λ fault. fault.error ≢ LifeError.Disk → (version_of (record { node = me; peer = peer }) (D.seen disk) ≡ Err fault.error) × IsOnlyImage (D.seen disk) (D.may_leave fault.disk)) }
         ensures disk { IfErr result (λ fault. fault.error ≡ LifeError.Disk → HasCause (D.failures disk) (D.failures fault.disk)) }
 
-        // The calls of the disk: a sync, and then a read.
-        ensures calls { IfOk result (λ file. SyncsAndReads D.syncs D.reads disk (Ok file.numbers) file.disk) }
-        ensures calls_err { IfErr result (λ fault. SyncsAndReads D.syncs D.reads disk (Err fault.error) fault.disk) }
+        // The calls of the disk: a sync, a read, and of a file without a tag a write and a sync.
+        ensures calls { IfOk result (λ file. OpensBy D.syncs D.reads D.writes (record { node = me; peer = peer }) disk (Ok file.numbers) file.disk) }
+        ensures calls_err { IfErr result (λ fault. OpensBy D.syncs D.reads D.writes (record { node = me; peer = peer }) disk (Err fault.error) fault.disk) }
     {
         let mut disk = disk;
-        let Ok(()) = disk.sync() else {
-            return Err(OpenFault {
-                error: LifeError::Disk,
+        let owner = Owner { node: me, peer };
+        match open_file(&mut disk, owner) {
+            Ok(numbers) => Ok(LifeFile {
                 disk,
-            });
-        };
-        let mut bytes = [0; 33];
-        let Ok(count) = disk.read(0, &mut bytes) else {
-            return Err(OpenFault {
-                error: LifeError::Disk,
-                disk,
-            });
-        };
-        if count > 32 {
-            return Err(OpenFault {
-                error: LifeError::Damaged,
-                disk,
-            });
+                owner,
+                numbers,
+            }),
+            Err(error) => Err(OpenFault { error, disk }),
         }
-        Ok(LifeFile {
-            disk,
-            numbers: Numbers::read(&bytes[..count]),
-        })
     }
 
     /// Gives the disk back, with no call of it. Whatever a crash leaves of it has a value at least the greatest
     /// number that was drawn.
     pub fn close(self) -> D
         ensures disk { result ≡ self.disk }
-        ensures kept { IsKept D.tells D.seen D.may_leave self.numbers result }
+        ensures kept { IsKept D.tells D.seen D.may_leave self.owner self.numbers result }
     {
-        let LifeFile { disk, numbers: _ } = self;
+        let LifeFile {
+            disk,
+            owner: _,
+            numbers: _,
+        } = self;
         disk
     }
 
@@ -140,23 +148,25 @@ impl<D: Disk> LifeFile<D> {
     pub fn draw(&mut self) -> Result<u64, LifeError>
         ensures drawn { IfOk result (λ n. n ≡ self.old.numbers.drawn + 1) }
         ensures numbers { self.new.numbers ≡ numbers_after result self.old.numbers }
+        ensures owner { self.new.owner ≡ self.old.owner }
         ensures failures { OnOk result (D.failures self.new.disk ≡ D.failures self.old.disk) }
         ensures within { IfOk result (λ n. n ≤ 2 ^ 62) }
 
         // After `Ok(n)` each image covers n. At each moment until then each one covers what was drawn before.
-        ensures after { IsTrue (D.tells self.old.disk) → IfOk result (λ n. (c : List ℕ) → D.may_leave self.new.disk c → Covers n c) }
-        ensures any_moment { IsTrue (D.tells self.old.disk) → LeavesOnly D.moment D.left_since self.old.disk self.new.disk (Covers self.old.numbers.drawn) }
+        ensures after { IsTrue (D.tells self.old.disk) → IfOk result (λ n. (c : List ℕ) → D.may_leave self.new.disk c → Covers self.old.owner n c) }
+        ensures any_moment { IsTrue (D.tells self.old.disk) → LeavesOnly D.moment D.left_since self.old.disk self.new.disk (Covers self.old.owner self.old.numbers.drawn) }
         ensures tells { D.tells self.new.disk ≡ D.tells self.old.disk }
-        ensures kept { IsKept D.tells D.seen D.may_leave self.new.numbers self.new.disk }
+        ensures kept { IsKept D.tells D.seen D.may_leave self.new.owner self.new.numbers self.new.disk }
 
         // When each error comes.
         ensures failed { IsErrOf result LifeError.Failed ↔ IsTrue self.old.numbers.failed }
         ensures spent { IsErrOf result LifeError.Spent ↔ IsSpent self.old.numbers }
         ensures disk { IsErrOf result LifeError.Disk → Reserves self.old.numbers × HasCause (D.failures self.old.disk) (D.failures self.new.disk) }
         ensures damaged { IsErrOf result LifeError.Damaged → ⊥ }
+        ensures foreign { IsErrOf result LifeError.Foreign → ⊥ }
 
         // The calls of the disk: none while there are reserved numbers, and otherwise a write and a sync.
-        ensures calls { Reserves self.old.numbers → WritesAndSyncs D.writes D.syncs (lesser_slot self.old.numbers) (value_of self.old.numbers + 16) self.old.disk (is_ok result) self.new.disk }
+        ensures calls { Reserves self.old.numbers → WritesAndSyncs D.writes D.syncs (place_of (lesser_slot self.old.numbers)) (slot_of (value_of self.old.numbers + 16)) self.old.disk (is_ok result) self.new.disk }
         ensures no_calls { (Reserves self.old.numbers → ⊥) → self.new.disk ≡ self.old.disk }
     {
         if self.numbers.failed {
@@ -192,6 +202,7 @@ impl LifeFile<MemDisk> {
     pub fn arm(&mut self, call: DiskCall)
         ensures disk { self.new.disk.state ≡ armed call self.old.disk.state }
         ensures numbers { self.new.numbers ≡ self.old.numbers }
+        ensures owner { self.new.owner ≡ self.old.owner }
     {
         self.disk.arm(call);
     }

@@ -6,10 +6,10 @@ use crate::disk::{Disk, DiskError};
 use crate::state::{DiskCall, State};
 use std::marker::Model;
 
-/// A disk of at most 64 bytes in memory, which tells contracts its bytes. Its calls may be armed to fail, and it
+/// A disk of at most 80 bytes in memory, which tells contracts its bytes. Its calls may be armed to fail, and it
 /// may be crashed. It takes no memory. Own profile.
 ///
-/// A write past 64 bytes fails, marks nothing as written, and uses up an armed write. A write that is armed to fail
+/// A write past 80 bytes fails, marks nothing as written, and uses up an armed write. A write that is armed to fail
 /// keeps the old bytes, but its range counts as written: a later crash tears it. A crash settles nothing: what
 /// stands after it is again torn from the last sync that succeeded, where a second crash follows.
 ///
@@ -42,21 +42,21 @@ impl MemDisk {
         ensures { result.state ≡ fresh_state [] }
     {
         MemDisk {
-            state: State::fresh([0; 64], 0),
+            state: State::fresh([0; 80], 0),
             past: CallRecord::new(),
         }
     }
 
-    /// A disk with a file of these bytes on it, all synced, and no call armed. `None` for more than 64 bytes.
+    /// A disk with a file of these bytes on it, all synced, and no call armed. `None` for more than 80 bytes.
     pub fn of(bytes: &[u8]) -> Option<MemDisk>
         ensures some { IfSome result (λ disk. disk.state ≡ fresh_state bytes.now) }
         ensures seen { IfSome result (λ disk. seen_of disk.state ≡ bytes.now) }
-        ensures fits { IsSome result ↔ (length bytes.now ≤ 64) }
+        ensures fits { IsSome result ↔ (length bytes.now ≤ 80) }
     {
-        if bytes.len() > 64 {
+        if bytes.len() > 80 {
             return None;
         }
-        let mut there = [0; 64];
+        let mut there = [0; 80];
         there[..bytes.len()].copy_from_slice(bytes);
         Some(MemDisk {
             state: State::fresh(there, bytes.len()),
@@ -83,7 +83,7 @@ impl MemDisk {
         self.state.crash(torn);
     }
 
-    /// The bytes that a read gives, at most 64.
+    /// The bytes that a read gives, at most 80.
     pub fn bytes(&self) -> &[u8]
         ensures { result.now ≡ seen_of self.now.state }
     {

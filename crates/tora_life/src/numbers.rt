@@ -16,15 +16,18 @@ pub enum LifeError {
     /// The numbers up to 2^62 are used up: the value plus 16 is above it. Nothing changes.
     #[error("no number is left")]
     Spent,
-    /// The file is longer than the 32 bytes of its two slots.
-    #[error("the file is longer than two slots")]
+    /// The file is longer than the 64 bytes of its two slots and its tag, or has a tag of another kind.
+    #[error("the file is no life file")]
     Damaged,
+    /// The file has the tag of another node or of another peer. Nothing was written.
+    #[error("the file is of another node or peer")]
+    Foreign,
 }
 
 impl LifeError {
     ghost use Rattle.tora_life.specs.Errors.{life_error_number};
 
-    /// The number of the error: 1 `Disk`, 2 `Failed`, 3 `Spent`, 4 `Damaged`.
+    /// The number of the error: 1 `Disk`, 2 `Failed`, 3 `Spent`, 4 `Damaged`, 5 `Foreign`.
     pub fn number(self) -> u8
         ensures { result ≡ life_error_number self }
     {
@@ -33,6 +36,7 @@ impl LifeError {
             LifeError::Failed => 2,
             LifeError::Spent => 3,
             LifeError::Damaged => 4,
+            LifeError::Foreign => 5,
         }
     }
 }

@@ -17,11 +17,11 @@ pub enum DiskCall {
 /// the last sync. `written` marks the bytes that were written since, up to `reach`, where the furthest write ended.
 #[derive(Clone, Copy, Debug)]
 pub struct State {
-    pub bytes: [u8; 64],
+    pub bytes: [u8; 80],
     pub len: usize,
-    pub synced: [u8; 64],
+    pub synced: [u8; 80],
     pub synced_len: usize,
-    pub written: [bool; 64],
+    pub written: [bool; 80],
     pub reach: usize,
     /// The next read fails.
     pub read_fails: bool,
@@ -38,15 +38,15 @@ impl State {
     ghost use Rattle.tora_life.specs.State.{IsWhole, read_answer, bytes_read, after_read, write_answer, after_write, sync_answer, after_sync, armed, after_crash};
 
     /// All on the disk, with no call armed.
-    pub fn fresh(bytes: [u8; 64], len: usize) -> State
-        ensures { result ≡ record { bytes = bytes; len = len; synced = bytes; synced_len = len; written = replicate 64 false; reach = len; read_fails = false; write_fails = false; sync_fails = false; failures = 0 } }
+    pub fn fresh(bytes: [u8; 80], len: usize) -> State
+        ensures { result ≡ record { bytes = bytes; len = len; synced = bytes; synced_len = len; written = replicate 80 false; reach = len; read_fails = false; write_fails = false; sync_fails = false; failures = 0 } }
     {
         State {
             bytes,
             len,
             synced: bytes,
             synced_len: len,
-            written: [false; 64],
+            written: [false; 80],
             reach: len,
             read_fails: false,
             write_fails: false,
@@ -79,7 +79,7 @@ impl State {
         ensures answer { result ≡ write_answer self.old at bytes.now }
         ensures after { self.new ≡ after_write self.old at bytes.now }
     {
-        if bytes.len() > 64 - at {
+        if bytes.len() > 80 - at {
             self.write_fails = false;
             self.failures = self.failures.saturating_add(1);
             return Err(DiskError);
@@ -108,7 +108,7 @@ impl State {
         }
         self.synced = self.bytes;
         self.synced_len = self.len;
-        self.written = [false; 64];
+        self.written = [false; 80];
         self.reach = self.len;
         Ok(())
     }

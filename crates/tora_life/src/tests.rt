@@ -5,7 +5,9 @@ use std::process::Abort;
 use std::test::Fail;
 
 mod files;
+mod fuses;
 mod in_memory;
+mod migrations;
 mod reads;
 
 const SLOT_OF_16: [u8; 16] = [
@@ -23,12 +25,12 @@ const SLOT_OF_900: [u8; 16] = [
 fn disk_of(rt: &impl Abort, bytes: &[u8]) -> MemDisk {
     match MemDisk::of(bytes) {
         Some(disk) => disk,
-        None => panic!(rt; "more than 64 bytes"),
+        None => panic!(rt; "more than 80 bytes"),
     }
 }
 
 fn opened(rt: &impl Abort, disk: MemDisk) -> LifeFile<MemDisk> {
-    match LifeFile::open(disk) {
+    match LifeFile::open(disk, 1, 2) {
         Ok(file) => file,
         Err(fault) => panic!(rt; "not opened: {:?}", fault.error),
     }
@@ -84,7 +86,7 @@ fn drawn_numbers_survive_torn_slots(rt: HostRuntime) -> Result<(), Fail> {
 
 // The first number that is drawn from a file of these bytes.
 fn first_draw(rt: &impl Abort, bytes: &[u8]) -> Result<u64, LifeError> {
-    match LifeFile::open(disk_of(rt, bytes)) {
+    match LifeFile::open(disk_of(rt, bytes), 1, 2) {
         Ok(mut file) => file.draw(),
         Err(fault) => Err(fault.error),
     }
@@ -100,7 +102,9 @@ fn odd_life_files(rt: HostRuntime) -> Result<(), Fail> {
     cut[..16].fill(0);
     assert_eq!(&rt; first_draw(&rt, &cut), Ok(1));
     assert_eq!(&rt; first_draw(&rt, &SLOT_OF_16), Ok(17));
-    assert_eq!(&rt; first_draw(&rt, &[0; 33]), Err(LifeError::Damaged));
+    assert_eq!(&rt; first_draw(&rt, &[0; 33]), Ok(1));
+    assert_eq!(&rt; first_draw(&rt, &[0; 64]), Ok(1));
+    assert_eq!(&rt; first_draw(&rt, &[0; 65]), Err(LifeError::Damaged));
 
     let mut greatest = [0; 16];
     greatest[..8].fill(0xff);
@@ -117,86 +121,10 @@ fn odd_life_files(rt: HostRuntime) -> Result<(), Fail> {
 }
 
 #[test]
-fn a_disk_holds_64_bytes(rt: HostRuntime) -> Result<(), Fail> {
-    assert!(&rt; MemDisk::of(&[1; 65]).is_none());
-    assert_eq!(&rt; disk_of(&rt, &[1; 64]).bytes(), [1; 64].as_slice());
+fn a_disk_holds_80_bytes(rt: HostRuntime) -> Result<(), Fail> {
+    assert!(&rt; MemDisk::of(&[1; 81]).is_none());
+    assert_eq!(&rt; disk_of(&rt, &[1; 80]).bytes(), [1; 80].as_slice());
     assert_eq!(&rt; MemDisk::new().bytes(), [].as_slice());
-    Ok(())
-}
-
-// Opens the file of a disk and draws 40 numbers. Before the step `stop` (0 is to open, 1 to 40 are the draws) a
-// call is armed. Answers the disk and the greatest number drawn, once a step fails or all are done.
-fn run(mut disk: MemDisk, stop: u64, call: DiskCall) -> (MemDisk, u64) {
-    if stop == 0 {
-        disk.arm(call);
-    }
-    let mut file = match LifeFile::open(disk) {
-        Ok(file) => file,
-        Err(fault) => return (fault.disk, 0),
-    };
-    let mut greatest = 0;
-    for step in 1..41 {
-        if step == stop {
-            file.arm(call);
-        }
-        match file.draw() {
-            Ok(n) => greatest = n,
-            Err(_) => break,
-        }
-    }
-    (file.close(), greatest)
-}
-
-// Opens the file again and draws. A call that is still armed may fail first.
-fn next_number(rt: &impl Abort, mut disk: MemDisk) -> u64 {
-    for _ in 0..4 {
-        match LifeFile::open(disk) {
-            Ok(mut file) => match file.draw() {
-                Ok(n) => return n,
-                Err(_) => disk = file.close(),
-            },
-            Err(fault) => disk = fault.disk,
-        }
-    }
-    panic!(rt; "no number is drawn");
-}
-
-// Crashes the disk, and answers the next number drawn. With `twice` this call fails while the file is opened
-// again, and then there is another crash.
-fn next_after_crash(
-    rt: &impl Abort,
-    mut disk: MemDisk,
-    torn: Option<[u8; 16]>,
-    twice: Option<DiskCall>,
-) -> u64 {
-    disk.crash(torn);
-    if let Some(call) = twice {
-        disk.arm(call);
-        disk = match LifeFile::open(disk) {
-            Ok(file) => file.close(),
-            Err(fault) => fault.disk,
-        };
-        disk.crash(torn);
-    }
-    next_number(rt, disk)
-}
-
-#[test]
-fn each_crash(rt: HostRuntime) -> Result<(), Fail> {
-    let patterns = [None, Some([0; 16]), Some(SLOT_OF_32), Some(SLOT_OF_900)];
-    let twice = [None, Some(DiskCall::Read), Some(DiskCall::Sync)];
-    for call in [DiskCall::Read, DiskCall::Write, DiskCall::Sync] {
-        for torn in patterns {
-            for again in twice {
-                for stop in 0..42 {
-                    let (disk, greatest) = run(MemDisk::new(), stop, call);
-                    assert!(&rt; next_after_crash(&rt, disk, torn, again) > greatest);
-                    let (disk, greatest) = run(disk_of(&rt, &SLOT_OF_16), stop, call);
-                    assert!(&rt; next_after_crash(&rt, disk, torn, again) > greatest);
-                }
-            }
-        }
-    }
     Ok(())
 }
 
@@ -220,7 +148,8 @@ fn errors_are_printed_with_their_cause(rt: HostRuntime) -> Result<(), Fail> {
             "an earlier draw failed: the file is to be opened again",
         ),
         (LifeError::Spent, "no number is left"),
-        (LifeError::Damaged, "the file is longer than two slots"),
+        (LifeError::Damaged, "the file is no life file"),
+        (LifeError::Foreign, "the file is of another node or peer"),
     ];
     for (error, text) in rows {
         let printed = format!(in rt.alloc(); "{error}")?;

@@ -12,7 +12,7 @@ const OTHER_FOLDER: &str = "tora_life_places_test";
 const OTHER_PATH: &str = "tora_life_places_test/life-3";
 
 fn opened<R: Files<File = File>>(rt: &R) -> Result<LifeFile<FileDisk>, Fail> {
-    Ok(LifeFile::open(FileDisk::open(rt, PATH)?)?)
+    Ok(LifeFile::open(FileDisk::open(rt, PATH)?, 1, 2)?)
 }
 
 // Each of these files is let go without a close, as by a process that is killed between two calls.
@@ -33,7 +33,7 @@ fn drawn_numbers_rise_in_a_real_folder(rt: HostRuntime) -> Result<(), Fail> {
             }
         }
     }
-    assert_eq!(&rt; fs::metadata(&rt, PATH)?.len(), 32);
+    assert_eq!(&rt; fs::metadata(&rt, PATH)?.len(), 64);
     fs::remove_dir_all(&rt, FOLDER)?;
     Ok(())
 }
@@ -54,9 +54,9 @@ fn a_file_is_read_and_written_at_places(rt: HostRuntime) -> Result<(), Fail> {
     assert_eq!(&rt; disk.read(usize::MAX, &mut bytes), Err(DiskError));
     assert_eq!(&rt; disk.write_at(usize::MAX, b"h"), Err(DiskError));
 
-    assert_eq!(&rt; disk.write_at(5, &[0; 28]), Ok(()));
-    let fault = match LifeFile::open(disk) {
-        Ok(_) => panic!(&rt; "33 bytes opened"),
+    assert_eq!(&rt; disk.write_at(5, &[0; 60]), Ok(()));
+    let fault = match LifeFile::open(disk, 1, 2) {
+        Ok(_) => panic!(&rt; "65 bytes opened"),
         Err(fault) => fault,
     };
     assert_eq!(&rt; fault.error, LifeError::Damaged);

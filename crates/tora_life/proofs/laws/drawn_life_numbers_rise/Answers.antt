@@ -3,7 +3,7 @@ use Rattle.tora_life.proofs.laws.drawn_life_numbers_rise.Goals as goal
 
 pub returns : goal.returns
 returns c = record {
-  rise = λ file events fits run. rises _ _ events (fresh_floor file fits) run;
+  rise = λ owner file events fits run. rises _ _ events (fresh_floor owner file fits) run;
   first = fresh_floor;
   draw = draws_above;
   keep = keeps_floor;

@@ -1,5 +1,6 @@
 use Rattle.std.proofs.Common.{◌+◌, subst, true, false}
-use Rattle.tora_life.specs.Calls.{WritesAndSyncs}
+use Rattle.tora_life.specs.Calls.{WritesAndSyncs, place_of}
+use Rattle.tora_life.specs.LifeFile.{slot_of}
 use Rattle.tora_life.specs.FileView.{FileView}
 use Rattle.tora_life.specs.Numbers.{value_of, lesser_slot}
 use Rattle.tora_life.proofs.Bounds.{lesser_place}
@@ -11,10 +12,10 @@ replace_slot-requires-clause-place g c = λ told.
 
 pub returns-in-Ok-clause-calls : goal.returns-in-Ok-clause-calls
 returns-in-Ok-clause-calls g c = λ _.
-    subst (λ (f : FileView g.row.D.Denot). WritesAndSyncs g.D.Disk.writes g.D.Disk.syncs (lesser_slot f.numbers) (value_of f.numbers + 16) f.disk true c.replace_slot.new.disk) c.self.view_is
+    subst (λ (f : FileView g.row.D.Denot). WritesAndSyncs g.D.Disk.writes g.D.Disk.syncs (place_of (lesser_slot f.numbers)) (slot_of (value_of f.numbers + 16)) f.disk true c.replace_slot.new.disk) c.self.view_is
     (rw (← c.lesser.ensures, ← c.value-value.ensures) c.in-Ok.ensures.calls)
 
 pub returns-in-Err-clause-calls : goal.returns-in-Err-clause-calls
 returns-in-Err-clause-calls g c = λ _.
-    subst (λ (f : FileView g.row.D.Denot). WritesAndSyncs g.D.Disk.writes g.D.Disk.syncs (lesser_slot f.numbers) (value_of f.numbers + 16) f.disk false c.replace_slot.new.disk) c.self.view_is
+    subst (λ (f : FileView g.row.D.Denot). WritesAndSyncs g.D.Disk.writes g.D.Disk.syncs (place_of (lesser_slot f.numbers)) (slot_of (value_of f.numbers + 16)) f.disk false c.replace_slot.new.disk) c.self.view_is
     (rw (← c.lesser.ensures, ← c.value-value.ensures) c.in-Err.ensures.calls)

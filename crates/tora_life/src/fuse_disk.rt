@@ -1,0 +1,159 @@
+//! A disk whose calls fail on purpose, for tests.
+ghost use Rattle.std.specs.Prelude.{◌≡◌, ◌+◌, ◌-◌, ◌^◌, min, not, Some};
+ghost use Rattle.tora_life.specs.FuseDisk.{is_blown, left_after};
+
+use crate::disk::{Disk, DiskError};
+use std::marker::Model;
+
+/// How long a fuse lets calls fail, once it has blown.
+#[derive(Clone, Copy, Debug, PartialEq, Eq, Hash)]
+pub enum FuseMode {
+    /// One call fails.
+    Once,
+    /// Each call fails from then on.
+    Always,
+}
+
+/// A disk around another one: so many calls pass, and then one fails, or all do. Own profile.
+///
+/// A call that fails so is counted, and makes no call of the disk inside. Calls that the disk inside fails are counted
+/// too. The count begins at 0. It tells contracts its bytes where the disk inside does.
+#[derive(Drop)]
+pub struct FuseDisk<D: Disk> {
+    disk: D,
+    mode: FuseMode,
+    left: Option<u64>,
+    failures: u64,
+}
+
+impl<D: Disk> Model for FuseDisk<D> {
+    ghost use Rattle.tora_life.specs.FuseDisk.{FuseView};
+
+    ghost Value = { FuseView D };
+
+    ghost view = { λ f. record { disk = f.disk; mode = f.mode; left = f.left; failures = f.failures } };
+}
+
+impl<D: Disk> FuseDisk<D> {
+    /// A disk over which `k` calls pass, reads, writes and syncs together.
+    pub fn new(disk: D, k: u64, mode: FuseMode) -> FuseDisk<D>
+        ensures { result ≡ record { disk = disk; mode = mode; left = Some k; failures = 0 } }
+    {
+        FuseDisk {
+            disk,
+            mode,
+            left: Some(k),
+            failures: 0,
+        }
+    }
+
+    /// The disk inside.
+    pub fn into_inner(self) -> D
+        ensures { result ≡ self.disk }
+    {
+        let FuseDisk {
+            disk,
+            mode: _,
+            left: _,
+            failures: _,
+        } = self;
+        disk
+    }
+
+    fn count(&mut self)
+        ensures { self.new ≡ record self.old { failures = min (self.old.failures + 1) (2 ^ 64 - 1) } }
+    {
+        self.failures = self.failures.saturating_add(1);
+    }
+
+    // Whether the next call passes. One that doesn't is not counted here.
+    fn passes(&mut self) -> bool
+        ensures answer { result ≡ not (is_blown self.old.left) }
+        ensures left { self.new ≡ record self.old { left = left_after self.old.mode self.old.left } }
+    {
+        match self.left {
+            None => true,
+            Some(n) => {
+                if n > 0 {
+                    self.left = Some(n - 1);
+                    return true;
+                }
+                match self.mode {
+                    FuseMode::Once => self.left = None,
+                    FuseMode::Always => {}
+                }
+                false
+            }
+        }
+    }
+}
+
+impl<D: Disk> Disk for FuseDisk<D> {
+    ghost use Rattle.tora_life.specs.FuseDisk.{GoesThroughFuse, ReadsThroughFuse};
+
+    ghost tells = { λ f. D.tells f.disk };
+
+    ghost seen = { λ f. D.seen f.disk };
+
+    ghost may_leave = { λ f. D.may_leave f.disk };
+
+    ghost moment = { λ f. D.moment f.disk };
+
+    ghost left_since = { λ f. D.left_since f.disk };
+
+    ghost failures = { λ f. f.failures };
+
+    ghost reads = { λ f at buf answer bytes new. ReadsThroughFuse D.reads f at buf answer bytes new };
+
+    ghost writes = { λ f at bytes answer new. GoesThroughFuse (D.writes f.disk at bytes) f answer new };
+
+    ghost syncs = { λ f answer new. GoesThroughFuse (D.syncs f.disk) f answer new };
+
+    ghost seen_may_stay = { λ f tells. D.seen_may_stay f.disk tells };
+
+    ghost counts_now = { λ f t c le now. D.counts_now f.disk t c le now };
+
+    ghost only_now = { λ f c left. D.only_now f.disk c left };
+
+    fn read(&mut self, at: usize, buf: &mut [u8]) -> Result<usize, DiskError> {
+        if !self.passes() {
+            self.count();
+            return Err(DiskError);
+        }
+        match self.disk.read(at, buf) {
+            Ok(count) => Ok(count),
+            Err(error) => {
+                self.count();
+                Err(error)
+            }
+        }
+    }
+
+    fn write_at(&mut self, at: usize, bytes: &[u8]) -> Result<(), DiskError> {
+        if !self.passes() {
+            self.count();
+            return Err(DiskError);
+        }
+        match self.disk.write_at(at, bytes) {
+            Ok(()) => Ok(()),
+            Err(error) => {
+                self.count();
+                Err(error)
+            }
+        }
+    }
+
+    fn sync(&mut self) -> Result<(), DiskError> {
+        if !self.passes() {
+            self.count();
+            return Err(DiskError);
+        }
+        match self.disk.sync() {
+            Ok(()) => Ok(()),
+            Err(error) => {
+                self.count();
+                Err(error)
+            }
+        }
+    }
+}

@@ -1,0 +1,77 @@
+//! Life files of both versions: whether a file has its tag, and what a file without one becomes.
+ghost use Rattle.std.specs.Prelude.{◌≡◌, ◌≤◌, length};
+ghost use Rattle.tora_life.specs.Migration.{version_of, version_by, slot_filled, migrated};
+
+use crate::numbers::LifeError;
+use crate::tags::{Owner, Tag, tag_bytes};
+
+/// Whether a life file has the tag of its owner.
+#[derive(Clone, Copy, Debug, PartialEq, Eq, Hash)]
+pub enum Version {
+    /// It has none: it is of version 1, or was torn while it was migrated.
+    Untagged,
+    /// It is of version 2.
+    Tagged,
+}
+
+/// What opening a file of these bytes for an owner comes to.
+///
+/// # Errors
+///
+/// `Damaged` for over 64 bytes or a tag of another kind, `Foreign` for the tag of another owner.
+pub fn found_version(owner: Owner, file: &[u8]) -> Result<Version, LifeError>
+    ensures { result ≡ version_of owner file.now }
+{
+    if file.len() > 64 {
+        return Err(LifeError::Damaged);
+    }
+    let (_, tag) = file.split_at(file.len().min(32));
+    let own = tag_bytes(owner);
+    if tag == own.as_slice() {
+        return Ok(Version::Tagged);
+    }
+    version_by_tag(Tag::read(tag))
+}
+
+/// What a tag that is not the owner's comes to.
+fn version_by_tag(tag: Tag) -> Result<Version, LifeError>
+    ensures { result ≡ version_by tag }
+{
+    match tag {
+        Tag::Absent => Ok(Version::Untagged),
+        Tag::Strange => Err(LifeError::Damaged),
+        Tag::Of(_) => Err(LifeError::Foreign),
+    }
+}
+
+/// A slot filled up to its sixteen bytes, so that it counts as 0: zeros in its first half, and in its second half the bytes
+/// of the first. A whole slot stays.
+#[tactic(auto, unfolding(crate::specs::Migration::slot_filled))]
+fn filled_slot(slot: &[u8]) -> [u8; 16]
+    requires { length slot.now ≤ 16 }
+    ensures { result ≡ slot_filled slot.now }
+{
+    let (front, back) = slot.split_at(slot.len().min(8));
+    let mut first = [0u8; 8];
+    first[..front.len()].copy_from_slice(front);
+    let mut second = first;
+    second[..back.len()].copy_from_slice(back);
+    let mut filled = [0u8; 16];
+    filled[..8].copy_from_slice(&first);
+    filled[8..].copy_from_slice(&second);
+    filled
+}
+
+/// The file of an owner once it is migrated: its first 32 bytes filled up, and the tag.
+pub fn migrated_bytes(owner: Owner, file: &[u8]) -> [u8; 64]
+    ensures { result ≡ migrated owner file.now }
+{
+    let (front, back) = file.split_at(file.len().min(16));
+    let mut whole = [0u8; 64];
+    let (slots, tag) = whole.split_at_mut(32);
+    let (first, second) = slots.split_at_mut(16);
+    first.copy_from_slice(&filled_slot(front));
+    second.copy_from_slice(&filled_slot(&back[..back.len().min(16)]));
+    tag.copy_from_slice(&tag_bytes(owner));
+    whole
+}
