@@ -9,6 +9,7 @@ pub mod Opens
 pub mod Past
 pub mod ReadOn
 pub mod Runs
+pub mod TagReads
 pub mod TornBytes
 pub mod Wholes
 pub mod Writes

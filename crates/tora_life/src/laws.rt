@@ -1,8 +1,12 @@
 //! The law of the life file over all runs.
-ghost use Rattle.std.specs.Prelude.{◌≡◌, ◌⊎◌, ◌<◌, ◌≤◌, ℕ, List, [], ◌∷◌, length, Option};
+ghost use Rattle.std.specs.Prelude.{◌≡◌, ◌≢◌, ◌⊎◌, ◌^◌, ◌<◌, ◌≤◌, ℕ, List, [], ◌∷◌, ◌++◌, length, Option, Err};
 ghost use Rattle.tora_life.specs.declared.tags.Owner.{Owner};
+ghost use Rattle.tora_life.specs.declared.numbers.LifeError.TheVariants as LifeErrors;
+ghost use Rattle.tora_life.specs.declared.tags.Tag.TheVariants as Tags;
 ghost use Rattle.tora_life.specs.LifeFile.{file_value};
+ghost use Rattle.tora_life.specs.Migration.{version_of};
 ghost use Rattle.tora_life.specs.State.{fresh_state, after_crash};
+ghost use Rattle.tora_life.specs.Tags.{tag_of, tag_read};
 ghost use Rattle.tora_life.specs.LifeRun.{LifeDisk, LifeEvent, Draw, MayHappen, IsLeftBy, IsRun, IsFloor, RisesAbove, opened, state_in, after_event, drawn_by, drawn_numbers};
 
 /// Drawn life numbers rise across crashes. The function does nothing: its contract is a law.
@@ -28,4 +32,13 @@ pub fn drawn_life_numbers_rise()
 
     // What a disk in memory is after its crash is one that it might have left.
     ensures crash { (n : ℕ) (torn : Option (List ℕ)) (disk : LifeDisk) → IsFloor n disk → IsLeftBy (state_in disk) (after_crash torn (state_in disk)) }
+{}
+
+/// A tag names its owner. The function does nothing: its contract is a law.
+///
+/// What is written as the tag of an owner is read as that owner's, no other bytes are read so, and a file with the tag of
+/// another owner is foreign. So a file that was copied to another node, or to another link, is refused.
+pub fn tags_name_their_owners()
+    ensures read { (owner : Owner) → owner.node < 2 ^ 32 → owner.peer < 2 ^ 32 → tag_read (tag_of owner) ≡ Tags.Of owner }
+    ensures foreign { (owner other : Owner) (slots : List ℕ) → other.node < 2 ^ 32 → other.peer < 2 ^ 32 → owner.node < 2 ^ 32 → owner.peer < 2 ^ 32 → owner ≢ other → length slots ≡ 32 → version_of owner (slots ++ tag_of other) ≡ Err LifeErrors.Foreign }
 {}

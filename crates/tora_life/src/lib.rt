@@ -43,7 +43,7 @@ mod whole_read;
 pub use disk::{Disk, DiskError};
 pub use file_disk::FileDisk;
 pub use fuse_disk::{FuseDisk, FuseMode};
-pub use laws::drawn_life_numbers_rise;
+pub use laws::{drawn_life_numbers_rise, tags_name_their_owners};
 pub use life_file::{LifeFile, OpenFault};
 pub use mem_disk::MemDisk;
 pub use numbers::LifeError;
