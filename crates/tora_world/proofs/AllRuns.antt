@@ -14,7 +14,7 @@ use Rattle.tora_world.specs.Topology.{Topology, is_link}
 use Rattle.tora_world.specs.Lists.{reversed}
 use Rattle.tora_world.specs.LinkMachine.{MachineStep, machine_after, made}
 use Rattle.tora_world.specs.MachineRun.{steps_of_effect, steps_by, machine_steps}
-use Rattle.tora_world.specs.World.{World, Choice, settings, datagram, first_world, is_empty, has_room, unless_possible, refusal_by, effect_by, world_by, world_after, world_after_all}
+use Rattle.tora_world.specs.World.{owner_of, World, Choice, settings, datagram, first_world, is_empty, has_room, unless_possible, refusal_by, effect_by, world_by, world_after, world_after_all}
 use Rattle.tora_world.specs.FreeWorld.{Schedule, after_schedule, own_schedule}
 use Rattle.tora_world.specs.Law.{TakenBeginsSent, IsOfMachine, Sometime, HasAccepted, AcknowledgedIsAccepted}
 use Rattle.tora_world.specs.Layers.{LinkLaws, LifeLaws}
@@ -61,7 +61,7 @@ module _ (laws : LinkLaws) (lows : LifeLaws) where
       kept = laws.first (settings (first_world t times) n k);
       histories = record {
         floor = file_value [];
-        kept = lows.first [] (omega arith);
+        kept = lows.first (owner_of n k) [] (omega arith);
         opened = omega arith;
         drawn = tt;
         bound = tt;

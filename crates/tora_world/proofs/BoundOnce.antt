@@ -29,7 +29,7 @@ use Rattle.tora_world.specs.declared.Call.{Call}
 use Rattle.tora_world.specs.declared.Call.TheVariants as Fails
 use Rattle.tora_world.specs.Topology.{Topology}
 use Rattle.tora_world.specs.LinkMachine.{put_at}
-use Rattle.tora_world.specs.World.{World, Choice, settings, datagram, with_end, first_world, refusal_by, open_with, after_opening, after_cargo, after_pull, after_sending, after_receiving, after_pump, after_turn, is_file_of, with_armed_files, after_arming, reopened, effect_by, world_by}
+use Rattle.tora_world.specs.World.{owner_of, World, Choice, settings, datagram, with_end, first_world, refusal_by, open_with, after_opening, after_cargo, after_pull, after_sending, after_receiving, after_pump, after_turn, is_file_of, with_armed_files, after_arming, reopened, effect_by, world_by}
 use Rattle.tora_world.specs.FreeWorld.{Schedule}
 use Rattle.tora_world.specs.Law.{is_bound_to, times_bound, BindsOnce}
 use Rattle.tora_world.specs.Layers.{LinkLaws, LifeLaws}
@@ -286,4 +286,4 @@ module _ (laws : LinkLaws) (lows : LifeLaws) (n k : ℕ) (l : Life) where
       (λ _. omega arith)
 
 pub binds_once : (laws : LinkLaws) (lows : LifeLaws) (t : Topology) (times : Times) (es : Schedule) → BindsOnce (first_world t times) es
-binds_once laws lows t times es n k l = at_most_once laws lows n k l es (first_world t times) (record { floor = file_value []; kept = lows.first [] (omega arith); under = tt })
+binds_once laws lows t times es n k l = at_most_once laws lows n k l es (first_world t times) (record { floor = file_value []; kept = lows.first (owner_of n k) [] (omega arith); under = tt })

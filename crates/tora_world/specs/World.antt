@@ -12,6 +12,7 @@ use Rattle.tora_core.specs.declared.Input.{Input}
 use Rattle.tora_life.specs.declared.state.DiskCall.TheVariants as Disk
 use Rattle.tora_life.specs.declared.state.DiskCall.{DiskCall}
 use Rattle.tora_life.specs.State.{fresh_state, after_crash}
+use Rattle.tora_life.specs.declared.tags.Owner.{Owner}
 use Rattle.tora_life.specs.LifeRun.{LifeDisk, opened, state_in, after_event, drawn_by}
 use Rattle.tora_life.specs.LifeRun.LifeEvent.{Draw as DrawsNumber, Arm as ArmsDisk, Restart as OpensAnew}
 use Rattle.tora_seat.specs.declared.What.{What}
@@ -62,6 +63,10 @@ pub record World : Type 0 where
 abbrev pub first_seat : Topology → ℕ → SeatState
 first_seat t n = record { core = new_core t n; current = λ k. None; pending = λ k. None }
 
+-- whose the life file of a link end is
+abbrev pub owner_of : ℕ → ℕ → Owner
+owner_of n k = record { node = n; peer = k }
+
 abbrev pub first_world : Topology → Times → World
 first_world t times = record {
   topology = t;
@@ -69,7 +74,7 @@ first_world t times = record {
   clock = 0;
   seats = first_seat t;
   ends = λ n k. first_end;
-  files = λ n k. opened (fresh_state []);
+  files = λ n k. opened (owner_of n k) (fresh_state []);
   items = λ n. [];
   counts = λ n seat. 0;
   cargoes = λ n k. [];
