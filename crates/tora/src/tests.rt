@@ -1,6 +1,7 @@
 use super::*;
-use crate::cause::Cause;
+use crate::cause::{Cause, cause_of};
 use crate::flushing::replay_and_flush;
+use crate::recent::Recent;
 use std::alloc::Global;
 use std::io::{Error, ErrorKind as IoErrorKind, Read, Write};
 use std::process::Abort;
