@@ -44,7 +44,7 @@ pub use simulating::{simulate_in, simulation_fault_is_the_first};
 pub use simulation_parse::simulation_lines_are_read_as_written;
 pub use simulator::Simulator;
 use std::io;
-use std::io::{BufWriter, Write};
+use std::io::BufWriter;
 use std::process::ExitCode;
 use tora_sim::Sim;
 pub use words::numbers_are_read_as_printed;

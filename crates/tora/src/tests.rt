@@ -1,6 +1,9 @@
 use super::*;
-use crate::cause::Cause;
-use std::io::{Error, ErrorKind as IoErrorKind, Read};
+use crate::cause::{Cause, cause_of};
+use crate::flushing::replay_and_flush;
+use crate::recent::Recent;
+use std::alloc::Global;
+use std::io::{Error, ErrorKind as IoErrorKind, Read, Write};
 use std::process::Abort;
 use std::test::*;
 use tora_core::CoreError;

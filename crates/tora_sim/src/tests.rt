@@ -316,10 +316,10 @@ fn sent_and_taken_packets_are_read(rt: HostRuntime) -> Result<(), Fail> {
     let height = Height::new(0, 0, 0, 1, 1).expect(&rt, "a height");
     sees_route(&rt, &sim, 1, 2, Some(Some(height)), Some(2));
     sees_route(&rt, &sim, 2, 2, Some(Some(Height::zero(2))), None);
-    let update = Packet::Upd(Update::new(2, height).expect(&rt, "an update"));
+    let updates = [Packet::Upd(Update::new(2, height).expect(&rt, "an update"))];
     let life = Life { own: 1, peer: 1 };
-    sees_sent(&rt, alloc, &sim, (1, 2, life), &[update])?;
-    sees_taken(&rt, alloc, &sim, (2, 1, life), &[update])?;
+    sees_sent(&rt, alloc, &sim, (1, 2, life), &updates)?;
+    sees_taken(&rt, alloc, &sim, (2, 1, life), &updates)?;
     let other = Life { own: 1, peer: 2 };
     sees_sent(&rt, alloc, &sim, (1, 2, other), &[])?;
     sees_taken(&rt, alloc, &sim, (2, 1, other), &[])?;
