@@ -140,11 +140,11 @@ module _ (t : Topology) (times : Times) (clock : ℕ) (nodes : List NodeView) (l
       go (Some x) = by_case call x (λ y. f (Some y) ≡ f (Some x)) refl (same x)
 
   file_armed : (call : DiskCall) (a k : ℕ) (o : Option LinkView) → link_at links a k ≡ o → (b : Bool) → is_link t a k ≡ b →
-      file_in (option_map (armed_of n call) o) ≡ (if nat_eq a n && b then after_event (ArmsDisk call) (file_in o) else file_in o)
+      file_in a k (option_map (armed_of n call) o) ≡ (if nat_eq a n && b then after_event (ArmsDisk call) (file_in a k o) else file_in a k o)
   file_armed call a k None e true l = absurd (true≢false (sym l ∙ h.links a k ∙ ap is_some e))
   file_armed call a k None e false l = go (nat_eq a n)
     where
-      go : (c : Bool) → file_in None ≡ (if c && false then after_event (ArmsDisk call) (file_in None) else file_in None)
+      go : (c : Bool) → file_in a k None ≡ (if c && false then after_event (ArmsDisk call) (file_in a k None) else file_in a k None)
       go true = refl
       go false = refl
   file_armed call a k (Some x) e false l = absurd (true≢false (sym (ap is_some e) ∙ sym (h.links a k) ∙ l))
@@ -162,8 +162,8 @@ module _ (t : Topology) (times : Times) (clock : ℕ) (nodes : List NodeView) (l
       let lanes = stays lane_in call (λ x. refl) in
       let puts = stays put_in call (λ x. refl) in
       let steps = stays steps_in call (λ x. refl) in
-      let files : ◌≡◌ {A = ℕ → ℕ → LifeDisk} (λ a k. file_in (link_at (map (armed_of n call) links) a k)) (λ a k. if nat_eq a n && is_link t a k then after_event (ArmsDisk call) (file_in (link_at links a k)) else file_in (link_at links a k)) =
-      fun_ext (λ a. fun_ext (λ k. ap file_in (link_map call a k links) ∙ file_armed call a k (link_at links a k) refl (is_link t a k) refl)) in
+      let files : ◌≡◌ {A = ℕ → ℕ → LifeDisk} (λ a k. file_in a k (link_at (map (armed_of n call) links) a k)) (λ a k. if nat_eq a n && is_link t a k then after_event (ArmsDisk call) (file_in a k (link_at links a k)) else file_in a k (link_at links a k)) =
+      fun_ext (λ a. fun_ext (λ k. ap (file_in a k) (link_map call a k links) ∙ file_armed call a k (link_at links a k) refl (is_link t a k) refl)) in
       links_same w ends files lanes puts steps
 
   armed_is : (call : DiskCall) → after_arming w n (call_of call) ≡ with_armed_files w n call

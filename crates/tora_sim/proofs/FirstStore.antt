@@ -17,7 +17,7 @@ use Rattle.tora_seat.specs.Serving.{SeatState}
 use Rattle.tora_seat.specs.Rows as Rows
 use Rattle.tora_seat.specs.Rows.{new_row, current_of, pending_of}
 use Rattle.tora_world.specs.Topology.{Topology, nodes_in, neighbours_of, other_ends, is_node, is_link, new_core}
-use Rattle.tora_world.specs.World.{first_world, first_seat}
+use Rattle.tora_world.specs.World.{first_world, first_seat, owner_of}
 use Rattle.tora_world.specs.World.Sending.{Goes}
 use Rattle.tora_sim.specs.Topologies.{IsTopology}
 use Rattle.tora_sim.specs.Links.{LinkView, is_at}
@@ -143,6 +143,16 @@ module _ (order : PutInOrder) (stays : StaysInOrder) (t : Topology) (h : IsTopol
       go None e = none
       go (Some x) e = let w = found-there (is_at n k) links x e in some x (m.each_link w.1.0 x w.1.1)
 
+  file-read : (n k : ℕ) → file_in n k (link_at links n k) ≡ opened (owner_of n k) (fresh_state [])
+  file-read n k = go (link_at links n k) refl
+    where
+      go : (o : Option LinkView) → link_at links n k ≡ o → file_in n k o ≡ opened (owner_of n k) (fresh_state [])
+      go None e = refl
+      go (Some x) e =
+          let w = found-there (is_at n k) links x e in
+          let q = and_parts _ _ w.0 in
+          (m.each_link w.1.0 x w.1.1).file ∙ ap₂ (λ a b. opened (owner_of a b) (fresh_state [])) (eqb-true x.node n q.0) (eqb-true x.peer k q.1)
+
   seat-read : (n : ℕ) → seat_in t n (node_at nodes n) ≡ first_seat t n
   seat-read n = go (node_at nodes n) refl
     where
@@ -157,7 +167,7 @@ module _ (order : PutInOrder) (stays : StaysInOrder) (t : Topology) (h : IsTopol
   is-first =
       let s = fun_ext seat-read in
       let e = fun_ext (λ (n : ℕ). fun_ext (link-read end_in first_end refl (λ x f. f.state) n)) in
-      let d = fun_ext (λ (n : ℕ). fun_ext (link-read file_in (opened (fresh_state [])) refl (λ x f. f.file) n)) in
+      let d = fun_ext (λ (n : ℕ). fun_ext (file-read n)) in
       let w = fun_ext (node-read items_in [] refl (λ x f. f.items)) in
       let c = fun_ext (node-read counts_in (λ seat. 0) refl (λ x f. fun_ext (λ (seat : ℕ). ap (λ (cs : List ℕ). slice_index cs seat) f.counts ∙ zeros 33 seat))) in
       let l = fun_ext (λ (n : ℕ). fun_ext (link-read lane_in [] refl (λ x f. ap₂ (λ p xs. drop p xs) f.pulled f.put) n)) in

@@ -1,4 +1,5 @@
 -- Events at one link end.
+use mathlib.Core.Path.{fun_ext}
 use Rattle.std.proofs.Common.{◌≡◌, ℕ, zero, suc, ◌<◌, ◌≤◌, inr, Bool, true, false, not, List, [], ◌∷◌, Some, None, refl, sym, ap, ap₂, ◌∙◌, subst, arith, length, drop, set, slice_get, is_some, if◌then◌else◌}
 use Rattle.std.proofs.lemmas.Option.{slice_get_read, slice_get_within}
 use Rattle.std.proofs.lemmas.List.{drop_all, get_or_default}
@@ -22,7 +23,7 @@ use Rattle.tora_sim.specs.Links.{LinkView, is_at, after_open_at, after_pull_at, 
 use Rattle.tora_sim.specs.Nodes.{NodeView}
 use Rattle.tora_sim.specs.Store.{state_of, world_of, IsStore, link_at, end_in, file_in, lane_in, put_in, steps_in}
 use Rattle.tora_sim.specs.Steps.{IsDone, IsRefused}
-use Rattle.tora_sim.proofs.Stores.{IsSameLink, link_there, link_changes, link_stays, store_set}
+use Rattle.tora_sim.proofs.Stores.{each_at, IsSameLink, link_there, link_changes, link_stays, store_set}
 
 -- an event that is not refused has its effect
 pub effect_is : (w : World) (event : Event) → refusal_of w event ≡ None → world_after w event ≡ effect_by (own_choice w event) w event
@@ -86,9 +87,9 @@ module _ (t : Topology) (times : Times) (clock : ℕ) (nodes : List NodeView) (l
       let same : IsSameLink x new = record { node = refl; peer = refl; seat = refl; settings = refl; pulled = λ q. q } in
       let effect = effect_is w (Open n k) (open_possible true e) in
       let ends = link_changes n k links i x new first at_place same end_in
-      ∙ ap (λ o. put_at (λ a b. end_in (link_at links a b)) n k (open_with (end_in o) clock (drawn_by DrawsNumber (file_in o)))) (sym end_there) in
-      let files = link_changes n k links i x new first at_place same file_in
-      ∙ ap (λ o. put_at (λ a b. file_in (link_at links a b)) n k (after_event DrawsNumber (file_in o))) (sym end_there) in
+      ∙ ap (λ o. put_at (λ a b. end_in (link_at links a b)) n k (open_with (end_in o) clock (drawn_by DrawsNumber (file_in n k o)))) (sym end_there) in
+      let files = fun_ext (λ a. fun_ext (λ b. ap (λ (g : ℕ → ℕ → LifeDisk). g a b) (link_changes n k links i x new first at_place same (file_in a b))))
+      ∙ ap (λ o. put_at (λ a b. file_in a b (link_at links a b)) n k (after_event DrawsNumber (file_in n k o))) (sym end_there) in
       let lanes = link_stays n k links i x new first at_place same lane_in refl in
       let puts = link_stays n k links i x new first at_place same put_in refl in
       let steps = link_stays n k links i x new first at_place same steps_in refl in
@@ -119,7 +120,7 @@ module _ (t : Topology) (times : Times) (clock : ℕ) (nodes : List NodeView) (l
       let effect = effect_is w (Pull n k) (pull_possible true (ap (λ (xs : List Cargo). not (is_empty xs)) front)) ∙ ap (after_pull w n k) lane in
       let ends = link_changes n k links i x new first at_place same end_in
       ∙ ap (λ o. put_at (λ a b. end_in (link_at links a b)) n k (after_cargo (end_in o) cargo)) (sym end_there) in
-      let files = link_stays n k links i x new first at_place same file_in refl in
+      let files = each_at file_in (link_at (set links i new)) (link_at links) (λ a b. link_stays n k links i x new first at_place same (file_in a b) refl) in
       let lanes = link_changes n k links i x new first at_place same lane_in in
       let puts = link_stays n k links i x new first at_place same put_in refl in
       let steps = link_stays n k links i x new first at_place same steps_in refl in

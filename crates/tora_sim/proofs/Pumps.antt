@@ -16,7 +16,7 @@ use Rattle.tora_sim.specs.Links.{LinkView, is_at, with_state}
 use Rattle.tora_sim.specs.Nodes.{NodeView, is_of, after_item}
 use Rattle.tora_sim.specs.Store.{state_of, world_of, IsStore, link_at, end_in, file_in, lane_in, put_in, steps_in}
 use Rattle.tora_sim.specs.Steps.{IsDone, IsRefused}
-use Rattle.tora_sim.proofs.Stores.{IsSameLink, link_changes, link_stays, store_set}
+use Rattle.tora_sim.proofs.Stores.{each_at, IsSameLink, link_changes, link_stays, store_set}
 use Rattle.tora_sim.proofs.Opens.{effect_is, refused_for, links_same, at_place, at_end, end_there}
 use Rattle.tora_sim.proofs.Needs.{room_is, item_world, item_store, same_nodes}
 
@@ -85,7 +85,7 @@ module _ (t : Topology) (times : Times) (clock : ℕ) (nodes : List NodeView) (l
     pumped_world q =
         let ends = link_changes n k links i x polled first at same end_in
         ∙ ap (λ o. put_at (λ a b. end_in (link_at links a b)) n k (after_poll_event (end_in o))) (sym there) in
-        let files = link_stays n k links i x polled first at same file_in refl in
+        let files = each_at file_in (link_at (set links i polled)) (link_at links) (λ a b. link_stays n k links i x polled first at same (file_in a b) refl) in
         let lanes = link_stays n k links i x polled first at same lane_in refl in
         let puts = link_stays n k links i x polled first at same put_in refl in
         let steps = link_stays n k links i x polled first at same steps_in refl in

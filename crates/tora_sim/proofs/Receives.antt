@@ -17,7 +17,7 @@ use Rattle.tora_sim.specs.Links.{LinkView, is_at, with_state}
 use Rattle.tora_sim.specs.Nodes.{NodeView, is_of}
 use Rattle.tora_sim.specs.Store.{state_of, world_of, numbered, IsStore, link_at, end_in, file_in, lane_in, put_in, steps_in, node_at, seat_in, items_in, inputs_in, counts_in, arms_in}
 use Rattle.tora_sim.specs.Steps.{IsDone, IsRefused}
-use Rattle.tora_sim.proofs.Stores.{is_found, IsSameLink, IsSameNode, link_changes, link_stays, store_set, node_changes, node_stays, node_stays_by, store_set_node}
+use Rattle.tora_sim.proofs.Stores.{each_at, is_found, IsSameLink, IsSameNode, link_changes, link_stays, store_set, node_changes, node_stays, node_stays_by, store_set_node}
 use Rattle.tora_sim.proofs.Opens.{effect_is, refused_for, links_same, at_place, end_there}
 use Rattle.tora_sim.proofs.Needs.{nodes_same, node_place, is_there}
 
@@ -121,7 +121,7 @@ module _ (t : Topology) (times : Times) (clock : ℕ) (nodes : List NodeView) (l
         received_world armed =
             let ends = link_changes n k links m x received first at same end_in
             ∙ ap₂ (λ (s : Settings) o. put_at (λ a b. end_in (link_at links a b)) n k (after_frame s (end_in o) f clock)) set_for (sym there) in
-            let files = link_stays n k links m x received first at same file_in refl in
+            let files = each_at file_in (link_at (set links m received)) (link_at links) (λ a b. link_stays n k links m x received first at same (file_in a b) refl) in
             let lanes = link_stays n k links m x received first at same lane_in refl in
             let puts = link_stays n k links m x received first at same put_in refl in
             let steps = link_stays n k links m x received first at same steps_in refl in

@@ -168,8 +168,8 @@ module _ (t : Topology) (times : Times) (clock : ℕ) (nodes : List NodeView) (l
           cases a link (inl q) = ap (λ (b : Bool). f (Some (if b then restarted torn link else link))) q ∙ same link ∙ sym (ap (λ (b : Bool). if b then new else f (Some link)) q)
           cases a link (inr q) = ap (λ (b : Bool). f (Some (if b then restarted torn link else link))) q ∙ sym (ap (λ (b : Bool). if b then new else f (Some link)) q)
 
-  files_reopen : ◌≡◌ {A = ℕ → ℕ → LifeDisk} (λ a k. file_in (link_at after a k)) (λ a k. if nat_eq a n && is_link t a k then reopened torn (file_in (link_at links a k)) else file_in (link_at links a k))
-  files_reopen = fun_ext (λ a. fun_ext (λ k. ap file_in (found_after a k) ∙ go a k (link_at links a k) refl (is_link t a k) refl))
+  files_reopen : ◌≡◌ {A = ℕ → ℕ → LifeDisk} (λ a k. file_in a k (link_at after a k)) (λ a k. if nat_eq a n && is_link t a k then reopened torn (file_in a k (link_at links a k)) else file_in a k (link_at links a k))
+  files_reopen = fun_ext (λ a. fun_ext (λ k. ap (file_in a k) (found_after a k) ∙ go a k (link_at links a k) refl (is_link t a k) refl))
     where
       off : (c : Bool) (disk : LifeDisk) → disk ≡ (if c && false then reopened torn disk else disk)
       off true disk = refl
@@ -179,9 +179,9 @@ module _ (t : Topology) (times : Times) (clock : ℕ) (nodes : List NodeView) (l
       on true link = refl
       on false link = refl
 
-      go : (a k : ℕ) (o : Option LinkView) → link_at links a k ≡ o → (b : Bool) → is_link t a k ≡ b → file_in (option_map (at_node n (restarted torn)) o) ≡ (if nat_eq a n && b then reopened torn (file_in o) else file_in o)
+      go : (a k : ℕ) (o : Option LinkView) → link_at links a k ≡ o → (b : Bool) → is_link t a k ≡ b → file_in a k (option_map (at_node n (restarted torn)) o) ≡ (if nat_eq a n && b then reopened torn (file_in a k o) else file_in a k o)
       go a k None e true l = absurd (true≢false (sym l ∙ h.links a k ∙ ap is_some e))
-      go a k None e false l = off (nat_eq a n) (file_in None)
+      go a k None e false l = off (nat_eq a n) (file_in a k None)
       go a k (Some link) e false l = absurd (true≢false (sym (ap is_some e) ∙ sym (h.links a k) ∙ l))
       go a k (Some link) e true l =
           let q = eqb-true link.node a (and_parts _ _ (is_found (is_at a k) links link e).passes).0 in

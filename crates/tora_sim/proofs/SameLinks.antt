@@ -10,7 +10,7 @@ use Rattle.tora_sim.specs.Nodes.{NodeView}
 use Rattle.tora_sim.specs.Lanes.{bare, AreAlike}
 use Rattle.tora_sim.specs.Store.{state_of, world_of, IsStore, IsLinkOf, AreEndsOf, link_at, end_in, file_in, lane_in, put_in, steps_in}
 use Rattle.tora_sim.specs.Links as Links
-use Rattle.tora_sim.proofs.Stores.{IsSameLink}
+use Rattle.tora_sim.proofs.Stores.{each_at, IsSameLink}
 use Rattle.tora_sim.proofs.Opens.{links_same}
 use mathlib.Core.Path.{fun_ext}
 
@@ -146,7 +146,7 @@ pub world_alike : (t : Topology) (times : Times) (clock : ℕ) (nodes : List Nod
 world_alike t times clock nodes xs ys ds e =
     links_same (world_of (state_of t times clock nodes xs ds))
     (seen_alike end_in (blind_by end_in (λ x. refl)) xs ys e)
-    (seen_alike file_in (blind_by file_in (λ x. refl)) xs ys e)
+    (each_at file_in (link_at ys) (link_at xs) (λ a b. seen_alike (file_in a b) (blind_by (file_in a b) (λ x. refl)) xs ys e))
     (seen_alike lane_in (blind_by lane_in (λ x. refl)) xs ys e)
     (seen_alike put_in (blind_by put_in (λ x. refl)) xs ys e)
     (seen_alike steps_in (blind_by steps_in (λ x. refl)) xs ys e)

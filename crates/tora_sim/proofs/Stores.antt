@@ -153,6 +153,12 @@ ends_map t links f same y h = record {
       (ap (λ (z : LinkView). z.node) (sym o.2) ∙ (same o.0).node ∙ told.0, ap (λ (z : LinkView). z.peer) (sym o.2) ∙ (same o.0).peer ∙ told.1);
 }
 
+-- what is read of each link end by its node and peer, as its life file is
+pub each_at : {A : Type 0} (read : ℕ → ℕ → Option LinkView → A) (xs ys : ℕ → ℕ → Option LinkView)
+    → ((a b : ℕ) → ◌≡◌ {A = ℕ → ℕ → A} (λ m j. read a b (xs m j)) (λ m j. read a b (ys m j)))
+    → ◌≡◌ {A = ℕ → ℕ → A} (λ a b. read a b (xs a b)) (λ a b. read a b (ys a b))
+each_at {A} read xs ys same = fun_ext (λ a. fun_ext (λ b. ap (λ (g : ℕ → ℕ → A). g a b) (same a b)))
+
 module _ (n k : ℕ) (links : List LinkView) (i : ℕ) (x new : LinkView) (first : IsFirst (is_at n k) links i) (there : slice_get links i ≡ Some x) (same : IsSameLink x new) where
   here : is_at n k x ≡ true
   here = subst (λ z. is_at n k z ≡ true) (get_or_from_slice_get links i x x there) (first.here x)

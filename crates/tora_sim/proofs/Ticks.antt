@@ -14,7 +14,7 @@ use Rattle.tora_sim.specs.Nodes.{NodeView}
 use Rattle.tora_sim.specs.Store.{state_of, world_of, IsStore, IsLinkOf, link_at, end_in, file_in, lane_in, put_in, steps_in}
 use Rattle.tora_sim.specs.Steps.{IsDone}
 use Rattle.tora_sim.specs.Links as Links
-use Rattle.tora_sim.proofs.Stores.{is_found, each_map, ordered_map, ends_map}
+use Rattle.tora_sim.proofs.Stores.{each_at, is_found, each_map, ordered_map, ends_map}
 
 link_map : (now n k : ℕ) (links : List LinkView) → link_at (map (ticked now) links) n k ≡ option_map (ticked now) (link_at links n k)
 link_map now n k [] = refl
@@ -47,7 +47,7 @@ module _ (t : Topology) (times : Times) (clock : ℕ) (nodes : List NodeView) (l
       let plus : clock + 1 ≡ suc clock = omega arith in
       let ends : ◌≡◌ {A = ℕ → ℕ → EndState} (λ n k. end_in (link_at (map (ticked (clock + 1)) links) n k)) (λ n k. after_tick (settings_of n k times) (end_in (link_at links n k)) (suc clock)) =
       fun_ext (λ n. fun_ext (λ k. ap end_in (link_map (clock + 1) n k links) ∙ ticked_end n k (clock + 1) (link_at links n k) refl ∙ ap (λ now. after_tick (settings_of n k times) (end_in (link_at links n k)) now) plus)) in
-      let files = stays file_in (clock + 1) (λ x. refl) in
+      let files = each_at file_in (link_at (map (ticked (clock + 1)) links)) (link_at links) (λ a b. stays (file_in a b) (clock + 1) (λ x. refl)) in
       let lanes = stays lane_in (clock + 1) (λ x. refl) in
       let puts = stays put_in (clock + 1) (λ x. refl) in
       let steps = stays steps_in (clock + 1) (λ x. refl) in

@@ -25,7 +25,7 @@ use Rattle.tora_sim.specs.Lanes.{LanesView, lanes_of, DidOffer, AreAlike, bare}
 use Rattle.tora_sim.specs.Turns.{IsServed, IsTurned, Turns, IsNoted}
 use Rattle.tora_sim.specs.Store.{state_of, world_of, IsStore, IsNodeOf, AreEndsOf, link_at, end_in, file_in, lane_in, put_in, steps_in, node_at, seat_in, items_in, inputs_in, counts_in, arms_in}
 use Rattle.tora_sim.specs.Steps.{IsDone, IsRefused, Does}
-use Rattle.tora_sim.proofs.Stores.{IsSameNode, node_changes, node_changes_by, node_stays, store_set_node}
+use Rattle.tora_sim.proofs.Stores.{each_at, IsSameNode, node_changes, node_changes_by, node_stays, store_set_node}
 use Rattle.tora_sim.proofs.SameLinks.{same_alike, store_same, world_alike}
 use Rattle.tora_sim.proofs.Opens.{effect_is, refused_for, links_same}
 use Rattle.tora_sim.proofs.Needs.{nodes_same, node_place, is_there, at_there, of_node, named, same_nodes}
@@ -148,7 +148,7 @@ module _ (t : Topology) (times : Times) (clock : ℕ) (nodes : List NodeView) (l
     turned_world : world_of (state_of t times clock (set nodes i y) after ds) ≡ after_serving w n y.items (serving_at d.item.now y.seat s.offers)
     turned_world =
         let ends_stay = given_stays t times clock nodes links ds h n x is_named ends count_is s.offers steps end_in (λ link put ps. refl) in
-        let files_stay = given_stays t times clock nodes links ds h n x is_named ends count_is s.offers steps file_in (λ link put ps. refl) in
+        let files_stay = each_at file_in (link_at after) (link_at links) (λ a b. given_stays t times clock nodes links ds h n x is_named ends count_is s.offers steps (file_in a b) (λ link put ps. refl)) in
         let lanes_grow = given_grows t times clock nodes links ds h n x is_named ends count_is s.offers steps lane_in (λ k. put_to k s.offers) (λ link within. drop-append-le link.pulled link.put (put_to link.peer s.offers) within) refl offered.linked in
         let puts_grow = given_grows t times clock nodes links ds h n x is_named ends count_is s.offers steps put_in (λ k. put_to k s.offers) (λ link within. refl) refl offered.linked in
         let steps_grow = given_grows t times clock nodes links ds h n x is_named ends count_is s.offers steps steps_in (λ k. stepped_from k steps) (λ link within. refl) refl steps_linked in

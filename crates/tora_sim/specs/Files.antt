@@ -6,8 +6,8 @@ use Rattle.tora_sim.specs.declared.files.FileSlot.{FileSlot}
 use Rattle.tora_sim.specs.declared.files.FileSlot.TheVariants as Slot
 
 abbrev pub disk_of : FileSlot → LifeDisk
-disk_of (Slot.Opened file) = Opened file.numbers file.disk.state
-disk_of (Slot.Unopened disk) = Unopened disk.state
+disk_of (Slot.Opened file) = Opened file.owner file.numbers file.disk.state
+disk_of (Slot.Unopened owner disk) = Unopened owner disk.state
 
 abbrev pub list_of : {A : Type 0} → Option A → List A
 list_of None = []
@@ -15,5 +15,5 @@ list_of (Some x) = x ∷ []
 
 -- a number is at most the last one that the file drew, where the file is open
 abbrev pub IsDrawn : ℕ → LifeDisk → Type 0
-IsDrawn number (Opened numbers s) = number ≤ numbers.drawn
-IsDrawn number (Unopened s) = Unit {0}
+IsDrawn number (Opened owner numbers s) = number ≤ numbers.drawn
+IsDrawn number (Unopened owner s) = Unit {0}

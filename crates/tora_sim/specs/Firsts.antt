@@ -8,7 +8,7 @@ use Rattle.tora_life.specs.State.{fresh_state}
 use Rattle.tora_life.specs.LifeRun.{opened}
 use Rattle.tora_seat.specs.Rows.{first_seat}
 use Rattle.tora_world.specs.Topology.{Topology, neighbours_of, new_core}
-use Rattle.tora_world.specs.World.{place_of}
+use Rattle.tora_world.specs.World.{place_of, owner_of}
 use Rattle.tora_sim.specs.declared.nodes.TheConstants.{MOST_SEATS}
 use Rattle.tora_sim.specs.declared.nodes.Sending.TheVariants.{Goes}
 use Rattle.tora_sim.specs.Links.{LinkView}
@@ -23,7 +23,7 @@ pub record IsFirstEnd (n k place : ℕ) (link : LinkView) : Type 0 where
   pub seat : link.seat ≡ place
   pub settings : link.settings ≡ settings_of n k STANDARD
   pub state : link.state ≡ first_end
-  pub file : link.file ≡ opened (fresh_state [])
+  pub file : link.file ≡ opened (owner_of n k) (fresh_state [])
   pub put : link.put ≡ []
   pub pulled : link.pulled ≡ 0
   pub steps : link.steps ≡ []

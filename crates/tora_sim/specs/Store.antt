@@ -19,7 +19,7 @@ use Rattle.tora_seat.specs.Serving.{SeatState, Parcel}
 use Rattle.tora_seat.specs.Rows as Rows
 use Rattle.tora_sim.specs.declared.nodes.TheConstants.{MOST_SEATS}
 use Rattle.tora_world.specs.Topology.{Topology, is_node, is_link, neighbours_of}
-use Rattle.tora_world.specs.World.{World, Arms, first_seat, place_of}
+use Rattle.tora_world.specs.World.{World, Arms, first_seat, place_of, owner_of}
 use Rattle.tora_world.specs.World.Sending.{Goes}
 use Rattle.tora_sim.specs.Links.{LinkView, is_at, waiting}
 use Rattle.tora_sim.specs.Nodes.{NodeView, is_of, sending_of}
@@ -63,9 +63,9 @@ abbrev pub end_in : Option LinkView → EndState
 end_in None = first_end
 end_in (Some link) = link.state
 
-abbrev pub file_in : Option LinkView → LifeDisk
-file_in None = opened (fresh_state [])
-file_in (Some link) = link.file
+abbrev pub file_in : ℕ → ℕ → Option LinkView → LifeDisk
+file_in n k None = opened (owner_of n k) (fresh_state [])
+file_in n k (Some link) = link.file
 
 abbrev pub lane_in : Option LinkView → List Cargo
 lane_in None = []
@@ -93,7 +93,7 @@ world_of s = record {
   clock = s.clock;
   seats = λ n. seat_in s.topology n (node_at s.nodes n);
   ends = λ n k. end_in (link_at s.links n k);
-  files = λ n k. file_in (link_at s.links n k);
+  files = λ n k. file_in n k (link_at s.links n k);
   items = λ n. items_in (node_at s.nodes n);
   counts = λ n. counts_in (node_at s.nodes n);
   cargoes = λ n k. lane_in (link_at s.links n k);

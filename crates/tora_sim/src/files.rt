@@ -1,26 +1,29 @@
 //! The life file of a link end.
-ghost use Rattle.std.specs.Prelude.{◌≡◌, ◌<◌, ◌≤◌, ◌^◌, ℕ, IfSome, IfNone};
-ghost use Rattle.tora_life.specs.LifeRun.{opened, after_event, drawn_by};
+ghost use Rattle.std.specs.Prelude.{◌≡◌, ◌≢◌, ◌<◌, ◌≤◌, ◌^◌, ℕ, IfSome, IfNone};
+ghost use Rattle.tora_life.specs.LifeRun.{opened, after_event, drawn_by, owner_in};
 ghost use Rattle.tora_life.specs.LifeRun.LifeEvent.{Draw, Arm};
 ghost use Rattle.tora_world.specs.World.{reopened};
 ghost use Rattle.tora_sim.specs.Files.{disk_of, list_of, IsDrawn};
 
-use tora_life::{DiskCall, LifeFile, MemDisk};
+use tora_life::{DiskCall, LifeFile, MemDisk, Owner};
 
-/// An open life file, or the disk of one that did not open.
+/// An open life file, or the disk of one that did not open for its owner.
 #[derive(Drop)]
 pub enum FileSlot {
     Opened(LifeFile<MemDisk>),
-    Unopened(MemDisk),
+    Unopened(Owner, MemDisk),
 }
 
-/// Opens the life file on a disk.
-pub fn open(disk: MemDisk) -> FileSlot
-    ensures { disk_of result ≡ opened disk.state }
+/// Opens the life file on a disk for its owner.
+pub fn open(disk: MemDisk, owner: Owner) -> FileSlot
+    requires node { 0 < owner.node }
+    requires peer { 0 < owner.peer }
+    requires distinct { owner.node ≢ owner.peer }
+    ensures { disk_of result ≡ opened owner disk.state }
 {
-    match LifeFile::open(disk) {
+    match LifeFile::open(disk, owner.node, owner.peer) {
         Ok(file) => FileSlot::Opened(file),
-        Err(fault) => FileSlot::Unopened(fault.disk),
+        Err(fault) => FileSlot::Unopened(owner, fault.disk),
     }
 }
 
@@ -29,6 +32,7 @@ impl FileSlot {
     pub fn draw(&mut self) -> Option<u64>
         ensures drawn { list_of result ≡ drawn_by Draw (disk_of self.old) }
         ensures disk { disk_of self.new ≡ after_event Draw (disk_of self.old) }
+        ensures owner { owner_in (disk_of self.new) ≡ owner_in (disk_of self.old) }
         // It is above every number that was drawn, and at most 2^62.
         ensures above { IfSome result (λ n. (earlier : ℕ) → IsDrawn earlier (disk_of self.old) → earlier < n) }
         ensures within { IfSome result (λ n. n ≤ 2 ^ 62) }
@@ -40,30 +44,36 @@ impl FileSlot {
                 Ok(number) => Some(number),
                 Err(_) => None,
             },
-            FileSlot::Unopened(_) => None,
+            FileSlot::Unopened(_, _) => None,
         }
     }
 
     /// The next such call of the disk fails.
     pub fn arm(&mut self, call: DiskCall)
         ensures disk { disk_of self.new ≡ after_event (Arm call) (disk_of self.old) }
+        ensures owner { owner_in (disk_of self.new) ≡ owner_in (disk_of self.old) }
         ensures kept { (earlier : ℕ) → IsDrawn earlier (disk_of self.old) → IsDrawn earlier (disk_of self.new) }
     {
         match self {
             FileSlot::Opened(file) => file.arm(call),
-            FileSlot::Unopened(disk) => disk.arm(call),
+            FileSlot::Unopened(_, disk) => disk.arm(call),
         }
     }
 
-    /// The disk crashes, and the life file is opened.
-    pub fn restart(self, torn: Option<[u8; 16]>) -> FileSlot
-        ensures { disk_of result ≡ reopened torn (disk_of self) }
+    /// The disk crashes, and the life file is opened for its owner.
+    pub fn restart(self, owner: Owner, torn: Option<[u8; 16]>) -> FileSlot
+        requires same { owner ≡ owner_in (disk_of self) }
+        requires node { 0 < owner.node }
+        requires peer { 0 < owner.peer }
+        requires distinct { owner.node ≢ owner.peer }
+        ensures disk { disk_of result ≡ reopened torn (disk_of self) }
+        ensures owner { owner_in (disk_of result) ≡ owner }
     {
         let mut disk = match self {
             FileSlot::Opened(file) => file.close(),
-            FileSlot::Unopened(disk) => disk,
+            FileSlot::Unopened(_, disk) => disk,
         };
         disk.crash(torn);
-        open(disk)
+        open(disk, owner)
     }
 }

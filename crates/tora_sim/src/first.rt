@@ -19,7 +19,7 @@ use std::collections::VecDeque;
 use tora_arq::{LinkEnd, Times, standard_times};
 use tora_core::{Core, numbers_are_put_in_order, numbers_come_and_go};
 use tora_height::Id;
-use tora_life::MemDisk;
+use tora_life::{MemDisk, Owner};
 use tora_seat::CoreSeat;
 
 impl Sim {
@@ -146,7 +146,7 @@ fn new_link(alloc: Global, n: Id, k: Id, seat: usize) -> Result<LinkSlot, SimErr
         peer: k,
         seat,
         end,
-        file: open(MemDisk::new()),
+        file: open(MemDisk::new(), Owner { node: n, peer: k }),
         put: Vec::new(alloc),
         pulled: 0,
         steps: Vec::new(alloc),

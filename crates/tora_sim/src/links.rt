@@ -19,7 +19,7 @@ use tora_arq::{Life, LinkEnd, LinkEvent, lives_are_bound_once};
 use tora_core::MOST_NEIGHBOURS;
 use tora_frame::Frame;
 use tora_height::Id;
-use tora_life::{DiskCall, MemDisk};
+use tora_life::{DiskCall, MemDisk, Owner};
 use tora_packet::Packet;
 use tora_seat::Cargo;
 
@@ -44,7 +44,9 @@ pub struct LinkSlot {
 }
 
 impl Model for LinkSlot {
-    ghost use Rattle.std.specs.Prelude.{◌≤◌, length, vec_capacity};
+    ghost use Rattle.std.specs.Prelude.{◌≡◌, ◌≤◌, length, vec_capacity};
+    ghost use Rattle.tora_life.specs.LifeRun.{owner_in};
+    ghost use Rattle.tora_world.specs.World.{owner_of};
     ghost use Rattle.tora_sim.specs.Files.{disk_of, IsDrawn};
     ghost use Rattle.tora_sim.specs.Links.{LinkView, link_of};
 
@@ -52,7 +54,7 @@ impl Model for LinkSlot {
 
     ghost view = { λ s. link_of s.node s.peer s.seat s.end (disk_of s.file) s.put.items s.pulled (vec_capacity s.put) s.steps.items (vec_capacity s.steps) };
 
-    ghost invariant = { λ s. IsDrawn s.end.state.last_life (disk_of s.file) × (s.pulled ≤ length s.put.items) };
+    ghost invariant = { λ s. IsDrawn s.end.state.last_life (disk_of s.file) × (s.pulled ≤ length s.put.items) × (owner_in (disk_of s.file) ≡ owner_of s.end.settings.me s.end.settings.peer) };
 }
 
 impl LinkSlot {
@@ -225,9 +227,13 @@ impl LinkSlot {
         requires { end.old ≡ link_end_of self.old.settings first_end }
         ensures { self.new ≡ restarted torn self.old }
     {
+        let owner = Owner {
+            node: self.end.me(),
+            peer: self.end.peer(),
+        };
         mem::swap(&mut self.end, end);
-        let file = mem::replace(&mut self.file, FileSlot::Unopened(MemDisk::new()));
-        self.file = file.restart(torn);
+        let file = mem::replace(&mut self.file, FileSlot::Unopened(owner, MemDisk::new()));
+        self.file = file.restart(owner, torn);
         self.pulled = self.put.len();
     }
 
