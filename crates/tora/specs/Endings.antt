@@ -1,5 +1,5 @@
 -- How a run over a file of lines ended, and with which status.
-use Rattle.std.specs.Prelude.{◌≡◌, ◌≢◌, ◌⊎◌, ℕ, List, Option, Result, Ok, Err, IfOk, IfErr, IfSome}
+use Rattle.std.specs.Prelude.{◌≡◌, ◌≢◌, ◌⊎◌, ℕ, List, Option, Result, Ok, IfOk, IfErr, IfSome}
 use Rattle.std.specs.Io.KnownBytes.{IsAtEnd}
 use Rattle.tora.specs.Engine.{IsWholeText, IsFrontOfText}
 use Rattle.tora.specs.LineText.{Rules, whole_text}

@@ -1,4 +1,4 @@
-use Rattle.std.proofs.Common.{◌≡◌, ◌∙◌, sym, length}
+use Rattle.std.proofs.Common.{◌∙◌, sym, length}
 use borrow.Author.Tests.{ltb-true}
 use Rattle.tora_sim.proofs.Keys.{read_first}
 use Rattle.tora_sim.proofs.links.near.Goals as goal

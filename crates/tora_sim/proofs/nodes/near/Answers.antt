@@ -1,4 +1,4 @@
-use Rattle.std.proofs.Common.{◌≡◌, ◌∙◌, sym, length}
+use Rattle.std.proofs.Common.{◌∙◌, sym, length}
 use borrow.Author.Tests.{ltb-true}
 use Rattle.tora_sim.proofs.Keys.{read_first_node}
 use Rattle.tora_sim.proofs.nodes.near.Goals as goal

@@ -1,4 +1,4 @@
-use Rattle.std.proofs.Common.{◌≡◌, ◌∙◌, Bool, true, false, sym, is_some, subst}
+use Rattle.std.proofs.Common.{◌≡◌, ◌∙◌, true, sym, is_some, subst}
 use Rattle.tora_world.specs.World.{refusal_of}
 use Rattle.tora_sim.specs.Store.{SimState, world_of}
 use Rattle.tora_sim.proofs.Possibles.{impossible}
