@@ -327,9 +327,12 @@ fn run_side<R: Wait>(rt: &R, side: &mut LinkSide, seat: usize) {
 /// Runs each link in a thread of its own.
 fn run_sides<R: Threads + Wait + Sync>(rt: &R, sides: Vec<LinkSide>) -> Vec<LinkSide> {
     let mut sides = sides;
-    thread::for_each_mut(rt, &mut sides, MOST_LINKS, &|seat, side: &mut LinkSide| {
-        run_side(rt, side, seat)
-    });
+    thread::for_each_mut(
+        rt,
+        &mut sides,
+        MOST_LINKS,
+        &|seat, side: &mut LinkSide| { run_side(rt, side, seat) },
+    );
     sides
 }
 

@@ -90,10 +90,7 @@ impl NodeSlot {
         self.items.len()
     }
 
-    /// The most seats of a node's core: one for each neighbour, and that of the commands.
-pub(crate) const MOST_SEATS: usize = MOST_NEIGHBOURS + 1;
-
-/// What becomes of the next datagram that it sends.
+    /// What becomes of the next datagram that it sends.
     pub fn sending(&self) -> Sending
         ensures { result ≡ self.now.sending }
     {
