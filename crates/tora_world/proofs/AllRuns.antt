@@ -61,7 +61,7 @@ module _ (laws : LinkLaws) (lows : LifeLaws) where
       kept = laws.first (settings (first_world t times) n k);
       histories = record {
         floor = file_value [];
-        kept = lows.first [] (omega arith);
+        kept = lows.first (record { node = n; peer = k }) [] (omega arith);
         opened = omega arith;
         drawn = tt;
         bound = tt;

@@ -286,4 +286,4 @@ module _ (laws : LinkLaws) (lows : LifeLaws) (n k : ℕ) (l : Life) where
       (λ _. omega arith)
 
 pub binds_once : (laws : LinkLaws) (lows : LifeLaws) (t : Topology) (times : Times) (es : Schedule) → BindsOnce (first_world t times) es
-binds_once laws lows t times es n k l = at_most_once laws lows n k l es (first_world t times) (record { floor = file_value []; kept = lows.first [] (omega arith); under = tt })
+binds_once laws lows t times es n k l = at_most_once laws lows n k l es (first_world t times) (record { floor = file_value []; kept = lows.first (record { node = n; peer = k }) [] (omega arith); under = tt })

@@ -131,8 +131,8 @@ module _ (v : EndView) (p : MachineEnd) (other : List Parcel) (done : Life → �
 
 -- at most one number is drawn
 pub one_number : (disk : LifeDisk) → (drawn_by DrawsNumber disk ≡ []) ⊎ ((x : ℕ) × (drawn_by DrawsNumber disk ≡ x ∷ []))
-one_number (Unopened s) = inl refl
-one_number (Opened numbers s) = go (draw_answer numbers s)
+one_number (Unopened owner s) = inl refl
+one_number (Opened owner numbers s) = go (draw_answer numbers s)
   where
     go : (r : Result ℕ LifeError) → (number_in r ≡ []) ⊎ ((x : ℕ) × (number_in r ≡ x ∷ []))
     go (Ok x) = inr (x, refl)

@@ -69,7 +69,7 @@ first_world t times = record {
   clock = 0;
   seats = first_seat t;
   ends = λ n k. first_end;
-  files = λ n k. opened (fresh_state []);
+  files = λ n k. opened (record { node = n; peer = k }) (fresh_state []);
   items = λ n. [];
   counts = λ n seat. 0;
   cargoes = λ n k. [];
