@@ -71,7 +71,7 @@ fn run_end<R: Clock + Wait>(
     requires other { me ≢ peer }
 {
     let end = LinkEnd::new(alloc, me, peer, Times::STANDARD).ok()?;
-    let Ok(file) = LifeFile::open(MemDisk::new()) else {
+    let Ok(file) = LifeFile::open(MemDisk::new(), me, peer) else {
         return None;
     };
     let room = usize::try_from(course.count)

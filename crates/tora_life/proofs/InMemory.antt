@@ -1,5 +1,5 @@
 -- The calls of a disk in memory that open a life file fix the answer and the disk's state.
-use Rattle.std.proofs.Common.{◌≡◌, ℕ, Bool, true, false, List, Result, Ok, Err, is_ok, MatchResult, refl, sym, ◌∙◌, ap, replicate}
+use Rattle.std.proofs.Common.{◌≡◌, ℕ, Bool, true, false, List, Result, Ok, Err, is_ok, MatchResult, sym, ◌∙◌, ap, replicate}
 use Rattle.tora_life.specs.declared.disk.DiskError.{DiskError}
 use Rattle.tora_life.specs.declared.migration.Version.{Version}
 use Rattle.tora_life.specs.declared.migration.Version.TheVariants.{Untagged, Tagged}
@@ -8,10 +8,9 @@ use Rattle.tora_life.specs.declared.numbers.LifeError.TheVariants.{Disk}
 use Rattle.tora_life.specs.declared.numbers.Numbers.{Numbers}
 use Rattle.tora_life.specs.declared.state.State.{State}
 use Rattle.tora_life.specs.declared.tags.Owner.{Owner}
-use Rattle.tora_life.specs.Calls.{Migrates, OpensBy, WritesAndSyncs, answer_after, file_read, version_read}
+use Rattle.tora_life.specs.Calls.{Migrates, OpensBy, answer_after, file_read, version_read}
 use Rattle.tora_life.specs.DiskView.{DiskView}
 use Rattle.tora_life.specs.InMemory.{by_result, count_read, buffer_read, migration_answer, migration_state, version_answer, version_state, open_answer, open_state}
-use Rattle.tora_life.specs.Migration.{migration_place, migration_bytes}
 use Rattle.tora_life.specs.Numbers.{numbers_of}
 use Rattle.tora_life.specs.State.{read_answer, bytes_read, after_read, write_answer, after_write, sync_answer, after_sync}
 
@@ -80,12 +79,14 @@ module _ (owner : Owner) (old new : DiskView) (given : Result Numbers LifeError)
 
   goes_by : (synced : Result (Unit {0}) DiskError) (between : DiskView) → synced ≡ sync_answer old.state → between.state ≡ t → Goes synced between → Fixed (open_answer owner old.state) (open_state owner old.state) given new
   goes_by (Ok v) between is at (count, bytes, after, call, made) =
-      let fixed = read_by between after count bytes at call made in
-      (ap (λ (r : Result (Unit {0}) DiskError). by_result r (version_answer owner (file_read (count_read t) (buffer_read t)) (version_read owner (count_read t) (buffer_read t)) (after_read t)) (Err Disk)) (sym is) ∙ fixed.0,
-      fixed.1 ∙ ap (λ (r : Result (Unit {0}) DiskError). by_result r (version_state owner (file_read (count_read t) (buffer_read t)) (version_read owner (count_read t) (buffer_read t)) (after_read t)) t) is)
-  goes_by (Err e) between is at (same, answers) =
-      (ap (λ (r : Result (Unit {0}) DiskError). by_result r (version_answer owner (file_read (count_read t) (buffer_read t)) (version_read owner (count_read t) (buffer_read t)) (after_read t)) (Err Disk)) (sym is) ∙ sym answers,
-      ap (λ (d : DiskView). d.state) same ∙ at ∙ ap (λ (r : Result (Unit {0}) DiskError). by_result r (version_state owner (file_read (count_read t) (buffer_read t)) (version_read owner (count_read t) (buffer_read t)) (after_read t)) t) is)
+      let fixed = read_by between after count bytes at call made in (
+        ap (λ (r : Result (Unit {0}) DiskError). by_result r (version_answer owner (file_read (count_read t) (buffer_read t)) (version_read owner (count_read t) (buffer_read t)) (after_read t)) (Err Disk)) (sym is) ∙ fixed.0,
+        fixed.1 ∙ ap (λ (r : Result (Unit {0}) DiskError). by_result r (version_state owner (file_read (count_read t) (buffer_read t)) (version_read owner (count_read t) (buffer_read t)) (after_read t)) t) is,
+      )
+  goes_by (Err e) between is at (same, answers) = (
+    ap (λ (r : Result (Unit {0}) DiskError). by_result r (version_answer owner (file_read (count_read t) (buffer_read t)) (version_read owner (count_read t) (buffer_read t)) (after_read t)) (Err Disk)) (sym is) ∙ sym answers,
+    ap (λ (d : DiskView). d.state) same ∙ at ∙ ap (λ (r : Result (Unit {0}) DiskError). by_result r (version_state owner (file_read (count_read t) (buffer_read t)) (version_read owner (count_read t) (buffer_read t)) (after_read t)) t) is,
+  )
 
   pub opens_by : OpensBy Syncs Reads Writes owner old given new → (open_answer owner old.state ≡ given) × (new.state ≡ open_state owner old.state)
   opens_by (synced, between, call, rest) = goes_by synced between call.0 call.1 rest

@@ -1,5 +1,5 @@
 -- What a life file becomes by its migration.
-use Rattle.std.proofs.Common.{◌≡◌, ◌≤◌, ◌<◌, ◌^◌, ◌+◌, ◌-◌, inl, inr, ℕ, zero, suc, Bool, true, false, List, [], ◌∷◌, ◌++◌, length, take, drop, replicate, min, max, get_or, refl, sym, ◌∙◌, ap, subst, arith, length-append, length-take, append_assoc, append-nil, if◌then◌else◌, nat_lt, nat_le, Result, Ok, Err}
+use Rattle.std.proofs.Common.{◌≡◌, ◌≤◌, ◌<◌, ◌^◌, ◌+◌, ◌-◌, inl, inr, ℕ, zero, suc, Bool, true, false, List, [], ◌∷◌, ◌++◌, length, take, drop, replicate, max, get_or, refl, sym, ◌∙◌, ap, subst, arith, length-append, length-take, append_assoc, append-nil, if◌then◌else◌, nat_lt, Result, Ok, Err}
 use Rattle.std.proofs.lemmas.Bool.Decides.{nat_tests}
 use Rattle.std.proofs.lemmas.List.{take_at, drop_at, take_all, drop_all, take-take, drop-take, length-replicate, length-drop, take-append-drop}
 use Rattle.std.proofs.Math.Seq.{take-append-add}
@@ -8,7 +8,7 @@ use Rattle.std.specs.Cmp.Lexicographic.{same_text, other_text}
 use Rattle.tora_life.specs.declared.numbers.LifeError.{LifeError}
 use Rattle.tora_life.specs.declared.numbers.LifeError.TheVariants.{Damaged}
 use Rattle.tora_life.specs.declared.migration.Version.{Version}
-use Rattle.tora_life.specs.declared.migration.Version.TheVariants.{Untagged, Tagged}
+use Rattle.tora_life.specs.declared.migration.Version.TheVariants.{Tagged}
 use Rattle.tora_life.specs.declared.tags.Owner.{Owner}
 use Rattle.tora_life.specs.declared.tags.Tag.{Tag}
 use Rattle.tora_life.specs.declared.tags.Tag.TheVariants.{Absent, Strange, Of}
@@ -16,7 +16,7 @@ use Rattle.tora_life.specs.Disk.{Holds, Torn, IsTornFrom, IsOnlyImage}
 use Rattle.tora_life.specs.LifeFile.{number_of, slot_bound, slot_value, file_value}
 use Rattle.tora_life.specs.Migration.{version_by, version_of, slot_filled, migrated, migration_place, migration_bytes}
 use Rattle.tora_life.specs.Tags.{tag_read, tag_of}
-use Rattle.tora_life.proofs.Bounds.{le_or_lt, counted, take_min, drop_min}
+use Rattle.tora_life.proofs.Bounds.{le_or_lt, counted, take_min}
 
 -- ---- the version of a file
 

@@ -1,5 +1,5 @@
 -- What a read answers of a life file.
-use Rattle.std.proofs.Common.{◌≡◌, ◌≤◌, ◌<◌, ◌^◌, ◌+◌, inl, inr, ℕ, Bool, List, take, drop, replicate, length, min, max, refl, sym, subst, ◌∙◌, ap, arith, length-append, length-take, Ok, Err, true, false, IsTrue, nat_lt}
+use Rattle.std.proofs.Common.{◌≡◌, ◌≤◌, ◌<◌, ◌+◌, inl, inr, ℕ, Bool, List, take, drop, replicate, length, min, max, refl, sym, subst, ◌∙◌, ap, arith, length-append, length-take, Ok, Err, true, false, IsTrue, nat_lt}
 use Rattle.tora_life.specs.declared.numbers.Numbers.{Numbers}
 use Rattle.std.proofs.lemmas.Bool.Decides.{nat_tests}
 use Rattle.tora_life.specs.declared.migration.Version.{Version}

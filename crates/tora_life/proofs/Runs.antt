@@ -15,7 +15,7 @@ use Rattle.tora_life.specs.LifeFile.{file_value, slot_value}
 use Rattle.tora_life.specs.Numbers.{numbers_of, numbers_after}
 use Rattle.tora_life.specs.Calls.{file_read, version_read}
 use Rattle.tora_life.specs.Migration.{version_of, migrated, migration_place, migration_bytes}
-use Rattle.tora_life.specs.State.{IsWhole, filled, synced_of, sync_answer, after_sync, MayLeave, seen_of, fresh_state, armed, after_crash, after_read, read_answer, bytes_read, failures_more}
+use Rattle.tora_life.specs.State.{IsWhole, filled, synced_of, sync_answer, after_sync, MayLeave, seen_of, fresh_state, armed, after_crash, after_read, failures_more}
 use Rattle.tora_life.specs.InMemory.{IsKeptOn, by_result, count_read, buffer_read, migration_answer, migration_state, version_answer, version_state, draw_answer, draw_state}
 use Rattle.tora_life.specs.LifeRun.{LifeDisk, Opened, Unopened, LifeEvent, Draw, Arm, Restart, IsLeftBy, MayHappen, IsRun, IsFloor, IsFloorOfDisk, RisesAbove, state_in, owner_in, opened, opened_as, after_event, drawn_by, drawn_numbers, number_in}
 use Rattle.tora_life.proofs.Migrations.{migration_done, migration_torn, tag_is, tagged_stays, version_fits}

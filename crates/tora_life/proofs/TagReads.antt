@@ -1,17 +1,14 @@
 -- A tag is read as its owner's.
-use Rattle.std.proofs.Common.{◌≡◌, ◌≢◌, ◌^◌, ◌-◌, ◌<◌, ℕ, Bool, true, false, List, ◌++◌, length, take, drop, refl, sym, ◌∙◌, ap, subst, arith, length-append, if◌then◌else◌, nat_lt, ◌==◌, ◌&&◌, Result, Ok, Err}
+use Rattle.std.proofs.Common.{◌≡◌, ◌≢◌, ◌^◌, ◌-◌, ◌<◌, ℕ, Bool, true, false, List, ◌++◌, length, take, drop, refl, sym, ◌∙◌, ap, arith, length-append, Err}
 use Rattle.std.proofs.lemmas.Bool.Decides.{nat_tests}
 use Rattle.std.proofs.lemmas.List.{drop_at}
 use Rattle.std.proofs.lemmas.Nat.{from_be_bytes-to_be_bytes_4, from_be_bytes-to_be_bytes_8}
 use Rattle.std.specs.Int.{w32, w64, to_be_bytes}
 use Rattle.std.specs.Str.{bytes_eq}
 use Rattle.std.specs.Cmp.Lexicographic.{same_text}
-use Rattle.tora_life.specs.declared.migration.Version.{Version}
-use Rattle.tora_life.specs.declared.numbers.LifeError.{LifeError}
 use Rattle.tora_life.specs.declared.numbers.LifeError.TheVariants.{Foreign}
 use Rattle.tora_life.specs.declared.tags.Owner.{Owner}
-use Rattle.tora_life.specs.declared.tags.Tag.{Tag}
-use Rattle.tora_life.specs.declared.tags.Tag.TheVariants.{Absent, Strange, Of}
+use Rattle.tora_life.specs.declared.tags.Tag.TheVariants.{Of}
 use Rattle.tora_life.specs.Migration.{version_by, version_of}
 use Rattle.tora_life.specs.Tags.{tag_beginning, word_of, long_of, tag_read, tag_of}
 use Rattle.tora_life.proofs.Migrations.{length-tag_of, not_own}

@@ -33,12 +33,12 @@ mod mem_disk;
 mod migration;
 mod numbers;
 mod opening;
-mod writing;
 mod slots;
 mod state;
 mod tags;
 mod tearing;
 mod whole_read;
+mod writing;
 
 pub use disk::{Disk, DiskError};
 pub use file_disk::FileDisk;

@@ -18,5 +18,6 @@ end_cause peer (NoNumber Fault.Disk) given before after dg d dn row wg wn gone f
 end_cause peer (NoNumber Fault.Failed) given before after dg d dn row wg wn gone failed same rose cause = sym failed ∙ cause
 end_cause peer (NoNumber Fault.Spent) given before after dg d dn row wg wn gone failed same rose cause = cause
 end_cause peer (NoNumber Fault.Damaged) given before after dg d dn row wg wn gone failed same rose cause = cause
+end_cause peer (NoNumber Fault.Foreign) given before after dg d dn row wg wn gone failed same rose cause = cause
 end_cause peer (Broken at) given before after dg d dn row wg wn gone failed same rose cause = subst (λ (n : ℕ). RoseBy n wg wn) cause rose
 end_cause peer Refused given before after dg d dn row wg wn gone failed same rose cause = cause

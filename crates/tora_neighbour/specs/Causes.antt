@@ -29,6 +29,7 @@ IsLifeCause Fault.Disk before after failed now = HasCause failed now
 IsLifeCause Fault.Failed before after failed now = IsTrue before.failed
 IsLifeCause Fault.Spent before after failed now = IsSpent after
 IsLifeCause Fault.Damaged before after failed now = ⊥
+IsLifeCause Fault.Foreign before after failed now = ⊥
 
 -- these frames were sent, this came, if a datagram did, and this was made of it; and the end after it
 abbrev pub IsExchange : Settings → EndState → ℕ → List FrameParts → Option Reading → Option Intake → Result (Unit {0}) BrokenAt → EndState → Type 0

@@ -75,7 +75,7 @@ fn end_of(rt: &impl Abort, alloc: Global, me: Id, peer: Id) -> LinkEnd
 }
 
 fn file_of(rt: &impl Abort, disk: MemDisk) -> LifeFile<MemDisk> {
-    match LifeFile::open(disk) {
+    match LifeFile::open(disk, 1, 2) {
         Ok(file) => file,
         Err(fault) => panic!(rt; "the file does not open: {:?}", fault.error),
     }

@@ -177,12 +177,13 @@ fn new_lanes<R: Wait>(rt: &R, alloc: Global, links: usize) -> Result<Lanes, Node
 /// Opens the life files, by ascending neighbour.
 fn open_files<D: Disk + Drop>(
     alloc: Global,
-    peers: &[Id],
+    core: &Core,
     disks: Vec<D>,
 ) -> Result<Vec<LifeFile<D>>, NodeError> {
+    let me = core.me();
     let mut files = Vec::new(alloc);
-    for (peer, disk) in peers.iter().zip(disks) {
-        match LifeFile::open(disk) {
+    for (peer, disk) in core.neighbours().iter().zip(disks) {
+        match LifeFile::open(disk, me, *peer) {
             Ok(file) => {
                 let Ok(()) = files.push(file) else {
                     return Err(NodeError::Memory);
@@ -360,7 +361,7 @@ pub fn run_node<
         links,
         outs,
     } = new_lanes(rt, alloc, core.neighbours().len())?;
-    let files = open_files(alloc, core.neighbours(), disks)?;
+    let files = open_files(alloc, &core, disks)?;
     let Some(starts) = new_starts(alloc, ends, files, wires, links, clock) else {
         return Err(NodeError::Memory);
     };

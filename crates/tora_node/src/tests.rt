@@ -358,7 +358,7 @@ fn a_damaged_life_file_starts_no_thread(rt: HostRuntime) -> Result<(), Fail> {
         met: &met,
     })?;
     let mut disks = Vec::new(alloc);
-    disks.push(ByteDisk::of_zeros(33))?;
+    disks.push(ByteDisk::of_zeros(65))?;
     let links = config.peers().len();
     assert_eq!(&rt; wires.len(), links);
     assert_eq!(&rt; disks.len(), links);

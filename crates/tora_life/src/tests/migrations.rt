@@ -51,7 +51,10 @@ fn refusal(rt: &impl Abort, bytes: &[u8], me: u32, peer: u32) -> LifeError
 #[test]
 fn life_file_is_tagged_and_migrated(rt: HostRuntime) -> Result<(), Fail> {
     assert_eq!(&rt; tag_bytes(Owner { node: 1, peer: 2 }), TAG_OF_1_AND_2);
-    assert_eq!(&rt; Tag::read(&TAG_OF_1_AND_2), Tag::Of(Owner { node: 1, peer: 2 }));
+    assert_eq!(&rt;
+        Tag::read(&TAG_OF_1_AND_2),
+        Tag::Of(Owner { node: 1, peer: 2 })
+    );
     let tagged = file_of(SLOT_OF_16, SLOT_OF_32, TAG_OF_1_AND_2);
     assert_eq!(&rt; first_draw(&rt, &tagged), Ok(33));
     assert_eq!(&rt; refusal(&rt, &tagged, 1, 3), LifeError::Foreign);

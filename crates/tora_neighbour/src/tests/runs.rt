@@ -181,7 +181,7 @@ fn a_file_that_is_used_up_ends_the_link(rt: HostRuntime) -> Result<(), Fail> {
 
 #[test]
 fn a_damaged_file_gives_no_link(rt: HostRuntime) -> Result<(), Fail> {
-    match LifeFile::open(MemDisk::of(&[0; 33]).ok_or("no disk")?) {
+    match LifeFile::open(MemDisk::of(&[0; 65]).ok_or("no disk")?, 1, 2) {
         Ok(_) => panic!(&rt; "it opens"),
         Err(fault) => assert_eq!(&rt; fault.error, LifeError::Damaged),
     }

@@ -1,7 +1,6 @@
 use Rattle.std.proofs.Common.{◌≡◌, ◌⊎◌, ◌≤◌, IsOk, ap, inl, inr, List, ℕ, take, replicate, refl, Result, Ok, Err, IfOk, OnOk, IsTrue, sym, subst, ◌∙◌}
 use Rattle.tora_life.specs.declared.migration.Version.{Version}
 use Rattle.tora_life.specs.declared.numbers.LifeError.{LifeError}
-use Rattle.tora_life.specs.declared.numbers.Numbers.{Numbers}
 use Rattle.tora_life.specs.Calls.{Migrates}
 use Rattle.tora_life.specs.Disk.{IsRead}
 use Rattle.tora_life.specs.LifeFile.{file_value}
@@ -55,10 +54,18 @@ returns-in-Ok-found_version-clause-any_moment g c = λ told.
 
 pub returns-in-Ok-found_version-clause-calls : goal.returns-in-Ok-found_version-clause-calls
 returns-in-Ok-found_version-clause-calls g c =
-    let d = g.D.Disk in
-    (Ok c.in-Ok.field-0, c.sync.new.self, c.in-Ok.ensures.call,
-    (Ok c.in-Ok-read.count, c.read.new.buf, c.read.new.self, c.in-Ok-read.ensures.call,
-    subst (λ (v : Result Version LifeError). Migrates d.writes d.syncs c.args.owner (take c.in-Ok-read.count c.read.new.buf) v c.read.new.self c.open_version.result c.open_version.new.disk) (sym c.in-Ok-found_version.is ∙ c.found_version.ensures) c.open_version.ensures.calls))
+    let d = g.D.Disk in (
+      Ok c.in-Ok.field-0,
+      c.sync.new.self,
+      c.in-Ok.ensures.call,
+      (
+        Ok c.in-Ok-read.count,
+        c.read.new.buf,
+        c.read.new.self,
+        c.in-Ok-read.ensures.call,
+        subst (λ (v : Result Version LifeError). Migrates d.writes d.syncs c.args.owner (take c.in-Ok-read.count c.read.new.buf) v c.read.new.self c.open_version.result c.open_version.new.disk) (sym c.in-Ok-found_version.is ∙ c.found_version.ensures) c.open_version.ensures.calls,
+      ),
+    )
 
 pub returns-in-Err-clause-refused : goal.returns-in-Err-clause-refused
 returns-in-Err-clause-refused g c = λ told not.
@@ -70,10 +77,18 @@ returns-in-Err-clause-refused g c = λ told not.
 
 pub returns-in-Err-clause-calls : goal.returns-in-Err-clause-calls
 returns-in-Err-clause-calls g c =
-    let d = g.D.Disk in
-    (Ok c.in-Ok.field-0, c.sync.new.self, c.in-Ok.ensures.call,
-    (Ok c.in-Ok-read.count, c.read.new.buf, c.read.new.self, c.in-Ok-read.ensures.call,
-    subst (λ (v : Result Version LifeError). Migrates d.writes d.syncs c.args.owner (take c.in-Ok-read.count c.read.new.buf) v c.read.new.self (Err c.in-Err.error) c.read.new.self) (sym c.in-Err.is ∙ c.found_version.ensures) (refl, refl)))
+    let d = g.D.Disk in (
+      Ok c.in-Ok.field-0,
+      c.sync.new.self,
+      c.in-Ok.ensures.call,
+      (
+        Ok c.in-Ok-read.count,
+        c.read.new.buf,
+        c.read.new.self,
+        c.in-Ok-read.ensures.call,
+        subst (λ (v : Result Version LifeError). Migrates d.writes d.syncs c.args.owner (take c.in-Ok-read.count c.read.new.buf) v c.read.new.self (Err c.in-Err.error) c.read.new.self) (sym c.in-Err.is ∙ c.found_version.ensures) (refl, refl),
+      ),
+    )
 
 pub returns-in-Ok-found_version-clause-opens : goal.returns-in-Ok-found_version-clause-opens
 returns-in-Ok-found_version-clause-opens g c = λ told.

@@ -1,4 +1,4 @@
-use Rattle.std.proofs.Common.{◌≡◌, List, ℕ, length, refl, sym, subst, Ok, Err, IsTrue}
+use Rattle.std.proofs.Common.{List, ℕ, length, refl, sym, subst, Ok, Err, IsTrue}
 use Rattle.std.proofs.lemmas.Result.{on_ok_weaker}
 use Rattle.tora_life.specs.Disk.{Holds, IsOnlyImage, IsTornFrom}
 use Rattle.tora_life.proofs.Images.{torn_same}

@@ -1,4 +1,4 @@
-use Rattle.std.proofs.Common.{◌∙◌, IsTrue, subst}
+use Rattle.std.proofs.Common.{IsTrue, subst}
 use Rattle.tora_life.specs.Numbers.{IsKept}
 use Rattle.tora_life.proofs.Opens.{opened_kept}
 use Rattle.tora_life.proofs.life_file.LifeFile.open.Goals as goal
