@@ -6,12 +6,14 @@ use Rattle.std.proofs.lemmas.Option.{slice_get-map}
 use Rattle.tora_arq.specs.declared.TheConstants.Times.{STANDARD}
 use Rattle.tora_arq.specs.Settings.{settings_of}
 use Rattle.tora_world.specs.Topology.{Topology, neighbours_of}
-use Rattle.tora_world.specs.World.{place_of}
+use Rattle.tora_world.specs.World.{place_of, owner_of}
 use Rattle.tora_sim.specs.Topologies.{IsTopology}
 use Rattle.tora_sim.specs.Links.{LinkView}
 use Rattle.tora_sim.specs.Nodes.{NodeView}
 use Rattle.tora_sim.specs.Store.{EachOf}
 use Rattle.tora_sim.specs.Readers.{ends_at}
+use Rattle.tora_life.specs.State.{fresh_state}
+use Rattle.tora_life.specs.LifeRun.{opened}
 use Rattle.tora_sim.specs.Firsts.{IsFirstEnd, IsFirstLink, IsFirstNode, key_of, HasEnds, AreAdded, AreMade, IsMade}
 use Rattle.tora_sim.proofs.Stores.{each_push}
 use Rattle.tora_sim.proofs.Peers.{PutInOrder, neighbours-ascend, place-of}
@@ -25,7 +27,7 @@ first-link order t h n i d x lt f = record {
   seat = f.seat ∙ sym (place-of (neighbours_of t n) i d (neighbours-ascend order t h n) lt) ∙ ap₂ (λ k m. place_of k (neighbours_of t m)) (sym f.peer) (sym f.node);
   settings = f.settings ∙ ap₂ (λ m k. settings_of m k STANDARD) (sym f.node) (sym f.peer);
   state = f.state;
-  file = f.file;
+  file = f.file ∙ ap₂ (λ m k. opened (owner_of m k) (fresh_state [])) (sym f.node) (sym f.peer);
   put = f.put;
   pulled = f.pulled;
   steps = f.steps;

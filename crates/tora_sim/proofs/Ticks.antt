@@ -14,6 +14,7 @@ use Rattle.tora_sim.specs.Nodes.{NodeView}
 use Rattle.tora_sim.specs.Store.{state_of, world_of, IsStore, IsLinkOf, link_at, end_in, file_in, lane_in, put_in, steps_in}
 use Rattle.tora_sim.specs.Steps.{IsDone}
 use Rattle.tora_sim.specs.Links as Links
+use Rattle.tora_sim.proofs.Opens.{links_same}
 use Rattle.tora_sim.proofs.Stores.{each_at, is_found, each_map, ordered_map, ends_map}
 
 link_map : (now n k : ℕ) (links : List LinkView) → link_at (map (ticked now) links) n k ≡ option_map (ticked now) (link_at links n k)
@@ -51,7 +52,8 @@ module _ (t : Topology) (times : Times) (clock : ℕ) (nodes : List NodeView) (l
       let lanes = stays lane_in (clock + 1) (λ x. refl) in
       let puts = stays put_in (clock + 1) (λ x. refl) in
       let steps = stays steps_in (clock + 1) (λ x. refl) in
-      cc
+      links_same (world_of (state_of t times (clock + 1) nodes links ds)) ends files lanes puts steps
+      ∙ ap (λ (now : ℕ). record (world_of (state_of t times clock nodes links ds)) { clock = now; ends = λ n k. after_tick (settings_of n k times) (end_in (link_at links n k)) (suc clock) }) plus
 
   tick_store_at : IsStore (state_of t times (clock + 1) nodes (map (ticked (clock + 1)) links) ds)
   tick_store_at = record {

@@ -4,7 +4,7 @@ use Rattle.std.proofs.lemmas.Option.{slice_get_read}
 use Rattle.std.specs.Prelude.{slice_get, vec_capacity}
 use Rattle.tora_arq.specs.EndRange.{LinkEndView}
 use Rattle.tora_seat.specs.declared.Cargo.{Cargo}
-use Rattle.tora_world.specs.World.{after_cargo}
+use Rattle.tora_world.specs.World.{after_cargo, owner_of}
 use Rattle.tora_sim.specs.Links.{LinkView, link_of, after_pull_at}
 use Rattle.tora_sim.proofs.Lasts.{cargo_stays, stays_drawn}
 use Rattle.tora_sim.proofs.links.LinkSlot.pull.Goals as goal
@@ -15,6 +15,7 @@ invariant_of-self c =
       stays_drawn end.state (after_cargo end.state c.index.result.now) c.give.new.end.state _ (ap (λ (e : LinkEndView). e.state) c.give.ensures)
           (cargo_stays c.lives_are_bound_once.ensures.number end.settings end.state c.index.result.now) c.self.invariant.0,
       (let w : c.self.inside.pulled < length c.self.inside.put.items = subst (λ (v : LinkView). v.pulled < length v.put) (sym c.self.view_is) c.requires in omega arith),
+      c.self.invariant.2 ∙ sym (ap (λ (e : LinkEndView). owner_of e.settings.me e.settings.peer) c.give.ensures),
     )
 
 pub returns : goal.returns
