@@ -18,7 +18,8 @@ use std::thread::Threads;
 use std::time::Clock;
 use tora_config::{ConfigError, LinkConfig, NodeConfig, read_config};
 use tora_core::CoreError;
-use tora_life::FileDisk;
+use tora_height::Id;
+use tora_life::{Disk, FileDisk, LifeError, Owner, Tag};
 use tora_neighbour::{NodeError, UdpWire, UnixClock};
 use tora_node::{Config, Ended, run_node};
 
@@ -146,11 +147,48 @@ fn open<R: Files<File = File> + Eprint>(
     Ok(disks)
 }
 
+/// Whose a life file is, where its tag says so.
+fn owner_in<R: Files<File = File>>(rt: &R, path: &str) -> Option<Owner> {
+    let Ok(mut disk) = FileDisk::open(rt, path) else {
+        return None;
+    };
+    let mut tag = [0; 32];
+    let Ok(count) = disk.read(32, &mut tag) else {
+        return None;
+    };
+    match Tag::read(&tag[..count]) {
+        Tag::Of(owner) => Some(owner),
+        Tag::Absent | Tag::Strange => None,
+    }
+}
+
+/// Says on standard error what is wrong with the life file of the link to `peer`, and of a foreign one whose it is.
+fn tell_life<R: Files<File = File> + AllocGlobal + Eprint>(
+    rt: &R,
+    folder: &str,
+    peer: Id,
+    error: LifeError,
+) {
+    let Ok(path) = format!(in rt.alloc(); "{folder}/life-{peer}") else {
+        return;
+    };
+    let _ = rt.eprintln(format_args!("tora: {path}: {error}"));
+    if error != LifeError::Foreign {
+        return;
+    }
+    if let Some(owner) = owner_in(rt, path.as_str()) {
+        let (node, other) = (owner.node, owner.peer);
+        let _ = rt.eprintln(format_args!(
+            "tora: {path}: it is the file of node {node} for its link to {other}"
+        ));
+    }
+}
+
 /// Reads the configuration, binds the sockets, opens the life files, and runs the node until its commands end it.
 ///
 /// The first fault ends it before a thread is started: the configuration (status 1), then a socket, by ascending
 /// neighbour (3), then a life file, likewise (4), memory at any point (5). With `is_check` it reads the
-/// configuration and ends.
+/// configuration and ends. With `is_verbose` it says on standard error what is wrong with a life file.
 pub fn run<
     R: Files<File = File> + AllocGlobal + Eprint + Net + Threads + Wait + Sync + Clock + Log,
     Rd: Read,
@@ -188,10 +226,13 @@ pub fn run<
         return refuse(rt, Fault::Config);
     }
     let clock = UnixClock::new(rt);
-    status(
-        rt,
-        run_node(rt, alloc, node, wires, disks, &clock, reader, writer),
-    )
+    let ended = run_node(rt, alloc, node, wires, disks, &clock, reader, writer);
+    if is_verbose {
+        if let Err(NodeError::Life(peer, error)) = &ended {
+            tell_life(rt, config.life_dir.as_str(), *peer, *error);
+        }
+    }
+    status(rt, ended)
 }
 
 /// The node of a configuration.
