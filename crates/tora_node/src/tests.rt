@@ -21,20 +21,27 @@ const FOUND: &[u8] = b"to 4 height (0,0,0,1,3) flag 0 hop 4";
 /// A disk of 64 bytes that never fails, and tells contracts no bytes.
 #[derive(Drop)]
 struct ByteDisk {
-    bytes: [u8; 64],
+    bytes: [u8; 80],
     length: usize,
-    ghost within: { length ≤ 64 },
+    ghost within: { length ≤ 80 },
 }
 
 impl ByteDisk {
     /// A disk with so many bytes of zero.
     fn of_zeros(length: usize) -> ByteDisk
-        requires { length ≤ 64 }
+        requires { length ≤ 80 }
     {
         ByteDisk {
-            bytes: [0; 64],
+            bytes: [0; 80],
             length,
         }
+    }
+
+    /// A disk with two slots of zeros and this tag.
+    fn of_tag(tag: &[u8; 32]) -> ByteDisk {
+        let mut bytes = [0; 80];
+        bytes[32..64].copy_from_slice(tag);
+        ByteDisk { bytes, length: 64 }
     }
 }
 
@@ -77,7 +84,7 @@ impl Disk for ByteDisk {
     }
 
     fn write_at(&mut self, at: usize, bytes: &[u8]) -> Result<(), DiskError> {
-        if at > 64 || bytes.len() > 64 - at {
+        if at > 80 || bytes.len() > 80 - at {
             return Ok(());
         }
         let end = at + bytes.len();
@@ -343,30 +350,39 @@ fn neighbours_at_once(rt: HostRuntime) -> Result<(), Fail> {
     Ok(())
 }
 
-#[test]
-fn a_damaged_life_file_starts_no_thread(rt: HostRuntime) -> Result<(), Fail> {
-    let alloc = rt.alloc();
+/// The tag of node 1 and peer 2.
+const TAG: [u8; 32] = [
+    0x54, 0x4f, 0x52, 0x41, 0x4c, 0x49, 0x46, 0x32, 0, 0, 0, 1, 0, 0, 0, 2, 0xab, 0xb0, 0xad, 0xbe,
+    0xb3, 0xb6, 0xb9, 0xcd, 0xff, 0xff, 0xff, 0xfe, 0xff, 0xff, 0xff, 0xfd,
+];
+
+/// Runs node 1 with the one neighbour 3 over this life file, and answers the fault. No thread is started.
+fn fault_of<R: Threads + Wait + Sync + time::Clock + log::Log + Abort>(
+    rt: &R,
+    alloc: Global,
+    disk: ByteDisk,
+) -> Result<Option<NodeError>, Fail> {
     let (first, second, met) = (AtomicU64::new(0), AtomicU64::new(0), AtomicU64::new(0));
     let config = Config::new(alloc, 1, &[3], &[4])
         .ok()
         .ok_or("a configuration")?;
     let mut wires = Vec::new(alloc);
     wires.push(Meeting {
-        rt: &rt,
+        rt,
         own: &first,
         other: &second,
         met: &met,
     })?;
     let mut disks = Vec::new(alloc);
-    disks.push(ByteDisk::of_zeros(65))?;
+    disks.push(disk)?;
     let links = config.peers().len();
-    assert_eq!(&rt; wires.len(), links);
-    assert_eq!(&rt; disks.len(), links);
-    let clock = UnixClock::new(&rt);
-    let mut commands = Waiting { rt: &rt, met: &met };
+    assert_eq!(rt; wires.len(), links);
+    assert_eq!(rt; disks.len(), links);
+    let clock = UnixClock::new(rt);
+    let mut commands = Waiting { rt, met: &met };
     let mut screen = Vec::new(alloc);
     let ended = run_node(
-        &rt,
+        rt,
         alloc,
         config,
         wires,
@@ -375,8 +391,21 @@ fn a_damaged_life_file_starts_no_thread(rt: HostRuntime) -> Result<(), Fail> {
         &mut commands,
         &mut screen,
     );
-    assert_eq!(&rt; ended.err(), Some(NodeError::Life(3, LifeError::Damaged)));
-    assert_eq!(&rt; first.load(Ordering::SeqCst), 0);
+    assert_eq!(rt; first.load(Ordering::SeqCst), 0);
+    Ok(ended.err())
+}
+
+#[test]
+fn a_damaged_life_file_starts_no_thread(rt: HostRuntime) -> Result<(), Fail> {
+    let fault = fault_of(&rt, rt.alloc(), ByteDisk::of_zeros(65))?;
+    assert_eq!(&rt; fault, Some(NodeError::Life(3, LifeError::Damaged)));
+    Ok(())
+}
+
+#[test]
+fn a_life_file_of_another_link_starts_no_thread(rt: HostRuntime) -> Result<(), Fail> {
+    let fault = fault_of(&rt, rt.alloc(), ByteDisk::of_tag(&TAG))?;
+    assert_eq!(&rt; fault, Some(NodeError::Life(3, LifeError::Foreign)));
     Ok(())
 }
 
