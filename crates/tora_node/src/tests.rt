@@ -357,21 +357,23 @@ const TAG: [u8; 32] = [
 ];
 
 /// Runs node 1 with the one neighbour 3 over this life file, and answers the fault. No thread is started.
-fn fault_of<R: Threads + Wait + Sync + time::Clock + log::Log + Abort>(
-    rt: &R,
+fn fault_of<'a, R: Threads + Wait + Sync + time::Clock + log::Log + Abort>(
+    rt: &'a R,
     alloc: Global,
+    first: &'a AtomicU64,
+    second: &'a AtomicU64,
+    met: &'a AtomicU64,
     disk: ByteDisk,
 ) -> Result<Option<NodeError>, Fail> {
-    let (first, second, met) = (AtomicU64::new(0), AtomicU64::new(0), AtomicU64::new(0));
     let config = Config::new(alloc, 1, &[3], &[4])
         .ok()
         .ok_or("a configuration")?;
     let mut wires = Vec::new(alloc);
     wires.push(Meeting {
         rt,
-        own: &first,
-        other: &second,
-        met: &met,
+        own: first,
+        other: second,
+        met,
     })?;
     let mut disks = Vec::new(alloc);
     disks.push(disk)?;
@@ -379,7 +381,7 @@ fn fault_of<R: Threads + Wait + Sync + time::Clock + log::Log + Abort>(
     assert_eq!(rt; wires.len(), links);
     assert_eq!(rt; disks.len(), links);
     let clock = UnixClock::new(rt);
-    let mut commands = Waiting { rt, met: &met };
+    let mut commands = Waiting { rt, met };
     let mut screen = Vec::new(alloc);
     let ended = run_node(
         rt,
@@ -397,14 +399,18 @@ fn fault_of<R: Threads + Wait + Sync + time::Clock + log::Log + Abort>(
 
 #[test]
 fn a_damaged_life_file_starts_no_thread(rt: HostRuntime) -> Result<(), Fail> {
-    let fault = fault_of(&rt, rt.alloc(), ByteDisk::of_zeros(65))?;
+    let (first, second, met) = (AtomicU64::new(0), AtomicU64::new(0), AtomicU64::new(0));
+    let disk = ByteDisk::of_zeros(65);
+    let fault = fault_of(&rt, rt.alloc(), &first, &second, &met, disk)?;
     assert_eq!(&rt; fault, Some(NodeError::Life(3, LifeError::Damaged)));
     Ok(())
 }
 
 #[test]
 fn a_life_file_of_another_link_starts_no_thread(rt: HostRuntime) -> Result<(), Fail> {
-    let fault = fault_of(&rt, rt.alloc(), ByteDisk::of_tag(&TAG))?;
+    let (first, second, met) = (AtomicU64::new(0), AtomicU64::new(0), AtomicU64::new(0));
+    let disk = ByteDisk::of_tag(&TAG);
+    let fault = fault_of(&rt, rt.alloc(), &first, &second, &met, disk)?;
     assert_eq!(&rt; fault, Some(NodeError::Life(3, LifeError::Foreign)));
     Ok(())
 }
