@@ -57,7 +57,7 @@ pub struct Header {
 }
 
 /// What a frame carries behind its header. Own profile.
-#[derive(Clone, Debug, PartialEq, Eq, Hash, Drop)]
+#[derive(Debug, PartialEq, Eq, Hash, Drop)]
 pub enum Body {
     /// Nothing: the frame only tells the lives.
     Hello,

@@ -17,7 +17,7 @@ returns-in_err-read_packet-clause-exact c =
 pub loop-preserved : goal.loop-preserved
 loop-preserved c =
     let first = goes_on (whole_packet_fault (first_packet c.loop.rest.now)) (whole_packet_at (first_packet c.loop.rest.now)) c.in_ok-read_packet.field-0
-        (rw c.cut_packet.ensures.first at c.in_ok-read_packet.ensures.exact) in
+    (rw c.cut_packet.ensures.first at c.in_ok-read_packet.ensures.exact) in
     let fault = next_fault c.args.many c.loop.counter c.loop.rest.now c.loop-test.true in
     let more = next_at c.args.many c.loop.counter c.loop.rest.now c.loop-test.true in
     record {
