@@ -97,13 +97,6 @@ hold_keeps Is a (suc place) packet [] t h = hold_keeps Is (suc a) place packet [
 hold_keeps Is a (suc place) packet (None ∷ held) t h = hold_keeps Is (suc a) place packet held (let z : a + suc place ≡ suc a + place = omega arith in subst (λ m. Is m packet) z t) h
 hold_keeps Is a (suc place) packet (Some first ∷ held) t h = (h.0, hold_keeps Is (suc a) place packet held (let z : a + suc place ≡ suc a + place = omega arith in subst (λ m. Is m packet) z t) h.1)
 
-pub length-hold_at : (place : ℕ) (packet : Packet) (held : List (Option Packet)) → length (hold_at place packet held) ≤ max (suc place) (length held)
-length-hold_at zero packet [] = omega arith
-length-hold_at zero packet (None ∷ held) = omega arith
-length-hold_at zero packet (Some first ∷ held) = omega arith
-length-hold_at (suc place) packet [] = omega (arith, length-hold_at place packet [])
-length-hold_at (suc place) packet (slot ∷ held) = omega (arith, length-hold_at place packet held)
-
 -- an end goes on by a DATA frame with this number and packet
 pub record Takes (Is : ℕ → Packet → Type 0) (window : ℕ) (life : Life) (number : ℕ) (packet : Packet) (e e' : EndState) : Type 0 where
   pub phase : e'.phase ≡ e.phase

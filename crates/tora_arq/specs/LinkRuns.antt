@@ -1,5 +1,5 @@
 -- What holds of every run of a link end: a list of calls from the first state on.
-use Rattle.std.specs.Prelude.{◌≡◌, ℕ, suc, ◌+◌, ◌≤◌, ◌==◌, if◌then◌else◌, List, [], ◌∷◌, ◌++◌, map, length, Option, Some, None, Contains}
+use Rattle.std.specs.Prelude.{◌≡◌, ℕ, suc, ◌+◌, ◌≤◌, ◌==◌, if◌then◌else◌, List, [], ◌∷◌, ◌++◌, map, length, Option, Some, None, slice_get, Contains}
 use Rattle.tora_packet.specs.declared.Packet.{Packet}
 use Rattle.tora_frame.specs.declared.parts.Body.{Body}
 use Rattle.tora_frame.specs.declared.parts.Body.TheVariants.{Hello, Data, Ack}
@@ -106,12 +106,17 @@ pub record WasHandedIn (s : Settings) (frames : List FrameHandedIn) (life : Life
   pub own : handed.own ≡ Some life.own
   pub of_life : IsFrameOf s life handed.frame
 
+-- a DATA frame carries the packet with this number
+abbrev pub Carries : Body → ℕ → Packet → Type 0
+Carries Hello number packet = ⊥
+Carries (Data first count packets) number packet = (place : ℕ) × (number ≡ first + place) × (slice_get packets.items place ≡ Some packet)
+Carries (Ack count) number packet = ⊥
+
 -- the packet at this place came in a DATA frame of the life, with its number
 pub record CameAt (s : Settings) (frames : List FrameHandedIn) (life : Life) (place : ℕ) (packet : Packet) : Type 0 where
   pub handed : FrameHandedIn
   pub was : WasHandedIn s frames life handed
-  pub count : ℕ
-  pub body : handed.frame.body ≡ Data (suc place) count packet
+  pub carries : Carries handed.frame.body (suc place) packet
 
 -- these packets are the first ones, in order and without a gap
 abbrev pub AreFromFirst : (ℕ → Packet → Type 0) → List Packet → Type 0
@@ -137,25 +142,30 @@ times_bound own (Up life ∷ events) = (if life.own == own then 1 else 0) + time
 times_bound own (Deliver life packet ∷ events) = times_bound own events
 times_bound own (Down life reason ∷ events) = times_bound own events
 
--- a DATA frame carries the packet of its number of those submitted in the life, and a count that is not above the packets delivered in it
-pub record IsDataOfRun (run : LinkRun) (life : Life) (number count : ℕ) (packet : Packet) : Type 0 where
+-- a DATA frame carries the packets of its numbers of those submitted in the life, and a count that is not above the packets delivered in it
+pub record IsDataOfRun (run : LinkRun) (life : Life) (number count : ℕ) (packets : List Packet) : Type 0 where
   pub place : ℕ
   pub number_is : number ≡ suc place
-  pub packet_is : IsPacketAt (packets_submitted life run.submitted) place packet
+  pub packets_are : AreFrom (IsPacketAt (packets_submitted life run.submitted)) place packets
   pub count_is : count ≤ length (packets_delivered life run.events)
 
 -- the same for any frame
 abbrev pub IsBodyOfRun : LinkRun → Life → Body → Type 0
 IsBodyOfRun run life Hello = Unit {0}
-IsBodyOfRun run life (Data number count packet) = IsDataOfRun run life number count packet
+IsBodyOfRun run life (Data number count packets) = IsDataOfRun run life number count packets.items
 IsBodyOfRun run life (Ack count) = count ≤ length (packets_delivered life run.events)
 
 -- in the life that its header names
 abbrev pub IsFrameOfRun : LinkRun → FrameParts → Type 0
 IsFrameOfRun run f = IsBodyOfRun run (life_of f.header.life f.header.heard) f.body
 
+-- two frames of one life of an end
+pub record IsOfOneLife (f g : FrameParts) : Type 0 where
+  pub own : f.header.life ≡ g.header.life
+  pub peer : f.header.heard ≡ g.header.heard
+
 -- every try of a number in a life carries the same packet
 abbrev pub IsSameAtEachTry : List FrameParts → Type 0
 IsSameAtEachTry sent =
-    (f g : FrameParts) (number count later : ℕ) (packet other : Packet) → Contains sent f → Contains sent g → f.header ≡ g.header → f.body ≡ Data number count packet
-    → g.body ≡ Data number later other → packet ≡ other
+    (f g : FrameParts) (number : ℕ) (packet other : Packet) → Contains sent f → Contains sent g → IsOfOneLife f g → Carries f.body number packet → Carries g.body number other
+    → packet ≡ other

@@ -1,4 +1,7 @@
 //! The byte vectors of the formats, the refused frames, and frames that were cut or changed.
+ghost use Rattle.std.specs.Prelude.{◌≡◌, ◌≤◌, IfSome, length};
+ghost use Rattle.arrayvec.specs.ArrayVec.{array_vec_len};
+
 use super::*;
 use std::alloc::Global;
 use std::cmp::Ordering;
@@ -31,7 +34,16 @@ const BATCH: &str =
     "0202003000000001000000020000000000000005000000000000000900000000000000010000000000000000\
      0200000001010000000000040103000000000004000000000000000700000003";
 
-/// The header of a frame from 1 to 2 in these lives.
+/// The header of a frame of version 1 from 1 to 2 before a life was heard.
+const FIRST: Header = Header {
+    version: Version::One,
+    sender: 1,
+    receiver: 2,
+    life: 5,
+    heard: 0,
+};
+
+/// The header of a frame of version 1 from 1 to 2.
 const FROM_ONE: Header = Header {
     version: Version::One,
     sender: 1,
@@ -40,9 +52,36 @@ const FROM_ONE: Header = Header {
     heard: 9,
 };
 
-/// The header of a frame from 2 to 1 in these lives.
+/// The header of a frame of version 1 from 2 to 1.
 const FROM_TWO: Header = Header {
     version: Version::One,
+    sender: 2,
+    receiver: 1,
+    life: 9,
+    heard: 5,
+};
+
+/// The header of a frame of version 2 from 1 to 2 before a life was heard.
+const NEW_FIRST: Header = Header {
+    version: Version::Two,
+    sender: 1,
+    receiver: 2,
+    life: 5,
+    heard: 0,
+};
+
+/// The header of a frame of version 2 from 1 to 2.
+const NEW_FROM_ONE: Header = Header {
+    version: Version::Two,
+    sender: 1,
+    receiver: 2,
+    life: 5,
+    heard: 9,
+};
+
+/// The header of a frame of version 2 from 2 to 1.
+const NEW_FROM_TWO: Header = Header {
+    version: Version::Two,
     sender: 2,
     receiver: 1,
     life: 9,
@@ -60,30 +99,10 @@ fn clear() -> Option<Packet> {
     Some(Packet::Clr(Clear::new(4, 7, 3).ok()?))
 }
 
-/// The header of a frame from 1 to 2 before a life was heard.
-fn first(version: Version) -> Header {
-    Header {
-        version,
-        sender: 1,
-        receiver: 2,
-        life: 5,
-        heard: 0,
-    }
-}
-
-/// The same header in version 2.
-fn second(header: Header) -> Header {
-    Header {
-        version: Version::Two,
-        sender: header.sender,
-        receiver: header.receiver,
-        life: header.life,
-        heard: header.heard,
-    }
-}
-
 /// The query for 4, and the clear.
-fn query_and_clear() -> Option<Packets> {
+fn query_and_clear() -> Option<Packets>
+    ensures { IfSome result (λ packets. array_vec_len packets ≡ 2) }
+{
     let mut packets = Packets::new();
     packets.push(Packet::qry(4).ok()?);
     packets.push(clear()?);
@@ -93,16 +112,16 @@ fn query_and_clear() -> Option<Packets> {
 /// The frames of the vectors, in their order.
 fn frames() -> Option<[Frame; 10]> {
     Some([
-        Frame::hello(first(Version::One)),
+        Frame::hello(FIRST),
         Frame::hello(FROM_TWO),
         Frame::one(FROM_ONE, 1, 0, Packet::qry(4).ok()?),
         Frame::ack(FROM_TWO, 1),
         Frame::one(FROM_ONE, 2, 3, update()?),
         Frame::one(FROM_TWO, 7, 1, clear()?),
-        Frame::data(second(FROM_ONE), 1, 0, query_and_clear()?),
-        Frame::hello(first(Version::Two)),
-        Frame::ack(second(FROM_TWO), 1),
-        Frame::one(second(FROM_ONE), 2, 3, update()?),
+        Frame::data(NEW_FROM_ONE, 1, 0, query_and_clear()?),
+        Frame::hello(NEW_FIRST),
+        Frame::ack(NEW_FROM_TWO, 1),
+        Frame::one(NEW_FROM_ONE, 2, 3, update()?),
     ])
 }
 
@@ -219,25 +238,19 @@ fn batch_frame_vector_and_its_faults(rt: HostRuntime) -> Result<(), Fail> {
 #[test]
 fn last_number_of_a_batch_is_in_its_range(rt: HostRuntime) -> Result<(), Fail> {
     let packets = query_and_clear().ok_or("packets")?;
-    let frame = Frame::data(second(FROM_ONE), GREATEST_NUMBER - 1, 0, packets);
-    let mut bytes = encode(&frame);
-    assert_eq!(rt; decode(&bytes), Ok(frame));
-    bytes[35] = 0;
-    bytes[28] = 0x40;
-    for byte in &mut bytes[29..35] {
-        *byte = 0;
-    }
+    let frame = Frame::data(NEW_FROM_ONE, GREATEST_NUMBER - 1, 0, packets);
+    assert_eq!(rt; decode(&encode(&frame)), Ok(frame));
+    let text = "0202003000000001000000020000000000000005000000000000000940000000000000000000000000000000\
+                0200000001010000000000040103000000000004000000000000000700000003";
+    let bytes = hex::decode(rt.alloc(), text)?;
     assert_eq!(rt; decode(&bytes), Err(FrameError::Count));
     Ok(())
 }
 
 #[test]
 fn longest_frame_is_read(rt: HostRuntime) -> Result<(), Fail> {
-    let mut packets = Packets::new();
-    for _ in 0..MOST_PACKETS {
-        packets.push(update().ok_or("update")?);
-    }
-    let frame = Frame::data(second(FROM_TWO), 1, 0, packets);
+    let packets = Packets::from([update().ok_or("update")?; MOST_PACKETS]);
+    let frame = Frame::data(NEW_FROM_TWO, 1, 0, packets);
     let bytes = encode(&frame);
     assert_eq!(rt; bytes.len(), LONGEST_FRAME);
     assert_eq!(rt; decode(&bytes), Ok(frame));
@@ -295,7 +308,7 @@ fn plain_fields(bytes: &[u8]) -> Option<u8> {
     let (first, second) = (plain_number(bytes, 28, 8), plain_number(bytes, 36, 8));
     match kind {
         2 if first == 0 || first > most || second > most => Some(8),
-        2 if bytes[0] == 2 => plain_count(bytes, first),
+        2 if plain_number(bytes, 0, 1) == 2 => plain_count(bytes, first),
         3 if first > most => Some(8),
         _ => None,
     }
@@ -305,14 +318,16 @@ fn plain_fields(bytes: &[u8]) -> Option<u8> {
 fn plain_count(bytes: &[u8], first: u64) -> Option<u8> {
     let many = plain_number(bytes, 44, 1);
     let is_zero = plain_number(bytes, 45, 3) == 0;
-    if !(1..=16).contains(&many) || !is_zero || first + many - 1 > 1u64 << 62 {
+    if !(1..=16).contains(&many) || !is_zero || first.saturating_add(many) > (1u64 << 62) + 1 {
         return Some(10);
     }
     None
 }
 
 /// How many bytes the first packet of `bytes` is given: all, or as many as its kind has where there are more.
-fn plain_cut(bytes: &[u8]) -> usize {
+fn plain_cut(bytes: &[u8]) -> usize
+    ensures { result ≤ length bytes.now }
+{
     let kind = match bytes {
         [1, 1, ..] => 8,
         [1, 2, ..] => 32,
@@ -324,11 +339,11 @@ fn plain_cut(bytes: &[u8]) -> usize {
 
 /// Why the packets of a frame are refused.
 fn plain_packets(bytes: &[u8]) -> Option<PacketError> {
-    if bytes[0] == 1 {
+    if plain_number(bytes, 0, 1) == 1 {
         return tora_packet::decode(bytes.get(44..).unwrap_or(&[])).err();
     }
     let mut rest = bytes.get(48..).unwrap_or(&[]);
-    for _ in 0..bytes[44] {
+    for _ in 0..plain_number(bytes, 44, 1) {
         let (first, behind) = rest.split_at(plain_cut(rest));
         if let Err(error) = tora_packet::decode(first) {
             return Some(error);
