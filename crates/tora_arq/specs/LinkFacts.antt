@@ -171,11 +171,20 @@ pub record IsQueueOf (submitted : List Packet) (e : EndState) : Type 0 where
   pub transmitted : e.transmitted ≤ length submitted
   pub waiting : packets_in e.queue ≡ drop e.acknowledged submitted
 
+-- packets that are numbered on from the first have this one with this number
+abbrev pub HasNumber : ℕ → List Packet → ℕ → Packet → Type 0
+HasNumber first packets number packet = (place : ℕ) × (number ≡ first + place) × (slice_get packets place ≡ Some packet)
+
+-- a DATA frame carries the packet with this number
+abbrev pub Carries : Body → ℕ → Packet → Type 0
+Carries Hello number packet = ⊥
+Carries (Data first count packets) number packet = HasNumber first packets.items number packet
+Carries (Ack count) number packet = ⊥
+
 -- a DATA frame carries the packets of its numbers, and this count
 pub record IsDataOf (submitted : List Packet) (accepted number count : ℕ) (packets : List Packet) : Type 0 where
-  pub place : ℕ
-  pub number_is : number ≡ suc place
-  pub packets_are : AreFrom (IsPacketAt submitted) place packets
+  pub first : 0 < number
+  pub packets_are : (place : ℕ) (packet : Packet) → HasNumber number packets (suc place) packet → IsPacketAt submitted place packet
   pub count_is : count ≡ accepted
 
 -- the same for any frame
@@ -194,9 +203,7 @@ AreHeld Is place (Some packet ∷ held) = Is place packet × AreHeld Is (suc pla
 
 -- each packet of a DATA frame is that of its number
 abbrev pub BodyTells : (ℕ → Packet → Type 0) → Body → Type 0
-BodyTells Is Hello = Unit {0}
-BodyTells Is (Data number count packets) = (place : ℕ) → number ≡ suc place → AreFrom Is place packets.items
-BodyTells Is (Ack count) = Unit {0}
+BodyTells Is body = (place : ℕ) (packet : Packet) → Carries body (suc place) packet → Is place packet
 
 -- where the call hands in a DATA frame of this life, each packet is that of its number
 abbrev pub CallTells : (ℕ → Packet → Type 0) → Settings → Life → LinkCall → Type 0

@@ -1,5 +1,5 @@
 -- What holds of every run of a link end: a list of calls from the first state on.
-use Rattle.std.specs.Prelude.{◌≡◌, ℕ, suc, ◌+◌, ◌≤◌, ◌==◌, if◌then◌else◌, List, [], ◌∷◌, ◌++◌, map, length, Option, Some, None, slice_get, Contains}
+use Rattle.std.specs.Prelude.{◌≡◌, ℕ, suc, ◌+◌, ◌<◌, ◌≤◌, ◌==◌, if◌then◌else◌, List, [], ◌∷◌, ◌++◌, map, length, Option, Some, None, Contains}
 use Rattle.tora_packet.specs.declared.Packet.{Packet}
 use Rattle.tora_frame.specs.declared.parts.Body.{Body}
 use Rattle.tora_frame.specs.declared.parts.Body.TheVariants.{Hello, Data, Ack}
@@ -12,7 +12,7 @@ use Rattle.tora_arq.specs.declared.state.Phase.TheVariants.{Closed, Unbound, Bou
 use Rattle.tora_arq.specs.Lives.{life_of, is_same_life}
 use Rattle.tora_arq.specs.Settings.{Settings}
 use Rattle.tora_arq.specs.LinkEnd.{EndState, first_end, count_of}
-use Rattle.tora_arq.specs.LinkFacts.{LinkCall, after_call, IsPossible, frame_sent_by, event_given_by, events_queued, packet_submitted, IsFrameOf, IsPacketAt, AreFrom, packets_delivered, list_of}
+use Rattle.tora_arq.specs.LinkFacts.{LinkCall, after_call, IsPossible, frame_sent_by, event_given_by, events_queued, packet_submitted, IsFrameOf, AreFrom, IsPacketAt, HasNumber, Carries, packets_delivered, list_of}
 use Rattle.tora_arq.specs.LinkFacts.LinkCall.{Frame, Submit}
 
 -- ---- runs
@@ -106,12 +106,6 @@ pub record WasHandedIn (s : Settings) (frames : List FrameHandedIn) (life : Life
   pub own : handed.own ≡ Some life.own
   pub of_life : IsFrameOf s life handed.frame
 
--- a DATA frame carries the packet with this number
-abbrev pub Carries : Body → ℕ → Packet → Type 0
-Carries Hello number packet = ⊥
-Carries (Data first count packets) number packet = (place : ℕ) × (number ≡ first + place) × (slice_get packets.items place ≡ Some packet)
-Carries (Ack count) number packet = ⊥
-
 -- the packet at this place came in a DATA frame of the life, with its number
 pub record CameAt (s : Settings) (frames : List FrameHandedIn) (life : Life) (place : ℕ) (packet : Packet) : Type 0 where
   pub handed : FrameHandedIn
@@ -144,9 +138,8 @@ times_bound own (Down life reason ∷ events) = times_bound own events
 
 -- a DATA frame carries the packets of its numbers of those submitted in the life, and a count that is not above the packets delivered in it
 pub record IsDataOfRun (run : LinkRun) (life : Life) (number count : ℕ) (packets : List Packet) : Type 0 where
-  pub place : ℕ
-  pub number_is : number ≡ suc place
-  pub packets_are : AreFrom (IsPacketAt (packets_submitted life run.submitted)) place packets
+  pub first : 0 < number
+  pub packets_are : (place : ℕ) (packet : Packet) → HasNumber number packets (suc place) packet → IsPacketAt (packets_submitted life run.submitted) place packet
   pub count_is : count ≤ length (packets_delivered life run.events)
 
 -- the same for any frame
