@@ -161,7 +161,7 @@ taking_on times now left at taken more queue after packets all q l e t m a h =
     let here : drop at queue ≡ q ∷ drop (at + 1) queue = rest_at at queue q e in
     let one : left ≡ suc (left - 1) = omega arith in
     let run : run_from times now left at queue ≡ with_ready q now (run_from times now (left - 1) (at + 1) queue) =
-        ap (λ n. ready_run times now n (drop at queue)) one ∙ ap (ready_run times now (suc (left - 1))) here ∙ run_on times now (left - 1) q (drop (at + 1) queue) t in
+    ap (λ n. ready_run times now n (drop at queue)) one ∙ ap (ready_run times now (suc (left - 1))) here ∙ run_on times now (left - 1) q (drop (at + 1) queue) t in
     let rest : drop (at + 1) after ≡ drop (at + 1) queue = ap (drop (at + 1)) a ∙ drop-set-lt (at + 1) queue at (retried q now) (omega arith) in
     let front : take (at + 1) after ≡ take at queue ++ retried q now ∷ [] = ap (take (at + 1)) a ∙ take_more_set queue at (retried q now) lt in
     record {
@@ -182,7 +182,7 @@ pub taking_stops : (times : Times) (now left at : ℕ) (taken : List Packet) (qu
 taking_stops times now left at taken queue packets all q e t h =
     let here : drop at queue ≡ q ∷ drop (at + 1) queue = rest_at at queue q e in
     let run : run_from times now left at queue ≡ no_run (drop at queue) =
-        ap (ready_run times now left) here ∙ run_stops times now left q (drop (at + 1) queue) t ∙ ap no_run (sym here) in
+    ap (ready_run times now left) here ∙ run_stops times now left q (drop (at + 1) queue) t ∙ ap no_run (sym here) in
     taking_all times now left at taken queue packets all run h
 
 pub taking_ends : (times : Times) (now left at : ℕ) (taken : List Packet) (queue : List QueuedPacket) (packets : List Packet) (all : List QueuedPacket) → left ≡ 0 →

@@ -98,7 +98,10 @@ impl State {
         let version = self.data_version();
         let header = settings.header(version, life.own, life.peer);
         let accepted = self.accepted;
-        if let Some(due) = self.queue.take_due(&settings.times, now, most_packets(version)) {
+        if let Some(due) = self
+            .queue
+            .take_due(&settings.times, now, most_packets(version))
+        {
             let number = self.acknowledged + 1 + due.place as u64;
             let last = number + due.packets.len() as u64 - 1;
             self.transmitted = self.transmitted.max(last);
@@ -141,13 +144,7 @@ impl State {
     }
 
     /// A HELLO of the newest version, or of version 1, where one is due.
-    fn poll_hello(
-        &mut self,
-        settings: &Settings,
-        life: u64,
-        heard: u64,
-        now: u64,
-    ) -> Option<Frame>
+    fn poll_hello(&mut self, settings: &Settings, life: u64, heard: u64, now: u64) -> Option<Frame>
         requires link { IsLink settings.now.me settings.now.peer }
         requires life { IsLifeNumber life }
         requires heard { heard ≤ 2 ^ 62 }

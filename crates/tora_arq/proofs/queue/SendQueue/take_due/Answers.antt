@@ -22,7 +22,7 @@ returns-clause-some c =
     let first = c.in-Some.ensures.first in
     let here = slice_get_within c.args.self.now c.in-Some.place c.in-Some.field-0-1 first.packet_is in
     let some = taken_some c.args.times.now c.args.now (c.min-end.result - c.in-Some.place) c.in-Some.place c.args.self.now c.in-Some.field-0-1
-        (omega (arith, c.min-end.ensures, c.within_window.ensures, here, first.within, c.requires.0)) first.packet_is first.ready in
+    (omega (arith, c.min-end.ensures, c.within_window.ensures, here, first.within, c.requires.0)) first.packet_is first.ready in
     let most = taken_most c.args.times.now c.args.now (c.min-end.result - c.in-Some.place) c.in-Some.place c.args.self.now in
     let len = ap length c.take_run-packets.ensures.packets in
     (omega (arith, some, len), omega (arith, most, len, c.min-end.ensures), omega (arith, most, len, here))

@@ -11,7 +11,7 @@ loop-packet-preserved c =
     let furthest = c.args.self.now.accepted + WINDOW in record {
       onward = packets_next c.args.life furthest (state_in c.loop-packet.self) (state_in c.on_packet.new.self) c.loop-packet.next c.packet-item.result c.args.packets.now c.loop-packet.packet-index
           c.loop-packet-test.true c.packet-item.is c.on_packet.ensures
-      ∙ c.loop-packet.invariant.onward;
+          ∙ c.loop-packet.invariant.onward;
       next = omega (arith, c.loop-packet.invariant.next);
       room = subst (HasRoom WINDOW furthest) (sym c.on_packet.ensures) (packet_room WINDOW furthest c.args.life (state_in c.loop-packet.self) c.loop-packet.next c.packet-item.result c.loop-packet.invariant.room);
     }
