@@ -1,5 +1,5 @@
 -- The packets of a frame: how many bytes they have, and their two laws.
-use Rattle.std.proofs.Common.{◌≡◌, ◌⊎◌, ℕ, zero, suc, ◌+◌, ◌*◌, ◌^◌, ◌<◌, ◌≤◌, Bool, true, false, cond, ltb, eqb, List, [], ◌∷◌, ◌++◌, length, get_or, take, drop, Option, Some, None, Result, Ok, Err, ◌-◌, MatchOption, refl, sym, ap, ◌∙◌, arith}
+use Rattle.std.proofs.Common.{◌≡◌, ◌⊎◌, ℕ, zero, suc, ◌+◌, ◌*◌, ◌^◌, ◌<◌, ◌≤◌, Bool, true, false, cond, ltb, eqb, List, [], ◌∷◌, ◌++◌, length, get_or, take, drop, Option, Some, None, Result, Ok, Err, ◌-◌, MatchOption, IsOk, refl, sym, ap, ◌∙◌, arith}
 use Rattle.std.specs.List.{AllByRecursion, sum_by}
 use Rattle.std.proofs.lemmas.Bool.{eqb-true}
 use Rattle.std.proofs.lemmas.Bool.Decides.{nat_tests}
@@ -13,7 +13,6 @@ use Rattle.tora_packet.specs.PacketGrammar.{packet_spelling, packet_fault, packe
 use Rattle.tora_packet.proofs.Fields.{IsBytes, joined}
 use Rattle.tora_packet.proofs.GrammarLaws as packets
 use Rattle.tora_packet.specs.declared.PacketError.TheVariants.{Long}
-use Rattle.arrayvec.specs.ArrayVec.{ArrayVec}
 use Rattle.tora_frame.specs.declared.FrameError.{FrameError}
 use Rattle.tora_frame.specs.declared.FrameError.TheVariants as Fault
 use Rattle.tora_frame.specs.FrameGrammar.{packet_length, packets_length, packets_spelling, refused_packet, fault_or, whole_packet_fault, whole_packet_at, begins_packet, first_packet, behind_first, packets_fault, packets_at}
@@ -171,10 +170,13 @@ refused_as bytes e h = refused_by (packet_fault bytes) (packet_at bytes) e h
 abbrev pub Reads : {A : Type 0} → Option FrameError → A → Result A FrameError → Type 0
 Reads f x r = MatchOption f (r ≡ Ok x) (λ e. r ≡ Err e)
 
+abbrev pub stopped : FrameError → Result (Unit {0}) FrameError
+stopped e = Err e
+
 -- a refused packet is the fault of the packets from it on
-pub stops : (f g : Option FrameError) (q : Packet) (ps : ArrayVec Packet) (x : FrameError) → Reads f q (Err x) → Reads (fault_or f g) ps (Err x)
-stops None g q ps x h = absurd cc
-stops (Some e) g q ps x h = cc
+pub stops : (f g : Option FrameError) (q : Packet) (x : FrameError) → Reads f q (Err x) → MatchOption (fault_or f g) (IsOk (stopped x)) (λ e. stopped x ≡ Err e)
+stops None g q x h = absurd cc
+stops (Some e) g q x h = cc
 
 pub goes_on : (f : Option FrameError) (q p : Packet) → Reads f q (Ok p) → (f ≡ None) × (p ≡ q)
 goes_on None q p h = (refl, cc)

@@ -155,7 +155,8 @@ fn read_data(bytes: &[u8], header: &Header) -> Result<Body, FrameError>
     ensures valid { IfOk result (IsBody header.now) }
 {
     let (number, count) = read_numbers(bytes)?;
-    let packets = read_packets(bytes, header.version, number)?;
+    let mut packets = Packets::new();
+    read_packets(bytes, header.version, number, &mut packets)?;
     Ok(Body::Data(number, count, packets))
 }
 

@@ -1,5 +1,5 @@
 //! Frames to bytes.
-ghost use Rattle.std.specs.Prelude.{◌≡◌, ℕ, ◌+◌, ◌≤◌, ◌++◌, List, length, replicate};
+ghost use Rattle.std.specs.Prelude.{◌≡◌, ℕ, ◌+◌, ◌≤◌, ◌++◌, [], length, replicate};
 ghost use Rattle.arrayvec.specs.ArrayVec.{ArrayVec as Items, array_vec_len};
 ghost use Rattle.tora_packet.specs.declared.Packet.{Packet as AnyPacket};
 ghost use Rattle.tora_packet.specs.PacketParts.{UpdateParts};
@@ -51,19 +51,18 @@ fn packets_length(packets: &[Packet]) -> u16
     len
 }
 
-/// The header of a frame of a kind whose payload has this many bytes.
-fn header_bytes(kind: u8, len: u16, header: &Header) -> Bytes
-    ensures items { result.items ≡ header_spelling kind len header.now }
-    ensures len { array_vec_len result ≡ 28 }
+/// Begins a frame with the header of a kind whose payload has this many bytes.
+fn put_header(kind: u8, len: u16, header: &Header, out: &mut Bytes)
+    requires { out.old.items ≡ [] }
+    ensures items { out.new.items ≡ header_spelling kind len header.now }
+    ensures len { array_vec_len out.new ≡ 28 }
 {
-    let mut out = ArrayVec::new();
-    put(&mut out, &[header.version.number(), kind]);
-    put(&mut out, &len.to_be_bytes());
-    put(&mut out, &header.sender.to_be_bytes());
-    put(&mut out, &header.receiver.to_be_bytes());
-    put(&mut out, &header.life.to_be_bytes());
-    put(&mut out, &header.heard.to_be_bytes());
-    out
+    put(out, &[header.version.number(), kind]);
+    put(out, &len.to_be_bytes());
+    put(out, &header.sender.to_be_bytes());
+    put(out, &header.receiver.to_be_bytes());
+    put(out, &header.life.to_be_bytes());
+    put(out, &header.heard.to_be_bytes());
 }
 
 /// How many bytes of a DATA frame stand between its header and its packets.
@@ -101,26 +100,26 @@ fn put_packets(packets: &[Packet], out: &mut Bytes)
 }
 
 /// The bytes of a DATA frame.
-fn data_bytes(header: &Header, number: u64, count: u64, packets: &Packets) -> Bytes
-    ensures { result.items ≡ frame_spelling (frame_of header.now (Body.Data number count packets.now)) }
+fn put_data(header: &Header, number: u64, count: u64, packets: &Packets, out: &mut Bytes)
+    requires { out.old.items ≡ [] }
+    ensures { out.new.items ≡ frame_spelling (frame_of header.now (Body.Data number count packets.now)) }
 {
     let version = header.version;
     let len = data_head_length(version) + packets_length(packets.as_slice());
-    let mut out = header_bytes(DATA, len, header);
-    put(&mut out, &number.to_be_bytes());
-    put(&mut out, &count.to_be_bytes());
-    put_batch_size(version, packets.len(), &mut out);
-    put_packets(packets.as_slice(), &mut out);
-    out
+    put_header(DATA, len, header, out);
+    put(out, &number.to_be_bytes());
+    put(out, &count.to_be_bytes());
+    put_batch_size(version, packets.len(), out);
+    put_packets(packets.as_slice(), out);
 }
 
 /// The bytes of an ACK.
-fn ack_bytes(header: &Header, count: u64) -> Bytes
-    ensures { result.items ≡ frame_spelling (frame_of header.now (Body.Ack count)) }
+fn put_ack(header: &Header, count: u64, out: &mut Bytes)
+    requires { out.old.items ≡ [] }
+    ensures { out.new.items ≡ frame_spelling (frame_of header.now (Body.Ack count)) }
 {
-    let mut out = header_bytes(ACK, 8, header);
-    put(&mut out, &count.to_be_bytes());
-    out
+    put_header(ACK, 8, header, out);
+    put(out, &count.to_be_bytes());
 }
 
 /// The bytes of a frame: 28 for a HELLO, 36 for an ACK, and for a DATA frame those of its packets and 44 in version 1, 48
@@ -130,11 +129,13 @@ pub fn encode(frame: &Frame) -> ArrayVec<u8, LONGEST_FRAME>
     ensures exact { result.items ≡ frame_spelling frame.now }
 {
     let header = frame.header();
+    let mut out = ArrayVec::new();
     match frame.body() {
-        Body::Hello => header_bytes(HELLO, 0, header),
-        Body::Data(number, count, packets) => data_bytes(header, *number, *count, packets),
-        Body::Ack(count) => ack_bytes(header, *count),
+        Body::Hello => put_header(HELLO, 0, header, &mut out),
+        Body::Data(number, count, packets) => put_data(header, *number, *count, packets, &mut out),
+        Body::Ack(count) => put_ack(header, *count, &mut out),
     }
+    out
 }
 
 /// No frame has more bytes than `LONGEST_FRAME`, which are those of a DATA frame of version 2 with sixteen updates. Own

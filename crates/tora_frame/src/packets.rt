@@ -4,12 +4,11 @@ ghost use Rattle.std.specs.List.{AllByRecursion};
 ghost use Rattle.arrayvec.specs.ArrayVec.{array_vec_len};
 ghost use Rattle.tora_packet.specs.AnyPacket.{IsPacket};
 ghost use Rattle.tora_packet.specs.PacketGrammar.{u64_at};
-ghost use Rattle.tora_frame.specs.FrameParts.{IsBatchSize, batch};
+ghost use Rattle.tora_frame.specs.FrameParts.{IsBatchSize};
 ghost use Rattle.tora_frame.specs.FrameGrammar.{version_at, version_of, whole_packet_fault, whole_packet_at, first_packet, behind_first, packets_fault, packets_at, batch_size_at, is_bad_batch_size, batch_fault, fault_inside, packets_inside};
 
 use crate::layout::{BATCH_OFFSET, PACKET_OFFSET};
 use crate::{FrameError, GREATEST_NUMBER, MOST_PACKETS, Packets, Version};
-use arrayvec::ArrayVec;
 use tora_packet::{Packet, PacketError};
 
 /// The packet that all the bytes spell.
@@ -59,14 +58,15 @@ fn behind(bytes: &[u8], offset: usize) -> &[u8]
     rest
 }
 
-/// So many packets one after another, with no byte behind them.
-fn read_list(bytes: &[u8], many: usize) -> Result<Packets, FrameError>
-    requires { many ≤ MOST_PACKETS }
-    ensures exact { MatchOption (packets_fault many bytes.now) (result ≡ Ok (batch (packets_at many bytes.now))) (λ e. result ≡ Err e) }
-    ensures valid { IfOk result (λ packets. AllByRecursion IsPacket packets.items) }
-    ensures many { IfOk result (λ packets. array_vec_len packets ≡ many) }
+/// So many packets one after another, with no byte behind them. An `Err` may leave some of them.
+fn read_list(bytes: &[u8], many: usize, packets: &mut Packets) -> Result<(), FrameError>
+    requires many { many ≤ MOST_PACKETS }
+    requires empty { packets.old.items ≡ [] }
+    ensures exact { MatchOption (packets_fault many bytes.now) (IsOk result) (λ e. result ≡ Err e) }
+    ensures packets { OnOk result (packets.new.items ≡ packets_at many bytes.now) }
+    ensures valid { OnOk result (AllByRecursion IsPacket packets.new.items) }
+    ensures len { OnOk result (array_vec_len packets.new ≡ many) }
 {
-    let mut packets = ArrayVec::new();
     let mut rest = bytes;
     for _ in 0..many {
         let (first, behind) = cut_packet(rest);
@@ -76,7 +76,7 @@ fn read_list(bytes: &[u8], many: usize) -> Result<Packets, FrameError>
     if !rest.is_empty() {
         return Err(FrameError::Packet(PacketError::Long));
     }
-    Ok(packets)
+    Ok(())
 }
 
 /// How many packets a frame of version 2 has, where the first one has this number, and the test of it.
@@ -102,45 +102,54 @@ fn read_batch_size(bytes: &[u8], number: u64) -> Result<usize, FrameError>
 
 /// The packets of a frame of version 2, and the tests of them.
 #[tactic(auto, unfolding(crate::specs::FrameGrammar::batch_fault))]
-fn read_batch(bytes: &[u8], number: u64) -> Result<Packets, FrameError>
+fn read_batch(bytes: &[u8], number: u64, packets: &mut Packets) -> Result<(), FrameError>
     requires len { 48 ≤ length bytes.now }
     requires number { number ≡ u64_at 28 bytes.now }
     requires fits { number ≤ 2 ^ 62 }
-    ensures exact { MatchOption (batch_fault bytes.now) (result ≡ Ok (batch (packets_at (batch_size_at bytes.now) (drop 48 bytes.now)))) (λ e. result ≡ Err e) }
-    ensures valid { IfOk result (λ packets. AllByRecursion IsPacket packets.items) }
-    ensures many { IfOk result (λ packets. (0 < array_vec_len packets) × (array_vec_len packets ≤ 16) × (number + array_vec_len packets ≤ 2 ^ 62 + 1)) }
+    requires empty { packets.old.items ≡ [] }
+    ensures exact { MatchOption (batch_fault bytes.now) (IsOk result) (λ e. result ≡ Err e) }
+    ensures packets { OnOk result (packets.new.items ≡ packets_at (batch_size_at bytes.now) (drop 48 bytes.now)) }
+    ensures valid { OnOk result (AllByRecursion IsPacket packets.new.items) }
+    ensures many { OnOk result ((0 < array_vec_len packets.new) × (array_vec_len packets.new ≤ 16) × (number + array_vec_len packets.new ≤ 2 ^ 62 + 1)) }
 {
     let many = read_batch_size(bytes, number)?;
-    read_list(behind(bytes, BATCH_OFFSET), many)
+    read_list(behind(bytes, BATCH_OFFSET), many, packets)
 }
 
 /// The packet of a frame of version 1, which all the bytes behind the numbers are of.
-fn read_one(bytes: &[u8]) -> Result<Packets, FrameError>
-    requires { 44 ≤ length bytes.now }
-    ensures exact { MatchOption (whole_packet_fault (drop 44 bytes.now)) (result ≡ Ok (batch (whole_packet_at (drop 44 bytes.now) ∷ []))) (λ e. result ≡ Err e) }
-    ensures valid { IfOk result (λ packets. AllByRecursion IsPacket packets.items) }
-    ensures many { IfOk result (λ packets. array_vec_len packets ≡ 1) }
+fn read_one(bytes: &[u8], packets: &mut Packets) -> Result<(), FrameError>
+    requires len { 44 ≤ length bytes.now }
+    requires empty { packets.old.items ≡ [] }
+    ensures exact { MatchOption (whole_packet_fault (drop 44 bytes.now)) (IsOk result) (λ e. result ≡ Err e) }
+    ensures packets { OnOk result (packets.new.items ≡ whole_packet_at (drop 44 bytes.now) ∷ []) }
+    ensures valid { OnOk result (AllByRecursion IsPacket packets.new.items) }
 {
-    let packet = read_packet(behind(bytes, PACKET_OFFSET))?;
-    let mut packets = ArrayVec::new();
-    packets.push(packet);
-    Ok(packets)
+    packets.push(read_packet(behind(bytes, PACKET_OFFSET))?);
+    Ok(())
 }
 
-/// The packets of a DATA frame of this version, where the first one has this number, and the tests of them.
+/// Reads the packets of a DATA frame of this version, where the first one has this number, and tests them. An `Err` may
+/// leave some of them.
 #[tactic(auto, unfolding(crate::specs::FrameGrammar::packets_inside))]
-pub fn read_packets(bytes: &[u8], version: Version, number: u64) -> Result<Packets, FrameError>
+pub fn read_packets(
+    bytes: &[u8],
+    version: Version,
+    number: u64,
+    packets: &mut Packets,
+) -> Result<(), FrameError>
     requires len { 48 ≤ length bytes.now }
     requires version { version ≡ version_of (version_at bytes.now) }
     requires number { number ≡ u64_at 28 bytes.now }
     requires fits { number ≤ 2 ^ 62 }
-    ensures exact { MatchOption (fault_inside bytes.now) (result ≡ Ok (batch (packets_inside bytes.now))) (λ e. result ≡ Err e) }
-    ensures valid { IfOk result (λ packets. AllByRecursion IsPacket packets.items) }
-    ensures many { IfOk result (λ packets. IsBatchSize version (array_vec_len packets)) }
-    ensures last { IfOk result (λ packets. number + array_vec_len packets ≤ 2 ^ 62 + 1) }
+    requires empty { packets.old.items ≡ [] }
+    ensures exact { MatchOption (fault_inside bytes.now) (IsOk result) (λ e. result ≡ Err e) }
+    ensures packets { OnOk result (packets.new.items ≡ packets_inside bytes.now) }
+    ensures valid { OnOk result (AllByRecursion IsPacket packets.new.items) }
+    ensures many { OnOk result (IsBatchSize version (array_vec_len packets.new)) }
+    ensures last { OnOk result (number + array_vec_len packets.new ≤ 2 ^ 62 + 1) }
 {
     match version {
-        Version::One => read_one(bytes),
-        Version::Two => read_batch(bytes, number),
+        Version::One => read_one(bytes, packets),
+        Version::Two => read_batch(bytes, number, packets),
     }
 }

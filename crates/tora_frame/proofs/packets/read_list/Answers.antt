@@ -1,7 +1,6 @@
 use Rattle.std.proofs.Common.{◌≡◌, ◌+◌, ◌-◌, [], ◌∷◌, ◌++◌, length, refl, sym, ap, ◌∙◌, arith}
 use Rattle.std.proofs.lemmas.Result.{err_from_is_err_and}
 use Rattle.std.proofs.lemmas.List.{append-nil, append_assoc}
-use Rattle.tora_frame.specs.FrameParts.{batch}
 use Rattle.tora_frame.specs.FrameGrammar.{whole_packet_fault, whole_packet_at, first_packet, behind_first, packets_fault, packets_at}
 use Rattle.tora_frame.proofs.PacketLists.{stops, goes_on, next_fault, next_at, fault_at_end, no_fault_at_end, none_left, all_push}
 use Rattle.tora_frame.proofs.packets.read_list.Goals as goal
@@ -12,7 +11,7 @@ returns-in_err-read_packet-clause-exact c =
     let left = packets_fault (c.args.many - (c.loop.counter + 1)) (behind_first c.loop.rest.now) in
     let first = rw c.cut_packet.ensures.first at c.in_err-read_packet.ensures.exact in
     rw (p.1, p.2, ← c.loop.invariant.fault, next_fault c.args.many c.loop.counter c.loop.rest.now c.loop-test.true)
-    (stops (whole_packet_fault (first_packet c.loop.rest.now)) left (whole_packet_at (first_packet c.loop.rest.now)) (batch (packets_at c.args.many c.args.bytes.now)) c.in_err-read_packet.field-0.0 first)
+    (stops (whole_packet_fault (first_packet c.loop.rest.now)) left (whole_packet_at (first_packet c.loop.rest.now)) c.in_err-read_packet.field-0.0 first)
 
 pub loop-preserved : goal.loop-preserved
 loop-preserved c =
@@ -38,5 +37,9 @@ pub returns-clause-exact : goal.returns-clause-exact
 returns-clause-exact c =
     let over : c.args.many - c.loop.counter ≡ 0 = omega (arith, c.loop-test.false) in
     let fault = rw over at c.loop.invariant.fault in
-    let items = rw (over, none_left c.loop.rest.now) at c.loop.invariant.items in
-    rw (← fault, no_fault_at_end c.loop.rest.now (sym c.is_empty.ensures ∙ c.if-not-is_empty.false), ← items, append-nil c.loop.packets.items) refl
+    rw (← fault, no_fault_at_end c.loop.rest.now (sym c.is_empty.ensures ∙ c.if-not-is_empty.false)) refl
+
+pub returns-clause-packets : goal.returns-clause-packets
+returns-clause-packets c =
+    let over : c.args.many - c.loop.counter ≡ 0 = omega (arith, c.loop-test.false) in
+    sym (append-nil c.loop.packets.items) ∙ (rw (over, none_left c.loop.rest.now) at c.loop.invariant.items)
