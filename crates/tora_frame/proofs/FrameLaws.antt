@@ -1,19 +1,17 @@
 -- The two laws: what is read is spelled so, and what is spelled so is read.
-use Rattle.std.proofs.Common.{◌≡◌, ◌⊎◌, ℕ, ◌+◌, ◌-◌, ◌*◌, ◌^◌, ◌<◌, ◌≤◌, true, false, Bool, not, ltb, eqb, leb, List, [], ◌∷◌, ◌++◌, length, get_or, drop, Option, Some, None, Result, Ok, Err, refl, sym, ap, ◌∙◌, arith, inl, inr, MatchOption, IfOk, IsOk, ◌==◌, ◌||◌}
+use Rattle.std.proofs.Common.{◌≡◌, ◌⊎◌, ℕ, ◌+◌, ◌-◌, ◌^◌, ◌<◌, ◌≤◌, true, false, not, ltb, List, [], ◌∷◌, ◌++◌, length, get_or, drop, Some, None, Result, Ok, Err, refl, sym, ap, ◌∙◌, arith, inl, inr, MatchOption, IfOk, IsOk, ◌==◌, ◌||◌}
 use Rattle.std.specs.Prelude.{slice_range}
 use Rattle.std.specs.List.{AllByRecursion}
 use Rattle.std.specs.Int.{w16, w64, to_be_bytes}
-use Rattle.std.proofs.lemmas.Bool.{eqb-true, le-ltb, ltb-false}
+use Rattle.std.proofs.lemmas.Bool.{eqb-true}
 use Rattle.std.proofs.lemmas.Bool.Decides.{nat_tests}
 use Rattle.std.proofs.lemmas.List.{nil_from_length, length-drop, length-append, append-nil}
 use Rattle.std.proofs.lemmas.Nat.{from_be_bytes-to_be_bytes_2, from_be_bytes-to_be_bytes_4, from_be_bytes-to_be_bytes_8}
 use Rattle.tora_packet.specs.declared.Packet.{Packet}
 use Rattle.tora_packet.specs.declared.Packet.TheVariants.{Qry, Upd, Clr}
-use Rattle.tora_packet.specs.declared.PacketError.{PacketError}
 use Rattle.tora_packet.specs.AnyPacket.{IsPacket}
-use Rattle.tora_packet.specs.PacketGrammar.{packet_spelling, packet_fault, packet_at, u32_at, u64_at, SpellsPacket}
+use Rattle.tora_packet.specs.PacketGrammar.{packet_spelling, u32_at, u64_at}
 use Rattle.tora_packet.proofs.Fields.{IsBytes, step, number_back, wide_back, four_at, joined}
-use Rattle.tora_packet.proofs.GrammarLaws as packets
 use Rattle.tora_frame.specs.declared.FrameError.{FrameError}
 use Rattle.tora_frame.specs.declared.FrameError.TheVariants as Fault
 use Rattle.tora_frame.specs.declared.parts.Version.{Version}
@@ -22,11 +20,11 @@ use Rattle.tora_frame.specs.declared.parts.Header.{Header}
 use Rattle.tora_frame.specs.declared.parts.Body.{Body}
 use Rattle.tora_frame.specs.declared.parts.Body.TheVariants.{Hello, Data, Ack}
 use Rattle.tora_frame.specs.FrameParts.{FrameParts, IsFrame, IsHeader, IsBatchSize, IsBody, IsData, IsAck, batch, frame_of}
-use Rattle.tora_frame.specs.FrameGrammar.{version_number, version_at, version_of, is_version, header_spelling, data_head_length, batch_size_spelling, packets_length, packets_spelling, payload_length, payload_spelling, frame_spelling, SpellsFrame}
-use Rattle.tora_frame.specs.FrameGrammar.{u16_at, kind_at, is_kind, is_data_length, is_payload_length, header_at, layout_fault, header_fault, body_fault, refused_packet, packets_fault, packets_at, batch_size_at, is_batch_size_zero, is_bad_batch_size, batch_fault, whole_packet_fault, whole_packet_at, fault_inside, packets_inside, frame_fault}
+use Rattle.tora_frame.specs.FrameGrammar.{version_number, version_at, version_of, header_spelling, data_head_length, batch_size_spelling, packets_length, packets_spelling, frame_spelling, SpellsFrame}
+use Rattle.tora_frame.specs.FrameGrammar.{u16_at, kind_at, is_kind, is_data_length, is_payload_length, header_at, layout_fault, header_fault, body_fault, packets_fault, packets_at, batch_size_at, is_bad_batch_size, batch_fault, whole_packet_fault, whole_packet_at, fault_inside, packets_inside, frame_fault}
 use Rattle.tora_frame.specs.FrameGrammar.{frame_at, frame_or, frame_reading}
 use Rattle.tora_frame.proofs.FrameFields.{next_test, neither, versions, version_back, version_again, is_version_number, IsLaidOut, laid_out, no_layout_fault, kinds, no_header_fault, body_at_hello, body_at_data, body_at_ack, no_fault_in_hello, no_fault_in_data, no_fault_in_ack, first_two, drop_bytes, length_back, u16_at-append}
-use Rattle.tora_frame.proofs.PacketLists.{length-packet_spelling, length-packets_spelling, packets_length_least, packets_length_most, length-packets_at, packet_spelt, packets_spelt, packet_again, packets_again}
+use Rattle.tora_frame.proofs.PacketLists.{length-packets_spelling, packets_length_least, packets_length_most, length-packets_at, packet_spelt, packets_spelt, packet_again, packets_again}
 
 -- ---- what is read is spelled so
 

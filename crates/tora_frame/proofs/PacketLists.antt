@@ -1,15 +1,14 @@
 -- The packets of a frame: how many bytes they have, and their two laws.
-use Rattle.std.proofs.Common.{◌≡◌, ◌⊎◌, ℕ, zero, suc, ◌+◌, ◌*◌, ◌^◌, ◌<◌, ◌≤◌, Bool, true, false, cond, ltb, eqb, List, [], ◌∷◌, ◌++◌, length, get_or, take, drop, Option, Some, None, Result, Ok, Err, ◌-◌, MatchOption, IsOk, refl, sym, ap, ◌∙◌, arith}
-use Rattle.std.specs.List.{AllByRecursion, sum_by}
+use Rattle.std.proofs.Common.{◌≡◌, ℕ, zero, suc, ◌+◌, ◌*◌, ◌<◌, ◌≤◌, Bool, true, false, cond, eqb, List, [], ◌∷◌, ◌++◌, length, take, drop, Option, Some, None, Result, Ok, Err, ◌-◌, MatchOption, IsOk, refl, sym, ap, ◌∙◌, arith}
+use Rattle.std.specs.List.{AllByRecursion}
 use Rattle.std.proofs.lemmas.Bool.{eqb-true}
-use Rattle.std.proofs.lemmas.Bool.Decides.{nat_tests}
 use Rattle.std.proofs.lemmas.List.{length-append}
 use Rattle.std.proofs.lemmas.List.Sums.{sum_by-cons}
 use Rattle.tora_packet.specs.declared.Packet.{Packet}
 use Rattle.tora_packet.specs.declared.Packet.TheVariants.{Qry, Upd, Clr}
 use Rattle.tora_packet.specs.declared.PacketError.{PacketError}
 use Rattle.tora_packet.specs.AnyPacket.{IsPacket}
-use Rattle.tora_packet.specs.PacketGrammar.{packet_spelling, packet_fault, packet_at, packet_or, packet_reading, length_of, kind_of, u64_at, SpellsPacket}
+use Rattle.tora_packet.specs.PacketGrammar.{packet_spelling, packet_fault, packet_at, packet_or, packet_reading, length_of, kind_of}
 use Rattle.tora_packet.proofs.Fields.{IsBytes, joined}
 use Rattle.tora_packet.proofs.GrammarLaws as packets
 use Rattle.tora_packet.specs.declared.PacketError.TheVariants.{Long}

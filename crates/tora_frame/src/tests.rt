@@ -240,7 +240,8 @@ fn last_number_of_a_batch_is_in_its_range(rt: HostRuntime) -> Result<(), Fail> {
     let packets = query_and_clear().ok_or("packets")?;
     let frame = Frame::data(NEW_FROM_ONE, GREATEST_NUMBER - 1, 0, packets);
     assert_eq!(rt; decode(&encode(&frame)), Ok(frame));
-    let text = "0202003000000001000000020000000000000005000000000000000940000000000000000000000000000000\
+    let text =
+        "0202003000000001000000020000000000000005000000000000000940000000000000000000000000000000\
                 0200000001010000000000040103000000000004000000000000000700000003";
     let bytes = hex::decode(rt.alloc(), text)?;
     assert_eq!(rt; decode(&bytes), Err(FrameError::Count));

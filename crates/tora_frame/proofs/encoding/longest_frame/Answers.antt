@@ -1,6 +1,4 @@
-use Rattle.std.proofs.Common.{◌≡◌, ◌≤◌, length, arith}
-use Rattle.tora_frame.specs.declared.parts.Version.{Version}
-use Rattle.tora_frame.specs.declared.parts.Version.TheVariants.{One, Two}
+use Rattle.std.proofs.Common.{◌≤◌, length, arith}
 use Rattle.tora_frame.specs.declared.parts.Header.{Header}
 use Rattle.tora_frame.specs.declared.parts.Body.{Body}
 use Rattle.tora_frame.specs.declared.parts.Body.TheVariants.{Hello, Data, Ack}
