@@ -1,5 +1,5 @@
 -- Events, packets and frames of a run, one call further.
-use Rattle.std.proofs.Common.{◌≡◌, ◌≢◌, ℕ, zero, suc, ◌+◌, ◌<◌, ◌≤◌, true, false, ⊎_elim, List, [], ◌∷◌, ◌++◌, map, length, Option, Some, None, if◌then◌else◌, Contains, refl, sym, ap, ◌∙◌, subst, arith, eqb-true, ◌==◌, append_assoc}
+use Rattle.std.proofs.Common.{◌≡◌, ◌≢◌, ℕ, zero, suc, ◌+◌, ◌<◌, ◌≤◌, true, false, ⊎_elim, List, [], ◌∷◌, ◌++◌, map, Option, Some, None, if◌then◌else◌, Contains, refl, sym, ap, ◌∙◌, subst, arith, eqb-true, ◌==◌, append_assoc}
 use Rattle.std.specs.List.{AllByRecursion}
 use Rattle.std.proofs.lemmas.Bool.{cases_Bool, false_from_ne_true}
 use Rattle.std.proofs.lemmas.List.Elements.{Contains-append_left, Contains-append_right}

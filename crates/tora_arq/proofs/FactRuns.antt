@@ -14,7 +14,7 @@ use Rattle.tora_arq.specs.declared.state.Phase.TheVariants.{Closed, Unbound, Bou
 use Rattle.tora_arq.specs.Lives.{life_of, is_same_life}
 use Rattle.tora_arq.specs.Settings.{Settings}
 use Rattle.tora_arq.specs.LinkEnd.{EndState, bound_life, life_in}
-use Rattle.tora_arq.specs.LinkFacts.{LinkCall, after_call, IsPossible, frame_sent_by, event_given_by, events_left, events_queued, packet_submitted, IsUnboundEnd, IsBoundEnd, IsEndIn, IsEnd, IsFrameOf, HandsInFrameOf, IsFrameSentIn, IsQueueOf, IsBodyOf, AreHeld, AreFrom, BodyTells, CallTells, packets_delivered, DeliversNext, list_of, AreEventsBetween, Leads, AreRising, IsCountOfCall, IsPacketAt, HasNumber, Carries}
+use Rattle.tora_arq.specs.LinkFacts.{LinkCall, after_call, IsPossible, frame_sent_by, event_given_by, events_left, events_queued, packet_submitted, IsUnboundEnd, IsBoundEnd, IsEndIn, IsEnd, IsFrameOf, HandsInFrameOf, IsFrameSentIn, IsQueueOf, IsBodyOf, AreHeld, AreFrom, BodyTells, CallTells, packets_delivered, DeliversNext, list_of, AreEventsBetween, Leads, AreRising, IsCountOfCall, IsPacketAt, Carries}
 use Rattle.tora_arq.specs.LinkFacts.LinkCall.{Open, Frame, Tick, Submit, PollEvent, Transmit, Cut}
 use Rattle.tora_arq.specs.LinkRuns.{FrameHandedIn, Submission, LinkRun, first_run, own_number_in, frames_handed_in, submission_of, submissions, run_after, run_after_all, AreAllPossible, run_of, packets_submitted, WasHandedIn, CameAt, CountCame, AreAllTold, IsBodyOfRun, IsFrameOfRun, IsSameAtEachTry}
 use Rattle.tora_arq.proofs.FactSteps.{is_same_life-refl, is_same_life-true, AreFrom-append, Step, call_step}

@@ -11,7 +11,7 @@ use Rattle.tora_frame.specs.declared.parts.Body.TheVariants.{Hello, Data, Ack}
 use Rattle.tora_frame.specs.FrameParts.{IsBatchSize, IsBody}
 use Rattle.tora_arq.specs.declared.Life.{Life}
 use Rattle.tora_arq.specs.Held.{hold_at}
-use Rattle.tora_arq.specs.LinkEnd.{EndState, after_release, after_delivery, after_hold, after_packet, after_packets}
+use Rattle.tora_arq.specs.LinkEnd.{EndState, after_release, after_delivery, after_packet, after_packets}
 use Rattle.tora_arq.specs.EndRange.{IsNumbered}
 
 pub passed_over : (life : Life) (furthest : ℕ) (e : EndState) (number : ℕ) (packet : Packet) → number ≤ e.accepted → after_packet life furthest e number packet ≡ e

@@ -1,5 +1,5 @@
 -- What the packets of a frame leave of the room for events, and of the places of those held.
-use Rattle.std.proofs.Common.{◌≡◌, ℕ, zero, suc, ◌+◌, ◌-◌, ◌<◌, ◌≤◌, nat_le, List, [], ◌∷◌, length, Option, Some, None, ap, refl, arith, length-append, leb-true}
+use Rattle.std.proofs.Common.{◌≡◌, ℕ, suc, ◌-◌, ◌<◌, ◌≤◌, nat_le, List, [], ◌∷◌, length, Option, Some, None, ap, refl, arith, length-append, leb-true}
 use Rattle.std.proofs.lemmas.Bool.{cond_both, leb-false}
 use Rattle.tora_packet.specs.declared.Packet.{Packet}
 use Rattle.tora_arq.specs.declared.Life.{Life}

@@ -1,4 +1,4 @@
-use Rattle.std.proofs.Common.{◌+◌, sym, subst, ap, ◌∙◌, arith}
+use Rattle.std.proofs.Common.{◌+◌, sym, subst, ◌∙◌, arith}
 use Rattle.tora_arq.specs.declared.TheConstants.{WINDOW}
 use Rattle.tora_arq.specs.EndRange.{HasRoom}
 use Rattle.tora_arq.specs.StateView.{state_in}
