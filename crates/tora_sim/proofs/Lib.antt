@@ -26,3 +26,5 @@ pub mod FirstStore
 pub mod FreshEnds
 pub mod Restarting
 pub mod NodeEnds
+pub mod Olds
+pub mod KeptFrames

@@ -1,6 +1,7 @@
 //! A simulated world of nodes, links and datagrams.
 #![tactic(auto)]
 
+mod datagrams;
 mod files;
 mod first;
 mod lanes;
