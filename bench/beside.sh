@@ -44,4 +44,6 @@ for name, value in best.items():
         other = next((v for n, v in best.items() if n.startswith("base") and pairs[name].startswith(n)), None)
         ratio = f"  {value / other:5.2f} times" if other else ""
         print(f"{name:14} {value:8.2f} ns   baseline {other or 0:8.2f} ns{ratio}")
+    elif not name.startswith("base"):
+        print(f"{name:14} {value:8.2f} ns")
 P

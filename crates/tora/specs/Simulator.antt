@@ -14,7 +14,7 @@ abbrev pub link_between : ℕ × ℕ → Link
 link_between p = record { a = p.0; b = p.1 }
 
 abbrev pub topology_of : List (ℕ × ℕ) → List ℕ → Topology
-topology_of links dests = record { links = map link_between links; destinations = dests }
+topology_of links dests = record { links = map link_between links; destinations = dests; olds = [] }
 
 -- 1 s between HELLOs, 5 s of silence, 0.5 s between tries, 8 tries
 abbrev pub standard_times : Times
