@@ -299,6 +299,9 @@ fn old_node_is_met(rt: HostRuntime) -> Result<(), Fail> {
     let mut sim = Sim::new(alloc, &topology).expect(&rt, "a simulator");
     assert_eq!(&rt; sim.run(&MIXED), Ok(()));
     assert_eq!(&rt; sim.datagrams(), 5);
-    assert_eq!(&rt; sim.step(&Event::Transmit(1, 2)), Err(SimError::NotPossible));
+    assert_eq!(&rt;
+        sim.step(&Event::Transmit(1, 2)),
+        Err(SimError::NotPossible)
+    );
     Ok(())
 }
