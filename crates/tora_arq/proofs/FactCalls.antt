@@ -19,9 +19,9 @@ use Rattle.tora_arq.specs.declared.state.Phase.TheVariants.{Closed, Unbound, Bou
 use Rattle.tora_arq.specs.declared.queue.QueuedPacket.{QueuedPacket}
 use Rattle.tora_arq.specs.Lives.{is_same_life}
 use Rattle.tora_arq.specs.Settings.{Settings, IsTimes}
-use Rattle.tora_arq.specs.SendQueue.{packets_in, packet_in, untried, has_given_up, DuePacket, first_due}
-use Rattle.tora_arq.specs.LinkEnd.{EndState, life_in, bound_life, after_end, on_submit_in, on_submit, submit_answer, after_submit, after_cut_in, after_cut, is_silent, after_tick_in, after_tick, is_hello_due, on_transmit_due, on_transmit_in, on_transmit, frame_due, after_transmit}
-use Rattle.tora_arq.specs.LinkFacts.{LinkCall, after_call, IsPossible, frame_sent_by, event_given_by, events_left, events_queued, packet_submitted, IsUnboundEnd, IsBoundEnd, IsEndIn, IsEnd, OpensWith, StaysOrCloses, WasBoundOrBinds, WasUnboundOrOpens, IsBodySent, IsFrameSentIn, IsFrameSent, IsQueueOf, IsBodyOf, AreHeld, AreFrom, CallTells, packets_delivered, DeliversNext, list_of, AreEventsBetween, IsCountOfCall, Acknowledges}
+use Rattle.tora_arq.specs.SendQueue.{packets_in, packet_in, untried, has_given_up, DueBatch}
+use Rattle.tora_arq.specs.LinkEnd.{EndState, life_in, bound_life, after_end, on_submit_in, on_submit, submit_answer, after_submit, after_cut_in, after_cut, is_silent, after_tick_in, after_tick, is_hello_due, is_old_hello_due, on_hello, due_of, on_transmit_due, on_transmit_in, on_transmit, frame_due, after_transmit}
+use Rattle.tora_arq.specs.LinkFacts.{LinkCall, after_call, IsPossible, frame_sent_by, event_given_by, events_left, events_queued, packet_submitted, IsUnboundEnd, IsBoundEnd, IsEndIn, IsEnd, OpensWith, StaysOrCloses, WasBoundOrBinds, WasUnboundOrOpens, IsBodySent, IsFrameSentIn, IsFrameSent, IsQueueOf, IsBodyOf, AreHeld, AreFrom, IsPacketAt, CallTells, packets_delivered, DeliversNext, list_of, AreEventsBetween, IsCountOfCall, Acknowledges}
 use Rattle.tora_arq.specs.LinkFacts.LinkCall.{Open, Frame, Tick, Submit, PollEvent, Transmit, Cut}
 use Rattle.tora_arq.proofs.FactSteps.{is_same_life-refl, is_same_life-true, Step, Stays, transmit_sends, call_step}
 use Rattle.tora_arq.proofs.FactSteps.Step.{stays, opens, ends, submits, binds, goes_on}
@@ -303,13 +303,26 @@ slice_get-drop zero xs i = let z : i ≡ 0 + i = omega arith in ap (slice_get xs
 slice_get-drop (suc n) [] i = refl
 slice_get-drop (suc n) (x ∷ xs) i = let z : suc (n + i) ≡ suc n + i = omega arith in slice_get-drop n xs i ∙ ap (slice_get (x ∷ xs)) z
 
+-- one of packets without a gap
+AreFrom-at : (Is : ℕ → Packet → Type 0) (place : ℕ) (packets : List Packet) (i : ℕ) (packet : Packet) → AreFrom Is place packets → slice_get packets i ≡ Some packet → Is (place + i) packet
+AreFrom-at Is place [] i packet h e = absurd (cc)
+AreFrom-at Is place (x ∷ packets) zero packet h e =
+    let first : x ≡ packet = cc in
+    let here : place ≡ place + 0 = omega arith in
+    subst (λ n. Is n packet) here (subst (Is place) first h.0)
+AreFrom-at Is place (x ∷ packets) (suc i) packet h e =
+    let next : suc place + i ≡ place + suc i = omega arith in
+    subst (λ n. Is n packet) next (AreFrom-at Is (suc place) packets i packet h.1 e)
+
 pub body-content : (s : Settings) (e : EndState) (submitted : List Packet) (body : Body) → IsQueueOf submitted e → IsBodySent s e body → IsBodyOf submitted e.accepted body
 body-content s e submitted Hello q h = tt
-body-content s e submitted (Data number count packet) q h =
+body-content s e submitted (Data number count packets) q h =
     record {
-      place = e.acknowledged + h.place;
-      number_is = h.number_is;
-      packet_is = sym (slice_get-drop e.acknowledged submitted h.place) ∙ ap (λ x. slice_get x h.place) (sym q.waiting) ∙ h.packet_is;
+      first = omega (arith, h.number_is);
+      packets_are = λ place packet has.
+          let at : IsPacketAt (packets_in e.queue) (h.place + has.0) packet = AreFrom-at (IsPacketAt (packets_in e.queue)) h.place packets.items has.0 packet h.packets_are has.2 in
+          let same : e.acknowledged + (h.place + has.0) ≡ place = omega (arith, has.1, h.number_is) in
+          subst (λ n. IsPacketAt submitted n packet) same (sym (slice_get-drop e.acknowledged submitted (h.place + has.0)) ∙ ap (λ x. slice_get x (h.place + has.0)) (sym q.waiting) ∙ at);
       count_is = h.count_is;
     }
 body-content s e submitted (Ack count) q h = h
@@ -401,14 +414,19 @@ pub transmit-idle : (s : Settings) (e : EndState) (now : ℕ) → frame_due s e 
 unfolding on_transmit on_transmit_in
 transmit-idle s e now = go e.phase
   where
-    go_due : (life : Life) (o : Option DuePacket) → Idle e (on_transmit_due s e life o)
+    go_due : (life : Life) (o : Option DueBatch) → Idle e (on_transmit_due s e life o)
     go_due life None = cond_both e.owes_ack _ _ (Idle e) (λ _ q. absurd (cc)) (λ _ q. refl)
     go_due life (Some due) = λ q. absurd (cc)
 
+    go_hello : (own heard : ℕ) (other : Option FrameParts × EndState) → Idle e other → Idle e (on_hello s e own heard now other)
+    go_hello own heard other h =
+        cond_both (is_hello_due s e now) _ _ (Idle e) (λ _ q. absurd (cc)) (λ _.
+        cond_both (is_old_hello_due e) _ _ (Idle e) (λ _ q. absurd (cc)) (λ _. h))
+
     go : (ph : Phase) → Idle e (on_transmit_in s e now ph)
     go Closed = λ q. refl
-    go (Unbound own) = cond_both (is_hello_due s e now) _ _ (Idle e) (λ _ q. absurd (cc)) (λ _ q. refl)
-    go (Bound life) = cond_both (is_hello_due s e now) _ _ (Idle e) (λ _ q. absurd (cc)) (λ _. go_due life (first_due s.times now (suc e.acknowledged) s.window e.queue))
+    go (Unbound own) = go_hello own e.heard (None, e) (λ q. refl)
+    go (Bound life) = go_hello life.own life.peer (on_transmit_due s e life (due_of s e now)) (go_due life (due_of s e now))
 
 -- at the tick 0
 none_given_up : (times : Times) (queue : List QueuedPacket) → 0 < times.retry → has_given_up times 0 queue ≡ false

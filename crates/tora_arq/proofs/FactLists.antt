@@ -1,5 +1,5 @@
 -- Events, packets and frames of a run, one call further.
-use Rattle.std.proofs.Common.{◌≡◌, ◌≢◌, ℕ, zero, suc, ◌+◌, ◌<◌, ◌≤◌, true, false, ⊎_elim, List, [], ◌∷◌, ◌++◌, map, length, Option, Some, None, if◌then◌else◌, Contains, refl, sym, ap, ◌∙◌, subst, arith, eqb-true, ◌==◌, append_assoc}
+use Rattle.std.proofs.Common.{◌≡◌, ◌≢◌, ℕ, zero, suc, ◌+◌, ◌<◌, ◌≤◌, true, false, ⊎_elim, List, [], ◌∷◌, ◌++◌, map, Option, Some, None, if◌then◌else◌, Contains, refl, sym, ap, ◌∙◌, subst, arith, eqb-true, ◌==◌, append_assoc}
 use Rattle.std.specs.List.{AllByRecursion}
 use Rattle.std.proofs.lemmas.Bool.{cases_Bool, false_from_ne_true}
 use Rattle.std.proofs.lemmas.List.Elements.{Contains-append_left, Contains-append_right}
@@ -165,10 +165,6 @@ over_by_down n (Some now) after (Down other reason ∷ events) u l r =
 
 -- ---- packets in order
 
-pub AreFrom-append : (Is : ℕ → Packet → Type 0) (place : ℕ) (xs ys : List Packet) → AreFrom Is place xs → AreFrom Is (place + length xs) ys → AreFrom Is place (xs ++ ys)
-AreFrom-append Is place [] ys a b = let z : place + 0 ≡ place = omega arith in subst (λ n. AreFrom Is n ys) z b
-AreFrom-append Is place (x ∷ xs) ys a b = (a.0, AreFrom-append Is (suc place) xs ys a.1 (let z : place + suc (length xs) ≡ suc place + length xs = omega arith in subst (λ n. AreFrom Is n ys) z b))
-
 pub AreFrom-more : (P Q : ℕ → Packet → Type 0) → ((place : ℕ) (packet : Packet) → P place packet → Q place packet) → (place : ℕ) (xs : List Packet) → AreFrom P place xs → AreFrom Q place xs
 AreFrom-more P Q f place [] h = tt
 AreFrom-more P Q f place (x ∷ xs) h = (f place x h.0, AreFrom-more P Q f (suc place) xs h.1)
@@ -193,7 +189,7 @@ module _ (s : Settings) (frames more : List FrameHandedIn) where
   was_last life handed h = record { among = Contains-append_right frames more handed h.among; own = h.own; of_life = h.of_life }
 
   pub came_more : (life : Life) (place : ℕ) (packet : Packet) → CameAt s frames life place packet → CameAt s (frames ++ more) life place packet
-  came_more life place packet h = record { handed = h.handed; was = was_more life h.handed h.was; count = h.count; body = h.body }
+  came_more life place packet h = record { handed = h.handed; was = was_more life h.handed h.was; carries = h.carries }
 
   pub count_more : (life : Life) (count : ℕ) → CountCame s frames life count → CountCame s (frames ++ more) life count
   count_more life count h = record { handed = h.handed; was = was_more life h.handed h.was; count_is = h.count_is }

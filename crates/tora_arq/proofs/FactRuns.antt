@@ -1,10 +1,9 @@
 -- What holds of each run of a link end.
-use Rattle.std.proofs.Common.{◌≡◌, ℕ, suc, ◌+◌, ◌<◌, ◌≤◌, true, false, true≢false, ◌⊎◌, inl, inr, ⊎_elim, List, [], ◌∷◌, ◌++◌, map, length, Option, Some, None, if◌then◌else◌, refl, sym, ap, ◌∙◌, subst, arith, append_assoc, append-nil, length-append}
+use Rattle.std.proofs.Common.{◌≡◌, ℕ, suc, ◌+◌, ◌-◌, ◌<◌, ◌≤◌, true, false, true≢false, ◌⊎◌, inl, inr, ⊎_elim, List, [], ◌∷◌, ◌++◌, map, length, Option, Some, None, if◌then◌else◌, refl, sym, ap, ◌∙◌, subst, arith, append_assoc, append-nil, length-append}
 use Rattle.std.specs.List.{AllByRecursion}
 use Rattle.std.proofs.lemmas.Bool.{cases_Bool, false_from_ne_true}
 use Rattle.tora_packet.specs.declared.Packet.{Packet}
 use Rattle.std.proofs.lemmas.Option.{same_Some}
-use Rattle.tora_frame.specs.declared.parts.Header.{Header}
 use Rattle.tora_frame.specs.declared.parts.Body.{Body}
 use Rattle.tora_frame.specs.declared.parts.Body.TheVariants.{Hello, Data, Ack}
 use Rattle.tora_frame.specs.FrameParts.{FrameParts}
@@ -15,13 +14,13 @@ use Rattle.tora_arq.specs.declared.state.Phase.TheVariants.{Closed, Unbound, Bou
 use Rattle.tora_arq.specs.Lives.{life_of, is_same_life}
 use Rattle.tora_arq.specs.Settings.{Settings}
 use Rattle.tora_arq.specs.LinkEnd.{EndState, bound_life, life_in}
-use Rattle.tora_arq.specs.LinkFacts.{LinkCall, after_call, IsPossible, frame_sent_by, event_given_by, events_left, events_queued, packet_submitted, IsUnboundEnd, IsBoundEnd, IsEndIn, IsEnd, IsFrameOf, HandsInFrameOf, IsFrameSentIn, IsQueueOf, IsBodyOf, AreHeld, AreFrom, BodyTells, CallTells, packets_delivered, DeliversNext, list_of, AreEventsBetween, Leads, AreRising, IsCountOfCall, IsPacketAt}
+use Rattle.tora_arq.specs.LinkFacts.{LinkCall, after_call, IsPossible, frame_sent_by, event_given_by, events_left, events_queued, packet_submitted, IsUnboundEnd, IsBoundEnd, IsEndIn, IsEnd, IsFrameOf, HandsInFrameOf, IsFrameSentIn, IsQueueOf, IsBodyOf, AreHeld, AreFrom, BodyTells, CallTells, packets_delivered, DeliversNext, list_of, AreEventsBetween, Leads, AreRising, IsCountOfCall, IsPacketAt, Carries}
 use Rattle.tora_arq.specs.LinkFacts.LinkCall.{Open, Frame, Tick, Submit, PollEvent, Transmit, Cut}
 use Rattle.tora_arq.specs.LinkRuns.{FrameHandedIn, Submission, LinkRun, first_run, own_number_in, frames_handed_in, submission_of, submissions, run_after, run_after_all, AreAllPossible, run_of, packets_submitted, WasHandedIn, CameAt, CountCame, AreAllTold, IsBodyOfRun, IsFrameOfRun, IsSameAtEachTry}
-use Rattle.tora_arq.proofs.FactSteps.{is_same_life-refl, is_same_life-true, Step, call_step}
+use Rattle.tora_arq.proofs.FactSteps.{is_same_life-refl, is_same_life-true, AreFrom-append, Step, call_step}
 use Rattle.tora_arq.proofs.FactSteps.Step.{stays, opens, ends, submits, binds, goes_on}
 use Rattle.tora_arq.proofs.FactCalls.{Any, queued_by, frame-content, call-sends, events_queued-is, call-gives, call-end, call-bound, call-behind, call-between, call-delivers, call-queue, call-first, call-acknowledges}
-use Rattle.tora_arq.proofs.FactLists.{packets_delivered-append, packets_submitted-append, packets_delivered-other, EachBelow, EachBelow-more, EachBelow-append, EachBelow-map, none_delivered, none_submitted, all_more, all_append, all_at, Leads-append, Leads-between, rising_packets, rising_down, rising_up, AreFrom-append, AreFrom-more, AreHeld-more, IsPacketAt-append, was_last, came_more, count_more, told_more, told_append, told_map}
+use Rattle.tora_arq.proofs.FactLists.{packets_delivered-append, packets_submitted-append, packets_delivered-other, EachBelow, EachBelow-more, EachBelow-append, EachBelow-map, none_delivered, none_submitted, all_more, all_append, all_at, Leads-append, Leads-between, rising_packets, rising_down, rising_up, AreFrom-more, AreHeld-more, IsPacketAt-append, was_last, came_more, count_more, told_more, told_append, told_map}
 
 -- the numbers of all lives so far are below this one: an own number that is not bound, or the one after the last
 abbrev pub next_number : Phase → ℕ → ℕ
@@ -90,17 +89,13 @@ call_hands s frames e life PollEvent o h = absurd h
 call_hands s frames e life (Transmit now) o h = absurd h
 call_hands s frames e life (Cut other) o h = absurd h
 
--- its packet came in it
+-- its packets came in it
 body_tells : (s : Settings) (frames : List FrameHandedIn) (e : EndState) (life : Life) (frame : FrameParts) → own_number_in e.phase ≡ Some life.own → IsFrameOf s life frame → (body : Body) → frame.body ≡ body → BodyTells (CameAt s (frames ++ handed_in e frame ∷ []) life) body
-body_tells s frames e life frame o h Hello q = tt
-body_tells s frames e life frame o h (Data number count packet) q =
-    λ place n. record {
-      handed = handed_in e frame;
-      was = was_last s frames (handed_in e frame ∷ []) life (handed_in e frame) (was_handed s e life frame o h);
-      count = count;
-      body = q ∙ ap (λ m. Data m count packet) n;
-    }
-body_tells s frames e life frame o h (Ack count) q = tt
+body_tells s frames e life frame o h body q = λ place packet c. record {
+  handed = handed_in e frame;
+  was = was_last s frames (handed_in e frame ∷ []) life (handed_in e frame) (was_handed s e life frame o h);
+  carries = subst (λ b. Carries b (suc place) packet) (sym q) c;
+}
 
 call_tells : (s : Settings) (frames : List FrameHandedIn) (e : EndState) (life : Life) (call : LinkCall) → own_number_in e.phase ≡ Some life.own → CallTells (CameAt s (frames ++ frames_handed_in e call) life) s life call
 call_tells s frames e life (Open own now) o = tt
@@ -148,18 +143,18 @@ none_between (Some before) (Some other) events life n h =
 -- of a life, what was submitted and delivered only grows
 body_more : (run run' : LinkRun) (life : Life) (packets : List Packet) → packets_submitted life run'.submitted ≡ packets_submitted life run.submitted ++ packets → length (packets_delivered life run.events) ≤ length (packets_delivered life run'.events) → (body : Body) → IsBodyOfRun run life body → IsBodyOfRun run' life body
 body_more run run' life packets q le Hello h = tt
-body_more run run' life packets q le (Data number count packet) h =
+body_more run run' life packets q le (Data number count carried) h =
     record {
-      place = h.place;
-      number_is = h.number_is;
-      packet_is = subst (λ xs. IsPacketAt xs h.place packet) (sym q) (IsPacketAt-append (packets_submitted life run.submitted) packets h.place packet h.packet_is);
+      first = h.first;
+      packets_are = λ place packet has.
+          subst (λ xs. IsPacketAt xs place packet) (sym q) (IsPacketAt-append (packets_submitted life run.submitted) packets place packet (h.packets_are place packet has));
       count_is = omega (arith, h.count_is);
     }
 body_more run run' life packets q le (Ack count) h = omega arith
 
 body_of_run : (run : LinkRun) (life : Life) (accepted : ℕ) → length (packets_delivered life run.events) ≡ accepted → (body : Body) → IsBodyOf (packets_submitted life run.submitted) accepted body → IsBodyOfRun run life body
 body_of_run run life accepted q Hello h = tt
-body_of_run run life accepted q (Data number count packet) h = record { place = h.place; number_is = h.number_is; packet_is = h.packet_is; count_is = omega (arith, h.count_is) }
+body_of_run run life accepted q (Data number count packets) h = record { first = h.first; packets_are = h.packets_are; count_is = omega (arith, h.count_is) }
 body_of_run run life accepted q (Ack count) h = omega arith
 
 all_list_of : {A : Type 0} (P : A → Type 0) (o : Option A) → ((x : A) → o ≡ Some x → P x) → AllByRecursion P (list_of o)
@@ -422,16 +417,24 @@ every-run s calls ok = all-runs s calls first_run ok (first-run s)
 
 -- ---- what follows for frames sent
 
-same_packet : (run : LinkRun) (life : Life) (a b : Body) (number count later : ℕ) (packet other : Packet) → IsBodyOfRun run life a → IsBodyOfRun run life b → a ≡ Data number count packet → b ≡ Data number later other → packet ≡ other
-same_packet run life a b number count later packet other p q e f =
-    let x : IsBodyOfRun run life (Data number count packet) = subst (IsBodyOfRun run life) e p in
-    let y : IsBodyOfRun run life (Data number later other) = subst (IsBodyOfRun run life) f q in
-    let z : y.place ≡ x.place = omega (arith, x.number_is, y.number_is) in
-    let w : IsPacketAt (packets_submitted life run.submitted) x.place other = subst (λ n. IsPacketAt (packets_submitted life run.submitted) n other) z y.packet_is in
-    same_Some packet other (sym x.packet_is ∙ w)
+-- what a frame carries with a number is the packet submitted with it
+carried : (run : LinkRun) (life : Life) (body : Body) (number : ℕ) (packet : Packet) → IsBodyOfRun run life body → Carries body number packet → (place : ℕ) × (number ≡ suc place) × IsPacketAt (packets_submitted life run.submitted) place packet
+carried run life Hello number packet h c = absurd c
+carried run life (Data first count packets) number packet h c =
+    let place : number ≡ suc (number - 1) = omega (arith, h.first, c.1) in
+    (number - 1, place, h.packets_are (number - 1) packet (c.0, omega (arith, h.first, c.1), c.2))
+carried run life (Ack count) number packet h c = absurd c
+
+same_packet : (run : LinkRun) (life : Life) (a b : Body) (number : ℕ) (packet other : Packet) → IsBodyOfRun run life a → IsBodyOfRun run life b → Carries a number packet → Carries b number other → packet ≡ other
+same_packet run life a b number packet other p q c d =
+    let x = carried run life a number packet p c in
+    let y = carried run life b number other q d in
+    let z : y.0 ≡ x.0 = omega (arith, x.1, y.1) in
+    same_Some packet other (sym x.2 ∙ subst (λ n. IsPacketAt (packets_submitted life run.submitted) n other) z y.2)
 
 pub same_at_each_try : (s : Settings) (run : LinkRun) → IsRun s run → IsSameAtEachTry run.sent
-same_at_each_try s run h f g number count later packet other i j header e d =
-    same_packet run (life_of g.header.life g.header.heard) f.body g.body number count later packet other
-    (subst (λ (x : Header). IsBodyOfRun run (life_of x.life x.heard) f.body) header (all_at (IsFrameOfRun run) run.sent f h.sent i))
-    (all_at (IsFrameOfRun run) run.sent g h.sent j) e d
+same_at_each_try s run h f g number packet other i j one c d =
+    let life : life_of f.header.life f.header.heard ≡ life_of g.header.life g.header.heard = ap (life_of f.header.life) one.peer ∙ ap (λ n. life_of n g.header.heard) one.own in
+    same_packet run (life_of g.header.life g.header.heard) f.body g.body number packet other
+    (subst (λ x. IsBodyOfRun run x f.body) life (all_at (IsFrameOfRun run) run.sent f h.sent i))
+    (all_at (IsFrameOfRun run) run.sent g h.sent j) c d

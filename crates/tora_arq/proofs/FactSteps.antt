@@ -1,12 +1,15 @@
 -- What a call makes of an end: it stays, opens, binds, goes on in its life, takes a packet, or ends its life.
-use Rattle.std.proofs.Common.{◌≡◌, ℕ, zero, suc, ◌+◌, ◌-◌, ◌^◌, ◌<◌, ◌≤◌, Bool, true, false, not, ◌⊎◌, inl, inr, List, [], ◌∷◌, ◌++◌, map, length, drop, max, Option, Some, None, Result, slice_get, nat_lt, nat_le, ◌==◌, refl, sym, ap, ◌∙◌, subst, arith, append_assoc, append-nil, eqb-true, eq-eqb, ltb-false, leb-true, leb-false}
+use Rattle.std.proofs.Common.{◌≡◌, ℕ, zero, suc, ◌+◌, ◌-◌, ◌^◌, ◌<◌, ◌≤◌, Bool, true, false, not, ◌⊎◌, inl, inr, List, [], ◌∷◌, ◌++◌, map, length, drop, min, max, Option, Some, None, Result, nat_lt, nat_le, ◌==◌, refl, sym, ap, ◌∙◌, subst, arith, append_assoc, append-nil, length-append, eqb-true, eq-eqb, ltb-false, leb-true, leb-false}
 use Rattle.std.proofs.lemmas.Bool.{cond_both, and_parts, and_from, or_parts, not-false}
-use Rattle.std.proofs.lemmas.List.{length-map}
-use Rattle.std.proofs.lemmas.Option.{slice_get_within}
+use Rattle.std.proofs.lemmas.List.{map-append}
+use Rattle.std.proofs.lemmas.Option.{same_Some}
+use Rattle.tora_arq.proofs.HeldLemmas.{length-hold_at}
 use Rattle.tora_packet.specs.declared.Packet.{Packet}
+use Rattle.tora_frame.specs.declared.parts.Version.{Version}
+use Rattle.tora_frame.specs.declared.parts.Version.TheVariants.{One}
 use Rattle.tora_frame.specs.declared.parts.Body.{Body}
 use Rattle.tora_frame.specs.declared.parts.Body.TheVariants.{Hello, Data, Ack}
-use Rattle.tora_frame.specs.FrameParts.{FrameParts}
+use Rattle.tora_frame.specs.FrameParts.{FrameParts, batch}
 use Rattle.tora_arq.specs.declared.Life.{Life}
 use Rattle.tora_arq.specs.declared.Verdict.{Verdict}
 use Rattle.tora_arq.specs.declared.Times.{Times}
@@ -20,9 +23,9 @@ use Rattle.tora_arq.specs.declared.queue.QueuedPacket.{QueuedPacket}
 use Rattle.tora_arq.specs.Lives.{life_of, is_same_life}
 use Rattle.tora_arq.specs.Settings.{Settings}
 use Rattle.tora_arq.specs.Held.{hold_at}
-use Rattle.tora_arq.specs.SendQueue.{packets_in, packet_in, untried, retried, is_ready, DuePacket, due_behind, first_due}
-use Rattle.tora_arq.specs.LinkEnd.{EndState, after_open, after_end, after_bind, count_of, is_foreign, is_busy, on_life_told, after_acknowledgement, after_delivery, after_release, after_hold, on_data, on_matched, on_frame_in, on_frame, is_silent, after_tick_in, after_tick, on_submit_in, on_submit, after_cut_in, after_cut, is_hello_due, frame_sent, after_hello, on_transmit_due, on_transmit_in, on_transmit}
-use Rattle.tora_arq.specs.LinkFacts.{LinkCall, after_call, IsPossible, events_left, packet_where_ok, packet_submitted, IsFrameOf, HandsInFrameOf, OpensWith, IsFrameSentIn, AreHeld, AreFrom, BodyTells, CallTells, IsCountOfCall}
+use Rattle.tora_arq.specs.SendQueue.{packets_in, untried, is_ready, ReadyRun, ready_run, DueBatch, due_batch, due_behind, first_due}
+use Rattle.tora_arq.specs.LinkEnd.{EndState, is_two, passed, data_version, most_packets, after_open, after_end, after_bind, count_of, is_foreign, is_busy, on_life_told, after_acknowledgement, after_delivery, after_release, after_hold, after_packet, after_packets, on_data, on_matched, on_frame_in, on_frame, is_silent, after_tick_in, after_tick, on_submit_in, on_submit, after_cut_in, after_cut, is_hello_due, is_old_hello_due, frame_sent, after_hello, after_old_hello, on_hello, due_of, on_transmit_due, on_transmit_in, on_transmit}
+use Rattle.tora_arq.specs.LinkFacts.{LinkCall, after_call, IsPossible, events_left, packet_where_ok, packet_submitted, IsFrameOf, HandsInFrameOf, OpensWith, IsFrameSentIn, AreHeld, AreFrom, IsPacketAt, HasNumber, BodyTells, CallTells, IsCountOfCall}
 use Rattle.tora_arq.specs.LinkFacts.LinkCall.{Open, Frame, Tick, Submit, PollEvent, Transmit, Cut}
 
 -- ---- lives compared
@@ -97,15 +100,8 @@ hold_keeps Is a (suc place) packet [] t h = hold_keeps Is (suc a) place packet [
 hold_keeps Is a (suc place) packet (None ∷ held) t h = hold_keeps Is (suc a) place packet held (let z : a + suc place ≡ suc a + place = omega arith in subst (λ m. Is m packet) z t) h
 hold_keeps Is a (suc place) packet (Some first ∷ held) t h = (h.0, hold_keeps Is (suc a) place packet held (let z : a + suc place ≡ suc a + place = omega arith in subst (λ m. Is m packet) z t) h.1)
 
-pub length-hold_at : (place : ℕ) (packet : Packet) (held : List (Option Packet)) → length (hold_at place packet held) ≤ max (suc place) (length held)
-length-hold_at zero packet [] = omega arith
-length-hold_at zero packet (None ∷ held) = omega arith
-length-hold_at zero packet (Some first ∷ held) = omega arith
-length-hold_at (suc place) packet [] = omega (arith, length-hold_at place packet [])
-length-hold_at (suc place) packet (slot ∷ held) = omega (arith, length-hold_at place packet held)
-
--- an end goes on by a DATA frame with this number and packet
-pub record Takes (Is : ℕ → Packet → Type 0) (window : ℕ) (life : Life) (number : ℕ) (packet : Packet) (e e' : EndState) : Type 0 where
+-- an end goes on by packets of a DATA frame, where `Tells` is what the frame tells of them
+pub record Takes (Is : ℕ → Packet → Type 0) (window furthest : ℕ) (life : Life) (Tells : Type 0) (e e' : EndState) : Type 0 where
   pub phase : e'.phase ≡ e.phase
   pub heard : e'.heard ≡ e.heard
   pub last_life : e'.last_life ≡ e.last_life
@@ -115,11 +111,11 @@ pub record Takes (Is : ℕ → Packet → Type 0) (window : ℕ) (life : Life) (
   pub packets : List Packet
   pub events : e'.events ≡ e.events ++ map (Deliver life) packets
   pub accepted : e'.accepted ≡ e.accepted + length packets
-  pub keeps : AreHeld Is e.accepted e.held → ((place : ℕ) → number ≡ suc place → Is place packet) → AreFrom Is e.accepted packets × AreHeld Is e'.accepted e'.held
-  pub within : length e.held ≤ window → length e'.held ≤ window
+  pub keeps : AreHeld Is e.accepted e.held → Tells → AreFrom Is e.accepted packets × AreHeld Is e'.accepted e'.held
+  pub within : furthest ≤ e.accepted + window → length e.held ≤ window → length e'.held ≤ window
 
-take_none : (Is : ℕ → Packet → Type 0) (window : ℕ) (life : Life) (number : ℕ) (packet : Packet) (e : EndState) → Takes Is window life number packet e e
-take_none Is window life number packet e = record {
+take_none : (Is : ℕ → Packet → Type 0) (window furthest : ℕ) (life : Life) (Tells : Type 0) (e : EndState) → Takes Is window furthest life Tells e e
+take_none Is window furthest life Tells e = record {
   phase = refl;
   heard = refl;
   last_life = refl;
@@ -130,19 +126,46 @@ take_none Is window life number packet e = record {
   events = sym (append-nil e.events);
   accepted = omega arith;
   keeps = λ h t. (tt, h);
-  within = λ h. h;
+  within = λ near h. h;
 }
 
-data_keeps : (Is : ℕ → Packet → Type 0) (window : ℕ) (life : Life) (number : ℕ) (packet : Packet) (e : EndState) → Takes Is window life number packet e (on_data window e life number packet).1
-unfolding on_data
-data_keeps Is window life number packet e =
-    cond_both (nat_le number e.accepted) _ _ (λ (r : Verdict × EndState). Takes Is window life number packet e r.1) (λ _. take_none Is window life number packet e) (λ late.
-    cond_both (nat_le number (e.accepted + window)) _ _ (λ (r : Verdict × EndState). Takes Is window life number packet e r.1)
+pub AreFrom-append : (Is : ℕ → Packet → Type 0) (place : ℕ) (xs ys : List Packet) → AreFrom Is place xs → AreFrom Is (place + length xs) ys → AreFrom Is place (xs ++ ys)
+AreFrom-append Is place [] ys a b = let z : place + 0 ≡ place = omega arith in subst (λ n. AreFrom Is n ys) z b
+AreFrom-append Is place (x ∷ xs) ys a b = (a.0, AreFrom-append Is (suc place) xs ys a.1 (let z : place + suc (length xs) ≡ suc place + length xs = omega arith in subst (λ n. AreFrom Is n ys) z b))
+
+-- first by some packets and then by more
+take_more : (Is : ℕ → Packet → Type 0) (window furthest : ℕ) (life : Life) (First Rest Tells : Type 0) (e e1 e2 : EndState) → (Tells → First × Rest) → Takes Is window furthest life First e e1 → Takes Is window furthest life Rest e1 e2 →
+    Takes Is window furthest life Tells e e2
+take_more Is window furthest life First Rest Tells e e1 e2 split a b = record {
+  phase = b.phase ∙ a.phase;
+  heard = b.heard ∙ a.heard;
+  last_life = b.last_life ∙ a.last_life;
+  queue = b.queue ∙ a.queue;
+  acknowledged = b.acknowledged ∙ a.acknowledged;
+  transmitted = b.transmitted ∙ a.transmitted;
+  packets = a.packets ++ b.packets;
+  events = b.events ∙ ap (λ x. x ++ map (Deliver life) b.packets) a.events ∙ append_assoc e.events (map (Deliver life) a.packets) (map (Deliver life) b.packets)
+      ∙ ap (λ x. e.events ++ x) (sym (map-append (Deliver life) a.packets b.packets));
+  accepted = omega (arith, a.accepted, b.accepted, length-append a.packets b.packets);
+  keeps = λ h t.
+      let told = split t in
+      let x = a.keeps h told.0 in
+      let y = b.keeps x.1 told.1 in
+      (AreFrom-append Is e.accepted a.packets b.packets x.0 (subst (λ n. AreFrom Is n b.packets) a.accepted y.0), y.1);
+  within = λ near h. b.within (omega (arith, near, a.accepted)) (a.within near h);
+}
+
+packet_takes : (Is : ℕ → Packet → Type 0) (window furthest : ℕ) (life : Life) (number : ℕ) (packet : Packet) (e : EndState) →
+    Takes Is window furthest life ((place : ℕ) → number ≡ suc place → Is place packet) e (after_packet life furthest e number packet)
+unfolding after_packet
+packet_takes Is window furthest life number packet e =
+    cond_both (nat_le number e.accepted) _ _ (Takes Is window furthest life _ e) (λ _. take_none Is window furthest life _ e) (λ late.
+    cond_both (nat_le number furthest) _ _ (Takes Is window furthest life _ e)
     (λ soon.
     let e1 : EndState = after_hold e number packet in
     let r : Releases Is life e1 (after_release life e1 e1.held) = release_keeps Is life e1.held e1 refl in
     let l : e.accepted < number = leb-false number e.accepted late in
-    let m : number ≤ e.accepted + window = leb-true number (e.accepted + window) soon in
+    let m : number ≤ furthest = leb-true number furthest soon in
     let n = length-hold_at (number - suc e.accepted) packet e.held in
     record {
       phase = r.phase;
@@ -155,9 +178,22 @@ data_keeps Is window life number packet e =
       events = r.events;
       accepted = r.accepted;
       keeps = λ h t. r.keeps (hold_keeps Is e.accepted (number - suc e.accepted) packet e.held (t (e.accepted + (number - suc e.accepted)) (omega arith)) h);
-      within = λ h. omega (arith, r.shorter);
+      within = λ near h. omega (arith, near, r.shorter);
     })
-    (λ _. take_none Is window life number packet e))
+    (λ _. take_none Is window furthest life _ e))
+
+-- each of the packets, numbered on from the first, is that of its number
+abbrev pub AreTold : (ℕ → Packet → Type 0) → ℕ → List Packet → Type 0
+AreTold Is number packets = (place : ℕ) (packet : Packet) → HasNumber number packets (suc place) packet → Is place packet
+
+packets_take : (Is : ℕ → Packet → Type 0) (window furthest : ℕ) (life : Life) (packets : List Packet) (number : ℕ) (e : EndState) → Takes Is window furthest life (AreTold Is number packets) e (after_packets life furthest e number packets)
+unfolding after_packets
+packets_take Is window furthest life [] number e = take_none Is window furthest life _ e
+packets_take Is window furthest life (packet ∷ packets) number e =
+    take_more Is window furthest life ((place : ℕ) → number ≡ suc place → Is place packet) (AreTold Is (suc number) packets) (AreTold Is number (packet ∷ packets)) e (after_packet life furthest e number packet)
+    (after_packets life furthest (after_packet life furthest e number packet) (suc number) packets)
+    (λ t. (λ place n. t place packet (0, omega (arith, n), refl), λ place other h. t place other (suc h.0, omega (arith, h.1), h.2)))
+    (packet_takes Is window furthest life number packet e) (packets_take Is window furthest life packets (suc number) (after_packet life furthest e number packet))
 
 -- ---- what a call makes of an end
 
@@ -271,9 +307,10 @@ life_ends life reason call e j v p = record {
 -- ---- frames
 
 module _ (Is : ℕ → Packet → Type 0) (s : Settings) (f : FrameParts) (now : ℕ) where
-  matched_keeps : (b : EndState) (life : Life) (fresh : Bool) (body : Body) → f.body ≡ body → IsFrameOf s life f → count_of body ≤ b.transmitted → GoesOn Is s life (Frame f now) b (on_matched s.window b life fresh now body).1
-  unfolding on_matched
-  matched_keeps b life fresh Hello q o le =
+  matched_keeps : (b : EndState) (version : Version) (life : Life) (fresh : Bool) (body : Body) → f.body ≡ body → IsFrameOf s life f → count_of body ≤ b.transmitted →
+      GoesOn Is s life (Frame f now) b (on_matched s.window (passed b version) life fresh now body).1
+  unfolding on_matched on_data
+  matched_keeps b version life fresh Hello q o le =
       let z : 0 - b.acknowledged ≡ 0 = omega arith in record {
         count = 0;
         counts = (o, ap count_of q);
@@ -291,7 +328,7 @@ module _ (Is : ℕ → Packet → Type 0) (s : Settings) (f : FrameParts) (now :
         keeps = λ h t. (tt, h);
         within = λ h. h;
       }
-  matched_keeps b life fresh (Ack count) q o le = record {
+  matched_keeps b version life fresh (Ack count) q o le = record {
     count = count;
     counts = (o, ap count_of q);
     comes = o;
@@ -308,9 +345,9 @@ module _ (Is : ℕ → Packet → Type 0) (s : Settings) (f : FrameParts) (now :
     keeps = λ h t. (tt, h);
     within = λ h. h;
   }
-  matched_keeps b life fresh (Data number count packet) q o le =
-      let b1 : EndState = record (after_acknowledgement b count now) { owes_ack = true } in
-      let r : Takes Is s.window life number packet b1 (on_data s.window b1 life number packet).1 = data_keeps Is s.window life number packet b1 in record {
+  matched_keeps b version life fresh (Data number count packets) q o le =
+      let b1 : EndState = record (after_acknowledgement (passed b version) count now) { owes_ack = true } in
+      let r = packets_take Is s.window (b1.accepted + s.window) life packets.items number b1 in record {
         count = count;
         counts = (o, ap count_of q);
         comes = o;
@@ -325,13 +362,28 @@ module _ (Is : ℕ → Packet → Type 0) (s : Settings) (f : FrameParts) (now :
         events = r.events;
         accepted = r.accepted;
         keeps = λ h t. r.keeps h (subst (BodyTells Is) q (t o));
-        within = r.within;
+        within = r.within (omega arith);
       }
 
-  life_told_keeps : (e : EndState) (own : ℕ) → e.phase ≡ Unbound own → (body : Body) → Stays s (Frame f now) e (on_life_told e f.header.life body).1
+  mark_keeps : (e : EndState) (version : Version) → Stays s (Frame f now) e (passed e version)
+  mark_keeps e version = record {
+    phase = refl;
+    heard = λ life j. refl;
+    last_life = refl;
+    packets = refl;
+    acknowledged = refl;
+    more = omega arith;
+    transmitted = inl refl;
+    accepted = refl;
+    held = refl;
+    events = refl;
+    submitted = refl;
+  }
+
+  life_told_keeps : (e : EndState) (own : ℕ) → e.phase ≡ Unbound own → (body : Body) → Stays s (Frame f now) e (on_life_told e f.header.version f.header.life body).1
   life_told_keeps e own j Hello =
       cond_both (nat_lt f.header.life e.heard) _ _ (λ (r : Verdict × EndState). Stays s (Frame f now) e r.1) (λ _. no_change s (Frame f now) e refl refl) (λ _.
-      cond_both (f.header.life == e.heard) _ _ (λ (r : Verdict × EndState). Stays s (Frame f now) e r.1) (λ _. no_change s (Frame f now) e refl refl) (λ _. record {
+      cond_both (f.header.life == e.heard) _ _ (λ (r : Verdict × EndState). Stays s (Frame f now) e r.1) (λ _. mark_keeps e f.header.version) (λ _. record {
         phase = refl;
         heard = λ life k. let y : Unbound own ≡ Bound life = sym j ∙ k in absurd (cc);
         last_life = refl;
@@ -344,7 +396,7 @@ module _ (Is : ℕ → Packet → Type 0) (s : Settings) (f : FrameParts) (now :
         events = refl;
         submitted = refl;
       }))
-  life_told_keeps e own j (Data number count packet) = no_change s (Frame f now) e refl refl
+  life_told_keeps e own j (Data number count packets) = no_change s (Frame f now) e refl refl
   life_told_keeps e own j (Ack count) = no_change s (Frame f now) e refl refl
 
   abbrev StepTo : EndState → Verdict × EndState → Type 0
@@ -359,7 +411,7 @@ module _ (Is : ℕ → Packet → Type 0) (s : Settings) (f : FrameParts) (now :
       cond_both (nat_lt f.header.life e.heard) _ _ (StepTo e) (λ _. stays (no_change s (Frame f now) e refl refl)) (λ _.
       let life : Life = life_of own f.header.life in
       binds life j refl refl
-      (matched_keeps (after_bind e life) life true f.body refl (record { sender = from; receiver = to; peer = refl; own = eqb-true f.header.heard own h }) (ltb-false 0 (count_of f.body) small)))))
+      (matched_keeps (after_bind e life) f.header.version life true f.body refl (record { sender = from; receiver = to; peer = refl; own = eqb-true f.header.heard own h }) (ltb-false 0 (count_of f.body) small)))))
       (λ _. stays (life_told_keeps e own j f.body))
   frame_in_keeps e (Bound life) j from to =
       cond_both (nat_lt life.peer f.header.life) _ _ (StepTo e) (λ _. ends life Because.NewPeer (life_ends life Because.NewPeer (Frame f now) e j refl refl)) (λ a.
@@ -367,7 +419,7 @@ module _ (Is : ℕ → Packet → Type 0) (s : Settings) (f : FrameParts) (now :
       cond_both (f.header.heard == life.own) _ _ (StepTo e)
       (λ h. cond_both (nat_lt e.transmitted (count_of f.body)) _ _ (StepTo e) (λ _. stays (no_change s (Frame f now) e refl refl)) (λ small.
       goes_on life j refl refl
-      (matched_keeps e life false f.body refl
+      (matched_keeps e f.header.version life false f.body refl
       (record { sender = from; receiver = to; peer = omega (arith, ltb-false life.peer f.header.life a, ltb-false f.header.life life.peer b); own = eqb-true f.header.heard life.own h })
       (ltb-false e.transmitted (count_of f.body) small))))
       (λ _. stays (no_change s (Frame f now) e refl refl))))
@@ -473,51 +525,89 @@ submit_step Is s e life packet = go e.phase refl
 
 -- ---- frames sent
 
--- a packet that is due stands in the queue at its place, and stays there
-pub record IsDue (number window : ℕ) (queue : List QueuedPacket) (due : DuePacket) : Type 0 where
+-- places in a list with one more packet before it
+AreFrom-behind : (packet : Packet) (all : List Packet) (place : ℕ) (packets : List Packet) → AreFrom (IsPacketAt all) place packets → AreFrom (IsPacketAt (packet ∷ all)) (suc place) packets
+AreFrom-behind packet all place [] h = tt
+AreFrom-behind packet all place (x ∷ packets) h = (h.0, AreFrom-behind packet all (suc place) packets h.1)
+
+-- packets that are due one after another stand at the front of the queue, and stay there
+record IsRun (most : ℕ) (queue : List QueuedPacket) (run : ReadyRun) : Type 0 where
+  few : length run.packets ≤ most
+  packets_are : AreFrom (IsPacketAt (packets_in queue)) 0 run.packets
+  here : length run.packets ≤ length queue
+  same : packets_in run.queue ≡ packets_in queue
+
+run_keeps : (times : Times) (now most : ℕ) (queue : List QueuedPacket) → IsRun most queue (ready_run times now most queue)
+unfolding ready_run
+run_keeps times now zero queue = record { few = omega arith; packets_are = tt; here = omega arith; same = refl }
+run_keeps times now (suc most) [] = record { few = omega arith; packets_are = tt; here = omega arith; same = refl }
+run_keeps times now (suc most) (q ∷ queue) =
+    cond_both (is_ready times now q) _ _ (IsRun (suc most) (q ∷ queue))
+    (λ _. let r = run_keeps times now most queue in record {
+      few = omega (arith, r.few);
+      packets_are = (refl, AreFrom-behind q.packet (packets_in queue) 0 (ready_run times now most queue).packets r.packets_are);
+      here = omega (arith, r.here);
+      same = ap (λ ps. q.packet ∷ ps) r.same;
+    })
+    (λ _. record { few = omega arith; packets_are = tt; here = omega arith; same = refl })
+
+-- packets that are due stand in the queue from their place on, and stay there
+pub record IsDue (number window : ℕ) (queue : List QueuedPacket) (due : DueBatch) : Type 0 where
   pub place : ℕ
-  pub within : place < window
+  pub within : place + length due.packets ≤ window
   pub number_is : due.number ≡ number + place
-  pub packet_is : slice_get (packets_in queue) place ≡ Some due.packet
+  pub packets_are : AreFrom (IsPacketAt (packets_in queue)) place due.packets
+  pub here : place + length due.packets ≤ length queue
   pub same : packets_in due.queue ≡ packets_in queue
 
-due_keeps : (times : Times) (now number window : ℕ) (queue : List QueuedPacket) (due : DuePacket) → first_due times now number window queue ≡ Some due → IsDue number window queue due
+due_keeps : (times : Times) (now most number window : ℕ) (queue : List QueuedPacket) (due : DueBatch) → first_due times now most number window queue ≡ Some due → IsDue number window queue due
 unfolding first_due
-due_keeps times now number zero queue due = λ e. absurd (cc)
-due_keeps times now number (suc window) [] due = λ e. absurd (cc)
-due_keeps times now number (suc window) (q ∷ queue) due =
-    cond_both (is_ready times now q) _ _ (λ (o : Option DuePacket). o ≡ Some due → IsDue number (suc window) (q ∷ queue) due)
-    (λ _ e. let y : record { number = number; packet = q.packet; queue = retried q now ∷ queue } ≡ due = cc in
-    subst (λ (d : DuePacket). IsDue number (suc window) (q ∷ queue) d) y (record { place = 0; within = omega arith; number_is = omega arith; packet_is = refl; same = refl }))
-    (λ _. go (first_due times now (suc number) window queue) (due_keeps times now (suc number) window queue))
+due_keeps times now most number zero queue due = λ e. absurd (cc)
+due_keeps times now most number (suc window) [] due = λ e. absurd (cc)
+due_keeps times now most number (suc window) (q ∷ queue) due =
+    cond_both (is_ready times now q) _ _ (λ (o : Option DueBatch). o ≡ Some due → IsDue number (suc window) (q ∷ queue) due)
+    (λ _ e.
+    let run = ready_run times now (min most (suc window)) (q ∷ queue) in
+    let r = run_keeps times now (min most (suc window)) (q ∷ queue) in
+    let y : due_batch number run ≡ due = same_Some (due_batch number run) due e in
+    subst (λ (d : DueBatch). IsDue number (suc window) (q ∷ queue) d) y
+    (record { place = 0; within = omega (arith, r.few); number_is = omega arith; packets_are = r.packets_are; here = omega (arith, r.here); same = r.same }))
+    (λ _. go (first_due times now most (suc number) window queue) (due_keeps times now most (suc number) window queue))
   where
-    go : (o : Option DuePacket) → ((d : DuePacket) → o ≡ Some d → IsDue (suc number) window queue d) → due_behind q o ≡ Some due → IsDue number (suc window) (q ∷ queue) due
+    go : (o : Option DueBatch) → ((d : DueBatch) → o ≡ Some d → IsDue (suc number) window queue d) → due_behind q o ≡ Some due → IsDue number (suc window) (q ∷ queue) due
     go None h e = absurd (cc)
     go (Some r) h e =
         let i = h r refl in
         let y : record r { queue = q ∷ r.queue } ≡ due = cc in
-        subst (λ (d : DuePacket). IsDue number (suc window) (q ∷ queue) d) y
-        (record { place = suc i.place; within = omega (arith, i.within); number_is = omega (arith, i.number_is); packet_is = i.packet_is; same = ap (λ ps. q.packet ∷ ps) i.same })
+        subst (λ (d : DueBatch). IsDue number (suc window) (q ∷ queue) d) y
+        (record {
+          place = suc i.place;
+          within = omega (arith, i.within);
+          number_is = omega (arith, i.number_is);
+          packets_are = AreFrom-behind q.packet (packets_in queue) i.place r.packets i.packets_are;
+          here = omega (arith, i.here);
+          same = ap (λ ps. q.packet ∷ ps) i.same;
+        })
 
 -- what a call of `poll_transmit` gives and makes of an end
 pub record Sends (s : Settings) (now : ℕ) (e : EndState) (r : Option FrameParts × EndState) : Type 0 where
   pub end : Stays s (Transmit now) e r.1
   pub frame : (f : FrameParts) → r.0 ≡ Some f → IsFrameSentIn s e f e.phase
-  pub number : (f : FrameParts) (number count : ℕ) (packet : Packet) → r.0 ≡ Some f → f.body ≡ Data number count packet → number ≤ r.1.transmitted
 
 sends_none : (s : Settings) (now : ℕ) (e : EndState) → Sends s now e (None, e)
-sends_none s now e = record { end = no_change s (Transmit now) e refl refl; frame = λ f q. absurd (cc); number = λ f number count packet q d. absurd (cc) }
+sends_none s now e = record { end = no_change s (Transmit now) e refl refl; frame = λ f q. absurd (cc) }
 
 -- a frame that leaves all but what is owed as it was
-sends_some : (s : Settings) (now : ℕ) (e e' : EndState) (f : FrameParts) → Stays s (Transmit now) e e' → IsFrameSentIn s e f e.phase → ((number count : ℕ) (packet : Packet) → f.body ≡ Data number count packet → number ≤ e'.transmitted) → Sends s now e (Some f, e')
-sends_some s now e e' f k t n = record {
+sends_some : (s : Settings) (now : ℕ) (e e' : EndState) (f : FrameParts) → Stays s (Transmit now) e e' → IsFrameSentIn s e f e.phase → Sends s now e (Some f, e')
+sends_some s now e e' f k t = record {
   end = k;
   frame = λ g q. let y : f ≡ g = cc in subst (λ h. IsFrameSentIn s e h e.phase) y t;
-  number = λ g number count packet q d. let y : f ≡ g = cc in n number count packet (ap (λ (h : FrameParts). h.body) y ∙ d);
 }
 
-hello_keeps : (s : Settings) (now : ℕ) (e : EndState) → Stays s (Transmit now) e (after_hello e now)
-hello_keeps s now e = record {
+-- of what is sent nothing else changes
+owing_keeps : (s : Settings) (now : ℕ) (e : EndState) (owes_hello owes_old_hello owes_ack : Bool) (last_hello : Option ℕ) →
+    Stays s (Transmit now) e (record e { owes_hello = owes_hello; owes_old_hello = owes_old_hello; owes_ack = owes_ack; last_hello = last_hello })
+owing_keeps s now e owes_hello owes_old_hello owes_ack last_hello = record {
   phase = refl;
   heard = λ life j. refl;
   last_life = refl;
@@ -531,64 +621,53 @@ hello_keeps s now e = record {
   submitted = refl;
 }
 
-pub transmit_sends : (s : Settings) (now : ℕ) (e : EndState) → Sends s now e (on_transmit s e now)
-unfolding on_transmit on_transmit_in
-transmit_sends s now e = go e.phase refl
-  where
-    in_phase : (ph : Phase) (f : FrameParts) → e.phase ≡ ph → IsFrameSentIn s e f ph → IsFrameSentIn s e f e.phase
-    in_phase ph f j h = subst (IsFrameSentIn s e f) (sym j) h
+module _ (s : Settings) (now : ℕ) (e : EndState) where
+  in_phase : (ph : Phase) (f : FrameParts) → e.phase ≡ ph → IsFrameSentIn s e f ph → IsFrameSentIn s e f e.phase
+  in_phase ph f j h = subst (IsFrameSentIn s e f) (sym j) h
 
-    go_due : (life : Life) → e.phase ≡ Bound life → (o : Option DuePacket) → first_due s.times now (suc e.acknowledged) s.window e.queue ≡ o → Sends s now e (on_transmit_due s e life o)
-    go_due life j None q =
-        cond_both e.owes_ack _ _ (Sends s now e)
-        (λ _. sends_some s now e (record e { owes_ack = false }) (frame_sent s life.own life.peer (Ack e.accepted))
-        (record {
-          phase = refl;
-          heard = λ other k. refl;
-          last_life = refl;
-          packets = refl;
-          acknowledged = refl;
-          more = omega arith;
-          transmitted = inl refl;
-          accepted = refl;
-          held = refl;
-          events = refl;
-          submitted = refl;
-        })
-        (in_phase (Bound life) (frame_sent s life.own life.peer (Ack e.accepted)) j (refl, refl))
-        (λ number count packet d. absurd (cc)))
-        (λ _. sends_none s now e)
-    go_due life j (Some due) q =
-        let i = due_keeps s.times now (suc e.acknowledged) s.window e.queue due q in
-        let f : FrameParts = frame_sent s life.own life.peer (Data due.number e.accepted due.packet) in
-        let here : i.place < length e.queue = omega (arith, slice_get_within (packets_in e.queue) i.place due.packet i.packet_is, length-map e.queue packet_in) in
-        sends_some s now e (record e { queue = due.queue; transmitted = max e.transmitted due.number; owes_ack = false }) f
-        (record {
-          phase = refl;
-          heard = λ other k. refl;
-          last_life = refl;
-          packets = i.same;
-          acknowledged = refl;
-          more = omega arith;
-          transmitted = inr ((life, j), omega (arith, i.number_is));
-          accepted = refl;
-          held = refl;
-          events = refl;
-          submitted = refl;
-        })
-        (in_phase (Bound life) f j (refl, record { place = i.place; within = i.within; number_is = omega (arith, i.number_is); packet_is = i.packet_is; count_is = refl }))
-        (λ number count packet d. let y : due.number ≡ number = cc in omega arith)
+  -- a HELLO where one is due, and otherwise another frame
+  hello_sends : (own heard : ℕ) (other : Option FrameParts × EndState) → ((version : Version) → IsFrameSentIn s e (frame_sent s version own heard Hello) e.phase) → Sends s now e other → Sends s now e (on_hello s e own heard now other)
+  hello_sends own heard other h k =
+      cond_both (is_hello_due s e now) _ _ (Sends s now e)
+      (λ _. sends_some s now e (after_hello s e now) (frame_sent s s.version own heard Hello) (owing_keeps s now e false (is_two s.version) e.owes_ack (Some now)) (h s.version)) (λ _.
+      cond_both (is_old_hello_due e) _ _ (Sends s now e)
+      (λ _. sends_some s now e (after_old_hello e) (frame_sent s One own heard Hello) (owing_keeps s now e e.owes_hello false e.owes_ack e.last_hello) (h One)) (λ _. k))
 
-    go : (ph : Phase) → e.phase ≡ ph → Sends s now e (on_transmit_in s e now ph)
-    go Closed j = sends_none s now e
-    go (Unbound own) j =
-        cond_both (is_hello_due s e now) _ _ (Sends s now e)
-        (λ _. sends_some s now e (after_hello e now) (frame_sent s own e.heard Hello) (hello_keeps s now e) (in_phase (Unbound own) (frame_sent s own e.heard Hello) j refl) (λ number count packet d. absurd (cc)))
-        (λ _. sends_none s now e)
-    go (Bound life) j =
-        cond_both (is_hello_due s e now) _ _ (Sends s now e)
-        (λ _. sends_some s now e (after_hello e now) (frame_sent s life.own life.peer Hello) (hello_keeps s now e) (in_phase (Bound life) (frame_sent s life.own life.peer Hello) j (refl, tt)) (λ number count packet d. absurd (cc)))
-        (λ _. go_due life j (first_due s.times now (suc e.acknowledged) s.window e.queue) refl)
+  due_sends : (life : Life) → e.phase ≡ Bound life → (o : Option DueBatch) → due_of s e now ≡ o → Sends s now e (on_transmit_due s e life o)
+  due_sends life j None q =
+      cond_both e.owes_ack _ _ (Sends s now e)
+      (λ _. sends_some s now e (record e { owes_ack = false }) (frame_sent s (data_version e) life.own life.peer (Ack e.accepted)) (owing_keeps s now e e.owes_hello e.owes_old_hello false e.last_hello)
+      (in_phase (Bound life) (frame_sent s (data_version e) life.own life.peer (Ack e.accepted)) j (refl, refl)))
+      (λ _. sends_none s now e)
+  due_sends life j (Some due) q =
+      let i = due_keeps s.times now (most_packets (data_version e)) (suc e.acknowledged) s.window e.queue due q in
+      let f : FrameParts = frame_sent s (data_version e) life.own life.peer (Data due.number e.accepted (batch due.packets)) in
+      sends_some s now e (record e { queue = due.queue; transmitted = max e.transmitted (due.number + length due.packets - 1); owes_ack = false }) f
+      (record {
+        phase = refl;
+        heard = λ other k. refl;
+        last_life = refl;
+        packets = i.same;
+        acknowledged = refl;
+        more = omega arith;
+        transmitted = inr ((life, j), omega (arith, i.number_is, i.here));
+        accepted = refl;
+        held = refl;
+        events = refl;
+        submitted = refl;
+      })
+      (in_phase (Bound life) f j (refl, record { place = i.place; within = i.within; number_is = omega (arith, i.number_is); packets_are = i.packets_are; count_is = refl }))
+
+  pub transmit_sends : Sends s now e (on_transmit s e now)
+  unfolding on_transmit on_transmit_in
+  transmit_sends = go e.phase refl
+    where
+      go : (ph : Phase) → e.phase ≡ ph → Sends s now e (on_transmit_in s e now ph)
+      go Closed j = sends_none s now e
+      go (Unbound own) j = hello_sends own e.heard (None, e) (λ version. in_phase (Unbound own) (frame_sent s version own e.heard Hello) j refl) (sends_none s now e)
+      go (Bound life) j =
+          hello_sends life.own life.peer (on_transmit_due s e life (due_of s e now))
+          (λ version. in_phase (Bound life) (frame_sent s version life.own life.peer Hello) j (refl, tt)) (due_sends life j (due_of s e now) refl)
 
 -- every call is one of these steps
 pub call_step : (Is : ℕ → Packet → Type 0) (s : Settings) (e : EndState) (call : LinkCall) → IsPossible e call → Step Is s call e (after_call s e call)

@@ -1,5 +1,5 @@
 -- Packets that came early, by place.
-use Rattle.std.proofs.Common.{◌≡◌, ℕ, zero, suc, ◌<◌, ◌≤◌, List, [], ◌∷◌, ◌++◌, length, drop, Option, Some, None, slice_get, slice_set, refl, sym, ap, ◌∙◌, arith}
+use Rattle.std.proofs.Common.{◌≡◌, ℕ, zero, suc, ◌<◌, ◌≤◌, max, List, [], ◌∷◌, ◌++◌, length, drop, Option, Some, None, slice_get, slice_set, refl, sym, ap, ◌∙◌, arith}
 use Rattle.tora_packet.specs.declared.Packet.{Packet}
 use Rattle.tora_arq.specs.declared.Life.{Life}
 use Rattle.tora_arq.specs.Held.{hold_at, padded, first_held}
@@ -65,3 +65,10 @@ pub none_past : {A : Type 0} (xs : List A) (i : ℕ) → slice_get xs i ≡ None
 none_past [] i e = omega arith
 none_past (x ∷ xs) zero e = absurd (cc)
 none_past (x ∷ xs) (suc i) e = omega (arith, none_past xs i e)
+
+pub length-hold_at : (place : ℕ) (packet : Packet) (held : List (Option Packet)) → length (hold_at place packet held) ≤ max (suc place) (length held)
+length-hold_at zero packet [] = omega arith
+length-hold_at zero packet (None ∷ held) = omega arith
+length-hold_at zero packet (Some first ∷ held) = omega arith
+length-hold_at (suc place) packet [] = omega (arith, length-hold_at place packet [])
+length-hold_at (suc place) packet (slot ∷ held) = omega (arith, length-hold_at place packet held)

@@ -1,5 +1,6 @@
 pub mod HeldLemmas
 pub mod QueueLemmas
+pub mod RoomLemmas
 pub mod ReceiveLemmas
 pub mod RangeLemmas
 pub mod FactSteps

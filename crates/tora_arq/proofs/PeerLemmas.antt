@@ -1,6 +1,7 @@
 -- What is held or delivered is no update of another node than the peer.
 use Rattle.std.proofs.Common.{◌≡◌, ℕ, zero, suc, true, false, List, [], ◌∷◌, map, length, drop, Option, Some, None, Contains, if◌then◌else◌, refl, sym, ap, subst}
-use Rattle.std.specs.List.{AllByRecursion}
+use Rattle.std.specs.List.{AllByRecursion, list_any}
+use Rattle.std.proofs.lemmas.Option.{same_Some}
 use Rattle.std.proofs.lemmas.Bool.{cases_Bool, or_parts}
 use Rattle.std.proofs.Common.{⊎_elim, slice_get}
 use Rattle.tora_packet.specs.declared.Packet.{Packet}
@@ -62,15 +63,22 @@ module _ (s : Settings) (call : LinkCall) (e e' : EndState) where
   step_of_peer (goes_on l i v p g) told h =
       let n = g.keeps (held_of s.peer e.accepted e.held h) (told l) in (slots_of s.peer e'.accepted e'.held n.1, events_of s.peer e.accepted l g.packets n.0)
 
+none_of_another : (peer : ℕ) (packets : List Packet) (place : ℕ) (packet : Packet) → list_any (is_update_of_another peer) packets ≡ false → slice_get packets place ≡ Some packet → is_update_of_another peer packet ≡ false
+none_of_another peer [] place packet h e = absurd (cc)
+none_of_another peer (x ∷ packets) zero packet h e =
+    let first : x ≡ packet = same_Some x packet e in
+    subst (λ p. is_update_of_another peer p ≡ false) first (or_parts _ _ h).0
+none_of_another peer (x ∷ packets) (suc place) packet h e = none_of_another peer packets place packet (or_parts _ _ h).1 e
+
 -- a frame that is not foreign carries no update of another node
 body_of_peer : (peer : ℕ) (body : Body) → has_update_of_another peer body ≡ false → BodyTells (OfPeer peer) body
-body_of_peer peer Hello h = tt
-body_of_peer peer (Data number count packet) h = λ place q. h
-body_of_peer peer (Ack count) h = tt
+body_of_peer peer Hello h = λ place packet c. absurd c
+body_of_peer peer (Data number count packets) h = λ place packet c. none_of_another peer packets.items c.0 packet h c.2
+body_of_peer peer (Ack count) h = λ place packet c. absurd c
 
 frame_of_peer : (s : Settings) (f : FrameParts) (now : ℕ) (life : Life) → is_foreign s f ≡ false → CallTells (OfPeer s.peer) s life (Frame f now)
 frame_of_peer s f now life h = λ o.
-    let p = or_parts _ _ h in body_of_peer s.peer f.body (subst (λ n. has_update_of_another n f.body ≡ false) o.sender p.1)
+    let p = or_parts _ _ h in body_of_peer s.peer f.body (subst (λ n. has_update_of_another n f.body ≡ false) o.sender (or_parts _ _ p.1).1)
 
 drop_all : {A : Type 0} (xs : List A) → drop (length xs) xs ≡ []
 drop_all [] = refl

@@ -1,8 +1,10 @@
 -- Each frame that a poll gives leaves fewer frames due at that tick.
-use Rattle.std.proofs.Common.{◌≡◌, ℕ, zero, suc, ◌+◌, ◌-◌, ◌<◌, ◌≤◌, Bool, true, false, List, [], ◌∷◌, ◌++◌, length, Option, Some, None, ◌==◌, if◌then◌else◌, refl, ap, ◌∙◌, subst, arith}
+use Rattle.std.proofs.Common.{◌≡◌, ℕ, zero, suc, ◌+◌, ◌-◌, ◌<◌, ◌≤◌, min, ◌&&◌, not, Bool, true, false, List, [], ◌∷◌, ◌++◌, length, Option, Some, None, ◌==◌, if◌then◌else◌, refl, ap, ◌∙◌, subst, arith}
 use Rattle.std.proofs.lemmas.Bool.{cond_both, or_from, and_right, lt-leb}
 use Rattle.std.proofs.lemmas.Bool.Decides.{nat_tests}
 use Rattle.std.proofs.lemmas.Option.{same_Some}
+use Rattle.tora_frame.specs.declared.parts.Version.{Version}
+use Rattle.tora_frame.specs.declared.parts.Version.TheVariants.{One, Two}
 use Rattle.tora_frame.specs.FrameParts.{FrameParts}
 use Rattle.tora_arq.specs.declared.Life.{Life}
 use Rattle.tora_arq.specs.declared.Times.{Times}
@@ -10,8 +12,8 @@ use Rattle.tora_arq.specs.declared.state.Phase.{Phase}
 use Rattle.tora_arq.specs.declared.state.Phase.TheVariants.{Closed, Unbound, Bound}
 use Rattle.tora_arq.specs.declared.queue.QueuedPacket.{QueuedPacket}
 use Rattle.tora_arq.specs.Settings.{Settings, IsTimes}
-use Rattle.tora_arq.specs.SendQueue.{retried, is_ready, DuePacket, due_packet, due_behind, first_due}
-use Rattle.tora_arq.specs.LinkEnd.{EndState, is_hello_due, after_hello, on_transmit_due, on_transmit_in, on_transmit, frame_due, after_transmit}
+use Rattle.tora_arq.specs.SendQueue.{retried, is_ready, ReadyRun, ready_run, DueBatch, due_batch, due_behind, first_due}
+use Rattle.tora_arq.specs.LinkEnd.{EndState, is_two, data_version, most_packets, is_hello_due, is_old_hello_due, after_hello, on_hello, due_of, on_transmit_due, on_transmit_in, on_transmit, frame_due, after_transmit}
 use Rattle.tora_arq.specs.LinkFacts.{list_of}
 use Rattle.tora_arq.specs.Polls.{after_polls, frames_polled}
 use Rattle.tora_arq.proofs.FactCalls.{transmit-idle}
@@ -40,31 +42,67 @@ not_again times now q h =
     let tried : (suc q.tries == 0) ≡ false = grind (arith, nat_tests) in
     or_from _ _ tried (and_right _ _ (lt-leb times.retry (now - now) (omega (arith, h))))
 
-due_counts : (times : Times) (now number window : ℕ) (queue : List QueuedPacket) (due : DuePacket) → 0 < times.retry → first_due times now number window queue ≡ Some due →
-    suc (count_ready times now window due.queue) ≡ count_ready times now window queue
+-- packets that are transmitted leave no more due than there were
+run_counts : (times : Times) (now window most : ℕ) (queue : List QueuedPacket) → 0 < times.retry → count_ready times now window (ready_run times now most queue).queue ≤ count_ready times now window queue
+unfolding ready_run
+run_counts times now window zero queue h = omega arith
+run_counts times now window (suc most) [] h = omega arith
+run_counts times now zero (suc most) (q ∷ queue) h = omega arith
+run_counts times now (suc window) (suc most) (q ∷ queue) h =
+    cond_both (is_ready times now q) _ _ (λ (r : ReadyRun). count_ready times now (suc window) r.queue ≤ count_ready times now (suc window) (q ∷ queue))
+    (λ _. rw (not_again times now q h) (omega (arith, run_counts times now window most queue h))) (λ _. omega arith)
+
+-- and where the first is due, one fewer at least
+run_counts_one : (times : Times) (now window most : ℕ) (q : QueuedPacket) (queue : List QueuedPacket) → 0 < times.retry → 0 < most → is_ready times now q ≡ true →
+    suc (count_ready times now (suc window) (ready_run times now most (q ∷ queue)).queue) ≤ count_ready times now (suc window) (q ∷ queue)
+unfolding ready_run
+run_counts_one times now window zero q queue h m ready = absurd (omega arith)
+run_counts_one times now window (suc most) q queue h m ready =
+    rw (ready, not_again times now q h) (omega (arith, run_counts times now window most queue h))
+
+due_counts : (times : Times) (now most number window : ℕ) (queue : List QueuedPacket) (due : DueBatch) → 0 < times.retry → 0 < most → first_due times now most number window queue ≡ Some due →
+    suc (count_ready times now window due.queue) ≤ count_ready times now window queue
 unfolding first_due
-due_counts times now number zero queue due h = λ e. absurd (cc)
-due_counts times now number (suc window) [] due h = λ e. absurd (cc)
-due_counts times now number (suc window) (q ∷ queue) due h =
-    cond_both (is_ready times now q) _ _ (λ (o : Option DuePacket). o ≡ Some due → suc (count_ready times now (suc window) due.queue) ≡ count_ready times now (suc window) (q ∷ queue))
-    (λ ready e. let y : due_packet number (retried q now ∷ queue) q.packet ≡ due = same_Some (due_packet number (retried q now ∷ queue) q.packet) due e in
-    subst (λ (d : DuePacket). suc (count_ready times now (suc window) d.queue) ≡ count_ready times now (suc window) (q ∷ queue)) y
-    (rw (not_again times now q h, ready) (omega arith)))
-    (λ late. go (first_due times now (suc number) window queue) (due_counts times now (suc number) window queue))
+due_counts times now most number zero queue due h m = λ e. absurd (cc)
+due_counts times now most number (suc window) [] due h m = λ e. absurd (cc)
+due_counts times now most number (suc window) (q ∷ queue) due h m =
+    cond_both (is_ready times now q) _ _ (λ (o : Option DueBatch). o ≡ Some due → suc (count_ready times now (suc window) due.queue) ≤ count_ready times now (suc window) (q ∷ queue))
+    (λ ready e.
+    let run = ready_run times now (min most (suc window)) (q ∷ queue) in
+    let y : due_batch number run ≡ due = same_Some (due_batch number run) due e in
+    subst (λ (d : DueBatch). suc (count_ready times now (suc window) d.queue) ≤ count_ready times now (suc window) (q ∷ queue)) y
+    (run_counts_one times now window (min most (suc window)) q queue h (omega (arith, m)) ready))
+    (λ late. go (first_due times now most (suc number) window queue) (λ d. due_counts times now most (suc number) window queue d h m))
   where
-    go : (o : Option DuePacket) → ((d : DuePacket) → 0 < times.retry → o ≡ Some d → suc (count_ready times now window d.queue) ≡ count_ready times now window queue) → due_behind q o ≡ Some due →
-        suc (count_ready times now (suc window) due.queue) ≡ count_ready times now (suc window) (q ∷ queue)
+    go : (o : Option DueBatch) → ((d : DueBatch) → o ≡ Some d → suc (count_ready times now window d.queue) ≤ count_ready times now window queue) → due_behind q o ≡ Some due →
+        suc (count_ready times now (suc window) due.queue) ≤ count_ready times now (suc window) (q ∷ queue)
     go None k e = absurd (cc)
     go (Some r) k e =
         let y : record r { queue = q ∷ r.queue } ≡ due = cc in
-        subst (λ (d : DuePacket). suc (count_ready times now (suc window) d.queue) ≡ count_ready times now (suc window) (q ∷ queue)) y (omega (arith, k r h refl))
+        subst (λ (d : DueBatch). suc (count_ready times now (suc window) d.queue) ≤ count_ready times now (suc window) (q ∷ queue)) y (omega (arith, k r refl))
+
+-- whether a HELLO of version 1 will be due behind one of the newest version
+abbrev is_old_next : Settings → EndState → Bool
+is_old_next s e = is_two s.version && not e.speaks_two
+
+-- how many HELLOs are due
+abbrev count_hellos : Settings → ℕ → EndState → ℕ
+count_hellos s now e = if is_hello_due s e now then suc (one_where (is_old_next s e)) else one_where (is_old_hello_due e)
+
+count_hellos_most : (s : Settings) (now : ℕ) (e : EndState) → count_hellos s now e ≤ 2
+count_hellos_most s now e =
+    cond_both (is_hello_due s e now) _ _ (λ n. n ≤ 2) (λ _. omega (arith, one_where_most (is_old_next s e))) (λ _. omega (arith, one_where_most (is_old_hello_due e)))
 
 -- at most so many frames are due
 abbrev count_due : Settings → ℕ → EndState → ℕ
-count_due s now e = one_where (is_hello_due s e now) + count_ready s.times now s.window e.queue + one_where e.owes_ack
+count_due s now e = count_hellos s now e + count_ready s.times now s.window e.queue + one_where e.owes_ack
 
-count_due_most : (s : Settings) (now : ℕ) (e : EndState) → count_due s now e ≤ s.window + 2
-count_due_most s now e = omega (arith, one_where_most (is_hello_due s e now), count_ready_most s.times now s.window e.queue, one_where_most e.owes_ack)
+count_due_most : (s : Settings) (now : ℕ) (e : EndState) → count_due s now e ≤ s.window + 3
+count_due_most s now e = omega (arith, count_hellos_most s now e, count_ready_most s.times now s.window e.queue, one_where_most e.owes_ack)
+
+some_packets : (version : Version) → 0 < most_packets version
+some_packets One = omega arith
+some_packets Two = omega arith
 
 -- a frame that is given leaves fewer due
 abbrev Counts : Settings → ℕ → EndState → Option FrameParts × EndState → Type 0
@@ -74,22 +112,24 @@ transmit_counts : (s : Settings) (now : ℕ) (e : EndState) → IsTimes s.times 
 unfolding on_transmit on_transmit_in
 transmit_counts s now e t = go e.phase
   where
-    no_hello : is_hello_due s (after_hello e now) now ≡ false
+    no_hello : is_hello_due s (after_hello s e now) now ≡ false
     no_hello = or_from _ _ refl (lt-leb s.times.hello (now - now) (omega (arith, t.hello)))
 
-    hello : (f : FrameParts) → is_hello_due s e now ≡ true → Counts s now e (Some f, after_hello e now)
-    hello f due = λ g q. rw (no_hello, due) omega arith
+    hello : (own heard : ℕ) (other : Option FrameParts × EndState) → Counts s now e other → Counts s now e (on_hello s e own heard now other)
+    hello own heard other k =
+        cond_both (is_hello_due s e now) _ _ (Counts s now e) (λ due f q. rw (no_hello, due) omega arith) (λ none.
+        cond_both (is_old_hello_due e) _ _ (Counts s now e) (λ due f q. rw (none, due) omega arith) (λ _. k))
 
-    go_due : (life : Life) (o : Option DuePacket) → ((d : DuePacket) → o ≡ Some d → suc (count_ready s.times now s.window d.queue) ≡ count_ready s.times now s.window e.queue) → Counts s now e (on_transmit_due s e life o)
+    go_due : (life : Life) (o : Option DueBatch) → ((d : DueBatch) → o ≡ Some d → suc (count_ready s.times now s.window d.queue) ≤ count_ready s.times now s.window e.queue) → Counts s now e (on_transmit_due s e life o)
     go_due life None k = cond_both e.owes_ack _ _ (Counts s now e) (λ owes f q. rw owes omega arith) (λ _ f q. absurd (cc))
     go_due life (Some due) k = λ f q. omega (arith, k due refl)
 
     go : (ph : Phase) → Counts s now e (on_transmit_in s e now ph)
     go Closed = λ f q. absurd (cc)
-    go (Unbound own) = cond_both (is_hello_due s e now) _ _ (Counts s now e) (λ due. hello _ due) (λ _ f q. absurd (cc))
+    go (Unbound own) = hello own e.heard (None, e) (λ f q. absurd (cc))
     go (Bound life) =
-        cond_both (is_hello_due s e now) _ _ (Counts s now e) (λ due. hello _ due)
-        (λ _. go_due life (first_due s.times now (suc e.acknowledged) s.window e.queue) (λ d q. due_counts s.times now (suc e.acknowledged) s.window e.queue d t.retry q))
+        hello life.own life.peer (on_transmit_due s e life (due_of s e now))
+        (go_due life (due_of s e now) (λ d q. due_counts s.times now (most_packets (data_version e)) (suc e.acknowledged) s.window e.queue d t.retry (some_packets (data_version e)) q))
 
 module _ (s : Settings) (now : ℕ) (t : IsTimes s.times) where
   frames_count_step : (polls : ℕ) (e : EndState) → length (frames_polled s (after_transmit s e now) now polls) ≤ count_due s now (after_transmit s e now) →
@@ -101,7 +141,7 @@ module _ (s : Settings) (now : ℕ) (t : IsTimes s.times) where
   frames_count zero e = omega arith
   frames_count (suc polls) e = frames_count_step polls e (frames_count polls (after_transmit s e now)) (frame_due s e now) refl
 
-  pub most_frames : (e : EndState) (polls : ℕ) → length (frames_polled s e now polls) ≤ s.window + 2
+  pub most_frames : (e : EndState) (polls : ℕ) → length (frames_polled s e now polls) ≤ s.window + 3
   most_frames e polls = omega (arith, frames_count polls e, count_due_most s now e)
 
 pub settled : (s : Settings) (e : EndState) (now polls : ℕ) → frame_due s e now ≡ None → after_polls s e now polls ≡ e
@@ -122,5 +162,5 @@ module _ (s : Settings) (now : ℕ) (t : IsTimes s.times) where
   none_after zero e le = none_yet e (frame_due s e now) refl le
   none_after (suc polls) e le = none_after_step polls e (none_after polls (after_transmit s e now)) (frame_due s e now) refl le
 
-pub none_left : (s : Settings) (e : EndState) (now polls : ℕ) → IsTimes s.times → s.window + 2 ≤ polls → frame_due s (after_polls s e now polls) now ≡ None
+pub none_left : (s : Settings) (e : EndState) (now polls : ℕ) → IsTimes s.times → s.window + 3 ≤ polls → frame_due s (after_polls s e now polls) now ≡ None
 none_left s e now polls t le = none_after s now t polls e (omega (arith, le, count_due_most s now e))

@@ -1,7 +1,9 @@
 -- What every call keeps of a link end.
-use Rattle.std.proofs.Common.{◌≡◌, ℕ, zero, suc, ◌+◌, ◌-◌, ◌^◌, ◌<◌, ◌≤◌, max, Bool, true, false, ◌==◌, not, nat_lt, nat_le, List, [], ◌∷◌, ◌++◌, length, drop, Option, Some, None, Result, refl, sym, ap, subst, arith, length-append, length-drop, leb-true}
+use Rattle.std.proofs.Common.{◌≡◌, ℕ, zero, suc, ◌+◌, ◌-◌, ◌^◌, ◌<◌, ◌≤◌, min, max, Bool, true, false, ◌==◌, not, nat_lt, nat_le, List, [], ◌∷◌, ◌++◌, length, drop, Option, Some, None, Result, refl, sym, ap, subst, arith, length-append, length-drop, leb-true}
 use Rattle.std.proofs.lemmas.Bool.{cond_both, ltb-false, leb-false}
 use Rattle.tora_packet.specs.declared.Packet.{Packet}
+use Rattle.tora_frame.specs.declared.parts.Version.{Version}
+use Rattle.tora_frame.specs.declared.parts.Header.{Header}
 use Rattle.tora_frame.specs.declared.parts.Body.{Body}
 use Rattle.tora_frame.specs.declared.parts.Body.TheVariants.{Hello, Data, Ack}
 use Rattle.tora_frame.specs.FrameParts.{FrameParts, IsLifeNumber, IsBody, IsFrame}
@@ -19,10 +21,11 @@ use Rattle.tora_arq.specs.declared.state.Phase.TheVariants.{Closed, Unbound, Bou
 use Rattle.tora_arq.specs.declared.queue.QueuedPacket.{QueuedPacket}
 use Rattle.tora_arq.specs.Lives.{life_of, is_same_life}
 use Rattle.tora_arq.specs.Settings.{Settings, settings_of, IsLink, IsTimes}
-use Rattle.tora_arq.specs.SendQueue.{untried, is_ready, DuePacket, due_behind, first_due}
-use Rattle.tora_arq.specs.LinkEnd.{EndState, first_end, after_open, after_end, after_bind, count_of, on_life_told, after_acknowledgement, after_delivery, after_release, after_hold, on_data, on_matched, on_frame_in, is_foreign, is_busy, on_frame, is_silent, after_tick_in, after_tick, on_submit_in, on_submit, after_cut_in, after_cut, after_poll_event, is_hello_due, on_transmit_due, on_transmit_in, on_transmit}
-use Rattle.tora_arq.specs.EndRange.{AreUntried, IsOwnNumber, IsPhase, IsQueue, IsEndState}
-use Rattle.tora_arq.proofs.FactSteps.{length-hold_at}
+use Rattle.tora_arq.specs.SendQueue.{untried, is_ready, ReadyRun, ready_run, DueBatch, due_behind, first_due}
+use Rattle.tora_arq.specs.LinkEnd.{EndState, first_end, passed, data_version, most_packets, after_open, after_end, after_bind, count_of, on_life_told, after_acknowledgement, after_delivery, after_release, after_hold, after_packet, after_packets, on_data, on_matched, on_frame_in, is_foreign, is_busy, on_frame, is_silent, after_tick_in, after_tick, on_submit_in, on_submit, after_cut_in, after_cut, after_poll_event, is_hello_due, is_old_hello_due, on_hello, due_of, on_transmit_due, on_transmit_in, on_transmit}
+use Rattle.tora_arq.specs.EndRange.{HasRoom, AreUntried, IsOwnNumber, IsPhase, IsQueue, IsEndState}
+use Rattle.tora_arq.proofs.HeldLemmas.{length-hold_at}
+use Rattle.tora_arq.proofs.RoomLemmas.{hold_room, packet_room}
 
 -- ---- the send queue
 
@@ -63,23 +66,42 @@ acknowledged_queue window acknowledged count queue c h = record {
 }
 
 -- what the transmission of a packet leaves of the queue
-record IsDueOf (window : ℕ) (queue : List QueuedPacket) (due : DuePacket) : Type 0 where
+record IsDueOf (window : ℕ) (queue : List QueuedPacket) (due : DueBatch) : Type 0 where
   len : length due.queue ≡ length queue
   behind : drop window due.queue ≡ drop window queue
 
-abbrev MayBeDueOf : ℕ → List QueuedPacket → Option DuePacket → Type 0
+abbrev MayBeDueOf : ℕ → List QueuedPacket → Option DueBatch → Type 0
 MayBeDueOf window queue None = Unit {0}
 MayBeDueOf window queue (Some due) = IsDueOf window queue due
 
-due_queue : (times : Times) (now number window : ℕ) (queue : List QueuedPacket) → MayBeDueOf window queue (first_due times now number window queue)
+length-ready_run : (times : Times) (now most : ℕ) (queue : List QueuedPacket) → length (ready_run times now most queue).queue ≡ length queue
+unfolding ready_run
+length-ready_run times now zero queue = refl
+length-ready_run times now (suc most) [] = refl
+length-ready_run times now (suc most) (q ∷ queue) =
+    cond_both (is_ready times now q) _ _ (λ (r : ReadyRun). length r.queue ≡ suc (length queue)) (λ _. ap suc (length-ready_run times now most queue)) (λ _. refl)
+
+behind_run : (times : Times) (now n most : ℕ) (queue : List QueuedPacket) → most ≤ n → drop n (ready_run times now most queue).queue ≡ drop n queue
+unfolding ready_run
+behind_run times now n zero queue le = refl
+behind_run times now n (suc most) [] le = refl
+behind_run times now zero (suc most) (q ∷ queue) le = absurd (omega arith)
+behind_run times now (suc n) (suc most) (q ∷ queue) le =
+    cond_both (is_ready times now q) _ _ (λ (r : ReadyRun). drop (suc n) r.queue ≡ drop n queue) (λ _. behind_run times now n most queue (omega arith)) (λ _. refl)
+
+due_queue : (times : Times) (now most number window : ℕ) (queue : List QueuedPacket) → MayBeDueOf window queue (first_due times now most number window queue)
 unfolding first_due
-due_queue times now number zero queue = tt
-due_queue times now number (suc window) [] = tt
-due_queue times now number (suc window) (q ∷ queue) =
-    cond_both (is_ready times now q) _ _ (MayBeDueOf (suc window) (q ∷ queue)) (λ _. record { len = refl; behind = refl })
-    (λ _. go (first_due times now (suc number) window queue) (due_queue times now (suc number) window queue))
+due_queue times now most number zero queue = tt
+due_queue times now most number (suc window) [] = tt
+due_queue times now most number (suc window) (q ∷ queue) =
+    cond_both (is_ready times now q) _ _ (MayBeDueOf (suc window) (q ∷ queue))
+    (λ _. record {
+      len = length-ready_run times now (min most (suc window)) (q ∷ queue);
+      behind = behind_run times now (suc window) (min most (suc window)) (q ∷ queue) (omega arith);
+    })
+    (λ _. go (first_due times now most (suc number) window queue) (due_queue times now most (suc number) window queue))
   where
-    go : (o : Option DuePacket) → MayBeDueOf window queue o → MayBeDueOf (suc window) (q ∷ queue) (due_behind q o)
+    go : (o : Option DueBatch) → MayBeDueOf window queue o → MayBeDueOf (suc window) (q ∷ queue) (due_behind q o)
     go None h = tt
     go (Some due) h = record { len = ap suc h.len; behind = h.behind }
 
@@ -98,8 +120,8 @@ with_room last heard events more (Bound life) r h = record { own = h.own; peer =
 
 -- ---- the small changes
 
-pub first_kept : (me peer : ℕ) (times : Times) → IsLink me peer → IsTimes times → IsEndState (settings_of me peer times) first_end
-first_kept me peer times l t = record {
+pub first_kept : (version : Version) (me peer : ℕ) (times : Times) → IsLink me peer → IsTimes times → IsEndState (settings_of version me peer times) first_end
+first_kept version me peer times l t = record {
   link = l;
   times = t;
   window = refl;
@@ -211,7 +233,7 @@ module _ (s : Settings) where
 
   -- ---- a frame
 
-  heard_kept : (e : EndState) (own life : ℕ) → e.phase ≡ Unbound own → life ≤ 2 ^ 62 → IsEndState s e → IsEndState s (record e { heard = life; owes_hello = true })
+  heard_kept : (e : EndState) (own life : ℕ) → e.phase ≡ Unbound own → life ≤ 2 ^ 62 → IsEndState s e → IsEndState s (record e { heard = life })
   heard_kept e own life j n h = record {
     link = h.link;
     times = h.times;
@@ -225,30 +247,47 @@ module _ (s : Settings) where
     room = h.room;
   }
 
-  life_told_kept : (e : EndState) (own life : ℕ) (body : Body) → e.phase ≡ Unbound own → life ≤ 2 ^ 62 → IsEndState s e → IsEndState s (on_life_told e life body).1
-  life_told_kept e own life Hello j n h =
+  life_told_kept : (e : EndState) (own : ℕ) (version : Version) (life : ℕ) (body : Body) → e.phase ≡ Unbound own → life ≤ 2 ^ 62 → IsEndState s e → IsEndState s (on_life_told e version life body).1
+  life_told_kept e own version life Hello j n h =
       cond_both (nat_lt life e.heard) _ _ (λ (r : Verdict × EndState). IsEndState s r.1) (λ _. h) (λ _.
       cond_both (life == e.heard) _ _ (λ (r : Verdict × EndState). IsEndState s r.1) (λ _. h) (λ _. heard_kept e own life j n h))
-  life_told_kept e own life (Data number count packet) j n h = h
-  life_told_kept e own life (Ack count) j n h = h
+  life_told_kept e own version life (Data number count packets) j n h = h
+  life_told_kept e own version life (Ack count) j n h = h
 
-  data_kept : (e : EndState) (life : Life) (number : ℕ) (packet : Packet) → length e.events ≤ 31 → number ≤ 2 ^ 62 → IsEndState s e → IsEndState s (on_data s.window e life number packet).1
-  unfolding on_data
-  data_kept e life number packet r n h =
-      cond_both (nat_le number e.accepted) _ _ (λ (r : Verdict × EndState). IsEndState s r.1) (λ _. h) (λ late.
-      cond_both (nat_le number (e.accepted + s.window)) _ _ (λ (r : Verdict × EndState). IsEndState s r.1)
+  packet_kept : (e : EndState) (life : Life) (furthest number : ℕ) (packet : Packet) → HasRoom s.window furthest e → number ≤ 2 ^ 62 → IsEndState s e →
+      IsEndState s (after_packet life furthest e number packet)
+  unfolding after_packet
+  packet_kept e life furthest number packet r n h =
+      cond_both (nat_le number e.accepted) _ _ (IsEndState s) (λ _. h) (λ late.
+      cond_both (nat_le number furthest) _ _ (IsEndState s)
       (λ soon.
-      let k : IsEndState s (after_hold e number packet) = hold_kept e number packet (leb-false number e.accepted late) (leb-true number (e.accepted + s.window) soon) n h in
-      release_kept (after_hold e number packet).held (after_hold e number packet) life refl (omega (arith, r, k.held_within, h.window)) k)
+      let above = leb-false number e.accepted late in
+      let within = leb-true number furthest soon in
+      let k : IsEndState s (after_hold e number packet) = hold_kept e number packet above (omega (arith, r.near, within)) n h in
+      let room = hold_room s.window furthest e number packet above within r in
+      release_kept (after_hold e number packet).held (after_hold e number packet) life refl (omega (arith, room.room, room.held)) k)
       (λ _. h))
 
-  matched_kept : (e : EndState) (life : Life) (binds : Bool) (now heard : ℕ) (body : Body) → length e.events ≤ 31 → IsBody heard body → IsEndState s e →
+  packets_kept : (ps : List Packet) (e : EndState) (life : Life) (furthest number : ℕ) → HasRoom s.window furthest e → number + length ps ≤ 2 ^ 62 + 1 → IsEndState s e →
+      IsEndState s (after_packets life furthest e number ps)
+  unfolding after_packets
+  packets_kept [] e life furthest number r n h = h
+  packets_kept (p ∷ ps) e life furthest number r n h =
+      packets_kept ps (after_packet life furthest e number p) life furthest (suc number) (packet_room s.window furthest life e number p r) (omega (arith, n))
+      (packet_kept e life furthest number p r (omega (arith, n)) h)
+
+  data_kept : (e : EndState) (life : Life) (number : ℕ) (ps : List Packet) → length e.events ≤ 31 → number + length ps ≤ 2 ^ 62 + 1 → IsEndState s e → IsEndState s (on_data s.window e life number ps).1
+  unfolding on_data
+  data_kept e life number ps r n h =
+      packets_kept ps e life (e.accepted + s.window) number (record { room = omega (arith, r, h.window); near = omega arith; held = omega (arith, h.held_within) }) n h
+
+  matched_kept : (e : EndState) (life : Life) (binds : Bool) (now : ℕ) (header : Header) (body : Body) → length e.events ≤ 31 → IsBody header body → IsEndState s e →
       IsEndState s (on_matched s.window e life binds now body).1
   unfolding on_matched
-  matched_kept e life binds now heard Hello r b h = h
-  matched_kept e life binds now heard (Data number count packet) r b h =
-      data_kept (record (after_acknowledgement e count now) { owes_ack = true }) life number packet r b.number.1 (acknowledgement_kept e count now b.count h)
-  matched_kept e life binds now heard (Ack count) r b h = acknowledgement_kept e count now b.count h
+  matched_kept e life binds now header Hello r b h = h
+  matched_kept e life binds now header (Data number count packets) r b h =
+      data_kept (record (after_acknowledgement e count now) { owes_ack = true }) life number packets.items r b.last (acknowledgement_kept e count now b.count h)
+  matched_kept e life binds now header (Ack count) r b h = acknowledgement_kept e count now b.count h
 
   phase_kept : (e : EndState) (f : FrameParts) (now : ℕ) (phase : Phase) → e.phase ≡ phase → length e.events ≤ 30 → IsFrame f → IsEndState s e →
       IsEndState s (on_frame_in s.window e f now phase).1
@@ -259,17 +298,17 @@ module _ (s : Settings) where
       cond_both (f.header.heard == own) _ _ (λ (r : Verdict × EndState). IsEndState s r.1)
       (λ _. cond_both (nat_lt 0 (count_of f.body)) _ _ (λ (r : Verdict × EndState). IsEndState s r.1) (λ _. h) (λ _.
       cond_both (nat_lt f.header.life e.heard) _ _ (λ (r : Verdict × EndState). IsEndState s r.1) (λ _. h) (λ _.
-      matched_kept (after_bind e (life_of own f.header.life)) (life_of own f.header.life) true now f.header.heard f.body
+      matched_kept (passed (after_bind e (life_of own f.header.life)) f.header.version) (life_of own f.header.life) true now f.header f.body
       (grown e.events (Up (life_of own f.header.life)) 31 (omega arith)) t.body
       (bind_kept e (life_of own f.header.life) r phase t.header.life h))))
-      (λ _. life_told_kept e own f.header.life f.body j t.header.life.1 h)
+      (λ _. life_told_kept e own f.header.version f.header.life f.body j t.header.life.1 h)
   phase_kept e f now (Bound life) j r t h =
       cond_both (nat_lt life.peer f.header.life) _ _ (λ (r : Verdict × EndState). IsEndState s r.1)
       (λ _. end_kept e life Because.NewPeer (omega arith) h) (λ _.
       cond_both (nat_lt f.header.life life.peer) _ _ (λ (r : Verdict × EndState). IsEndState s r.1) (λ _. h) (λ _.
       cond_both (f.header.heard == life.own) _ _ (λ (r : Verdict × EndState). IsEndState s r.1)
       (λ _. cond_both (nat_lt e.transmitted (count_of f.body)) _ _ (λ (r : Verdict × EndState). IsEndState s r.1) (λ _. h)
-      (λ _. matched_kept e life false now f.header.heard f.body (omega arith) t.body h))
+      (λ _. matched_kept (passed e f.header.version) life false now f.header f.body (omega arith) t.body h))
       (λ _. h)))
 
   pub frame_kept : (e : EndState) (f : FrameParts) (now : ℕ) → IsFrame f → IsEndState s e → IsEndState s (on_frame s e f now).1
@@ -351,7 +390,7 @@ module _ (s : Settings) where
       shorter (Unbound own) p = p
       shorter (Bound life) p = record { own = p.own; peer = p.peer; noted = p.noted; room = omega (arith, p.room, length-drop 1 e.events) }
 
-  due_kept : (e : EndState) (life : Life) (o : Option DuePacket) → MayBeDueOf s.window e.queue o → IsEndState s e → IsEndState s (on_transmit_due s e life o).1
+  due_kept : (e : EndState) (life : Life) (o : Option DueBatch) → MayBeDueOf s.window e.queue o → IsEndState s e → IsEndState s (on_transmit_due s e life o).1
   due_kept e life None d h = cond_both e.owes_ack _ _ (λ (r : Option FrameParts × EndState). IsEndState s r.1) (λ _. h) (λ _. h)
   due_kept e life (Some due) d h = record {
     link = h.link;
@@ -369,13 +408,18 @@ module _ (s : Settings) where
     room = h.room;
   }
 
+  hello_kept : (e : EndState) (own heard now : ℕ) (other : Option FrameParts × EndState) → IsEndState s e → IsEndState s other.1 → IsEndState s (on_hello s e own heard now other).1
+  hello_kept e own heard now other h k =
+      cond_both (is_hello_due s e now) _ _ (λ (r : Option FrameParts × EndState). IsEndState s r.1) (λ _. h) (λ _.
+      cond_both (is_old_hello_due e) _ _ (λ (r : Option FrameParts × EndState). IsEndState s r.1) (λ _. h) (λ _. k))
+
   pub transmit_kept : (e : EndState) (now : ℕ) → IsEndState s e → IsEndState s (on_transmit s e now).1
   unfolding on_transmit on_transmit_in
   transmit_kept e now h = go e.phase
     where
       go : (phase : Phase) → IsEndState s (on_transmit_in s e now phase).1
       go Closed = h
-      go (Unbound own) = cond_both (is_hello_due s e now) _ _ (λ (r : Option FrameParts × EndState). IsEndState s r.1) (λ _. h) (λ _. h)
+      go (Unbound own) = hello_kept e own e.heard now (None, e) h h
       go (Bound life) =
-          cond_both (is_hello_due s e now) _ _ (λ (r : Option FrameParts × EndState). IsEndState s r.1) (λ _. h)
-          (λ _. due_kept e life (first_due s.times now (suc e.acknowledged) s.window e.queue) (due_queue s.times now (suc e.acknowledged) s.window e.queue) h)
+          hello_kept e life.own life.peer now (on_transmit_due s e life (due_of s e now)) h
+          (due_kept e life (due_of s e now) (due_queue s.times now (most_packets (data_version e)) (suc e.acknowledged) s.window e.queue) h)

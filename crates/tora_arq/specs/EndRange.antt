@@ -1,6 +1,8 @@
 -- What every link end keeps, whatever comes in.
 use Rattle.std.specs.Prelude.{◌≡◌, ℕ, ◌+◌, ◌^◌, ◌<◌, ◌≤◌, List, [], ◌∷◌, length, drop, Option}
 use Rattle.tora_packet.specs.declared.Packet.{Packet}
+use Rattle.tora_frame.specs.declared.parts.Body.{Body}
+use Rattle.tora_frame.specs.declared.parts.Body.TheVariants.{Hello, Data, Ack}
 use Rattle.tora_frame.specs.FrameParts.{IsLifeNumber}
 use Rattle.tora_arq.specs.declared.TheConstants.{WINDOW}
 use Rattle.tora_arq.specs.declared.Life.{Life}
@@ -18,6 +20,18 @@ pub record LinkEndView : Type 0 where
 
 abbrev pub link_end_of : Settings → EndState → LinkEndView
 link_end_of settings state = record { settings = settings; state = state }
+
+-- a frame's packets, of which there is one at least, have numbers up to 2^62
+abbrev pub IsNumbered : Body → Type 0
+IsNumbered Hello = Unit {0}
+IsNumbered (Data number count packets) = (0 < length packets.items) × (number + length packets.items ≤ 2 ^ 62 + 1)
+IsNumbered (Ack count) = Unit {0}
+
+-- the events have room for the packets up to the last number of the window, and none further ahead is held
+pub record HasRoom (window furthest : ℕ) (e : EndState) : Type 0 where
+  pub room : length e.events + furthest ≤ 63 + e.accepted
+  pub near : furthest ≤ e.accepted + window
+  pub held : e.accepted + length e.held ≤ furthest
 
 -- packets that were never transmitted
 abbrev pub AreUntried : List QueuedPacket → Type 0

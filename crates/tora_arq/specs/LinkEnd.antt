@@ -1,10 +1,13 @@
 -- The end of a neighbour link: what each call makes of it.
-use Rattle.std.specs.Prelude.{ℕ, suc, ◌+◌, ◌-◌, ◌^◌, max, Bool, true, false, not, nat_lt, nat_le, ◌==◌, ◌||◌, if◌then◌else◌, List, [], ◌∷◌, ◌++◌, length, drop, slice_get, Option, Some, None, Result, Ok, Err}
+use Rattle.std.specs.Prelude.{ℕ, suc, ◌+◌, ◌-◌, ◌^◌, max, Bool, true, false, not, nat_lt, nat_le, ◌==◌, ◌||◌, ◌&&◌, if◌then◌else◌, List, [], ◌∷◌, ◌++◌, length, drop, slice_get, Option, Some, None, Result, Ok, Err}
+use Rattle.std.specs.List.{list_any}
 use Rattle.tora_packet.specs.declared.Packet.{Packet}
 use Rattle.tora_packet.specs.declared.Packet.TheVariants.{Qry, Upd, Clr}
+use Rattle.tora_frame.specs.declared.parts.Version.{Version}
+use Rattle.tora_frame.specs.declared.parts.Version.TheVariants.{One, Two}
 use Rattle.tora_frame.specs.declared.parts.Body.{Body}
 use Rattle.tora_frame.specs.declared.parts.Body.TheVariants.{Hello, Data, Ack}
-use Rattle.tora_frame.specs.FrameParts.{FrameParts, frame_of}
+use Rattle.tora_frame.specs.FrameParts.{FrameParts, batch, frame_of}
 use Rattle.tora_arq.specs.declared.Life.{Life}
 use Rattle.tora_arq.specs.declared.Verdict.{Verdict}
 use Rattle.tora_arq.specs.declared.Verdict.TheVariants.{Accepted, Repeated, Ahead, Stale, Foreign, Busy}
@@ -20,7 +23,7 @@ use Rattle.tora_arq.specs.declared.queue.QueuedPacket.{QueuedPacket}
 use Rattle.tora_arq.specs.Lives.{life_of, is_same_life}
 use Rattle.tora_arq.specs.Settings.{Settings, ticks_passed}
 use Rattle.tora_arq.specs.Held.{hold_at}
-use Rattle.tora_arq.specs.SendQueue.{untried, has_given_up, DuePacket, first_due}
+use Rattle.tora_arq.specs.SendQueue.{untried, has_given_up, DueBatch, first_due}
 
 pub record EndState : Type 0 where
   pub phase : Phase  -- closed, or open with an own number: unbound, or bound to a life
@@ -32,9 +35,11 @@ pub record EndState : Type 0 where
   pub accepted : ℕ  -- how many packets of the peer were delivered in this life
   pub held : List (Option Packet)  -- the packets that came early, by place: the first place is that of the next number
   pub events : List LinkEvent  -- the events that were not polled, of all lives
+  pub speaks_two : Bool  -- the mark that the peer speaks version 2
   pub owes_hello : Bool
+  pub owes_old_hello : Bool  -- the last HELLO was one of version 2 that none of version 1 has followed
   pub owes_ack : Bool
-  pub last_hello : Option ℕ  -- the tick of the last HELLO in this life
+  pub last_hello : Option ℕ  -- the tick of the last HELLO in this life, those of version 1 that follow one of version 2 apart
   pub last_hearing : ℕ  -- the tick at which the peer was last heard in this life
 
 abbrev pub first_end : EndState
@@ -48,7 +53,9 @@ first_end = record {
   accepted = 0;
   held = [];
   events = [];
+  speaks_two = false;
   owes_hello = false;
+  owes_old_hello = false;
   owes_ack = false;
   last_hello = None;
   last_hearing = 0;
@@ -87,7 +94,9 @@ after_open e life now = record {
   accepted = 0;
   held = [];
   events = e.events;
+  speaks_two = false;
   owes_hello = true;
+  owes_old_hello = false;
   owes_ack = false;
   last_hello = None;
   last_hearing = now;
@@ -103,10 +112,11 @@ after_end e life reason = record (with_event e (Down life reason)) {
   queue = [];
   held = [];
   owes_hello = false;
+  owes_old_hello = false;
   owes_ack = false;
 }
 
--- a life is bound, in which nothing was transmitted or accepted yet
+-- a life is bound, in which nothing was transmitted or accepted yet; the mark is of the life that was heard
 abbrev pub after_bind : EndState → Life → EndState
 after_bind e life = record (with_event e (Up life)) {
   phase = Bound life;
@@ -116,15 +126,35 @@ after_bind e life = record (with_event e (Up life)) {
   transmitted = 0;
   accepted = 0;
   held = [];
+  speaks_two = (e.heard == life.peer) && e.speaks_two;
   owes_hello = e.owes_hello || not (e.heard == life.peer);
 }
+
+-- ---- versions
+
+abbrev pub is_two : Version → Bool
+is_two One = false
+is_two Two = true
+
+-- a frame of this version has passed: one of version 2 sets the mark
+abbrev pub passed : EndState → Version → EndState
+passed e version = record e { speaks_two = is_two version || e.speaks_two }
+
+-- the version of the DATA frames and ACKs of an end
+abbrev pub data_version : EndState → Version
+data_version e = if e.speaks_two then Two else One
+
+-- how many packets a DATA frame of a version carries at most
+abbrev pub most_packets : Version → ℕ
+most_packets One = 1
+most_packets Two = 16
 
 -- ---- a frame comes: the first of seven cases that applies
 
 -- the count that a frame acknowledges
 abbrev pub count_of : Body → ℕ
 count_of Hello = 0
-count_of (Data number count packet) = count
+count_of (Data number count packets) = count
 count_of (Ack count) = count
 
 -- an update that tells the height of another node than the sender
@@ -135,25 +165,33 @@ is_update_of_another sender (Clr c) = false
 
 abbrev pub has_update_of_another : ℕ → Body → Bool
 has_update_of_another sender Hello = false
-has_update_of_another sender (Data number count packet) = is_update_of_another sender packet
+has_update_of_another sender (Data number count packets) = list_any (is_update_of_another sender) packets.items
 has_update_of_another sender (Ack count) = false
 
--- case 1: not from the peer, not for this node, or an update of another node
+-- version 2, where the end speaks version 1
+abbrev pub is_unknown : Version → Version → Bool
+is_unknown One version = is_two version
+is_unknown Two version = false
+
+-- case 1: not from the peer, not for this node, of a version that this end doesn't speak, or an update of another node
 abbrev pub is_foreign : Settings → FrameParts → Bool
-is_foreign s f = not (f.header.sender == s.peer) || not (f.header.receiver == s.me) || has_update_of_another f.header.sender f.body
+is_foreign s f =
+    not (f.header.sender == s.peer) || not (f.header.receiver == s.me)
+    || (is_unknown s.version f.header.version || has_update_of_another f.header.sender f.body)
 
 -- case 2: fewer than 34 of the 64 places for events are free
 abbrev pub is_busy : EndState → Bool
 is_busy e = nat_lt (64 - length e.events) 34
 
--- case 5, at an end that is not bound: only a HELLO counts, and only a greater life changes anything
-abbrev pub on_life_told : EndState → ℕ → Body → Verdict × EndState
-on_life_told e life Hello =
+-- case 5, at an end that is not bound: only a HELLO counts, a greater life is noted, and an equal one changes no more than the
+-- mark
+abbrev pub on_life_told : EndState → Version → ℕ → Body → Verdict × EndState
+on_life_told e version life Hello =
     if nat_lt life e.heard then (Stale, e)
-    else if life == e.heard then (Accepted, e)
-    else (Accepted, record e { heard = life; owes_hello = true })
-on_life_told e life (Data number count packet) = (Stale, e)
-on_life_told e life (Ack count) = (Stale, e)
+    else if life == e.heard then (Accepted, passed e version)
+    else (Accepted, record e { heard = life; speaks_two = is_two version; owes_hello = true })
+on_life_told e version life (Data number count packets) = (Stale, e)
+on_life_told e version life (Ack count) = (Stale, e)
 
 -- case 7: packets up to the acknowledged count leave the queue
 abbrev pub after_acknowledgement : EndState → ℕ → ℕ → EndState
@@ -176,21 +214,38 @@ after_release life e (Some packet ∷ held) = after_release life (after_delivery
 abbrev pub after_hold : EndState → ℕ → Packet → EndState
 after_hold e number packet = record e { held = hold_at (number - suc e.accepted) packet e.held }
 
--- case 7, a DATA frame: a number that was accepted, the next one, one to hold, or one too far ahead
-unfoldable pub on_data : ℕ → EndState → Life → ℕ → Packet → Verdict × EndState
-on_data window e life number packet =
-    if nat_le number e.accepted then (Repeated, e)
-    else if nat_le number (e.accepted + window) then (
-      (if number == suc e.accepted then Accepted else Ahead),
-      after_release life (after_hold e number packet) (after_hold e number packet).held,
-    )
-    else (Ahead, e)
+-- case 7, each packet of a DATA frame: one that was accepted is passed over, one within the window is held, and then what is
+-- held is delivered, and one too far ahead is dropped; `furthest` is the last number of the window as the frame came
+unfoldable pub after_packet : Life → ℕ → EndState → ℕ → Packet → EndState
+after_packet life furthest e number packet =
+    if nat_le number e.accepted then e
+    else if nat_le number furthest then after_release life (after_hold e number packet) (after_hold e number packet).held
+    else e
+
+-- packets numbered on from the first
+unfoldable pub after_packets : Life → ℕ → EndState → ℕ → List Packet → EndState
+after_packets life furthest e number [] = e
+after_packets life furthest e number (packet ∷ packets) = after_packets life furthest (after_packet life furthest e number packet) (suc number) packets
+
+-- the verdict by the first and the last number: all were accepted, the next one is among them, or all are further ahead
+abbrev pub verdict_of_numbers : ℕ → ℕ → ℕ → Verdict
+verdict_of_numbers accepted first last =
+    if nat_le last accepted then Repeated
+    else if nat_le first (suc accepted) then Accepted
+    else Ahead
+
+-- case 7, a DATA frame
+unfoldable pub on_data : ℕ → EndState → Life → ℕ → List Packet → Verdict × EndState
+on_data window e life number packets = (
+  verdict_of_numbers e.accepted number (number + length packets - 1),
+  after_packets life (e.accepted + window) e number packets,
+)
 
 -- case 7: both numbers match; `binds` says that this frame bound the life
 unfoldable pub on_matched : ℕ → EndState → Life → Bool → ℕ → Body → Verdict × EndState
 on_matched window e life binds now Hello = (Accepted, record e { last_hearing = now })
-on_matched window e life binds now (Data number count packet) =
-    on_data window (record (after_acknowledgement e count now) { owes_ack = true }) life number packet
+on_matched window e life binds now (Data number count packets) =
+    on_data window (record (after_acknowledgement e count now) { owes_ack = true }) life number packets.items
 on_matched window e life binds now (Ack count) =
     ((if binds || nat_lt e.acknowledged count then Accepted else Repeated), after_acknowledgement e count now)
 
@@ -201,14 +256,14 @@ on_frame_in window e f now (Unbound own) =
     if f.header.heard == own then
     if nat_lt 0 (count_of f.body) then (Foreign, e)
     else if nat_lt f.header.life e.heard then (Stale, e)
-    else on_matched window (after_bind e (life_of own f.header.life)) (life_of own f.header.life) true now f.body
-    else on_life_told e f.header.life f.body
+    else on_matched window (passed (after_bind e (life_of own f.header.life)) f.header.version) (life_of own f.header.life) true now f.body
+    else on_life_told e f.header.version f.header.life f.body
 on_frame_in window e f now (Bound life) =
     if nat_lt life.peer f.header.life then (Accepted, after_end e life Because.NewPeer)
     else if nat_lt f.header.life life.peer then (Stale, e)
     else if f.header.heard == life.own then
     if nat_lt e.transmitted (count_of f.body) then (Foreign, e)
-    else on_matched window e life false now f.body
+    else on_matched window (passed e f.header.version) life false now f.body
     else (Stale, e)
 
 unfoldable pub on_frame : Settings → EndState → FrameParts → ℕ → Verdict × EndState
@@ -281,31 +336,47 @@ has_hello_passed s (Some last) now = nat_le s.times.hello (ticks_passed last now
 abbrev pub is_hello_due : Settings → EndState → ℕ → Bool
 is_hello_due s e now = e.owes_hello || has_hello_passed s e.last_hello now
 
+-- one of version 2 was given, and the peer isn't known to speak it
+abbrev pub is_old_hello_due : EndState → Bool
+is_old_hello_due e = e.owes_old_hello && not e.speaks_two
+
 -- a frame of this end
-abbrev pub frame_sent : Settings → ℕ → ℕ → Body → FrameParts
-frame_sent s life heard body = frame_of (record { sender = s.me; receiver = s.peer; life = life; heard = heard }) body
+abbrev pub frame_sent : Settings → Version → ℕ → ℕ → Body → FrameParts
+frame_sent s version life heard body = frame_of (record { version = version; sender = s.me; receiver = s.peer; life = life; heard = heard }) body
 
-abbrev pub after_hello : EndState → ℕ → EndState
-after_hello e now = record e { owes_hello = false; last_hello = Some now }
+-- a HELLO of the newest version is given, behind which one of version 1 may be due
+abbrev pub after_hello : Settings → EndState → ℕ → EndState
+after_hello s e now = record e { owes_hello = false; owes_old_hello = is_two s.version; last_hello = Some now }
 
--- no HELLO is due: the first packet due, or an ACK where one is owed
-abbrev pub on_transmit_due : Settings → EndState → Life → Option DuePacket → Option FrameParts × EndState
+abbrev pub after_old_hello : EndState → EndState
+after_old_hello e = record e { owes_old_hello = false }
+
+-- a HELLO of the newest version or of version 1, where one is due, before the other frames
+abbrev pub on_hello : Settings → EndState → ℕ → ℕ → ℕ → Option FrameParts × EndState → Option FrameParts × EndState
+on_hello s e own heard now other =
+    if is_hello_due s e now then (Some (frame_sent s s.version own heard Hello), after_hello s e now)
+    else if is_old_hello_due e then (Some (frame_sent s One own heard Hello), after_old_hello e)
+    else other
+
+-- no HELLO is due: the first packets due, or an ACK where one is owed
+abbrev pub on_transmit_due : Settings → EndState → Life → Option DueBatch → Option FrameParts × EndState
 on_transmit_due s e life (Some due) = (
-  Some (frame_sent s life.own life.peer (Data due.number e.accepted due.packet)),
-  record e { queue = due.queue; transmitted = max e.transmitted due.number; owes_ack = false },
+  Some (frame_sent s (data_version e) life.own life.peer (Data due.number e.accepted (batch due.packets))),
+  record e { queue = due.queue; transmitted = max e.transmitted (due.number + length due.packets - 1); owes_ack = false },
 )
 on_transmit_due s e life None =
     if e.owes_ack
-    then (Some (frame_sent s life.own life.peer (Ack e.accepted)), record e { owes_ack = false })
+    then (Some (frame_sent s (data_version e) life.own life.peer (Ack e.accepted)), record e { owes_ack = false })
     else (None, e)
+
+-- the packets due at an end
+abbrev pub due_of : Settings → EndState → ℕ → Option DueBatch
+due_of s e now = first_due s.times now (most_packets (data_version e)) (suc e.acknowledged) s.window e.queue
 
 unfoldable pub on_transmit_in : Settings → EndState → ℕ → Phase → Option FrameParts × EndState
 on_transmit_in s e now Closed = (None, e)
-on_transmit_in s e now (Unbound own) =
-    if is_hello_due s e now then (Some (frame_sent s own e.heard Hello), after_hello e now) else (None, e)
-on_transmit_in s e now (Bound life) =
-    if is_hello_due s e now then (Some (frame_sent s life.own life.peer Hello), after_hello e now)
-    else on_transmit_due s e life (first_due s.times now (suc e.acknowledged) s.window e.queue)
+on_transmit_in s e now (Unbound own) = on_hello s e own e.heard now (None, e)
+on_transmit_in s e now (Bound life) = on_hello s e life.own life.peer now (on_transmit_due s e life (due_of s e now))
 
 unfoldable pub on_transmit : Settings → EndState → ℕ → Option FrameParts × EndState
 on_transmit s e now = on_transmit_in s e now e.phase

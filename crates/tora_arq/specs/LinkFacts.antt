@@ -134,24 +134,33 @@ WasUnboundOrOpens own call before = (before ≡ Unbound own) ⊎ ((before ≡ Cl
 
 -- ---- frames sent, and packets submitted
 
--- a DATA frame carries a packet of the queue within the window, its number, and the count of packets accepted
-pub record IsDataSent (s : Settings) (e : EndState) (number count : ℕ) (packet : Packet) : Type 0 where
+-- these packets are those from a place on, in order and without a gap
+abbrev pub AreFrom : (ℕ → Packet → Type 0) → ℕ → List Packet → Type 0
+AreFrom Is place [] = Unit {0}
+AreFrom Is place (packet ∷ packets) = Is place packet × AreFrom Is (suc place) packets
+
+-- the packet of a number of a life, where the first of the list has the number 1
+abbrev pub IsPacketAt : List Packet → ℕ → Packet → Type 0
+IsPacketAt packets place packet = slice_get packets place ≡ Some packet
+
+-- a DATA frame carries packets of the queue within the window, the number of the first, and the count of packets accepted
+pub record IsDataSent (s : Settings) (e : EndState) (number count : ℕ) (packets : List Packet) : Type 0 where
   pub place : ℕ
-  pub within : place < s.window
+  pub within : place + length packets ≤ s.window
   pub number_is : number ≡ suc (e.acknowledged + place)
-  pub packet_is : slice_get (packets_in e.queue) place ≡ Some packet
+  pub packets_are : AreFrom (IsPacketAt (packets_in e.queue)) place packets
   pub count_is : count ≡ e.accepted
 
 abbrev pub IsBodySent : Settings → EndState → Body → Type 0
 IsBodySent s e Hello = Unit {0}
-IsBodySent s e (Data number count packet) = IsDataSent s e number count packet
+IsBodySent s e (Data number count packets) = IsDataSent s e number count packets.items
 IsBodySent s e (Ack count) = count ≡ e.accepted
 
 -- a frame of an end: none of a closed one, a HELLO with the own number and the life heard, or one with both numbers
 abbrev pub IsFrameSentIn : Settings → EndState → FrameParts → Phase → Type 0
 IsFrameSentIn s e f Closed = ⊥
-IsFrameSentIn s e f (Unbound own) = f ≡ frame_sent s own e.heard Hello
-IsFrameSentIn s e f (Bound life) = (f ≡ frame_sent s life.own life.peer f.body) × IsBodySent s e f.body
+IsFrameSentIn s e f (Unbound own) = f ≡ frame_sent s f.header.version own e.heard Hello
+IsFrameSentIn s e f (Bound life) = (f ≡ frame_sent s f.header.version life.own life.peer f.body) × IsBodySent s e f.body
 
 abbrev pub IsFrameSent : Settings → EndState → FrameParts → Type 0
 IsFrameSent s e f = IsFrameSentIn s e f e.phase
@@ -162,22 +171,27 @@ pub record IsQueueOf (submitted : List Packet) (e : EndState) : Type 0 where
   pub transmitted : e.transmitted ≤ length submitted
   pub waiting : packets_in e.queue ≡ drop e.acknowledged submitted
 
--- the packet of a number of a life, where the first of the list has the number 1
-abbrev pub IsPacketAt : List Packet → ℕ → Packet → Type 0
-IsPacketAt packets place packet = slice_get packets place ≡ Some packet
+-- packets that are numbered on from the first have this one with this number
+abbrev pub HasNumber : ℕ → List Packet → ℕ → Packet → Type 0
+HasNumber first packets number packet = (place : ℕ) × (number ≡ first + place) × (slice_get packets place ≡ Some packet)
 
--- a DATA frame carries the packet of its number, and this count
-pub record IsDataOf (packets : List Packet) (accepted number count : ℕ) (packet : Packet) : Type 0 where
-  pub place : ℕ
-  pub number_is : number ≡ suc place
-  pub packet_is : IsPacketAt packets place packet
+-- a DATA frame carries the packet with this number
+abbrev pub Carries : Body → ℕ → Packet → Type 0
+Carries Hello number packet = ⊥
+Carries (Data first count packets) number packet = HasNumber first packets.items number packet
+Carries (Ack count) number packet = ⊥
+
+-- a DATA frame carries the packets of its numbers, and this count
+pub record IsDataOf (submitted : List Packet) (accepted number count : ℕ) (packets : List Packet) : Type 0 where
+  pub first : 0 < number
+  pub packets_are : (place : ℕ) (packet : Packet) → HasNumber number packets (suc place) packet → IsPacketAt submitted place packet
   pub count_is : count ≡ accepted
 
 -- the same for any frame
 abbrev pub IsBodyOf : List Packet → ℕ → Body → Type 0
-IsBodyOf packets accepted Hello = Unit {0}
-IsBodyOf packets accepted (Data number count packet) = IsDataOf packets accepted number count packet
-IsBodyOf packets accepted (Ack count) = count ≡ accepted
+IsBodyOf submitted accepted Hello = Unit {0}
+IsBodyOf submitted accepted (Data number count packets) = IsDataOf submitted accepted number count packets.items
+IsBodyOf submitted accepted (Ack count) = count ≡ accepted
 
 -- ---- packets delivered
 
@@ -187,18 +201,11 @@ AreHeld Is place [] = Unit {0}
 AreHeld Is place (None ∷ held) = AreHeld Is (suc place) held
 AreHeld Is place (Some packet ∷ held) = Is place packet × AreHeld Is (suc place) held
 
--- these packets are those from a place on, in order and without a gap
-abbrev pub AreFrom : (ℕ → Packet → Type 0) → ℕ → List Packet → Type 0
-AreFrom Is place [] = Unit {0}
-AreFrom Is place (packet ∷ packets) = Is place packet × AreFrom Is (suc place) packets
-
--- the packet of a DATA frame is that of its number
+-- each packet of a DATA frame is that of its number
 abbrev pub BodyTells : (ℕ → Packet → Type 0) → Body → Type 0
-BodyTells Is Hello = Unit {0}
-BodyTells Is (Data number count packet) = (place : ℕ) → number ≡ suc place → Is place packet
-BodyTells Is (Ack count) = Unit {0}
+BodyTells Is body = (place : ℕ) (packet : Packet) → Carries body (suc place) packet → Is place packet
 
--- where the call hands in a DATA frame of this life, its packet is that of its number
+-- where the call hands in a DATA frame of this life, each packet is that of its number
 abbrev pub CallTells : (ℕ → Packet → Type 0) → Settings → Life → LinkCall → Type 0
 CallTells Is s life (Frame frame now) = IsFrameOf s life frame → BodyTells Is frame.body
 CallTells Is s life call = Unit {0}

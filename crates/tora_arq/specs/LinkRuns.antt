@@ -1,5 +1,5 @@
 -- What holds of every run of a link end: a list of calls from the first state on.
-use Rattle.std.specs.Prelude.{◌≡◌, ℕ, suc, ◌+◌, ◌≤◌, ◌==◌, if◌then◌else◌, List, [], ◌∷◌, ◌++◌, map, length, Option, Some, None, Contains}
+use Rattle.std.specs.Prelude.{◌≡◌, ℕ, suc, ◌+◌, ◌<◌, ◌≤◌, ◌==◌, if◌then◌else◌, List, [], ◌∷◌, ◌++◌, map, length, Option, Some, None, Contains}
 use Rattle.tora_packet.specs.declared.Packet.{Packet}
 use Rattle.tora_frame.specs.declared.parts.Body.{Body}
 use Rattle.tora_frame.specs.declared.parts.Body.TheVariants.{Hello, Data, Ack}
@@ -12,7 +12,7 @@ use Rattle.tora_arq.specs.declared.state.Phase.TheVariants.{Closed, Unbound, Bou
 use Rattle.tora_arq.specs.Lives.{life_of, is_same_life}
 use Rattle.tora_arq.specs.Settings.{Settings}
 use Rattle.tora_arq.specs.LinkEnd.{EndState, first_end, count_of}
-use Rattle.tora_arq.specs.LinkFacts.{LinkCall, after_call, IsPossible, frame_sent_by, event_given_by, events_queued, packet_submitted, IsFrameOf, IsPacketAt, AreFrom, packets_delivered, list_of}
+use Rattle.tora_arq.specs.LinkFacts.{LinkCall, after_call, IsPossible, frame_sent_by, event_given_by, events_queued, packet_submitted, IsFrameOf, AreFrom, IsPacketAt, HasNumber, Carries, packets_delivered, list_of}
 use Rattle.tora_arq.specs.LinkFacts.LinkCall.{Frame, Submit}
 
 -- ---- runs
@@ -110,8 +110,7 @@ pub record WasHandedIn (s : Settings) (frames : List FrameHandedIn) (life : Life
 pub record CameAt (s : Settings) (frames : List FrameHandedIn) (life : Life) (place : ℕ) (packet : Packet) : Type 0 where
   pub handed : FrameHandedIn
   pub was : WasHandedIn s frames life handed
-  pub count : ℕ
-  pub body : handed.frame.body ≡ Data (suc place) count packet
+  pub carries : Carries handed.frame.body (suc place) packet
 
 -- these packets are the first ones, in order and without a gap
 abbrev pub AreFromFirst : (ℕ → Packet → Type 0) → List Packet → Type 0
@@ -137,25 +136,29 @@ times_bound own (Up life ∷ events) = (if life.own == own then 1 else 0) + time
 times_bound own (Deliver life packet ∷ events) = times_bound own events
 times_bound own (Down life reason ∷ events) = times_bound own events
 
--- a DATA frame carries the packet of its number of those submitted in the life, and a count that is not above the packets delivered in it
-pub record IsDataOfRun (run : LinkRun) (life : Life) (number count : ℕ) (packet : Packet) : Type 0 where
-  pub place : ℕ
-  pub number_is : number ≡ suc place
-  pub packet_is : IsPacketAt (packets_submitted life run.submitted) place packet
+-- a DATA frame carries the packets of its numbers of those submitted in the life, and a count that is not above the packets delivered in it
+pub record IsDataOfRun (run : LinkRun) (life : Life) (number count : ℕ) (packets : List Packet) : Type 0 where
+  pub first : 0 < number
+  pub packets_are : (place : ℕ) (packet : Packet) → HasNumber number packets (suc place) packet → IsPacketAt (packets_submitted life run.submitted) place packet
   pub count_is : count ≤ length (packets_delivered life run.events)
 
 -- the same for any frame
 abbrev pub IsBodyOfRun : LinkRun → Life → Body → Type 0
 IsBodyOfRun run life Hello = Unit {0}
-IsBodyOfRun run life (Data number count packet) = IsDataOfRun run life number count packet
+IsBodyOfRun run life (Data number count packets) = IsDataOfRun run life number count packets.items
 IsBodyOfRun run life (Ack count) = count ≤ length (packets_delivered life run.events)
 
 -- in the life that its header names
 abbrev pub IsFrameOfRun : LinkRun → FrameParts → Type 0
 IsFrameOfRun run f = IsBodyOfRun run (life_of f.header.life f.header.heard) f.body
 
+-- two frames of one life of an end
+pub record IsOfOneLife (f g : FrameParts) : Type 0 where
+  pub own : f.header.life ≡ g.header.life
+  pub peer : f.header.heard ≡ g.header.heard
+
 -- every try of a number in a life carries the same packet
 abbrev pub IsSameAtEachTry : List FrameParts → Type 0
 IsSameAtEachTry sent =
-    (f g : FrameParts) (number count later : ℕ) (packet other : Packet) → Contains sent f → Contains sent g → f.header ≡ g.header → f.body ≡ Data number count packet
-    → g.body ≡ Data number later other → packet ≡ other
+    (f g : FrameParts) (number : ℕ) (packet other : Packet) → Contains sent f → Contains sent g → IsOfOneLife f g → Carries f.body number packet → Carries g.body number other
+    → packet ≡ other

@@ -1,5 +1,5 @@
 -- The packets that were submitted and are not acknowledged, and which of them is due.
-use Rattle.std.specs.Prelude.{◌≡◌, ℕ, zero, suc, ◌<◌, Bool, true, false, nat_lt, nat_le, ◌==◌, ◌||◌, ◌&&◌, if◌then◌else◌, List, [], ◌∷◌, map, slice_get, Option, Some, None}
+use Rattle.std.specs.Prelude.{◌≡◌, ℕ, zero, suc, ◌<◌, Bool, true, false, nat_lt, nat_le, min, ◌==◌, ◌||◌, ◌&&◌, if◌then◌else◌, List, [], ◌∷◌, map, slice_get, Option, Some, None}
 use Rattle.tora_packet.specs.declared.Packet.{Packet}
 use Rattle.tora_arq.specs.declared.Times.{Times}
 use Rattle.tora_arq.specs.declared.queue.QueuedPacket.{QueuedPacket}
@@ -33,27 +33,45 @@ abbrev pub has_given_up : Times → ℕ → List QueuedPacket → Bool
 has_given_up times now [] = false
 has_given_up times now (q ∷ queue) = is_given_up times now q || has_given_up times now queue
 
--- a packet that is due: its number, and the queue once it is transmitted
-pub record DuePacket : Type 0 where
-  pub number : ℕ
-  pub packet : Packet
+-- packets that are due one after another, and the queue once they are transmitted
+pub record ReadyRun : Type 0 where
+  pub packets : List Packet
   pub queue : List QueuedPacket
 
-abbrev pub due_packet : ℕ → List QueuedPacket → Packet → DuePacket
-due_packet number queue packet = record { number = number; packet = packet; queue = queue }
+abbrev pub no_run : List QueuedPacket → ReadyRun
+no_run queue = record { packets = []; queue = queue }
 
-abbrev pub due_behind : QueuedPacket → Option DuePacket → Option DuePacket
+abbrev pub with_ready : QueuedPacket → ℕ → ReadyRun → ReadyRun
+with_ready q now run = record { packets = q.packet ∷ run.packets; queue = retried q now ∷ run.queue }
+
+-- the first packets of a queue as far as each is due, at most so many
+unfoldable pub ready_run : Times → ℕ → ℕ → List QueuedPacket → ReadyRun
+ready_run times now zero queue = no_run queue
+ready_run times now (suc most) [] = no_run []
+ready_run times now (suc most) (q ∷ queue) = if is_ready times now q then with_ready q now (ready_run times now most queue) else no_run (q ∷ queue)
+
+-- packets that are due in one frame: the number of the first, and the queue once they are transmitted
+pub record DueBatch : Type 0 where
+  pub number : ℕ
+  pub packets : List Packet
+  pub queue : List QueuedPacket
+
+abbrev pub due_batch : ℕ → ReadyRun → DueBatch
+due_batch number run = record { number = number; packets = run.packets; queue = run.queue }
+
+abbrev pub due_behind : QueuedPacket → Option DueBatch → Option DueBatch
 due_behind q None = None
 due_behind q (Some due) = Some (record due { queue = q ∷ due.queue })
 
--- the first packet due within the window; `number` is that of the first of the queue
-unfoldable pub first_due : Times → ℕ → ℕ → ℕ → List QueuedPacket → Option DuePacket
-first_due times now number zero queue = None
-first_due times now number (suc window) [] = None
-first_due times now number (suc window) (q ∷ queue) =
+-- the first packet due within the window, and those that follow it and are due too, at most so many in all; `number` is that
+-- of the first of the queue
+unfoldable pub first_due : Times → ℕ → ℕ → ℕ → ℕ → List QueuedPacket → Option DueBatch
+first_due times now most number zero queue = None
+first_due times now most number (suc window) [] = None
+first_due times now most number (suc window) (q ∷ queue) =
     if is_ready times now q
-    then Some (due_packet number (retried q now ∷ queue) q.packet)
-    else due_behind q (first_due times now (suc number) window queue)
+    then Some (due_batch number (ready_run times now (min most (suc window)) (q ∷ queue)))
+    else due_behind q (first_due times now most (suc number) window queue)
 
 -- none of the first packets, so many, is due
 abbrev pub AreLate : Times → ℕ → ℕ → List QueuedPacket → Type 0

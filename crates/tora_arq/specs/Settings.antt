@@ -1,18 +1,20 @@
 -- What a link end is made with.
 use Rattle.std.specs.Prelude.{◌≢◌, ℕ, ◌-◌, ◌<◌}
 use Rattle.tora_packet.specs.PacketParts.{IsId}
+use Rattle.tora_frame.specs.declared.parts.Version.{Version}
 use Rattle.tora_arq.specs.declared.Times.{Times}
 use Rattle.tora_arq.specs.declared.TheConstants.{WINDOW}
 
--- its node, the node at the other end, its times, and how many packets may be under way
+-- the newest version that it speaks, its node, the node at the other end, its times, and how many packets may be under way
 pub record Settings : Type 0 where
+  pub version : Version
   pub me : ℕ
   pub peer : ℕ
   pub times : Times
   pub window : ℕ
 
-abbrev pub settings_of : ℕ → ℕ → Times → Settings
-settings_of me peer times = record { me = me; peer = peer; times = times; window = WINDOW }
+abbrev pub settings_of : Version → ℕ → ℕ → Times → Settings
+settings_of version me peer times = record { version = version; me = me; peer = peer; times = times; window = WINDOW }
 
 -- every time is at least 1
 pub record IsTimes (t : Times) : Type 0 where

@@ -5,7 +5,7 @@ use Rattle.tora_arq.specs.Settings.{Settings, settings_of}
 use Rattle.tora_arq.specs.LinkEnd.{EndState}
 
 abbrev pub settings_in : CodeSettings → Settings
-settings_in s = settings_of s.me s.peer s.times
+settings_in s = settings_of s.version s.me s.peer s.times
 
 abbrev pub state_in : State → EndState
 state_in s = record {
@@ -18,7 +18,9 @@ state_in s = record {
   accepted = s.accepted;
   held = s.held;
   events = s.events;
+  speaks_two = s.speaks_two;
   owes_hello = s.owes_hello;
+  owes_old_hello = s.owes_old_hello;
   owes_ack = s.owes_ack;
   last_hello = s.last_hello;
   last_hearing = s.last_hearing;

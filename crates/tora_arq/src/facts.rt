@@ -48,8 +48,8 @@ pub fn lives_are_bound_once()
     ensures told { EveryRun (λ s run. AreAllTold s run.frames run.events) }
 {}
 
-/// DATA frames come only from a bound end, with both numbers of the life, and carry the packet of their number of those
-/// submitted in it, the same at each try. The count that a frame carries is that of the packets accepted. Own profile.
+/// DATA frames come only from a bound end, with both numbers of the life, and carry the packets of their numbers of those
+/// submitted in it, each the same at each try. The count that a frame carries is that of the packets accepted. Own profile.
 pub fn data_frames_are_what_was_submitted()
     ensures frame { (s : Settings) (e : EndState) (call : LinkCall) (f : FrameParts)
         → frame_sent_by s e call ≡ Some f → IsFrameSent s e f }
@@ -138,13 +138,13 @@ pub fn refused_frames_change_nothing()
         → verdict_of s e frame now ≡ Is.Stale → after_frame s e frame now ≡ e }
 {}
 
-/// At one tick an end gives at most two frames more than its window, and then none: a HELLO, a DATA frame for each packet
-/// within the window, and an ACK. Own profile.
+/// At one tick an end gives at most three frames more than its window, and then none: a HELLO of each version, at most a DATA
+/// frame for each packet within the window, and an ACK. Own profile.
 pub fn polls_of_a_tick_end()
     // However often it is polled.
     ensures most { (s : Settings) (e : EndState) (now polls : ℕ) → IsTimes s.times
-        → length (frames_polled s e now polls) ≤ s.window + 2 }
-    ensures none { (s : Settings) (e : EndState) (now polls : ℕ) → IsTimes s.times → s.window + 2 ≤ polls
+        → length (frames_polled s e now polls) ≤ s.window + 3 }
+    ensures none { (s : Settings) (e : EndState) (now polls : ℕ) → IsTimes s.times → s.window + 3 ≤ polls
         → frame_due s (after_polls s e now polls) now ≡ None }
     // Once none is due, none is due at that tick.
     ensures settled { (s : Settings) (e : EndState) (now polls : ℕ) → frame_due s e now ≡ None → after_polls s e now polls ≡ e }

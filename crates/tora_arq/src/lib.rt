@@ -272,6 +272,8 @@ pub enum ArqError {
 }
 
 #[cfg(test)]
+mod batches;
+#[cfg(test)]
 mod shuffled;
 #[cfg(test)]
 mod tests;

@@ -3,13 +3,14 @@ ghost use Rattle.std.specs.Prelude.{◌≡◌, ◌≢◌, ◌<◌, ◌≤◌, �
 ghost use Rattle.tora_arq.specs.Settings.{IsTimes, settings_of};
 ghost use Rattle.tora_arq.specs.LinkEnd.{first_end, is_closed, bound_life, after_open, verdict_of, after_frame, after_tick, submit_answer, after_submit, after_cut, first_event, after_poll_event, frame_due, after_transmit};
 ghost use Rattle.tora_arq.specs.EndRange.{IsEndState, link_end_of};
+ghost use Rattle.tora_frame.specs.declared.parts.Version.TheVariants.{One, Two};
 
 use crate::settings::Settings;
 use crate::state::{Phase, State};
 use crate::{ArqError, Life, LinkEvent, SubmitError, Times, Verdict};
 use std::alloc::Global;
 use std::marker::Model;
-use tora_frame::Frame;
+use tora_frame::{Frame, Version};
 use tora_height::Id;
 use tora_packet::Packet;
 
@@ -47,7 +48,8 @@ impl Model for LinkEnd {
 }
 
 impl LinkEnd {
-    /// A closed end of the link between node `me` and its neighbour `peer`, two different nodes.
+    /// A closed end of the link between node `me` and its neighbour `peer`, two different nodes. It speaks version 2, and
+    /// version 1 to a peer that isn't known to speak version 2.
     ///
     /// Every time of `times` is at least 1. It makes room for 256 packets that wait for their acknowledgement and for
     /// 64 events.
@@ -59,12 +61,48 @@ impl LinkEnd {
         requires peer { 0 < peer }
         requires other { me ≢ peer }
         requires times { IsTimes times }
-        ensures { IfOk result (λ end. end ≡ link_end_of (settings_of me peer times) first_end) }
+        ensures { IfOk result (λ end. end ≡ link_end_of (settings_of Two me peer times) first_end) }
+    {
+        LinkEnd::of(alloc, Version::Two, me, peer, times)
+    }
+
+    /// As `new`, but an end of version 1, to which a frame of version 2 is `Foreign`.
+    ///
+    /// # Errors
+    /// `Memory`.
+    pub fn new_v1(alloc: Global, me: Id, peer: Id, times: Times) -> Result<LinkEnd, ArqError>
+        requires me { 0 < me }
+        requires peer { 0 < peer }
+        requires other { me ≢ peer }
+        requires times { IsTimes times }
+        ensures { IfOk result (λ end. end ≡ link_end_of (settings_of One me peer times) first_end) }
+    {
+        LinkEnd::of(alloc, Version::One, me, peer, times)
+    }
+
+    /// A closed end that speaks versions up to this one.
+    fn of(
+        alloc: Global,
+        version: Version,
+        me: Id,
+        peer: Id,
+        times: Times,
+    ) -> Result<LinkEnd, ArqError>
+        requires me { 0 < me }
+        requires peer { 0 < peer }
+        requires other { me ≢ peer }
+        requires times { IsTimes times }
+        ensures { IfOk result (λ end. end ≡ link_end_of (settings_of version me peer times) first_end) }
     {
         let Ok(state) = State::new(alloc) else {
             return Err(ArqError::Memory);
         };
-        let settings = Settings { me, peer, times };
+        let settings = Settings {
+            version,
+            me,
+            peer,
+            times,
+        };
         Ok(LinkEnd { settings, state })
     }
 
@@ -92,6 +130,13 @@ impl LinkEnd {
         ensures { result ≡ self.now.settings.me }
     {
         self.settings.me
+    }
+
+    /// The newest version of frames that this end speaks.
+    pub fn version(&self) -> Version
+        ensures { result ≡ self.now.settings.version }
+    {
+        self.settings.version
     }
 
     /// The times of this end.
@@ -141,7 +186,8 @@ impl LinkEnd {
     }
 
     /// Takes a frame that came in at the tick `now`. The first of these that applies decides:
-    /// 1. It is not from the peer or not for this node, or it has an update of another node than the peer: `Foreign`.
+    /// 1. It is not from the peer or not for this node, or it is of version 2 and the end of version 1, or it has an update
+    ///    of another node than the peer: `Foreign`.
     /// 2. Fewer than 34 of the 64 places for events are free: `Busy`.
     /// 3. The end is closed: `Stale`.
     /// 4. At a bound end, a life of the sender above the bound one ends the bound life (`NewPeer`): `Accepted`. One below
@@ -152,8 +198,13 @@ impl LinkEnd {
     /// 6. The count is above the packets transmitted in this life: `Foreign`. At an unbound end, a life below the one noted:
     ///    `Stale`. Otherwise an unbound end binds the life (`Up`), and a HELLO is owed where the life was not noted before.
     /// 7. The peer is heard, and packets up to the count leave the queue. HELLO: `Accepted`. ACK: `Accepted` where the
-    ///    count grew or the frame bound the life, otherwise `Repeated`. DATA, for which an ACK is owed: the next packet is
-    ///    `Accepted` (`Deliver`), one with a lesser number `Repeated`, one with a greater number `Ahead`.
+    ///    count grew or the frame bound the life, otherwise `Repeated`. DATA, for which an ACK is owed: `Repeated` where
+    ///    all its packets were accepted before, `Accepted` where the next packet is among them, otherwise `Ahead`. Each
+    ///    packet by itself is passed over where it was accepted before, held within the window and then delivered in
+    ///    order (`Deliver`), or dropped.
+    ///
+    /// A frame that changes the life noted sets the mark that the peer speaks version 2 where it is of version 2, and unsets
+    /// it otherwise. Another frame of version 2 sets it in the cases 5 to 7, where it is neither `Stale` nor `Foreign`.
     ///
     /// `Foreign`, `Busy` and `Stale` change nothing.
     pub fn on_frame(&mut self, frame: &Frame, now: u64) -> Verdict
@@ -208,9 +259,12 @@ impl LinkEnd {
 
     /// Takes the first frame due, which counts as sent; `None` only where none is due.
     ///
-    /// In this order: a HELLO, where one is owed or `hello` ticks have passed since the last one; a DATA frame with the
-    /// first packet within the window that was never transmitted, or was `retry` ticks ago and fewer than `tries`
-    /// times; an ACK, where one is owed. A DATA frame settles an owed ACK.
+    /// In this order: a HELLO of the newest version that the end speaks, where one is owed or `hello` ticks have passed
+    /// since the last one; a HELLO of version 1 behind one of version 2, while the peer isn't known to speak version 2; a
+    /// DATA frame with the first packet within the window that was never transmitted, or was `retry` ticks ago and fewer
+    /// than `tries` times; an ACK, where one is owed. A DATA frame settles an owed ACK. DATA and ACK are of version 2 where
+    /// the peer is known to speak it, and a DATA frame of version 2 carries with the first packet those that follow it,
+    /// sixteen in all at most, as long as they are within the window and due.
     pub fn poll_transmit(&mut self, now: u64) -> Option<Frame>
         ensures frame { result ≡ frame_due self.old.settings self.old.state now }
         ensures state { self.new ≡ record self.old { state = after_transmit self.old.settings self.old.state now } }

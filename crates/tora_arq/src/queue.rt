@@ -1,7 +1,7 @@
 //! The send queue of a link end.
-ghost use Rattle.std.specs.Prelude.{◌≡◌, ◌<◌, ◌≤◌, ◌+◌, ◌^◌, ℕ, [], ◌∷◌, ◌++◌, length, drop, min, slice_get, Some, IfOk, IfNone, IfSome, IsTrue, MatchOption, is_some, option_map};
+ghost use Rattle.std.specs.Prelude.{◌≡◌, ◌<◌, ◌≤◌, ◌+◌, ◌^◌, ℕ, [], ◌∷◌, ◌++◌, ◌-◌, length, take, drop, min, slice_get, Some, IfOk, IfNone, IfSome, IsTrue, MatchOption, is_some, option_map};
 ghost use Rattle.tora_arq.specs.Settings.{ticks_passed};
-ghost use Rattle.tora_arq.specs.SendQueue.{untried, retried, is_retry_time, is_ready, is_given_up, has_given_up, first_due, due_packet, AreLate, IsFirstReady};
+ghost use Rattle.tora_arq.specs.SendQueue.{untried, retried, is_retry_time, is_ready, is_given_up, has_given_up, ready_run, first_due, AreLate, IsFirstReady};
 ghost use Rattle.tora_arq.specs.EndRange.{AreUntried};
 
 use crate::rings::{push, set};
@@ -10,6 +10,7 @@ use crate::{Times, WINDOW};
 use circular_buffer::HeapCircularBuffer;
 use std::alloc::{AllocError, Global};
 use std::marker::Model;
+use tora_frame::{MOST_PACKETS, Packets};
 use tora_packet::Packet;
 
 /// How many packets of a life may wait for their acknowledgement.
@@ -70,11 +71,11 @@ impl QueuedPacket {
     }
 }
 
-/// A packet that is due, and how many packets of the send queue stand before it.
-#[derive(Clone, Copy, Debug, PartialEq, Eq, Hash)]
+/// Packets that are due in one frame, and how many packets of the send queue stand before them.
+#[derive(Debug, PartialEq, Eq, Hash, Drop)]
 pub struct Due {
     pub place: usize,
-    pub packet: Packet,
+    pub packets: Packets,
 }
 
 /// The packets that were submitted and are not acknowledged, in order, 256 at most.
@@ -182,7 +183,7 @@ impl SendQueue {
 
     /// Whether a packet within the window is due.
     pub fn is_due(&self, times: &Times, now: u64) -> bool
-        ensures { (number : ℕ) → result ≡ is_some (first_due times.now now number WINDOW self.now) }
+        ensures { (most number : ℕ) → result ≡ is_some (first_due times.now now most number WINDOW self.now) }
     {
         match self.first_ready(times, now) {
             Some(_) => true,
@@ -190,17 +191,38 @@ impl SendQueue {
         }
     }
 
-    /// The first packet due within the window, which counts as transmitted now.
-    pub fn take_due(&mut self, times: &Times, now: u64) -> Option<Due>
-        ensures due { (number : ℕ) → first_due times.now now number WINDOW self.old ≡ option_map (λ d. due_packet (number + d.place) self.new d.packet) result }
-        ensures none { IfNone result (self.new ≡ self.old) }
-        ensures some { IfSome result (λ d. d.place < length self.old) }
+    /// The packets from a place up to another, as far as each is due; they count as transmitted now.
+    fn take_run(&mut self, times: &Times, now: u64, place: usize, end: usize) -> Packets
+        requires within { end ≤ length self.old }
+        requires most { end ≤ place + MOST_PACKETS }
+        ensures packets { result.items ≡ (ready_run times.now now (end - place) (drop place self.old)).packets }
+        ensures queue { self.new ≡ take place self.old ++ (ready_run times.now now (end - place) (drop place self.old)).queue }
     {
-        let Some((place, first)) = self.first_ready(times, now) else {
+        let mut packets = Packets::new();
+        for at in place..end {
+            let packet = self.packet_at(at);
+            if !packet.is_ready(times, now) {
+                return packets;
+            }
+            packets.push(packet.packet);
+            set(&mut self.ring, at, packet.retried(now));
+        }
+        packets
+    }
+
+    /// The first packet due within the window, and those that follow it and are due too, at most so many in all; they
+    /// count as transmitted now.
+    pub fn take_due(&mut self, times: &Times, now: u64, most: usize) -> Option<Due>
+        requires { (0 < most) × (most ≤ MOST_PACKETS) }
+        ensures due { (number : ℕ) → first_due times.now now most number WINDOW self.old ≡ option_map (λ d. record { number = number + d.place; packets = d.packets.items; queue = self.new }) result }
+        ensures none { IfNone result (self.new ≡ self.old) }
+        ensures some { IfSome result (λ d. (0 < length d.packets.items) × (length d.packets.items ≤ most) × (d.place + length d.packets.items ≤ length self.old)) }
+    {
+        let Some((place, _)) = self.first_ready(times, now) else {
             return None;
         };
-        let packet = first.packet;
-        set(&mut self.ring, place, first.retried(now));
-        Some(Due { place, packet })
+        let end = self.within_window().min(place + most);
+        let packets = self.take_run(times, now, place, end);
+        Some(Due { place, packets })
     }
 }

@@ -2,13 +2,15 @@
 ghost use Rattle.std.specs.Prelude.{◌≡◌, ◌<◌, ◌≤◌, ◌+◌, ◌^◌, length};
 ghost use Rattle.tora_frame.specs.FrameParts.{IsFrame};
 ghost use Rattle.tora_arq.specs.Held.{hold_at};
-ghost use Rattle.tora_arq.specs.LinkEnd.{count_of, on_life_told, after_release, on_data, on_matched, on_frame_in, on_frame};
+ghost use Rattle.tora_arq.specs.LinkEnd.{count_of, passed, on_life_told, after_release, after_packet, after_packets, on_data, on_matched, on_frame_in, on_frame};
+ghost use Rattle.tora_arq.specs.EndRange.{HasRoom, IsNumbered};
 ghost use Rattle.tora_arq.specs.StateView.{settings_in, state_in};
 
 use crate::settings::Settings;
 use crate::state::{Phase, State};
+use crate::transmit::is_two;
 use crate::{Life, Reason, Verdict, WINDOW};
-use tora_frame::{Body, Frame};
+use tora_frame::{Body, Frame, Packets, Version};
 use tora_packet::Packet;
 
 /// The count that a frame acknowledges.
@@ -23,20 +25,30 @@ fn count_of(body: &Body) -> u64
 }
 
 impl State {
+    /// A frame of a version has passed: one of version 2 sets the mark.
+    fn pass(&mut self, version: Version)
+        ensures { state_in self.new ≡ passed (state_in self.old) version }
+    {
+        self.speaks_two = is_two(version) || self.speaks_two;
+    }
+
     /// A frame that does not tell the own number, at an end that is not bound.
-    fn on_life_told(&mut self, life: u64, body: &Body) -> Verdict
-        ensures verdict { result ≡ (on_life_told (state_in self.old) life body.now).0 }
-        ensures state { state_in self.new ≡ (on_life_told (state_in self.old) life body.now).1 }
+    fn on_life_told(&mut self, version: Version, life: u64, body: &Body) -> Verdict
+        ensures verdict { result ≡ (on_life_told (state_in self.old) version life body.now).0 }
+        ensures state { state_in self.new ≡ (on_life_told (state_in self.old) version life body.now).1 }
     {
         match body {
             Body::Hello => {
                 if life < self.heard {
                     return Verdict::Stale;
                 }
-                if life != self.heard {
-                    self.heard = life;
-                    self.owes_hello = true;
+                if life == self.heard {
+                    self.pass(version);
+                    return Verdict::Accepted;
                 }
+                self.heard = life;
+                self.speaks_two = is_two(version);
+                self.owes_hello = true;
                 Verdict::Accepted
             }
             Body::Data(_, _, _) => Verdict::Stale,
@@ -47,46 +59,76 @@ impl State {
     /// Holds a packet at a place, and delivers what is held up to the first gap.
     fn hold(&mut self, life: Life, place: usize, packet: Packet)
         requires place { place < WINDOW }
-        requires room { length self.old.events ≤ 31 }
-        requires accepted { self.old.accepted ≤ 2 ^ 62 }
-        requires held { length self.old.held ≤ WINDOW }
+        requires room { length self.old.events + length self.old.held < 64 }
+        requires place_room { length self.old.events + place + 1 < 64 }
+        requires accepted { self.old.accepted ≤ 2 ^ 63 }
         ensures { state_in self.new ≡ after_release life (record (state_in self.old) { held = hold_at place packet self.old.held }) (hold_at place packet self.old.held) }
     {
         self.held.hold(place, packet);
         self.release(life);
     }
 
-    /// A packet of the bound life.
-    #[tactic(auto, using(crate::proofs::ReceiveLemmas::repeated_data, crate::proofs::ReceiveLemmas::far_data))]
-    fn on_data(&mut self, life: Life, number: u64, packet: Packet) -> Verdict
+    /// A packet of the bound life, where `furthest` is the last number of the window.
+    #[tactic(auto, using(crate::proofs::ReceiveLemmas::passed_over, crate::proofs::ReceiveLemmas::dropped))]
+    fn on_packet(&mut self, life: Life, furthest: u64, number: u64, packet: Packet)
+        requires room { HasRoom WINDOW furthest (state_in self.old) }
+        requires accepted { self.old.accepted ≤ 2 ^ 63 }
+        ensures { state_in self.new ≡ after_packet life furthest (state_in self.old) number packet }
+    {
+        if number <= self.accepted || number > furthest {
+            return;
+        }
+        let place = number - self.accepted - 1;
+        if place == 0 && self.held.is_empty() {
+            self.deliver(life, packet);
+        } else {
+            self.hold(life, place as usize, packet);
+        }
+    }
+
+    /// Packets of the bound life, numbered on from the first.
+    fn on_packets(&mut self, life: Life, number: u64, packets: &[Packet])
         requires room { length self.old.events ≤ 31 }
         requires accepted { self.old.accepted ≤ 2 ^ 62 }
         requires held { length self.old.held ≤ WINDOW }
-        ensures verdict { result ≡ (on_data WINDOW (state_in self.old) life number packet).0 }
-        ensures state { state_in self.new ≡ (on_data WINDOW (state_in self.old) life number packet).1 }
+        requires number { number + length packets.now ≤ 2 ^ 62 + 1 }
+        ensures { state_in self.new ≡ after_packets life (self.old.accepted + WINDOW) (state_in self.old) number packets.now }
     {
-        if number <= self.accepted {
+        let furthest = self.accepted + WINDOW;
+        let mut next = number;
+        for packet in packets {
+            self.on_packet(life, furthest, next, *packet);
+            next += 1;
+        }
+    }
+
+    /// A DATA frame of the bound life.
+    #[tactic(auto, unfolding(crate::specs::LinkEnd::on_data))]
+    fn on_data(&mut self, life: Life, number: u64, packets: &Packets) -> Verdict
+        requires room { length self.old.events ≤ 31 }
+        requires accepted { self.old.accepted ≤ 2 ^ 62 }
+        requires held { length self.old.held ≤ WINDOW }
+        requires some { 0 < length packets.now.items }
+        requires number { number + length packets.now.items ≤ 2 ^ 62 + 1 }
+        ensures verdict { result ≡ (on_data WINDOW (state_in self.old) life number packets.now.items).0 }
+        ensures state { state_in self.new ≡ (on_data WINDOW (state_in self.old) life number packets.now.items).1 }
+    {
+        let accepted = self.accepted;
+        let last = number + packets.len() as u64 - 1;
+        self.on_packets(life, number, packets.as_slice());
+        if last <= accepted {
             return Verdict::Repeated;
         }
-        let place = number - self.accepted - 1;
-        if place >= WINDOW {
-            return Verdict::Ahead;
+        if number <= accepted + 1 {
+            return Verdict::Accepted;
         }
-        if place > 0 {
-            self.hold(life, place as usize, packet);
-            return Verdict::Ahead;
-        }
-        if self.held.is_empty() {
-            self.deliver(life, packet);
-        } else {
-            self.hold(life, 0, packet);
-        }
-        Verdict::Accepted
+        Verdict::Ahead
     }
 
     /// A frame of the bound life; `binds` says that it bound it.
     #[tactic(auto, unfolding(crate::specs::LinkEnd::on_matched))]
     fn on_matched(&mut self, life: Life, binds: bool, now: u64, body: &Body) -> Verdict
+        requires numbered { IsNumbered body.now }
         requires room { length self.old.events ≤ 31 }
         requires accepted { self.old.accepted ≤ 2 ^ 62 }
         requires held { length self.old.held ≤ WINDOW }
@@ -98,10 +140,10 @@ impl State {
                 self.last_hearing = now;
                 Verdict::Accepted
             }
-            Body::Data(number, count, packet) => {
+            Body::Data(number, count, packets) => {
                 self.acknowledge(*count, now);
                 self.owes_ack = true;
-                self.on_data(life, *number, *packet)
+                self.on_data(life, *number, packets)
             }
             Body::Ack(count) => {
                 let is_news = binds || self.acknowledged < *count;
@@ -123,7 +165,7 @@ impl State {
     {
         let (header, body) = (frame.header(), frame.body());
         if header.heard != own {
-            return self.on_life_told(header.life, body);
+            return self.on_life_told(header.version, header.life, body);
         }
         if count_of(body) > 0 {
             return Verdict::Foreign;
@@ -136,6 +178,7 @@ impl State {
             peer: header.life,
         };
         self.bind(life);
+        self.pass(header.version);
         self.on_matched(life, true, now, body)
     }
 
@@ -158,6 +201,7 @@ impl State {
         if count_of(body) > self.transmitted {
             return Verdict::Foreign;
         }
+        self.pass(header.version);
         self.on_matched(life, false, now, body)
     }
 

@@ -1,18 +1,20 @@
 //! What a link end is made with, and its clock.
 ghost use Rattle.std.specs.Prelude.{◌≡◌};
+ghost use Rattle.std.specs.List.{list_any};
 ghost use Rattle.tora_frame.specs.FrameParts.{IsFrame};
 ghost use Rattle.tora_arq.specs.Settings.{ticks_passed};
-ghost use Rattle.tora_arq.specs.LinkEnd.{is_foreign, is_update_of_another, has_update_of_another};
+ghost use Rattle.tora_arq.specs.LinkEnd.{is_foreign, is_unknown, is_update_of_another, has_update_of_another};
 ghost use Rattle.tora_arq.specs.StateView.{settings_in};
 
 use crate::Times;
-use tora_frame::{Body, Frame};
+use tora_frame::{Body, Frame, Version};
 use tora_height::Id;
 use tora_packet::Packet;
 
-/// The node of a link end, the node at the other end, and its times.
+/// The newest version that a link end speaks, its node, the node at the other end, and its times.
 #[derive(Clone, Copy, Debug, PartialEq, Eq, Hash)]
 pub struct Settings {
+    pub version: Version,
     pub me: Id,
     pub peer: Id,
     pub times: Times,
@@ -36,13 +38,37 @@ fn is_update_of_another(sender: Id, packet: &Packet) -> bool
     }
 }
 
+fn is_any_of_another(sender: Id, packets: &[Packet]) -> bool
+    ensures { result ≡ list_any (is_update_of_another sender) packets.now }
+{
+    for packet in packets {
+        if is_update_of_another(sender, packet) {
+            return true;
+        }
+    }
+    false
+}
+
 fn has_update_of_another(sender: Id, body: &Body) -> bool
     ensures { result ≡ has_update_of_another sender body.now }
 {
     match body {
         Body::Hello => false,
-        Body::Data(_, _, packet) => is_update_of_another(sender, packet),
+        Body::Data(_, _, packets) => is_any_of_another(sender, packets.as_slice()),
         Body::Ack(_) => false,
+    }
+}
+
+/// Whether a frame is of version 2 where the end speaks version 1.
+fn is_unknown(newest: Version, version: Version) -> bool
+    ensures { result ≡ is_unknown newest version }
+{
+    match newest {
+        Version::One => match version {
+            Version::One => false,
+            Version::Two => true,
+        },
+        Version::Two => false,
     }
 }
 
@@ -55,6 +81,7 @@ impl Settings {
         let header = frame.header();
         header.sender != self.peer
             || header.receiver != self.me
+            || is_unknown(self.version, header.version)
             || has_update_of_another(header.sender, frame.body())
     }
 }

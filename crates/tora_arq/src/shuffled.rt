@@ -3,7 +3,6 @@
 use super::*;
 use std::alloc::Global;
 use std::process::Abort;
-use std::test::Fail;
 use tora_frame::Frame;
 use tora_height::Id;
 use tora_packet::Packet;
@@ -48,9 +47,15 @@ fn query(rt: &impl Abort, number: u64) -> Packet {
 }
 
 impl Network {
-    fn new(rt: &impl Abort, alloc: Global) -> Network {
+    /// Two ends that speak version 2, or of which the second speaks version 1.
+    fn new(rt: &impl Abort, alloc: Global, is_old: bool) -> Network {
         let mut one = LinkEnd::new(alloc, 1, 2, PATIENT).expect(rt, "memory");
-        let mut two = LinkEnd::new(alloc, 2, 1, PATIENT).expect(rt, "memory");
+        let two = if is_old {
+            LinkEnd::new_v1(alloc, 2, 1, PATIENT)
+        } else {
+            LinkEnd::new(alloc, 2, 1, PATIENT)
+        };
+        let mut two = two.expect(rt, "memory");
         one.open(5, 0);
         two.open(9, 0);
         Network {
@@ -81,16 +86,16 @@ impl Network {
     /// Hands a frame on the way to its end, any of them: one of eight stays on the way, and comes again.
     fn hand(&mut self, now: u64) -> bool {
         let place = self.dice.roll(self.frames.len() as u64) as usize;
-        let Some(frame) = self.frames.get(place).copied() else {
+        let Some(frame) = self.frames.get(place) else {
             return false;
         };
+        if frame.header().receiver == 1 {
+            self.one.on_frame(frame, now);
+        } else {
+            self.two.on_frame(frame, now);
+        }
         if self.dice.roll(8) > 0 {
             self.frames.swap_remove(place);
-        }
-        if frame.header().receiver == 1 {
-            self.one.on_frame(&frame, now);
-        } else {
-            self.two.on_frame(&frame, now);
         }
         true
     }
@@ -126,9 +131,8 @@ fn count_delivered(rt: &impl Abort, end: &mut LinkEnd, delivered: u64) -> u64 {
     delivered
 }
 
-#[test]
-fn packets_come_out_once_in_order_whatever_comes(rt: HostRuntime) -> Result<(), Fail> {
-    let mut network = Network::new(&rt, rt.alloc());
+/// Sees that 10,000 frames bring the packets out once and in order.
+fn packets_come_out(rt: &impl Abort, mut network: Network) {
     let mut sent = 0;
     let mut came = 0;
     let mut back = 0;
@@ -137,22 +141,31 @@ fn packets_come_out_once_in_order_whatever_comes(rt: HostRuntime) -> Result<(), 
     for turn in 0..40_000u64 {
         if handed < 10_000 {
             let now = turn / 8;
-            sent = submit_next(&rt, &mut network.one, sent);
-            back = submit_next(&rt, &mut network.two, back);
-            network.transmit(&rt, turn % 2 == 0, now);
-            network.transmit(&rt, turn % 3 == 0, now);
+            sent = submit_next(rt, &mut network.one, sent);
+            back = submit_next(rt, &mut network.two, back);
+            network.transmit(rt, turn % 2 == 0, now);
+            network.transmit(rt, turn % 3 == 0, now);
             if network.hand(now) {
                 handed = handed.saturating_add(1);
             }
-            came = count_delivered(&rt, &mut network.two, came);
-            came_back = count_delivered(&rt, &mut network.one, came_back);
+            came = count_delivered(rt, &mut network.two, came);
+            came_back = count_delivered(rt, &mut network.one, came_back);
         }
     }
-    assert_eq!(&rt; handed, 10_000);
-    assert!(&rt;
+    assert_eq!(rt; handed, 10_000);
+    assert!(rt;
         came > 1_000 && came_back > 1_000,
         "{came} of {sent}, {came_back} of {back}"
     );
-    assert!(&rt; came <= sent && came_back <= back);
-    Ok(())
+    assert!(rt; came <= sent && came_back <= back);
+}
+
+#[test]
+fn packets_come_out_once_in_order_whatever_comes(rt: HostRuntime) {
+    packets_come_out(&rt, Network::new(&rt, rt.alloc(), false));
+}
+
+#[test]
+fn packets_come_out_of_ends_of_two_versions(rt: HostRuntime) {
+    packets_come_out(&rt, Network::new(&rt, rt.alloc(), true));
 }

@@ -44,7 +44,11 @@ pub struct State {
     pub held: HeldPackets,
     /// The events that were not polled.
     pub events: EventQueue,
+    /// The mark that the peer speaks version 2.
+    pub speaks_two: bool,
     pub owes_hello: bool,
+    /// The last HELLO was one of version 2 that none of version 1 has followed.
+    pub owes_old_hello: bool,
     pub owes_ack: bool,
     /// The tick of the last HELLO of this life.
     pub last_hello: Option<u64>,
@@ -70,7 +74,9 @@ impl State {
             accepted: 0,
             held,
             events,
+            speaks_two: false,
             owes_hello: false,
+            owes_old_hello: false,
             owes_ack: false,
             last_hello: None,
             last_hearing: 0,
@@ -87,6 +93,7 @@ impl State {
         self.held.clear();
         self.events.push(LinkEvent::Down(life, reason));
         self.owes_hello = false;
+        self.owes_old_hello = false;
         self.owes_ack = false;
     }
 
@@ -104,6 +111,7 @@ impl State {
         self.accepted = 0;
         self.held.clear();
         self.events.push(LinkEvent::Up(life));
+        self.speaks_two = !is_changed && self.speaks_two;
         self.owes_hello = self.owes_hello || is_changed;
     }
 
@@ -150,7 +158,9 @@ impl State {
         self.transmitted = 0;
         self.accepted = 0;
         self.held.clear();
+        self.speaks_two = false;
         self.owes_hello = true;
+        self.owes_old_hello = false;
         self.owes_ack = false;
         self.last_hello = None;
         self.last_hearing = now;

@@ -1,11 +1,11 @@
-//! Worked exchanges of frames, and frames that no honest peer sends.
+//! Worked exchanges of frames of version 1, and frames that no honest peer sends.
 ghost use Rattle.std.specs.Prelude.{◌≢◌, ◌<◌, ◌≤◌, ◌^◌};
 
 use super::*;
 use std::alloc::Global;
 use std::process::Abort;
 use std::test::Fail;
-use tora_frame::{Body, Frame, GREATEST_NUMBER, Header};
+use tora_frame::{Body, Frame, GREATEST_NUMBER, Header, Packets, Version};
 use tora_height::{Height, Id};
 use tora_packet::Update;
 
@@ -28,6 +28,7 @@ fn query(rt: &impl Abort, number: u64) -> Packet {
 fn frame(rt: &impl Abort, life: u64, heard: u64, sent: Sent) -> Frame {
     assert!(rt; life > 0 && life <= GREATEST_NUMBER && heard <= GREATEST_NUMBER);
     let header = Header {
+        version: Version::One,
         sender: 2,
         receiver: 1,
         life,
@@ -42,7 +43,14 @@ fn frame(rt: &impl Abort, life: u64, heard: u64, sent: Sent) -> Frame {
     if number == 0 {
         return Frame::ack(header, count);
     }
-    Frame::data(header, number, count, query(rt, number))
+    Frame::one(header, number, count, query(rt, number))
+}
+
+/// What a DATA frame with this number and no packet accepted carries: the query for the number.
+fn data_body(rt: &impl Abort, number: u64) -> Body {
+    let mut packets = Packets::new();
+    packets.push(query(rt, number));
+    Body::Data(number, 0, packets)
 }
 
 /// Hands frames in at tick 0, each with its life, the life heard and the verdict that it gets.
@@ -105,8 +113,9 @@ fn end_with(rt: &impl Abort, alloc: Global, me: Id, peer: Id, life: u64, times: 
     requires life { life ≤ 2 ^ 62 }
 {
     assert!(rt; times.hello > 0 && times.silent > 0 && times.retry > 0 && times.tries > 0);
-    let mut end = LinkEnd::new(alloc, me, peer, times).expect(rt, "memory");
+    let mut end = LinkEnd::new_v1(alloc, me, peer, times).expect(rt, "memory");
     assert_eq!(rt; (end.me(), end.peer(), end.times()), (me, peer, times));
+    assert_eq!(rt; end.version(), Version::One);
     opened(rt, &mut end, life);
     end
 }
@@ -191,7 +200,7 @@ fn window_delivers_in_order_after_a_loss(rt: HostRuntime) -> Result<(), Fail> {
         assert_eq!(&rt; one.submit(LIFE, query(&rt, number)), Ok(()));
     }
     let lost = one.poll_transmit(0).expect(&rt, "a frame");
-    assert_eq!(&rt; *lost.body(), Body::Data(1, 0, query(&rt, 1)));
+    assert_eq!(&rt; *lost.body(), data_body(&rt, 1));
     hands(
         &rt,
         &mut one,
@@ -226,7 +235,7 @@ fn packets_are_held_up_to_the_window(rt: HostRuntime) -> Result<(), Fail> {
 fn data(rt: &impl Abort, number: u64, destination: u64) -> Frame {
     let header = *frame(rt, 9, 5, Sent::Hello).header();
     assert!(rt; header.heard > 0 && number > 0 && number <= GREATEST_NUMBER);
-    Frame::data(header, number, 0, query(rt, destination))
+    Frame::one(header, number, 0, query(rt, destination))
 }
 
 #[test]
@@ -266,9 +275,9 @@ fn due_at<'a>(now: u64, both: &'a [Body], data: &'a [Body]) -> &'a [Body] {
 #[test]
 fn unanswered_packet_is_retried_then_silent(rt: HostRuntime) -> Result<(), Fail> {
     let mut end = bound_end(&rt, rt.alloc());
-    assert_eq!(&rt; end.submit(LIFE, query(&rt, 4)), Ok(()));
-    let data = [Body::Data(1, 0, query(&rt, 4))];
-    let both = [Body::Hello, Body::Data(1, 0, query(&rt, 4))];
+    assert_eq!(&rt; end.submit(LIFE, query(&rt, 1)), Ok(()));
+    let data = [data_body(&rt, 1)];
+    let both = [Body::Hello, data_body(&rt, 1)];
     for now in 0..40 {
         end.on_tick(now);
         sends(&rt, &mut end, now, due_at(now, &both, &data));
@@ -296,10 +305,7 @@ fn acknowledged_packets_leave_the_queue(rt: HostRuntime) -> Result<(), Fail> {
         assert_eq!(&rt; end.submit(LIFE, query(&rt, number)), Ok(()));
     }
     takes(&rt, &mut end, &[(9, 5, Sent::Ack(1), Verdict::Foreign)]);
-    let both = [
-        Body::Data(1, 0, query(&rt, 1)),
-        Body::Data(2, 0, query(&rt, 2)),
-    ];
+    let both = [data_body(&rt, 1), data_body(&rt, 2)];
     sends(&rt, &mut end, 0, &both);
     let rows = [
         (9, 5, Sent::Ack(0), Verdict::Repeated),
@@ -310,7 +316,7 @@ fn acknowledged_packets_leave_the_queue(rt: HostRuntime) -> Result<(), Fail> {
     assert_eq!(&rt; end.waiting(), 2);
     takes(&rt, &mut end, &rows);
     assert_eq!(&rt; end.waiting(), 1);
-    sends(&rt, &mut end, 5, &[Body::Data(2, 0, query(&rt, 2))]);
+    sends(&rt, &mut end, 5, &[data_body(&rt, 2)]);
     Ok(())
 }
 
@@ -358,7 +364,7 @@ fn frames_of_other_nodes(rt: HostRuntime) -> Result<(), Fail> {
     let update = Update::new(4, Height::new(0, 0, 0, 1, 3)?)?;
     let header = *frame(&rt, 9, 5, Sent::Hello).header();
     assert!(&rt; header.heard > 0);
-    let data = Frame::data(header, 1, 0, Packet::Upd(update));
+    let data = Frame::one(header, 1, 0, Packet::Upd(update));
     assert_eq!(&rt; end.on_frame(&data, 0), Verdict::Foreign);
     tells(&rt, &mut end, &[]);
     Ok(())
@@ -425,8 +431,7 @@ fn an_end_is_printed(rt: HostRuntime) -> Result<(), Fail> {
     let end = end_of(&rt, rt.alloc(), 1, 2, 5);
     let text = format!(in rt.alloc(); "{end:?}")?;
     assert!(&rt;
-        text.as_str()
-            .starts_with("LinkEnd { settings: Settings { me: 1, peer: 2,")
+        text.as_str().starts_with("LinkEnd { settings: Settings { version: One, me: 1, peer: 2,")
     );
     let words = format!(in rt.alloc(); "{} {}", Reason::NewPeer, Verdict::Ahead)?;
     assert_eq!(&rt; words.as_str(), "new peer ahead");
@@ -435,7 +440,7 @@ fn an_end_is_printed(rt: HostRuntime) -> Result<(), Fail> {
 
 /// Hands the frames due at tick 0 from one end to the other.
 fn exchange(from: &mut LinkEnd, to: &mut LinkEnd) {
-    for _ in 0..34 {
+    for _ in 0..35 {
         match from.poll_transmit(0) {
             Some(frame) => {
                 let _verdict = to.on_frame(&frame, 0);

@@ -1,28 +1,27 @@
 //! The frames that a link end has to send.
-ghost use Rattle.std.specs.Prelude.{◌≡◌, ◌<◌, ◌≤◌, ◌+◌, ◌^◌, suc, is_some, length};
+ghost use Rattle.std.specs.Prelude.{◌≡◌, ◌<◌, ◌≤◌, ◌+◌, ◌^◌, ◌||◌, false, None, IfNone, is_some, length};
 ghost use Rattle.tora_frame.specs.FrameParts.{IsHeader, IsLifeNumber};
 ghost use Rattle.tora_arq.specs.Settings.{IsLink};
-ghost use Rattle.tora_arq.specs.SendQueue.{first_due};
-ghost use Rattle.tora_arq.specs.LinkEnd.{is_hello_due, frame_sent, after_hello, on_transmit_due, on_transmit};
+ghost use Rattle.tora_arq.specs.LinkEnd.{is_two, data_version, most_packets, is_hello_due, is_old_hello_due, frame_sent, after_hello, after_old_hello, on_hello, due_of, on_transmit_due, on_transmit};
 ghost use Rattle.tora_arq.specs.EndRange.{IsEndState};
 ghost use Rattle.tora_arq.specs.StateView.{settings_in, state_in};
-ghost use Rattle.tora_arq.specs.declared.TheConstants.{WINDOW};
 
 use crate::Life;
 use crate::settings::{Settings, ticks_passed};
 use crate::state::{Phase, State};
-use tora_frame::{Body, Frame, Header};
+use tora_frame::{Body, Frame, Header, MOST_PACKETS, Version};
 
 impl Settings {
     /// The header of a frame of this end.
-    fn header(&self, life: u64, heard: u64) -> Header
+    fn header(&self, version: Version, life: u64, heard: u64) -> Header
         requires link { IsLink self.now.me self.now.peer }
         requires life { IsLifeNumber life }
         requires heard { heard ≤ 2 ^ 62 }
-        ensures value { result ≡ record { sender = self.now.me; receiver = self.now.peer; life = life; heard = heard } }
+        ensures value { result ≡ record { version = version; sender = self.now.me; receiver = self.now.peer; life = life; heard = heard } }
         ensures valid { IsHeader result }
     {
         Header {
+            version,
             sender: self.me,
             receiver: self.peer,
             life,
@@ -42,38 +41,72 @@ impl State {
         }
     }
 
-    /// Sends a HELLO.
+    /// Whether a HELLO of version 1 follows one of version 2.
+    fn is_old_hello_due(&self) -> bool
+        ensures { result ≡ is_old_hello_due (state_in self.now) }
+    {
+        self.owes_old_hello && !self.speaks_two
+    }
+
+    /// The version of the DATA frames and ACKs.
+    fn data_version(&self) -> Version
+        ensures { result ≡ data_version (state_in self.now) }
+    {
+        if self.speaks_two {
+            Version::Two
+        } else {
+            Version::One
+        }
+    }
+
+    /// Sends a HELLO of the newest version.
     fn take_hello(&mut self, settings: &Settings, life: u64, heard: u64, now: u64) -> Frame
         requires link { IsLink settings.now.me settings.now.peer }
         requires life { IsLifeNumber life }
         requires heard { heard ≤ 2 ^ 62 }
-        ensures frame { result ≡ frame_sent (settings_in settings.now) life heard Body.Hello }
-        ensures state { state_in self.new ≡ after_hello (state_in self.old) now }
+        ensures frame { result ≡ frame_sent (settings_in settings.now) settings.now.version life heard Body.Hello }
+        ensures state { state_in self.new ≡ after_hello (settings_in settings.now) (state_in self.old) now }
     {
         self.owes_hello = false;
+        self.owes_old_hello = is_two(settings.version);
         self.last_hello = Some(now);
-        Frame::hello(settings.header(life, heard))
+        Frame::hello(settings.header(settings.version, life, heard))
     }
 
-    /// Sends the first packet due, or an ACK where one is owed.
+    /// Sends a HELLO of version 1 behind one of version 2.
+    fn take_old_hello(&mut self, settings: &Settings, life: u64, heard: u64) -> Frame
+        requires link { IsLink settings.now.me settings.now.peer }
+        requires life { IsLifeNumber life }
+        requires heard { heard ≤ 2 ^ 62 }
+        ensures frame { result ≡ frame_sent (settings_in settings.now) Version.One life heard Body.Hello }
+        ensures state { state_in self.new ≡ after_old_hello (state_in self.old) }
+    {
+        self.owes_old_hello = false;
+        Frame::hello(settings.header(Version::One, life, heard))
+    }
+
+    /// Sends the first packets due, or an ACK where one is owed.
     fn take_due(&mut self, settings: &Settings, life: Life, now: u64) -> Option<Frame>
         requires link { IsLink settings.now.me settings.now.peer }
         requires own { IsLifeNumber life.own }
         requires peer { IsLifeNumber life.peer }
         requires accepted { self.old.accepted ≤ 2 ^ 62 }
         requires submitted { self.old.acknowledged + length self.old.queue ≤ 2 ^ 62 }
-        ensures frame { result ≡ (on_transmit_due (settings_in settings.now) (state_in self.old) life
-            (first_due settings.now.times now (suc self.old.acknowledged) WINDOW self.old.queue)).0 }
-        ensures state { state_in self.new ≡ (on_transmit_due (settings_in settings.now) (state_in self.old) life
-            (first_due settings.now.times now (suc self.old.acknowledged) WINDOW self.old.queue)).1 }
+        ensures frame { result ≡ (on_transmit_due (settings_in settings.now) (state_in self.old) life (due_of (settings_in settings.now) (state_in self.old) now)).0 }
+        ensures state { state_in self.new ≡ (on_transmit_due (settings_in settings.now) (state_in self.old) life (due_of (settings_in settings.now) (state_in self.old) now)).1 }
     {
-        let header = settings.header(life.own, life.peer);
+        let version = self.data_version();
+        let header = settings.header(version, life.own, life.peer);
         let accepted = self.accepted;
-        if let Some(due) = self.queue.take_due(&settings.times, now) {
+        if let Some(due) = self
+            .queue
+            .take_due(&settings.times, now, most_packets(version))
+        {
             let number = self.acknowledged + 1 + due.place as u64;
-            self.transmitted = self.transmitted.max(number);
+            let last = number + due.packets.len() as u64 - 1;
+            self.transmitted = self.transmitted.max(last);
             self.owes_ack = false;
-            return Some(Frame::data(header, number, accepted, due.packet));
+            return Some(Frame::data(header, number, accepted, due.packets));
         }
         if self.owes_ack {
             self.owes_ack = false;
@@ -84,10 +117,16 @@ impl State {
 
     /// Whether a packet is due, or an ACK is owed.
     fn is_body_due(&self, settings: &Settings, now: u64) -> bool
-        ensures { (life : Life) → result ≡ is_some (on_transmit_due (settings_in settings.now) (state_in self.now) life
-            (first_due settings.now.times now (suc self.now.acknowledged) WINDOW self.now.queue)).0 }
+        ensures { (life : Life) → result ≡ is_some (on_transmit_due (settings_in settings.now) (state_in self.now) life (due_of (settings_in settings.now) (state_in self.now) now)).0 }
     {
         self.queue.is_due(&settings.times, now) || self.owes_ack
+    }
+
+    /// Whether a HELLO is due.
+    fn is_any_hello_due(&self, settings: &Settings, now: u64) -> bool
+        ensures { result ≡ is_hello_due (settings_in settings.now) (state_in self.now) now || is_old_hello_due (state_in self.now) }
+    {
+        self.is_hello_due(settings, now) || self.is_old_hello_due()
     }
 
     /// Whether a frame is due.
@@ -97,9 +136,30 @@ impl State {
     {
         match self.phase {
             Phase::Closed => false,
-            Phase::Unbound(_) => self.is_hello_due(settings, now),
-            Phase::Bound(_) => self.is_hello_due(settings, now) || self.is_body_due(settings, now),
+            Phase::Unbound(_) => self.is_any_hello_due(settings, now),
+            Phase::Bound(_) => {
+                self.is_any_hello_due(settings, now) || self.is_body_due(settings, now)
+            }
         }
+    }
+
+    /// A HELLO of the newest version, or of version 1, where one is due.
+    fn poll_hello(&mut self, settings: &Settings, life: u64, heard: u64, now: u64) -> Option<Frame>
+        requires link { IsLink settings.now.me settings.now.peer }
+        requires life { IsLifeNumber life }
+        requires heard { heard ≤ 2 ^ 62 }
+        ensures frame { result ≡ (on_hello (settings_in settings.now) (state_in self.old) life heard now (None, state_in self.old)).0 }
+        ensures state { state_in self.new ≡ (on_hello (settings_in settings.now) (state_in self.old) life heard now (None, state_in self.old)).1 }
+        ensures none { IfNone result ((is_hello_due (settings_in settings.now) (state_in self.old) now ≡ false) × (is_old_hello_due (state_in self.old) ≡ false)) }
+        ensures same { IfNone result (self.new ≡ self.old) }
+    {
+        if self.is_hello_due(settings, now) {
+            return Some(self.take_hello(settings, life, heard, now));
+        }
+        if self.is_old_hello_due() {
+            return Some(self.take_old_hello(settings, life, heard));
+        }
+        None
     }
 
     /// The first frame due.
@@ -111,18 +171,34 @@ impl State {
     {
         match self.phase {
             Phase::Closed => None,
-            Phase::Unbound(own) => {
-                if !self.is_hello_due(settings, now) {
-                    return None;
-                }
-                Some(self.take_hello(settings, own, self.heard, now))
-            }
+            Phase::Unbound(own) => self.poll_hello(settings, own, self.heard, now),
             Phase::Bound(life) => {
-                if self.is_hello_due(settings, now) {
-                    return Some(self.take_hello(settings, life.own, life.peer, now));
+                if let Some(hello) = self.poll_hello(settings, life.own, life.peer, now) {
+                    return Some(hello);
                 }
                 self.take_due(settings, life, now)
             }
         }
+    }
+}
+
+/// Whether the version is version 2.
+pub fn is_two(version: Version) -> bool
+    ensures { result ≡ is_two version }
+{
+    match version {
+        Version::One => false,
+        Version::Two => true,
+    }
+}
+
+/// How many packets a DATA frame of a version carries at most.
+fn most_packets(version: Version) -> usize
+    ensures most { result ≡ most_packets version }
+    ensures within { (0 < result) × (result ≤ MOST_PACKETS) }
+{
+    match version {
+        Version::One => 1,
+        Version::Two => MOST_PACKETS,
     }
 }

@@ -1,14 +1,15 @@
 //! Times the codecs of packets and frames, for `bench/codec.sh`. With no words it prints nothing.
 //!
-//! `tora_bench_codec N` encodes and decodes N updates, and then N DATA frames with updates. Each line is a name,
-//! nanoseconds an operation (the best of seven runs), and a number that depends on every result. It is a program of its
-//! own so that the compiler sees the codecs as the baseline's does, with one place that calls them.
+//! `tora_bench_codec N` encodes and decodes N updates, then N DATA frames of version 1 with an update each, and then N DATA
+//! frames of version 2 with sixteen updates each. Each line is a name, nanoseconds an operation (the best of seven runs),
+//! and a number that depends on every result. It is a program of its own so that the compiler sees the codecs as the
+//! baseline's does, with one place that calls them.
 #![tactic(auto)]
 
 use std::alloc::Global;
 use std::io;
 use std::time::{Duration, Instant};
-use tora_frame::{Frame, Header};
+use tora_frame::{Frame, Header, MOST_PACKETS, Packets, Version};
 use tora_height::Height;
 use tora_packet::{Packet, Update};
 
@@ -31,15 +32,36 @@ fn update(i: u32) -> Option<Update> {
     Update::new(9 + i % 12, height).ok()
 }
 
+/// What is encoded and decoded.
+#[derive(Clone, Copy, PartialEq, Eq)]
+enum Coded {
+    /// An update.
+    Packet,
+    /// A DATA frame of version 1 with an update.
+    Frame,
+    /// A DATA frame of version 2 with sixteen updates.
+    Batch,
+}
+
 /// The `i`th DATA frame.
-fn data_frame(i: u32, packet: Packet) -> Frame {
+fn data_frame(i: u32, packet: Packet, coded: Coded) -> Frame {
+    let version = if coded == Coded::Batch {
+        Version::Two
+    } else {
+        Version::One
+    };
     let header = Header {
+        version,
         sender: 1 + (i & 3),
         receiver: 9 + (i & 7),
         life: 5 + u64::from(i),
         heard: 9 + u64::from(i),
     };
-    Frame::data(header, 1 + u64::from(i), u64::from(i), packet)
+    let (number, count) = (1 + u64::from(i), u64::from(i));
+    match version {
+        Version::One => Frame::one(header, number, count, packet),
+        Version::Two => Frame::data(header, number, count, Packets::from([packet; MOST_PACKETS])),
+    }
 }
 
 /// Updates of many heights.
@@ -82,11 +104,11 @@ fn run_packets(alloc: Global, steps: u32) -> Option<u64> {
 }
 
 /// DATA frames with the updates, encoded and then decoded again, until `steps` are done.
-fn run_frames(alloc: Global, steps: u32) -> Option<u64> {
+fn run_frames(alloc: Global, steps: u32, coded: Coded) -> Option<u64> {
     let mut frames = Vec::new(alloc);
     let mut wires = Vec::new(alloc);
     for i in 0..BATCH {
-        let frame = data_frame(i, Packet::Upd(update(i)?));
+        let frame = data_frame(i, Packet::Upd(update(i)?), coded);
         wires.push(tora_frame::encode(&frame)).ok()?;
         frames.push(frame).ok()?;
     }
@@ -104,25 +126,25 @@ fn run_frames(alloc: Global, steps: u32) -> Option<u64> {
     Some(sum)
 }
 
-/// Times one of the two, and prints its line.
-fn time(rt: &HostRuntime, frames: bool, steps: u32) -> io::Result<()> {
+/// Times one of the three, and prints its line.
+fn time(rt: &HostRuntime, coded: Coded, steps: u32) -> io::Result<()> {
     let mut best: Option<Duration> = None;
     let mut sum = 0u64;
     for _ in 0..RUNS {
         let start = Instant::now(rt)?;
-        let told = if frames {
-            run_frames(rt.alloc(), steps)
-        } else {
-            run_packets(rt.alloc(), steps)
+        let told = match coded {
+            Coded::Packet => run_packets(rt.alloc(), steps),
+            Coded::Frame => run_frames(rt.alloc(), steps, coded),
+            Coded::Batch => run_frames(rt.alloc(), steps, coded),
         };
         let passed = start.elapsed(rt)?;
         best = Some(best.map_or(passed, |least| least.min(passed)));
         sum = told.unwrap_or(0);
     }
-    let name = if frames {
-        "codec-frame"
-    } else {
-        "codec-packet"
+    let name = match coded {
+        Coded::Packet => "codec-packet",
+        Coded::Frame => "codec-frame",
+        Coded::Batch => "codec-batch",
     };
     let nanoseconds = best.map_or(0, |least| least.as_nanos());
     let hundredths = nanoseconds.saturating_mul(100) / u128::from((steps / BATCH * BATCH).max(1));
@@ -136,6 +158,7 @@ fn main(rt: HostRuntime) -> io::Result<()> {
         return Ok(());
     };
     let steps = word.as_str().parse::<u32>().unwrap_or(STEPS);
-    time(&rt, false, steps)?;
-    time(&rt, true, steps)
+    time(&rt, Coded::Packet, steps)?;
+    time(&rt, Coded::Frame, steps)?;
+    time(&rt, Coded::Batch, steps)
 }

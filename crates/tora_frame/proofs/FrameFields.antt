@@ -1,25 +1,24 @@
 -- The tests of frames, and what the fields between them are.
-use Rattle.std.proofs.Common.{◌≡◌, ◌⊎◌, ℕ, ◌+◌, ◌^◌, ◌<◌, ◌≤◌, Bool, true, false, cond, not, ltb, eqb, List, [], ◌∷◌, ◌++◌, length, get_or, take, drop, Option, Some, None, Result, Ok, Err, refl, sym, ◌∙◌, arith, inl, inr, ◌==◌, eq-eqb}
+use Rattle.std.proofs.Common.{◌≡◌, ◌⊎◌, ℕ, ◌+◌, ◌^◌, ◌<◌, ◌≤◌, Bool, true, false, cond, not, ltb, eqb, List, [], ◌∷◌, ◌++◌, length, get_or, take, drop, Option, Some, None, refl, sym, ◌∙◌, arith, inl, inr}
 use Rattle.std.specs.Prelude.{slice_range}
 use Rattle.std.specs.Int.{w16, to_be_bytes}
-use Rattle.std.proofs.lemmas.Bool.{cases_lt, not-false, ltb-false, le-ltb, eqb-true}
+use Rattle.std.proofs.lemmas.Bool.{cases_lt, not-false, ltb-false, le-ltb}
 use Rattle.std.proofs.lemmas.Bool.Decides.{nat_tests}
 use Rattle.std.proofs.lemmas.List.{length-take, length-take-le, length-drop, get_or-drop, get_or-take, get_or_past, drop-append-le, take-append-le}
 use Rattle.std.proofs.lemmas.Nat.{be_bytes_2}
-use Rattle.tora_packet.specs.declared.Packet.{Packet}
-use Rattle.tora_packet.specs.declared.Packet.TheVariants.{Qry, Upd, Clr}
-use Rattle.tora_packet.specs.declared.PacketError.{PacketError}
-use Rattle.tora_packet.specs.PacketGrammar.{packet_spelling, packet_fault, packet_at, packet_or, packet_reading, u64_at}
+use Rattle.tora_packet.specs.PacketGrammar.{u64_at}
 use Rattle.tora_packet.proofs.Fields.{IsBytes}
 use Rattle.tora_frame.specs.declared.FrameError.{FrameError}
 use Rattle.tora_frame.specs.declared.FrameError.TheVariants as Fault
+use Rattle.tora_frame.specs.declared.parts.Version.{Version}
+use Rattle.tora_frame.specs.declared.parts.Version.TheVariants.{One, Two}
 use Rattle.tora_frame.specs.declared.parts.Header.{Header}
 use Rattle.tora_frame.specs.declared.parts.Body.TheVariants.{Hello, Data, Ack}
-use Rattle.tora_frame.specs.FrameParts.{IsHeader}
-use Rattle.tora_frame.specs.FrameGrammar.{u16_at, kind_at, is_kind, is_payload_length, layout_fault, is_bad_pair, is_bad_life, header_fault, fault_or, packet_length, packet_inside, refused_packet, fault_inside, body_at, body_fault}
+use Rattle.tora_frame.specs.FrameParts.{IsHeader, batch}
+use Rattle.tora_frame.specs.FrameGrammar.{u16_at, version_number, version_at, version_of, is_version, kind_at, is_kind, is_payload_length, layout_fault, is_bad_pair, is_bad_life, header_fault, fault_or, packets_inside, fault_inside, body_at, body_fault}
 
 -- a test that did not hold, and those behind it
-next_test : (b : Bool) (e : FrameError) (x : Option FrameError) → cond b (Some e) x ≡ None → (b ≡ false) × (x ≡ None)
+pub next_test : (b : Bool) (e : FrameError) (x : Option FrameError) → cond b (Some e) x ≡ None → (b ≡ false) × (x ≡ None)
 next_test true e x h = absurd cc
 next_test false e x h = (refl, h)
 
@@ -28,30 +27,48 @@ pub neither : (a b : Option FrameError) → fault_or a b ≡ None → (a ≡ Non
 neither None b h = (refl, h)
 neither (Some e) b h = absurd cc
 
+-- ---- the versions
+
+pub versions : (v : ℕ) → is_version v ≡ true → (v ≡ 1) ⊎ (v ≡ 2)
+versions v h = grind (arith, nat_tests)
+
+-- the number of a version that was read
+pub version_back : (v : ℕ) → is_version v ≡ true → version_number (version_of v) ≡ v
+version_back v h = elim (versions v h) [ inl e ↦ rw e refl | inr e ↦ rw e refl ]
+
+-- the version of a number that was spelled
+pub version_again : (v : Version) → version_of (version_number v) ≡ v
+version_again One = refl
+version_again Two = refl
+
+pub is_version_number : (v : Version) → is_version (version_number v) ≡ true
+is_version_number One = refl
+is_version_number Two = refl
+
 -- ---- the layout
 
 -- what bytes are whose version, kind and lengths have no fault
 pub record IsLaidOut (bytes : List ℕ) : Type 0 where
   pub long : 28 ≤ length bytes
-  pub version : get_or bytes 0 0 ≡ 1
+  pub version : is_version (version_at bytes) ≡ true
   pub kind : is_kind (kind_at bytes) ≡ true
-  pub payload : is_payload_length (kind_at bytes) (u16_at 2 bytes) ≡ true
+  pub payload : is_payload_length (version_at bytes) (kind_at bytes) (u16_at 2 bytes) ≡ true
   pub len : length bytes ≡ 28 + u16_at 2 bytes
 
 pub laid_out : (bytes : List ℕ) → layout_fault bytes ≡ None → IsLaidOut bytes
 unfolding layout_fault
 laid_out bytes h =
     let a = next_test (ltb (length bytes) 28) Fault.Short _ h in
-    let b = next_test (not (get_or bytes 0 0 == 1)) Fault.Version _ a.1 in
+    let b = next_test (not (is_version (version_at bytes))) Fault.Version _ a.1 in
     let c = next_test (not (is_kind (kind_at bytes))) Fault.Kind _ b.1 in
-    let d = next_test (not (is_payload_length (kind_at bytes) (u16_at 2 bytes))) Fault.Length _ c.1 in
+    let d = next_test (not (is_payload_length (version_at bytes) (kind_at bytes) (u16_at 2 bytes))) Fault.Length _ c.1 in
     let e = next_test (ltb (length bytes) (28 + u16_at 2 bytes)) Fault.Short _ d.1 in
     let f = next_test (ltb (28 + u16_at 2 bytes) (length bytes)) Fault.Long _ e.1 in
     let below : 28 + u16_at 2 bytes ≤ length bytes = ltb-false _ _ e.0 in
     let above : length bytes ≤ 28 + u16_at 2 bytes = ltb-false _ _ f.0 in
     record {
       long = ltb-false _ _ a.0;
-      version = eqb-true _ _ (not-false _ b.0);
+      version = not-false _ b.0;
       kind = not-false _ c.0;
       payload = not-false _ d.0;
       len = omega (arith, below, above);
@@ -61,10 +78,9 @@ pub no_layout_fault : (bytes : List ℕ) → IsLaidOut bytes → layout_fault by
 unfolding layout_fault
 no_layout_fault bytes s =
     let a : ltb (length bytes) 28 ≡ false = le-ltb _ _ s.long in
-    let v : (get_or bytes 0 0 == 1) ≡ true = eq-eqb _ _ s.version in
     let e : ltb (length bytes) (28 + u16_at 2 bytes) ≡ false = le-ltb _ _ (omega (arith, s.len)) in
     let f : ltb (28 + u16_at 2 bytes) (length bytes) ≡ false = le-ltb _ _ (omega (arith, s.len)) in
-    rw (a, v, s.kind, s.payload, e, f) refl
+    rw (a, s.version, s.kind, s.payload, e, f) refl
 
 pub kinds : (k : ℕ) → is_kind k ≡ true → (k ≡ 1) ⊎ (k ≡ 2) ⊎ (k ≡ 3)
 kinds k h = grind (arith, nat_tests)
@@ -78,39 +94,13 @@ no_header_fault kind h ok heard =
     let life : is_bad_life kind h ≡ false = grind (arith, nat_tests) in
     rw (pair, life) refl
 
--- ---- the packet inside
-
-abbrev made : Packet → Result Packet PacketError
-made p = Ok p
-
-abbrev refused : PacketError → Result Packet PacketError
-refused e = Err e
-
-read_as : (f : Option PacketError) (q p : Packet) → made p ≡ packet_or f q → (refused_packet f ≡ None) × (q ≡ p)
-read_as None q p h = (refl, cc)
-read_as (Some e) q p h = absurd cc
-
-refused_as : (f : Option PacketError) (q : Packet) (e : PacketError) → refused e ≡ packet_or f q → refused_packet f ≡ Some (Fault.Packet e)
-refused_as None q e h = absurd cc
-refused_as (Some x) q e h = cc
-
--- the packet that was read is the one inside
-pub inside : (bytes : List ℕ) (p : Packet) → made p ≡ packet_reading (drop 44 bytes) → (fault_inside bytes ≡ None) × (packet_inside bytes ≡ p)
-unfolding fault_inside packet_inside packet_reading
-inside bytes p h = read_as (packet_fault (drop 44 bytes)) (packet_at (drop 44 bytes)) p h
-
--- the fault that was found is the one inside
-pub refused_inside : (bytes : List ℕ) (e : PacketError) → refused e ≡ packet_reading (drop 44 bytes) → fault_inside bytes ≡ Some (Fault.Packet e)
-unfolding fault_inside packet_reading
-refused_inside bytes e h = refused_as (packet_fault (drop 44 bytes)) (packet_at (drop 44 bytes)) e h
-
 -- ---- the body
 
 pub body_at_hello : (bytes : List ℕ) → kind_at bytes ≡ 1 → body_at bytes ≡ Hello
 unfolding body_at
 body_at_hello bytes e = rw e refl
 
-pub body_at_data : (bytes : List ℕ) → kind_at bytes ≡ 2 → body_at bytes ≡ Data (u64_at 28 bytes) (u64_at 36 bytes) (packet_inside bytes)
+pub body_at_data : (bytes : List ℕ) → kind_at bytes ≡ 2 → body_at bytes ≡ Data (u64_at 28 bytes) (u64_at 36 bytes) (batch (packets_inside bytes))
 unfolding body_at
 body_at_data bytes e = rw e refl
 
@@ -128,7 +118,7 @@ no_fault_in_ack bytes e h =
     let a : ltb (2 ^ 62) (u64_at 28 bytes) ≡ false = le-ltb _ _ h in
     rw (e, a) refl
 
--- numbers in their ranges: the packet decides
+-- numbers in their ranges: the packets decide
 data_fault_inside : (bytes : List ℕ) → kind_at bytes ≡ 2 → 0 < u64_at 28 bytes → u64_at 28 bytes ≤ 2 ^ 62 → u64_at 36 bytes ≤ 2 ^ 62 → body_fault bytes ≡ fault_inside bytes
 unfolding body_fault
 data_fault_inside bytes e one number count =
@@ -139,17 +129,6 @@ data_fault_inside bytes e one number count =
 
 pub no_fault_in_data : (bytes : List ℕ) → kind_at bytes ≡ 2 → 0 < u64_at 28 bytes → u64_at 28 bytes ≤ 2 ^ 62 → u64_at 36 bytes ≤ 2 ^ 62 → fault_inside bytes ≡ None → body_fault bytes ≡ None
 no_fault_in_data bytes e one number count inside = data_fault_inside bytes e one number count ∙ inside
-
--- a packet has as many bytes as its kind
-pub length-packet_spelling : (p : Packet) → length (packet_spelling p) ≡ packet_length p
-length-packet_spelling (Qry q) = refl
-length-packet_spelling (Upd u) = refl
-length-packet_spelling (Clr c) = refl
-
-pub packet_length_most : (p : Packet) → packet_length p ≤ 32
-packet_length_most (Qry q) = omega arith
-packet_length_most (Upd u) = omega arith
-packet_length_most (Clr c) = omega arith
 
 -- ---- two bytes
 
@@ -169,19 +148,15 @@ first_two bytes a b h p q =
     let e1 : get_or (take 2 bytes) 1 0 ≡ b = get_or-take 2 bytes 1 0 (omega arith) ∙ q in
     two (take 2 bytes) (two_long bytes 0 h) ∙ rw (e0, e1) refl
 
-drop_bytes : (bytes : List ℕ) (i : ℕ) → IsBytes bytes → IsBytes (drop i bytes)
+pub drop_bytes : (bytes : List ℕ) (i : ℕ) → IsBytes bytes → IsBytes (drop i bytes)
 drop_bytes bytes i fits j = rw get_or-drop (fits (i + j))
 
-take_bytes : (bytes : List ℕ) (n : ℕ) → IsBytes bytes → IsBytes (take n bytes)
+pub take_bytes : (bytes : List ℕ) (n : ℕ) → IsBytes bytes → IsBytes (take n bytes)
 take_bytes bytes n fits j =
     elim (cases_lt j n) [
       | inl lt ↦ rw (get_or-take n bytes j 0 lt) (fits j)
       | inr le ↦ rw (get_or_past (take n bytes) j 0 (simp length-take (omega arith))) (omega arith)
     ]
-
--- the bytes behind the first 44 are bytes
-pub rest_bytes : (bytes : List ℕ) → IsBytes bytes → IsBytes (drop 44 bytes)
-rest_bytes bytes fits = drop_bytes bytes 44 fits
 
 pub length_back : (bytes : List ℕ) → IsBytes bytes → 4 ≤ length bytes → slice_range bytes 2 4 ≡ to_be_bytes w16 (u16_at 2 bytes)
 unfolding u16_at

@@ -1,2 +1,3 @@
 pub mod FrameFields
+pub mod PacketLists
 pub mod FrameLaws

@@ -1,24 +1,32 @@
--- The bytes of frames: the one spelling of each, and why other bytes spell none. What a version lays out by itself is the
--- payload: its lengths, its spelling, its faults and its reading.
-use Rattle.std.specs.Prelude.{◌≡◌, ℕ, ◌+◌, ◌^◌, Bool, nat_lt, ◌==◌, ◌||◌, ◌&&◌, if◌then◌else◌, not, List, [], ◌∷◌, ◌++◌, length, drop, slice_index, slice_range, Option, Some, None, Result, Ok, Err}
+-- The bytes of frames: the one spelling of each, and why other bytes spell none. The two versions differ in the payload of
+-- a DATA frame alone: its lengths, its spelling, its faults and its reading.
+use Rattle.std.specs.Prelude.{◌≡◌, ℕ, zero, suc, ◌+◌, ◌-◌, ◌^◌, Bool, nat_lt, nat_le, ◌==◌, ◌||◌, ◌&&◌, if◌then◌else◌, not, List, [], ◌∷◌, ◌++◌, length, take, drop, slice_index, slice_range, Option, Some, None, Result, Ok, Err}
+use Rattle.std.specs.List.{sum_by, flat_map}
 use Rattle.std.specs.Int.{w16, w32, w64, to_be_bytes, from_be_bytes}
 use Rattle.tora_packet.specs.declared.PacketError.{PacketError}
+use Rattle.tora_packet.specs.declared.PacketError.TheVariants.{Long}
 use Rattle.tora_packet.specs.declared.Packet.{Packet}
 use Rattle.tora_packet.specs.declared.Packet.TheVariants.{Qry, Upd, Clr}
-use Rattle.tora_packet.specs.PacketGrammar.{packet_spelling, packet_fault, packet_at, u32_at, u64_at}
+use Rattle.tora_packet.specs.PacketGrammar.{packet_spelling, packet_fault, packet_at, kind_of, is_kind as is_packet_kind, length_of, is_zero_at, u32_at, u64_at}
 use Rattle.tora_frame.specs.declared.FrameError.{FrameError}
 use Rattle.tora_frame.specs.declared.FrameError.TheVariants as Fault
+use Rattle.tora_frame.specs.declared.parts.Version.{Version}
+use Rattle.tora_frame.specs.declared.parts.Version.TheVariants.{One, Two}
 use Rattle.tora_frame.specs.declared.parts.Header.{Header}
 use Rattle.tora_frame.specs.declared.parts.Body.{Body}
 use Rattle.tora_frame.specs.declared.parts.Body.TheVariants.{Hello, Data, Ack}
-use Rattle.tora_frame.specs.FrameParts.{FrameParts, IsFrame, frame_of}
+use Rattle.tora_frame.specs.FrameParts.{FrameParts, IsFrame, batch, frame_of}
 
 -- ---- what a frame is spelled as
+
+abbrev pub version_number : Version → ℕ
+version_number One = 1
+version_number Two = 2
 
 -- 1 for a HELLO, 2 for a DATA frame, 3 for an ACK
 abbrev pub body_kind : Body → ℕ
 body_kind Hello = 1
-body_kind (Data number count packet) = 2
+body_kind (Data number count packets) = 2
 body_kind (Ack count) = 3
 
 -- how many bytes a packet has
@@ -27,35 +35,54 @@ packet_length (Qry q) = 8
 packet_length (Upd u) = 32
 packet_length (Clr c) = 20
 
--- how many bytes follow the header
-abbrev pub payload_length : Body → ℕ
-payload_length Hello = 0
-payload_length (Data number count packet) = 16 + packet_length packet
-payload_length (Ack count) = 8
+-- how many bytes packets have together
+abbrev pub packets_length : List Packet → ℕ
+packets_length packets = sum_by packet_length packets
 
--- version 1, the kind, the payload length, and then each number in its bytes, the highest first
+-- how many bytes of a DATA frame stand between its header and its packets
+abbrev pub data_head_length : Version → ℕ
+data_head_length One = 16
+data_head_length Two = 20
+
+-- how many bytes follow the header
+abbrev pub payload_length : Version → Body → ℕ
+payload_length version Hello = 0
+payload_length version (Data number count packets) = data_head_length version + packets_length packets.items
+payload_length version (Ack count) = 8
+
+-- the version, the kind, the payload length, and then each number in its bytes, the highest first
 abbrev pub header_spelling : ℕ → ℕ → Header → List ℕ
-header_spelling kind n h = 1 ∷ kind ∷ to_be_bytes w16 n
+header_spelling kind n h = version_number h.version ∷ kind ∷ to_be_bytes w16 n
     ++ to_be_bytes w32 h.sender
     ++ to_be_bytes w32 h.receiver
     ++ to_be_bytes w64 h.life
     ++ to_be_bytes w64 h.heard
 
+-- how many packets follow: version 1 doesn't say it, version 2 says it in a byte before three zeros
+abbrev pub batch_size_spelling : Version → ℕ → List ℕ
+batch_size_spelling One many = []
+batch_size_spelling Two many = many ∷ 0 ∷ 0 ∷ 0 ∷ []
+
+-- packets one after another
+abbrev pub packets_spelling : List Packet → List ℕ
+packets_spelling packets = flat_map packet_spelling packets
+
 -- the bytes that follow the header
-abbrev pub payload_spelling : Body → List ℕ
-payload_spelling Hello = []
-payload_spelling (Data number count packet) = to_be_bytes w64 number ++ to_be_bytes w64 count ++ packet_spelling packet
-payload_spelling (Ack count) = to_be_bytes w64 count
+abbrev pub payload_spelling : Version → Body → List ℕ
+payload_spelling version Hello = []
+payload_spelling version (Data number count packets) =
+    to_be_bytes w64 number ++ to_be_bytes w64 count ++ batch_size_spelling version (length packets.items) ++ packets_spelling packets.items
+payload_spelling version (Ack count) = to_be_bytes w64 count
 
 abbrev pub frame_spelling : FrameParts → List ℕ
-frame_spelling f = header_spelling (body_kind f.body) (payload_length f.body) f.header ++ payload_spelling f.body
+frame_spelling f = header_spelling (body_kind f.body) (payload_length f.header.version f.body) f.header ++ payload_spelling f.header.version f.body
 
 -- the bytes spell the frame, all of the bytes
 pub record SpellsFrame (bytes : List ℕ) (frame : FrameParts) : Type 0 where
   pub valid : IsFrame frame
   pub bytes_are : bytes ≡ frame_spelling frame
 
--- ---- why bytes spell no frame: the first of ten tests that holds
+-- ---- why bytes spell no frame: the first of eleven tests that holds
 
 -- two bytes from an offset on
 unfoldable pub u16_at : ℕ → List ℕ → ℕ
@@ -64,32 +91,52 @@ u16_at i bytes = from_be_bytes w16 (slice_range bytes i (i + 2))
 abbrev pub version_at : List ℕ → ℕ
 version_at bytes = slice_index bytes 0
 
+abbrev pub is_version : ℕ → Bool
+is_version version = (version == 1) || (version == 2)
+
 abbrev pub kind_at : List ℕ → ℕ
 kind_at bytes = slice_index bytes 1
 
 abbrev pub is_kind : ℕ → Bool
 is_kind kind = (kind == 1) || (kind == 2) || (kind == 3)
 
--- none for a HELLO, a count for an ACK; number, count and a packet of 8, 20 or 32 bytes for a DATA frame
-abbrev pub is_payload_length : ℕ → ℕ → Bool
-is_payload_length kind n =
+-- in version 1 number, count and a packet of 8, 20 or 32 bytes; in version 2 number, count, how many packets, three zeros,
+-- and at least one packet of 8 bytes, at most sixteen of 32
+abbrev pub is_data_length : ℕ → ℕ → Bool
+is_data_length version n =
+    if version == 1 then (n == 24) || (n == 36) || (n == 48)
+    else nat_le 28 n && nat_le n 532
+
+-- none for a HELLO, a count for an ACK
+abbrev pub is_payload_length : ℕ → ℕ → ℕ → Bool
+is_payload_length version kind n =
     if kind == 1 then n == 0
-    else if kind == 2 then (n == 24) || (n == 36) || (n == 48)
+    else if kind == 2 then is_data_length version n
     else n == 8
 
 -- tests 1 to 6: version, kind and lengths
 unfoldable pub layout_fault : List ℕ → Option FrameError
 layout_fault bytes =
     if nat_lt (length bytes) 28 then Some Fault.Short
-    else if not (version_at bytes == 1) then Some Fault.Version
+    else if not (is_version (version_at bytes)) then Some Fault.Version
     else if not (is_kind (kind_at bytes)) then Some Fault.Kind
-    else if not (is_payload_length (kind_at bytes) (u16_at 2 bytes)) then Some Fault.Length
+    else if not (is_payload_length (version_at bytes) (kind_at bytes) (u16_at 2 bytes)) then Some Fault.Length
     else if nat_lt (length bytes) (28 + u16_at 2 bytes) then Some Fault.Short
     else if nat_lt (28 + u16_at 2 bytes) (length bytes) then Some Fault.Long
     else None
 
+-- the version of a number that is one
+abbrev pub version_of : ℕ → Version
+version_of number = if number == 1 then One else Two
+
 abbrev pub header_at : List ℕ → Header
-header_at bytes = record { sender = u32_at 4 bytes; receiver = u32_at 8 bytes; life = u64_at 12 bytes; heard = u64_at 20 bytes }
+header_at bytes = record {
+  version = version_of (version_at bytes);
+  sender = u32_at 4 bytes;
+  receiver = u32_at 8 bytes;
+  life = u64_at 12 bytes;
+  heard = u64_at 20 bytes;
+}
 
 -- no two different nodes
 abbrev pub is_bad_pair : Header → Bool
@@ -106,16 +153,72 @@ header_fault kind h =
     else if is_bad_life kind h then Some Fault.Life
     else None
 
--- the packet of a DATA frame, and why there is none
-unfoldable pub packet_inside : List ℕ → Packet
-packet_inside bytes = packet_at (drop 44 bytes)
+-- the first fault, else the next one
+abbrev pub fault_or : Option FrameError → Option FrameError → Option FrameError
+fault_or None next = next
+fault_or (Some e) next = Some e
 
+-- why a frame is refused for its packet
 abbrev pub refused_packet : Option PacketError → Option FrameError
 refused_packet None = None
 refused_packet (Some e) = Some (Fault.Packet e)
 
-unfoldable pub fault_inside : List ℕ → Option FrameError
-fault_inside bytes = refused_packet (packet_fault (drop 44 bytes))
+-- why all the bytes spell no packet, and the packet that they spell otherwise
+unfoldable pub whole_packet_fault : List ℕ → Option FrameError
+whole_packet_fault bytes = refused_packet (packet_fault bytes)
+
+unfoldable pub whole_packet_at : List ℕ → Packet
+whole_packet_at bytes = packet_at bytes
+
+-- bytes that begin as a packet: with version 1 and a known kind
+abbrev pub begins_packet : List ℕ → Bool
+begins_packet bytes = (slice_index bytes 0 == 1) && is_packet_kind (kind_of bytes)
+
+-- the bytes of the first packet: no more than its kind has, where they begin as a packet
+unfoldable pub first_packet : List ℕ → List ℕ
+first_packet bytes = if begins_packet bytes then take (length_of (kind_of bytes)) bytes else bytes
+
+-- the bytes behind the first packet
+abbrev pub behind_first : List ℕ → List ℕ
+behind_first bytes = drop (length (first_packet bytes)) bytes
+
+-- why the bytes are not so many packets one after another
+unfoldable pub packets_fault : ℕ → List ℕ → Option FrameError
+packets_fault zero [] = None
+packets_fault zero (byte ∷ bytes) = Some (Fault.Packet Long)
+packets_fault (suc many) bytes = fault_or (whole_packet_fault (first_packet bytes)) (packets_fault many (behind_first bytes))
+
+-- the packets in bytes that have no fault
+unfoldable pub packets_at : ℕ → List ℕ → List Packet
+packets_at zero bytes = []
+packets_at (suc many) bytes = whole_packet_at (first_packet bytes) ∷ packets_at many (behind_first bytes)
+
+-- how many packets a DATA frame of version 2 has
+abbrev pub batch_size_at : List ℕ → ℕ
+batch_size_at bytes = slice_index bytes 44
+
+-- the three bytes that are stated zero are zero
+abbrev pub is_batch_size_zero : List ℕ → Bool
+is_batch_size_zero bytes = is_zero_at 45 bytes && is_zero_at 46 bytes && is_zero_at 47 bytes
+
+-- no packet or too many, a byte that is not zero, or a last packet whose number is out of its range
+abbrev pub is_bad_batch_size : List ℕ → Bool
+is_bad_batch_size bytes = (batch_size_at bytes == 0) || nat_lt 16 (batch_size_at bytes) || not (is_batch_size_zero bytes)
+    || nat_lt (2 ^ 62) (u64_at 28 bytes + batch_size_at bytes - 1)
+
+-- tests 10 and 11, in version 2: how many packets, and each of them
+unfoldable pub batch_fault : List ℕ → Option FrameError
+batch_fault bytes = if is_bad_batch_size bytes then Some Fault.Count else packets_fault (batch_size_at bytes) (drop 48 bytes)
+
+-- in version 1 the one packet, which all the bytes behind the numbers are of
+abbrev pub fault_inside : List ℕ → Option FrameError
+fault_inside bytes = if version_at bytes == 1 then whole_packet_fault (drop 44 bytes) else batch_fault bytes
+
+-- the packets of a DATA frame whose bytes have no fault
+unfoldable pub packets_inside : List ℕ → List Packet
+packets_inside bytes =
+    if version_at bytes == 1 then whole_packet_at (drop 44 bytes) ∷ []
+    else packets_at (batch_size_at bytes) (drop 48 bytes)
 
 abbrev pub is_bad_number : ℕ → ℕ → Bool
 is_bad_number number count = (number == 0) || nat_lt (2 ^ 62) number || nat_lt (2 ^ 62) count
@@ -123,18 +226,13 @@ is_bad_number number count = (number == 0) || nat_lt (2 ^ 62) number || nat_lt (
 abbrev pub data_fault : List ℕ → Option FrameError
 data_fault bytes = if is_bad_number (u64_at 28 bytes) (u64_at 36 bytes) then Some Fault.Number else fault_inside bytes
 
--- tests 9 and 10: the numbers, and the packet
+-- test 9, the numbers, and those behind it
 unfoldable pub body_fault : List ℕ → Option FrameError
 body_fault bytes =
     if kind_at bytes == 1 then None
     else if kind_at bytes == 2 then data_fault bytes
     else if nat_lt (2 ^ 62) (u64_at 28 bytes) then Some Fault.Number
     else None
-
--- the first fault, else the next one
-abbrev pub fault_or : Option FrameError → Option FrameError → Option FrameError
-fault_or None next = next
-fault_or (Some e) next = Some e
 
 abbrev pub frame_fault : List ℕ → Option FrameError
 frame_fault bytes = fault_or (layout_fault bytes) (fault_or (header_fault (kind_at bytes) (header_at bytes)) (body_fault bytes))
@@ -145,7 +243,7 @@ frame_fault bytes = fault_or (layout_fault bytes) (fault_or (header_fault (kind_
 unfoldable pub body_at : List ℕ → Body
 body_at bytes =
     if kind_at bytes == 1 then Hello
-    else if kind_at bytes == 2 then Data (u64_at 28 bytes) (u64_at 36 bytes) (packet_inside bytes)
+    else if kind_at bytes == 2 then Data (u64_at 28 bytes) (u64_at 36 bytes) (batch (packets_inside bytes))
     else Ack (u64_at 28 bytes)
 
 -- the frame in bytes that have no fault
@@ -171,3 +269,4 @@ frame_error_number Fault.Id = 6
 frame_error_number Fault.Life = 7
 frame_error_number Fault.Number = 8
 frame_error_number (Fault.Packet e) = 9
+frame_error_number Fault.Count = 10

@@ -1,8 +1,12 @@
 -- The parts of frames, and their ranges.
-use Rattle.std.specs.Prelude.{◌≢◌, ℕ, ◌^◌, ◌<◌, ◌≤◌}
+use Rattle.std.specs.Prelude.{◌≡◌, ◌≢◌, ℕ, ◌+◌, ◌^◌, ◌<◌, ◌≤◌, List, length}
+use Rattle.std.specs.List.{AllByRecursion}
+use Rattle.arrayvec.specs.ArrayVec.{ArrayVec}
 use Rattle.tora_packet.specs.declared.Packet.{Packet}
 use Rattle.tora_packet.specs.PacketParts.{IsId}
 use Rattle.tora_packet.specs.AnyPacket.{IsPacket}
+use Rattle.tora_frame.specs.declared.parts.Version.{Version}
+use Rattle.tora_frame.specs.declared.parts.Version.TheVariants.{One, Two}
 use Rattle.tora_frame.specs.declared.parts.Header.{Header}
 use Rattle.tora_frame.specs.declared.parts.Body.{Body}
 use Rattle.tora_frame.specs.declared.parts.Body.TheVariants.{Hello, Data, Ack}
@@ -19,23 +23,34 @@ pub record IsHeader (h : Header) : Type 0 where
   pub life : IsLifeNumber h.life
   pub heard : h.heard ≤ 2 ^ 62
 
--- a DATA frame that heard the life h, with the packet p, its number n, and the count c of packets accepted
-pub record IsData (h n c : ℕ) (p : Packet) : Type 0 where
-  pub heard : 0 < h
-  pub number : (0 < n) × (n ≤ 2 ^ 62)
+-- packets as a frame holds them
+abbrev pub batch : List Packet → ArrayVec Packet
+batch packets = record { items = packets }
+
+-- how many packets a DATA frame carries: one in version 1, one to sixteen in version 2
+abbrev pub IsBatchSize : Version → ℕ → Type 0
+IsBatchSize One many = many ≡ 1
+IsBatchSize Two many = (0 < many) × (many ≤ 16)
+
+-- a DATA frame with the count c of packets accepted, and with these packets, numbered on from n
+pub record IsData (h : Header) (n c : ℕ) (ps : List Packet) : Type 0 where
+  pub heard : 0 < h.heard
+  pub first : 0 < n
+  pub last : n + length ps ≤ 2 ^ 62 + 1
   pub count : c ≤ 2 ^ 62
-  pub packet : IsPacket p
+  pub many : IsBatchSize h.version (length ps)
+  pub packets : AllByRecursion IsPacket ps
 
 -- an ACK that heard the life h, with the count c of packets accepted
 pub record IsAck (h c : ℕ) : Type 0 where
   pub heard : 0 < h
   pub count : c ≤ 2 ^ 62
 
--- the body of a frame that heard the life h
-abbrev pub IsBody : ℕ → Body → Type 0
+-- the body of a frame with this header
+abbrev pub IsBody : Header → Body → Type 0
 IsBody h Hello = Unit {0}
-IsBody h (Data n c p) = IsData h n c p
-IsBody h (Ack c) = IsAck h c
+IsBody h (Data n c packets) = IsData h n c packets.items
+IsBody h (Ack c) = IsAck h.heard c
 
 -- a frame: header and body
 pub record FrameParts : Type 0 where
@@ -44,7 +59,7 @@ pub record FrameParts : Type 0 where
 
 pub record IsFrame (f : FrameParts) : Type 0 where
   pub header : IsHeader f.header
-  pub body : IsBody f.header.heard f.body
+  pub body : IsBody f.header f.body
 
 abbrev pub frame_of : Header → Body → FrameParts
 frame_of header body = record { header = header; body = body }

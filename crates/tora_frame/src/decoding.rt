@@ -1,13 +1,14 @@
 //! Bytes to frames.
-ghost use Rattle.std.specs.Prelude.{◌≡◌, ◌≢◌, ℕ, List, [], ◌++◌, ◌+◌, ◌≤◌, ◌<◌, ◌^◌, drop, length, MatchOption, MatchBool, IfOk, OnOk, IsOk, Ok, Err};
+ghost use Rattle.std.specs.Prelude.{◌≡◌, ◌≢◌, ℕ, List, [], ◌++◌, ◌+◌, ◌≤◌, ◌<◌, ◌^◌, drop, length, MatchOption, MatchBool, IfOk, OnOk, IsOk, Ok, Err, Some, None};
+ghost use Rattle.std.specs.List.{AllByRecursion};
 ghost use Rattle.tora_packet.specs.AnyPacket.{IsPacket};
 ghost use Rattle.tora_packet.specs.PacketGrammar.{u32_at, u64_at};
-ghost use Rattle.tora_frame.specs.FrameParts.{FrameParts, IsHeader, IsBody, IsFrame};
-ghost use Rattle.tora_frame.specs.FrameGrammar.{SpellsFrame, u16_at, kind_at, is_payload_length, layout_fault, header_at, header_fault, body_at, body_fault, is_bad_number, packet_inside, fault_inside, frame_at, frame_fault, frame_spelling, frame_reading};
+ghost use Rattle.tora_frame.specs.FrameParts.{FrameParts, IsHeader, IsBatchSize, IsBody, IsFrame, batch};
+ghost use Rattle.tora_frame.specs.FrameGrammar.{SpellsFrame, u16_at, version_at, version_of, kind_at, version_number, is_version, is_data_length, is_payload_length, layout_fault, header_at, header_fault, body_at, body_fault, is_bad_number, packets_inside, fault_inside, frame_at, frame_fault, frame_spelling, frame_reading};
 
-use crate::layout::{ACK, DATA, HEADER_LENGTH, HELLO, PACKET_OFFSET, VERSION};
-use crate::{Body, Frame, FrameError, GREATEST_NUMBER, Header};
-use tora_packet::Packet;
+use crate::layout::{ACK, DATA, HEADER_LENGTH, HELLO};
+use crate::packets::read_packets;
+use crate::{Body, Frame, FrameError, GREATEST_NUMBER, Header, Packets, Version};
 
 #[tactic(auto, unfolding(crate::specs::FrameGrammar::u16_at))]
 fn u16_at(bytes: &[u8], at: usize) -> u16
@@ -38,36 +39,56 @@ fn u64_at(bytes: &[u8], at: usize) -> u64
     ])
 }
 
-fn is_payload_length(kind: u8, len: u16) -> bool
-    ensures { result ≡ is_payload_length kind len }
+/// The version of a number, if it is one.
+fn version_of(number: u8) -> Option<Version>
+    ensures { MatchBool (is_version number) (result ≡ Some (version_of number)) (result ≡ None) }
+{
+    match number {
+        1 => Some(Version::One),
+        2 => Some(Version::Two),
+        _ => None,
+    }
+}
+
+fn is_data_length(version: Version, len: u16) -> bool
+    ensures { result ≡ is_data_length (version_number version) len }
+{
+    match version {
+        Version::One => len == 24 || len == 36 || len == 48,
+        Version::Two => len >= 28 && len <= 532,
+    }
+}
+
+fn is_payload_length(version: Version, kind: u8, len: u16) -> bool
+    ensures { result ≡ is_payload_length (version_number version) kind len }
 {
     match kind {
         HELLO => len == 0,
-        DATA => len == 24 || len == 36 || len == 48,
+        DATA => is_data_length(version, len),
         _ => len == 8,
     }
 }
 
-/// The tests of the version, the kind and the lengths.
+/// The version, and the tests of it, of the kind and of the lengths.
 #[tactic(auto, unfolding(crate::specs::FrameGrammar::layout_fault))]
-fn check_layout(bytes: &[u8]) -> Result<(), FrameError>
-    ensures exact { MatchOption (layout_fault bytes.now) (IsOk result) (λ e. result ≡ Err e) }
+fn read_layout(bytes: &[u8]) -> Result<Version, FrameError>
+    ensures exact { MatchOption (layout_fault bytes.now) (result ≡ Ok (version_of (version_at bytes.now))) (λ e. result ≡ Err e) }
     ensures header { OnOk result (28 ≤ length bytes.now) }
     ensures count { OnOk result (kind_at bytes.now ≢ 1 → 36 ≤ length bytes.now) }
-    ensures packet { OnOk result (kind_at bytes.now ≡ 2 → 44 ≤ length bytes.now) }
+    ensures packet { OnOk result (kind_at bytes.now ≡ 2 → 52 ≤ length bytes.now) }
 {
     if bytes.len() < HEADER_LENGTH {
         return Err(FrameError::Short);
     }
-    if bytes[0] != VERSION {
+    let Some(version) = version_of(bytes[0]) else {
         return Err(FrameError::Version);
-    }
+    };
     let kind = bytes[1];
     if kind != HELLO && kind != DATA && kind != ACK {
         return Err(FrameError::Kind);
     }
     let len = u16_at(bytes, 2);
-    if !is_payload_length(kind, len) {
+    if !is_payload_length(version, kind, len) {
         return Err(FrameError::Length);
     }
     let len = HEADER_LENGTH + usize::from(len);
@@ -77,18 +98,20 @@ fn check_layout(bytes: &[u8]) -> Result<(), FrameError>
     if bytes.len() > len {
         return Err(FrameError::Long);
     }
-    Ok(())
+    Ok(version)
 }
 
 /// The header, and the tests of its nodes and lives.
 #[tactic(auto, unfolding(crate::specs::FrameGrammar::header_fault))]
-fn read_header(bytes: &[u8]) -> Result<Header, FrameError>
-    requires { 28 ≤ length bytes.now }
+fn read_header(bytes: &[u8], version: Version) -> Result<Header, FrameError>
+    requires len { 28 ≤ length bytes.now }
+    requires version { version ≡ version_of (version_at bytes.now) }
     ensures exact { MatchOption (header_fault (kind_at bytes.now) (header_at bytes.now)) (result ≡ Ok (header_at bytes.now)) (λ e. result ≡ Err e) }
     ensures valid { IfOk result IsHeader }
     ensures heard { IfOk result (λ h. kind_at bytes.now ≢ 1 → 0 < h.heard) }
 {
     let header = Header {
+        version,
         sender: u32_at(bytes, 4),
         receiver: u32_at(bytes, 8),
         life: u64_at(bytes, 12),
@@ -121,54 +144,36 @@ fn read_numbers(bytes: &[u8]) -> Result<(u64, u64), FrameError>
     Ok((number, count))
 }
 
-/// The bytes of the packet of a DATA frame.
-fn packet_bytes(bytes: &[u8]) -> &[u8]
-    requires { 44 ≤ length bytes.now }
-    ensures { result.now ≡ drop 44 bytes.now }
-{
-    let (_, packet) = bytes.split_at(PACKET_OFFSET);
-    packet
-}
-
-/// The packet of a DATA frame, and the test of it.
-fn read_packet(bytes: &[u8]) -> Result<Packet, FrameError>
-    requires { 44 ≤ length bytes.now }
-    ensures exact { MatchOption (fault_inside bytes.now) (result ≡ Ok (packet_inside bytes.now)) (λ e. result ≡ Err e) }
-    ensures valid { IfOk result IsPacket }
-{
-    match tora_packet::decode(packet_bytes(bytes)) {
-        Ok(packet) => Ok(packet),
-        Err(error) => Err(FrameError::Packet(error)),
-    }
-}
-
 /// The body of a DATA frame, and the tests of it.
 #[tactic(auto, unfolding(crate::specs::FrameGrammar::body_fault, crate::specs::FrameGrammar::body_at))]
-fn read_data(bytes: &[u8], heard: u64) -> Result<Body, FrameError>
-    requires len { 44 ≤ length bytes.now }
+fn read_data(bytes: &[u8], header: &Header) -> Result<Body, FrameError>
+    requires len { 52 ≤ length bytes.now }
     requires kind { kind_at bytes.now ≡ 2 }
-    requires heard { 0 < heard }
+    requires version { header.now.version ≡ version_of (version_at bytes.now) }
+    requires heard { 0 < header.now.heard }
     ensures exact { MatchOption (body_fault bytes.now) (result ≡ Ok (body_at bytes.now)) (λ e. result ≡ Err e) }
-    ensures valid { IfOk result (IsBody heard) }
+    ensures valid { IfOk result (IsBody header.now) }
 {
     let (number, count) = read_numbers(bytes)?;
-    let packet = read_packet(bytes)?;
-    Ok(Body::Data(number, count, packet))
+    let mut packets = Packets::new();
+    read_packets(bytes, header.version, number, &mut packets)?;
+    Ok(Body::Data(number, count, packets))
 }
 
 /// The body of a frame whose header has no fault, and the tests of it.
 #[tactic(auto, unfolding(crate::specs::FrameGrammar::body_fault, crate::specs::FrameGrammar::body_at))]
-fn read_body(bytes: &[u8], heard: u64) -> Result<Body, FrameError>
+fn read_body(bytes: &[u8], header: &Header) -> Result<Body, FrameError>
     requires header { 28 ≤ length bytes.now }
     requires count { kind_at bytes.now ≢ 1 → 36 ≤ length bytes.now }
-    requires packet { kind_at bytes.now ≡ 2 → 44 ≤ length bytes.now }
-    requires heard { kind_at bytes.now ≢ 1 → 0 < heard }
+    requires packet { kind_at bytes.now ≡ 2 → 52 ≤ length bytes.now }
+    requires version { header.now.version ≡ version_of (version_at bytes.now) }
+    requires heard { kind_at bytes.now ≢ 1 → 0 < header.now.heard }
     ensures exact { MatchOption (body_fault bytes.now) (result ≡ Ok (body_at bytes.now)) (λ e. result ≡ Err e) }
-    ensures valid { IfOk result (IsBody heard) }
+    ensures valid { IfOk result (IsBody header.now) }
 {
     match bytes[1] {
         HELLO => Ok(Body::Hello),
-        DATA => read_data(bytes, heard),
+        DATA => read_data(bytes, header),
         _ => {
             let count = u64_at(bytes, 28);
             if count > GREATEST_NUMBER {
@@ -183,9 +188,9 @@ fn read_frame(bytes: &[u8]) -> Result<Frame, FrameError>
     ensures exact { MatchOption (frame_fault bytes.now) (result ≡ Ok (frame_at bytes.now)) (λ e. result ≡ Err e) }
     ensures valid { IfOk result IsFrame }
 {
-    check_layout(bytes)?;
-    let header = read_header(bytes)?;
-    let body = read_body(bytes, header.heard)?;
+    let version = read_layout(bytes)?;
+    let header = read_header(bytes, version)?;
+    let body = read_body(bytes, &header)?;
     Ok(Frame::of(header, body))
 }
 
@@ -193,7 +198,8 @@ fn read_frame(bytes: &[u8]) -> Result<Frame, FrameError>
 ///
 /// # Errors
 /// The first that stands, in this order: `Short` (under 28 bytes), `Version`, `Kind`, `Length`, `Short` (fewer bytes
-/// than the payload length says), `Long`, `Id`, `Life`, `Number`, `Packet`.
+/// than the payload length says), `Long`, `Id`, `Life`, `Number`, in version 2 `Count`, and `Packet` of the first packet
+/// that is refused, or with `Long` where bytes are left behind the last one.
 pub fn decode(bytes: &[u8]) -> Result<Frame, FrameError>
     // What is read is spelled so.
     ensures found { IfOk result (SpellsFrame bytes.now) }

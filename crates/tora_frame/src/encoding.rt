@@ -1,20 +1,24 @@
 //! Frames to bytes.
-ghost use Rattle.std.specs.Prelude.{◌≡◌, ℕ, ◌+◌, ◌≤◌, ◌++◌, length};
-ghost use Rattle.arrayvec.specs.ArrayVec.{array_vec_len};
-ghost use Rattle.tora_frame.specs.FrameGrammar.{SpellsFrame, frame_spelling, header_spelling, packet_length};
+ghost use Rattle.std.specs.Prelude.{◌≡◌, ℕ, ◌+◌, ◌≤◌, ◌++◌, [], length, replicate};
+ghost use Rattle.arrayvec.specs.ArrayVec.{ArrayVec as Items, array_vec_len};
+ghost use Rattle.tora_packet.specs.declared.Packet.{Packet as AnyPacket};
 ghost use Rattle.tora_packet.specs.PacketParts.{UpdateParts};
+ghost use Rattle.tora_frame.specs.FrameGrammar.{SpellsFrame, frame_spelling, header_spelling, packet_length, packets_length, packets_spelling, data_head_length, batch_size_spelling};
 ghost use Rattle.tora_frame.specs.declared.parts.Header.{Header};
-ghost use Rattle.tora_frame.specs.FrameParts.{FrameParts, frame_of};
+ghost use Rattle.tora_frame.specs.FrameParts.{FrameParts, IsFrame, batch, frame_of};
 
-use crate::layout::{ACK, DATA, HELLO, VERSION};
-use crate::{Body, Frame, Header};
+use crate::layout::{ACK, DATA, HELLO};
+use crate::{Body, Frame, Header, MOST_PACKETS, Packets, Version};
 use arrayvec::ArrayVec;
 use tora_packet::{Packet, append};
 
-/// The most bytes that a frame has: those of a DATA frame with an update.
-pub const LONGEST_FRAME: usize = 76;
+/// The most bytes that a frame has: those of a DATA frame of version 2 with sixteen updates.
+pub const LONGEST_FRAME: usize = 560;
 
-fn put(out: &mut ArrayVec<u8, LONGEST_FRAME>, bytes: &[u8])
+/// The bytes of a frame, as far as they are written.
+type Bytes = ArrayVec<u8, LONGEST_FRAME>;
+
+fn put(out: &mut Bytes, bytes: &[u8])
     requires { array_vec_len out.old + length bytes.now ≤ LONGEST_FRAME }
     ensures { out.new.items ≡ out.old.items ++ bytes.now }
 {
@@ -24,7 +28,8 @@ fn put(out: &mut ArrayVec<u8, LONGEST_FRAME>, bytes: &[u8])
 }
 
 fn packet_length(packet: &Packet) -> u16
-    ensures { result ≡ packet_length packet.now }
+    ensures length { result ≡ packet_length packet.now }
+    ensures most { result ≤ 32 }
 {
     match packet {
         Packet::Qry(_) => 8,
@@ -33,63 +38,111 @@ fn packet_length(packet: &Packet) -> u16
     }
 }
 
-/// The header of a frame of a kind whose payload has this many bytes.
-fn header_bytes(kind: u8, len: u16, header: &Header) -> ArrayVec<u8, LONGEST_FRAME>
-    ensures items { result.items ≡ header_spelling kind len header.now }
-    ensures len { array_vec_len result ≡ 28 }
+/// How many bytes the packets of a frame have together.
+fn packets_length(packets: &[Packet]) -> u16
+    requires { length packets.now ≤ MOST_PACKETS }
+    ensures length { result ≡ packets_length packets.now }
+    ensures most { result ≤ 512 }
 {
-    let mut out = ArrayVec::new();
-    put(&mut out, &[VERSION, kind]);
-    put(&mut out, &len.to_be_bytes());
-    put(&mut out, &header.sender.to_be_bytes());
-    put(&mut out, &header.receiver.to_be_bytes());
-    put(&mut out, &header.life.to_be_bytes());
-    put(&mut out, &header.heard.to_be_bytes());
-    out
+    let mut len = 0;
+    for packet in packets {
+        len += packet_length(packet);
+    }
+    len
+}
+
+/// Begins a frame with the header of a kind whose payload has this many bytes.
+fn put_header(kind: u8, len: u16, header: &Header, out: &mut Bytes)
+    requires { out.old.items ≡ [] }
+    ensures items { out.new.items ≡ header_spelling kind len header.now }
+    ensures len { array_vec_len out.new ≡ 28 }
+{
+    put(out, &[header.version.number(), kind]);
+    put(out, &len.to_be_bytes());
+    put(out, &header.sender.to_be_bytes());
+    put(out, &header.receiver.to_be_bytes());
+    put(out, &header.life.to_be_bytes());
+    put(out, &header.heard.to_be_bytes());
+}
+
+/// How many bytes of a DATA frame stand between its header and its packets.
+fn data_head_length(version: Version) -> u16
+    ensures length { result ≡ data_head_length version }
+    ensures most { result ≤ 20 }
+{
+    match version {
+        Version::One => 16,
+        Version::Two => 20,
+    }
+}
+
+/// Appends how many packets follow, where the version says it.
+fn put_batch_size(version: Version, many: usize, out: &mut Bytes)
+    requires many { many ≤ MOST_PACKETS }
+    requires room { array_vec_len out.old + 4 ≤ LONGEST_FRAME }
+    ensures { out.new.items ≡ out.old.items ++ batch_size_spelling version many }
+{
+    match version {
+        Version::One => {}
+        Version::Two => put(out, &[many as u8, 0, 0, 0]),
+    }
+}
+
+/// Appends the bytes of packets one after another.
+fn put_packets(packets: &[Packet], out: &mut Bytes)
+    requires many { length packets.now ≤ MOST_PACKETS }
+    requires room { array_vec_len out.old ≤ 48 }
+    ensures { out.new.items ≡ out.old.items ++ packets_spelling packets.now }
+{
+    for packet in packets {
+        append(packet, out);
+    }
 }
 
 /// The bytes of a DATA frame.
-fn data_bytes(
-    header: &Header,
-    number: u64,
-    count: u64,
-    packet: &Packet,
-) -> ArrayVec<u8, LONGEST_FRAME>
-    ensures { result.items ≡ frame_spelling (frame_of header.now (Body.Data number count packet.now)) }
+fn put_data(header: &Header, number: u64, count: u64, packets: &Packets, out: &mut Bytes)
+    requires { out.old.items ≡ [] }
+    ensures { out.new.items ≡ frame_spelling (frame_of header.now (Body.Data number count packets.now)) }
 {
-    let mut out = header_bytes(DATA, 16 + packet_length(packet), header);
-    put(&mut out, &number.to_be_bytes());
-    put(&mut out, &count.to_be_bytes());
-    append(packet, &mut out);
-    out
+    let version = header.version;
+    let len = data_head_length(version) + packets_length(packets.as_slice());
+    put_header(DATA, len, header, out);
+    put(out, &number.to_be_bytes());
+    put(out, &count.to_be_bytes());
+    put_batch_size(version, packets.len(), out);
+    put_packets(packets.as_slice(), out);
 }
 
 /// The bytes of an ACK.
-fn ack_bytes(header: &Header, count: u64) -> ArrayVec<u8, LONGEST_FRAME>
-    ensures { result.items ≡ frame_spelling (frame_of header.now (Body.Ack count)) }
+fn put_ack(header: &Header, count: u64, out: &mut Bytes)
+    requires { out.old.items ≡ [] }
+    ensures { out.new.items ≡ frame_spelling (frame_of header.now (Body.Ack count)) }
 {
-    let mut out = header_bytes(ACK, 8, header);
-    put(&mut out, &count.to_be_bytes());
-    out
+    put_header(ACK, 8, header, out);
+    put(out, &count.to_be_bytes());
 }
 
-/// The bytes of a frame: 28 for a HELLO, 36 for an ACK, 44 and those of the packet for a DATA frame. Own profile.
+/// The bytes of a frame: 28 for a HELLO, 36 for an ACK, and for a DATA frame those of its packets and 44 in version 1, 48
+/// in version 2. Own profile.
 pub fn encode(frame: &Frame) -> ArrayVec<u8, LONGEST_FRAME>
     ensures spells { SpellsFrame result.items frame.now }
     ensures exact { result.items ≡ frame_spelling frame.now }
 {
     let header = frame.header();
+    let mut out = ArrayVec::new();
     match frame.body() {
-        Body::Hello => header_bytes(HELLO, 0, header),
-        Body::Data(number, count, packet) => data_bytes(header, *number, *count, packet),
-        Body::Ack(count) => ack_bytes(header, *count),
+        Body::Hello => put_header(HELLO, 0, header, &mut out),
+        Body::Data(number, count, packets) => put_data(header, *number, *count, packets, &mut out),
+        Body::Ack(count) => put_ack(header, *count, &mut out),
     }
+    out
 }
 
-/// No frame has more bytes than `LONGEST_FRAME`, which are those of a DATA frame with an update. Own profile.
+/// No frame has more bytes than `LONGEST_FRAME`, which are those of a DATA frame of version 2 with sixteen updates. Own
+/// profile.
 pub fn longest_frame()
-    ensures is { LONGEST_FRAME ≡ 76 }
-    ensures most { (frame : FrameParts) → length (frame_spelling frame) ≤ LONGEST_FRAME }
-    ensures reached { (header : Header) (number count : ℕ) (update : UpdateParts)
-        → length (frame_spelling (frame_of header (Body.Data number count (Packet.Upd update)))) ≡ LONGEST_FRAME }
+    ensures is { LONGEST_FRAME ≡ 560 }
+    ensures most { (frame : FrameParts) → IsFrame frame → length (frame_spelling frame) ≤ LONGEST_FRAME }
+    ensures reached { (header : Header) (number count : ℕ) (update : UpdateParts) → header.version ≡ Version.Two
+        → length (frame_spelling (frame_of header (Body.Data number count (batch (replicate 16 (Packet.Upd update)))))) ≡ LONGEST_FRAME }
 {}

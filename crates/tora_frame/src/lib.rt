@@ -1,11 +1,12 @@
 //! The frames of a neighbour link and their bytes.
 //!
 //! A frame carries the numbers of two lives of the link, its sender's and the one that the sender heard of its
-//! receiver. A HELLO carries no more, a DATA frame carries one numbered packet, and DATA and ACK carry a count of
-//! packets accepted. Numbers in bytes are in network byte order. No call of this crate takes memory.
+//! receiver. A HELLO carries no more, a DATA frame carries numbered packets, and DATA and ACK carry a count of packets
+//! accepted. There are two versions: in version 1 a DATA frame carries one packet, in version 2 one to sixteen. Numbers
+//! in bytes are in network byte order. No call of this crate takes memory.
 //!
 //! ```rust
-//! let header = Header { sender: 1, receiver: 2, life: 5, heard: 9 };
+//! let header = Header { version: Version::Two, sender: 1, receiver: 2, life: 5, heard: 9 };
 //! let frame = Frame::ack(header, 3); // three packets of this life were accepted
 //! let bytes = encode(&frame);
 //! assert_eq!(rt; bytes.len(), 36);
@@ -19,11 +20,12 @@ ghost use Rattle.tora_frame.specs.FrameGrammar.{frame_error_number};
 mod decoding;
 mod encoding;
 mod layout;
+mod packets;
 mod parts;
 
 pub use decoding::{decode, one_frame_spelling};
 pub use encoding::{LONGEST_FRAME, encode, longest_frame};
-pub use parts::{Body, Frame, GREATEST_NUMBER, Header};
+pub use parts::{Body, Frame, GREATEST_NUMBER, Header, MOST_PACKETS, Packets, Version};
 use thiserror::Error;
 use tora_packet::PacketError;
 
@@ -36,13 +38,13 @@ pub enum FrameError {
     /// There are bytes behind the frame.
     #[error("too many bytes")]
     Long,
-    /// The version is not 1.
-    #[error("the version is not 1")]
+    /// The version is neither 1 nor 2.
+    #[error("the version is not 1 or 2")]
     Version,
     /// The kind is none of 1 (HELLO), 2 (DATA) and 3 (ACK).
     #[error("the kind is not 1, 2 or 3")]
     Kind,
-    /// The payload length is none that the kind has.
+    /// The payload length is none that the kind has in the version.
     #[error("the payload length is none that the kind has")]
     Length,
     /// The sender or the receiver is 0, or the two are equal.
@@ -54,14 +56,18 @@ pub enum FrameError {
     /// The number of a packet, or a count of packets, is out of its range.
     #[error("a number or a count is out of its range")]
     Number,
-    /// The bytes of the packet spell none.
+    /// The bytes of a packet spell none.
     #[error("the packet is refused: {0}")]
     Packet(#[source] PacketError),
+    /// How many packets a frame of version 2 has is 0 or above 16, is not followed by three zero bytes, or takes the
+    /// number of the last packet out of its range.
+    #[error("how many packets there are is out of its range")]
+    Count,
 }
 
 impl FrameError {
     /// The number of the error as texts print it: 1 `Short`, 2 `Long`, 3 `Version`, 4 `Kind`, 5 `Length`, 6 `Id`,
-    /// 7 `Life`, 8 `Number`, 9 `Packet`.
+    /// 7 `Life`, 8 `Number`, 9 `Packet`, 10 `Count`.
     pub fn number(self) -> u8
         ensures { result ≡ frame_error_number self }
     {
@@ -75,6 +81,7 @@ impl FrameError {
             FrameError::Life => 7,
             FrameError::Number => 8,
             FrameError::Packet(_) => 9,
+            FrameError::Count => 10,
         }
     }
 }

@@ -1,7 +1,12 @@
 //! Frames and their parts.
-ghost use Rattle.std.specs.Prelude.{◌≡◌, ◌<◌, ◌≤◌, ◌^◌};
-ghost use Rattle.tora_frame.specs.FrameParts.{IsHeader, IsFrame, frame_of};
+ghost use Rattle.std.specs.Prelude.{◌≡◌, ◌+◌, ◌<◌, ◌≤◌, ◌^◌, [], ◌∷◌};
+ghost use Rattle.std.specs.List.{AllByRecursion};
+ghost use Rattle.arrayvec.specs.ArrayVec.{array_vec_len};
+ghost use Rattle.tora_packet.specs.AnyPacket.{IsPacket};
+ghost use Rattle.tora_frame.specs.FrameParts.{IsHeader, IsBatchSize, IsFrame, batch, frame_of};
+ghost use Rattle.tora_frame.specs.FrameGrammar.{version_number};
 
+use arrayvec::ArrayVec;
 use std::marker::Model;
 use tora_height::Id;
 use tora_packet::Packet;
@@ -9,9 +14,38 @@ use tora_packet::Packet;
 /// The greatest number of a life or of a packet, and the greatest count of packets, 2^62. Own profile.
 pub const GREATEST_NUMBER: u64 = 0x4000_0000_0000_0000;
 
+/// The most packets that a frame carries. Own profile.
+pub const MOST_PACKETS: usize = 16;
+
+/// The packets of a DATA frame, in the order of their numbers. Own profile.
+pub type Packets = ArrayVec<Packet, MOST_PACKETS>;
+
+/// The version of a frame. Own profile.
+#[derive(Clone, Copy, Debug, PartialEq, Eq, Hash)]
+pub enum Version {
+    /// Version 1, in which a DATA frame carries one packet.
+    One,
+    /// Version 2, in which a DATA frame carries one to sixteen packets.
+    Two,
+}
+
+impl Version {
+    /// The number of the version, as the first byte of a frame tells it.
+    pub fn number(self) -> u8
+        ensures { result ≡ version_number self }
+    {
+        match self {
+            Version::One => 1,
+            Version::Two => 2,
+        }
+    }
+}
+
 /// The header of a frame: between whom it goes, and in which lives of the link. Own profile.
 #[derive(Clone, Copy, Debug, PartialEq, Eq, Hash)]
 pub struct Header {
+    /// The version of the frame.
+    pub version: Version,
     /// The node that sends the frame.
     pub sender: Id,
     /// The node that the frame is for, another one than the sender.
@@ -23,13 +57,13 @@ pub struct Header {
 }
 
 /// What a frame carries behind its header. Own profile.
-#[derive(Clone, Copy, Debug, PartialEq, Eq, Hash)]
+#[derive(Debug, PartialEq, Eq, Hash, Drop)]
 pub enum Body {
     /// Nothing: the frame only tells the lives.
     Hello,
-    /// The number of a packet, 1 to 2^62, the count of packets that the sender has accepted in this life, 0 to 2^62,
-    /// and the packet.
-    Data(u64, u64, Packet),
+    /// The number of the first packet, 1 to 2^62, the count of packets that the sender has accepted in this life, 0 to
+    /// 2^62, and the packets, numbered on from the first: one in version 1, one to sixteen in version 2.
+    Data(u64, u64, Packets),
     /// The count of packets that the sender has accepted in this life, 0 to 2^62.
     Ack(u64),
 }
@@ -37,7 +71,7 @@ pub enum Body {
 /// A frame of a neighbour link: its header and its body, both in their ranges. Own profile.
 ///
 /// Sender and receiver are two different nodes, and a frame that carries a count has heard a life of the receiver.
-#[derive(Clone, Copy, Debug, PartialEq, Eq, Hash)]
+#[derive(Debug, PartialEq, Eq, Hash, Drop)]
 pub struct Frame {
     header: Header,
     body: Body,
@@ -53,6 +87,15 @@ impl Model for Frame {
     ghost invariant = { λ f. IsFrame (frame_of f.header f.body) };
 
     ghost inverse = { λ p. record { header = p.header; body = p.body } };
+}
+
+/// The parts of packets are in their ranges, each as its type keeps it.
+fn know(packets: &[Packet])
+    ensures { AllByRecursion IsPacket packets.now }
+{
+    for packet in packets {
+        let _destination = packet.destination();
+    }
 }
 
 impl Frame {
@@ -72,17 +115,33 @@ impl Frame {
         Frame::of(header, Body::Hello)
     }
 
-    /// A DATA frame: `number` is the packet's, 1 to 2^62, and `count` the count of packets accepted, 0 to 2^62.
-    pub fn data(header: Header, number: u64, count: u64, packet: Packet) -> Frame
+    /// A DATA frame: `number` is that of the first packet, the last one's is at most 2^62, and `count` is the count of
+    /// packets accepted, 0 to 2^62. There is one packet in version 1, and one to sixteen in version 2.
+    pub fn data(header: Header, number: u64, count: u64, packets: Packets) -> Frame
+        requires header { IsHeader header }
+        requires heard { 0 < header.heard }
+        requires first { 0 < number }
+        requires last { number + array_vec_len packets ≤ 2 ^ 62 + 1 }
+        requires count { count ≤ 2 ^ 62 }
+        requires many { IsBatchSize header.version (array_vec_len packets) }
+        ensures { result ≡ frame_of header (Body.Data number count packets) }
+    {
+        know(packets.as_slice());
+        Frame::of(header, Body::Data(number, count, packets))
+    }
+
+    /// A DATA frame of either version with one packet, whose number is 1 to 2^62; `count` is the count of packets
+    /// accepted, 0 to 2^62.
+    pub fn one(header: Header, number: u64, count: u64, packet: Packet) -> Frame
         requires header { IsHeader header }
         requires heard { 0 < header.heard }
         requires number { (0 < number) × (number ≤ 2 ^ 62) }
         requires count { count ≤ 2 ^ 62 }
-        ensures { result ≡ frame_of header (Body.Data number count packet) }
+        ensures { result ≡ frame_of header (Body.Data number count (batch (packet ∷ []))) }
     {
-        // It says, too, that the parts of the packet are in their ranges.
-        let _destination = packet.destination();
-        Frame::of(header, Body::Data(number, count, packet))
+        let mut packets = ArrayVec::new();
+        packets.push(packet);
+        Frame::data(header, number, count, packets)
     }
 
     /// An ACK: `count` is the count of packets accepted, 0 to 2^62.

@@ -1,13 +1,18 @@
 //! The byte vectors of the formats, the refused frames, and frames that were cut or changed.
+ghost use Rattle.std.specs.Prelude.{◌≡◌, ◌≤◌, IfSome, length};
+ghost use Rattle.arrayvec.specs.ArrayVec.{array_vec_len};
+
 use super::*;
+use std::alloc::Global;
 use std::cmp::Ordering;
 use std::process::Abort;
 use std::test::*;
 use tora_height::Height;
 use tora_packet::{Clear, Packet, Update};
 
-/// The four frames of the formats, and DATA frames with an update and with a clear, made of the table of the layout.
-const VECTORS: [&str; 6] = [
+/// The frames of the formats, and more made of the tables of the layouts: in version 1 DATA frames with an update and with
+/// a clear, in version 2 a HELLO, an ACK, and a DATA frame with an update.
+const VECTORS: [&str; 10] = [
     "01010000000000010000000200000000000000050000000000000000",
     "01010000000000020000000100000000000000090000000000000005",
     "0102001800000001000000020000000000000005000000000000000900000000000000010000000000000000\
@@ -17,18 +22,66 @@ const VECTORS: [&str; 6] = [
      010200000000000400000000000000070000000301000000ffffffff00000002",
     "0102002400000002000000010000000000000009000000000000000500000000000000070000000000000001\
      0103000000000004000000000000000700000003",
+    BATCH,
+    "02010000000000010000000200000000000000050000000000000000",
+    "020300080000000200000001000000000000000900000000000000050000000000000001",
+    "0202003400000001000000020000000000000005000000000000000900000000000000020000000000000003\
+     01000000010200000000000400000000000000070000000301000000ffffffff00000002",
 ];
 
-/// The header of a frame from 1 to 2 in these lives.
+/// A DATA frame of version 2 with a query and a clear.
+const BATCH: &str =
+    "0202003000000001000000020000000000000005000000000000000900000000000000010000000000000000\
+     0200000001010000000000040103000000000004000000000000000700000003";
+
+/// The header of a frame of version 1 from 1 to 2 before a life was heard.
+const FIRST: Header = Header {
+    version: Version::One,
+    sender: 1,
+    receiver: 2,
+    life: 5,
+    heard: 0,
+};
+
+/// The header of a frame of version 1 from 1 to 2.
 const FROM_ONE: Header = Header {
+    version: Version::One,
     sender: 1,
     receiver: 2,
     life: 5,
     heard: 9,
 };
 
-/// The header of a frame from 2 to 1 in these lives.
+/// The header of a frame of version 1 from 2 to 1.
 const FROM_TWO: Header = Header {
+    version: Version::One,
+    sender: 2,
+    receiver: 1,
+    life: 9,
+    heard: 5,
+};
+
+/// The header of a frame of version 2 from 1 to 2 before a life was heard.
+const NEW_FIRST: Header = Header {
+    version: Version::Two,
+    sender: 1,
+    receiver: 2,
+    life: 5,
+    heard: 0,
+};
+
+/// The header of a frame of version 2 from 1 to 2.
+const NEW_FROM_ONE: Header = Header {
+    version: Version::Two,
+    sender: 1,
+    receiver: 2,
+    life: 5,
+    heard: 9,
+};
+
+/// The header of a frame of version 2 from 2 to 1.
+const NEW_FROM_TWO: Header = Header {
+    version: Version::Two,
     sender: 2,
     receiver: 1,
     life: 9,
@@ -46,21 +99,29 @@ fn clear() -> Option<Packet> {
     Some(Packet::Clr(Clear::new(4, 7, 3).ok()?))
 }
 
+/// The query for 4, and the clear.
+fn query_and_clear() -> Option<Packets>
+    ensures { IfSome result (λ packets. array_vec_len packets ≡ 2) }
+{
+    let mut packets = Packets::new();
+    packets.push(Packet::qry(4).ok()?);
+    packets.push(clear()?);
+    Some(packets)
+}
+
 /// The frames of the vectors, in their order.
-fn frames() -> Option<[Frame; 6]> {
-    let first = Header {
-        sender: 1,
-        receiver: 2,
-        life: 5,
-        heard: 0,
-    };
+fn frames() -> Option<[Frame; 10]> {
     Some([
-        Frame::hello(first),
+        Frame::hello(FIRST),
         Frame::hello(FROM_TWO),
-        Frame::data(FROM_ONE, 1, 0, Packet::qry(4).ok()?),
+        Frame::one(FROM_ONE, 1, 0, Packet::qry(4).ok()?),
         Frame::ack(FROM_TWO, 1),
-        Frame::data(FROM_ONE, 2, 3, update()?),
-        Frame::data(FROM_TWO, 7, 1, clear()?),
+        Frame::one(FROM_ONE, 2, 3, update()?),
+        Frame::one(FROM_TWO, 7, 1, clear()?),
+        Frame::data(NEW_FROM_ONE, 1, 0, query_and_clear()?),
+        Frame::hello(NEW_FIRST),
+        Frame::ack(NEW_FROM_TWO, 1),
+        Frame::one(NEW_FROM_ONE, 2, 3, update()?),
     ])
 }
 
@@ -94,7 +155,7 @@ fn refused_frames(rt: HostRuntime) -> Result<(), Fail> {
             2,
         ),
         (
-            "02010000000000010000000200000000000000050000000000000000",
+            "03010000000000010000000200000000000000050000000000000000",
             FrameError::Version,
             3,
         ),
@@ -141,6 +202,62 @@ fn refused_frames(rt: HostRuntime) -> Result<(), Fail> {
     Ok(())
 }
 
+/// The bytes of the batch with one byte changed.
+fn changed(alloc: Global, at: usize, value: u8) -> Option<Vec<u8>> {
+    let mut bytes = hex::decode(alloc, BATCH).ok()?;
+    *bytes.get_mut(at)? = value;
+    Some(bytes)
+}
+
+#[test]
+fn batch_frame_vector_and_its_faults(rt: HostRuntime) -> Result<(), Fail> {
+    let rows = [
+        (44, 0, FrameError::Count, 10),
+        (44, 1, FrameError::Packet(PacketError::Long), 9),
+        (44, 3, FrameError::Packet(PacketError::Short), 9),
+        (44, 17, FrameError::Count, 10),
+        (45, 1, FrameError::Count, 10),
+        (46, 1, FrameError::Count, 10),
+        (47, 1, FrameError::Count, 10),
+        (0, 3, FrameError::Version, 3),
+        (0, 1, FrameError::Packet(PacketError::Version), 9),
+        (3, 27, FrameError::Length, 5),
+        (2, 2, FrameError::Length, 5),
+        (56, 2, FrameError::Packet(PacketError::Version), 9),
+        (48, 2, FrameError::Packet(PacketError::Version), 9),
+        (50, 1, FrameError::Packet(PacketError::Reserved), 9),
+    ];
+    for (at, value, error, number) in rows {
+        let bytes = changed(rt.alloc(), at, value).ok_or("bytes")?;
+        assert_eq!(rt; decode(&bytes), Err(error), "byte {at} set to {value}");
+        assert_eq!(rt; error.number(), number);
+    }
+    Ok(())
+}
+
+#[test]
+fn last_number_of_a_batch_is_in_its_range(rt: HostRuntime) -> Result<(), Fail> {
+    let packets = query_and_clear().ok_or("packets")?;
+    let frame = Frame::data(NEW_FROM_ONE, GREATEST_NUMBER - 1, 0, packets);
+    assert_eq!(rt; decode(&encode(&frame)), Ok(frame));
+    let text =
+        "0202003000000001000000020000000000000005000000000000000940000000000000000000000000000000\
+                0200000001010000000000040103000000000004000000000000000700000003";
+    let bytes = hex::decode(rt.alloc(), text)?;
+    assert_eq!(rt; decode(&bytes), Err(FrameError::Count));
+    Ok(())
+}
+
+#[test]
+fn longest_frame_is_read(rt: HostRuntime) -> Result<(), Fail> {
+    let packets = Packets::from([update().ok_or("update")?; MOST_PACKETS]);
+    let frame = Frame::data(NEW_FROM_TWO, 1, 0, packets);
+    let bytes = encode(&frame);
+    assert_eq!(rt; bytes.len(), LONGEST_FRAME);
+    assert_eq!(rt; decode(&bytes), Ok(frame));
+    Ok(())
+}
+
 /// The number in `count` bytes from `from` on, the highest first.
 fn plain_number(bytes: &[u8], from: usize, count: usize) -> u64 {
     let mut number = 0u64;
@@ -155,17 +272,18 @@ fn plain_layout(bytes: &[u8]) -> Option<u8> {
     if bytes.len() < 28 {
         return Some(1);
     }
-    if bytes[0] != 1 {
+    if bytes[0] != 1 && bytes[0] != 2 {
         return Some(3);
     }
-    let lengths: &[u64] = match bytes[1] {
-        1 => &[0],
-        2 => &[24, 36, 48],
-        3 => &[8],
+    let length = plain_number(bytes, 2, 2);
+    let is_length = match (bytes[0], bytes[1]) {
+        (_, 1) => length == 0,
+        (1, 2) => [24, 36, 48].contains(&length),
+        (_, 2) => (28..=532).contains(&length),
+        (_, 3) => length == 8,
         _ => return Some(4),
     };
-    let length = plain_number(bytes, 2, 2);
-    if !lengths.contains(&length) {
+    if !is_length {
         return Some(5);
     }
     match (bytes.len() as u64 - 28).cmp(&length) {
@@ -191,8 +309,52 @@ fn plain_fields(bytes: &[u8]) -> Option<u8> {
     let (first, second) = (plain_number(bytes, 28, 8), plain_number(bytes, 36, 8));
     match kind {
         2 if first == 0 || first > most || second > most => Some(8),
+        2 if plain_number(bytes, 0, 1) == 2 => plain_count(bytes, first),
         3 if first > most => Some(8),
         _ => None,
+    }
+}
+
+/// Whether there are as many packets as a frame of version 2 may have, or the number of the fault.
+fn plain_count(bytes: &[u8], first: u64) -> Option<u8> {
+    let many = plain_number(bytes, 44, 1);
+    let is_zero = plain_number(bytes, 45, 3) == 0;
+    if !(1..=16).contains(&many) || !is_zero || first.saturating_add(many) > (1u64 << 62) + 1 {
+        return Some(10);
+    }
+    None
+}
+
+/// How many bytes the first packet of `bytes` is given: all, or as many as its kind has where there are more.
+fn plain_cut(bytes: &[u8]) -> usize
+    ensures { result ≤ length bytes.now }
+{
+    let kind = match bytes {
+        [1, 1, ..] => 8,
+        [1, 2, ..] => 32,
+        [1, 3, ..] => 20,
+        _ => bytes.len(),
+    };
+    kind.min(bytes.len())
+}
+
+/// Why the packets of a frame are refused.
+fn plain_packets(bytes: &[u8]) -> Option<PacketError> {
+    if plain_number(bytes, 0, 1) == 1 {
+        return tora_packet::decode(bytes.get(44..).unwrap_or(&[])).err();
+    }
+    let mut rest = bytes.get(48..).unwrap_or(&[]);
+    for _ in 0..plain_number(bytes, 44, 1) {
+        let (first, behind) = rest.split_at(plain_cut(rest));
+        if let Err(error) = tora_packet::decode(first) {
+            return Some(error);
+        }
+        rest = behind;
+    }
+    if rest.is_empty() {
+        None
+    } else {
+        Some(PacketError::Long)
     }
 }
 
@@ -206,14 +368,11 @@ fn check(rt: &impl Abort, bytes: &[u8]) {
             "{bytes:?}"
         ),
         (None, Ok(frame)) => assert_eq!(rt; encode(&frame).as_slice(), bytes),
-        (None, Err(error)) => {
-            let inside = tora_packet::decode(bytes.get(44..).unwrap_or(&[]));
-            assert_eq!(rt;
-                inside.map_err(FrameError::Packet).err(),
-                Some(error),
-                "{bytes:?}"
-            );
-        }
+        (None, Err(error)) => assert_eq!(rt;
+            plain_packets(bytes).map(FrameError::Packet),
+            Some(error),
+            "{bytes:?}"
+        ),
     }
 }
 
@@ -226,7 +385,7 @@ fn cut_and_changed_frames(rt: HostRuntime) -> Result<(), Fail> {
         }
         for index in 0..bytes.len() {
             let old = bytes[index];
-            for value in [0, 1, 255] {
+            for value in [0, 1, 2, 3, 255] {
                 bytes[index] = value;
                 check(&rt, &bytes);
             }
@@ -239,6 +398,7 @@ fn cut_and_changed_frames(rt: HostRuntime) -> Result<(), Fail> {
 #[test]
 fn example_of_the_documentation(rt: HostRuntime) -> Result<(), Fail> {
     let header = Header {
+        version: Version::Two,
         sender: 1,
         receiver: 2,
         life: 5,
@@ -256,7 +416,7 @@ fn errors_are_printed_with_their_cause(rt: HostRuntime) -> Result<(), Fail> {
     let rows = [
         (FrameError::Short, "too few bytes"),
         (FrameError::Long, "too many bytes"),
-        (FrameError::Version, "the version is not 1"),
+        (FrameError::Version, "the version is not 1 or 2"),
         (FrameError::Kind, "the kind is not 1, 2 or 3"),
         (
             FrameError::Length,
@@ -274,6 +434,10 @@ fn errors_are_printed_with_their_cause(rt: HostRuntime) -> Result<(), Fail> {
         (
             FrameError::Packet(PacketError::Kind),
             "the packet is refused: the kind is not 1, 2 or 3",
+        ),
+        (
+            FrameError::Count,
+            "how many packets there are is out of its range",
         ),
     ];
     for (error, text) in rows {

@@ -122,7 +122,7 @@ sent_more v now here there tells more before mid after frames frame bytes due is
 )
 
 -- a datagram is received
-pub came_one : (size : ℕ) (coming rest : List (List ℕ)) (count : ℕ) (buffer : List ℕ) → 77 ≤ size → IsReceived coming size (Ok (Some count)) buffer rest → Came coming (frame_reading (take count buffer) ∷ []) rest
+pub came_one : (size : ℕ) (coming rest : List (List ℕ)) (count : ℕ) (buffer : List ℕ) → 561 ≤ size → IsReceived coming size (Ok (Some count)) buffer rest → Came coming (frame_reading (take count buffer) ∷ []) rest
 came_one size coming rest count buffer room h = record {
   given = h.0 ∷ [];
   coming_is = h.1;

@@ -25,6 +25,7 @@ first_tally = record {
   life = 0;
   number = 0;
   packet = 0;
+  count = 0;
 }
 
 -- one more, and 2^64 - 1 from there on
@@ -51,6 +52,7 @@ with_fault Fault.Id t = record t { id = one_more t.id }
 with_fault Fault.Life t = record t { life = one_more t.life }
 with_fault Fault.Number t = record t { number = one_more t.number }
 with_fault (Fault.Packet e) t = record t { packet = one_more t.packet }
+with_fault Fault.Count t = record t { count = one_more t.count }
 
 -- once a datagram was taken in
 abbrev pub counted : Intake → Tally → Tally
@@ -82,4 +84,5 @@ count_of_fault n t =
     else if n == 7 then t.life
     else if n == 8 then t.number
     else if n == 9 then t.packet
+    else if n == 10 then t.count
     else 0

@@ -26,6 +26,7 @@ pub struct Tally {
     life: u64,
     number: u64,
     packet: u64,
+    count: u64,
 }
 
 /// A tally of no datagram.
@@ -61,6 +62,7 @@ impl Tally {
             life: 0,
             number: 0,
             packet: 0,
+            count: 0,
         }
     }
 
@@ -78,7 +80,7 @@ impl Tally {
         }
     }
 
-    /// How many datagrams spelt no frame for the fault with this number (`FrameError::number`, 1 to 9), at most 2^64 - 1.
+    /// How many datagrams spelt no frame for the fault with this number (`FrameError::number`, 1 to 10), at most 2^64 - 1.
     /// It is 0 for any other number.
     pub fn of_bad(&self, n: u8) -> u64
         ensures { result ≡ count_of_fault n self.now }
@@ -93,6 +95,7 @@ impl Tally {
             7 => self.life,
             8 => self.number,
             9 => self.packet,
+            10 => self.count,
             _ => 0,
         }
     }
@@ -123,6 +126,7 @@ impl Tally {
             FrameError::Life => self.life = self.life.saturating_add(1),
             FrameError::Number => self.number = self.number.saturating_add(1),
             FrameError::Packet(_) => self.packet = self.packet.saturating_add(1),
+            FrameError::Count => self.count = self.count.saturating_add(1),
         }
     }
 

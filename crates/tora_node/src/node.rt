@@ -83,7 +83,7 @@ fn bad_datagrams(tally: &Tally) -> u64 {
 }
 
 /// The greatest number of a `FrameError`.
-const LAST_FRAME_ERROR: u8 = 9;
+const LAST_FRAME_ERROR: u8 = 10;
 
 /// What the core's thread came to. Its port has ended with it.
 #[derive(Drop)]

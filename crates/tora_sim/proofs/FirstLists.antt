@@ -4,8 +4,9 @@ use Rattle.std.specs.Prelude.{option_map}
 use Rattle.std.proofs.lemmas.List.{append_assoc, map_push, map_more, flat_map_more, length-append, length-map}
 use Rattle.std.proofs.lemmas.Option.{slice_get-map}
 use Rattle.tora_arq.specs.declared.TheConstants.Times.{STANDARD}
+use Rattle.tora_frame.specs.declared.parts.Version.{Version}
 use Rattle.tora_arq.specs.Settings.{settings_of}
-use Rattle.tora_world.specs.Topology.{Topology, neighbours_of}
+use Rattle.tora_world.specs.Topology.{version_at, Topology, neighbours_of}
 use Rattle.tora_world.specs.World.{place_of, owner_of}
 use Rattle.tora_sim.specs.Topologies.{IsTopology}
 use Rattle.tora_sim.specs.Links.{LinkView}
@@ -20,12 +21,12 @@ use Rattle.tora_sim.proofs.Peers.{PutInOrder, neighbours-ascend, place-of}
 
 -- ---- a link end more
 
-pub first-link : PutInOrder → (t : Topology) → IsTopology t → (n i d : ℕ) (x : LinkView) → i < length (neighbours_of t n) → IsFirstEnd n (get_or (neighbours_of t n) i d) i x → IsFirstLink t x
+pub first-link : PutInOrder → (t : Topology) → IsTopology t → (n i d : ℕ) (x : LinkView) → i < length (neighbours_of t n) → IsFirstEnd (version_at t n) n (get_or (neighbours_of t n) i d) i x → IsFirstLink t x
 first-link order t h n i d x lt f = record {
   node = refl;
   peer = refl;
   seat = f.seat ∙ sym (place-of (neighbours_of t n) i d (neighbours-ascend order t h n) lt) ∙ ap₂ (λ k m. place_of k (neighbours_of t m)) (sym f.peer) (sym f.node);
-  settings = f.settings ∙ ap₂ (λ m k. settings_of m k STANDARD) (sym f.node) (sym f.peer);
+  settings = f.settings ∙ ap₂ (λ m k. settings_of (version_at t m) m k STANDARD) (sym f.node) (sym f.peer);
   state = f.state;
   file = f.file ∙ ap₂ (λ m k. opened (owner_of m k) (fresh_state [])) (sym f.node) (sym f.peer);
   put = f.put;
@@ -33,9 +34,9 @@ first-link order t h n i d x lt f = record {
   steps = f.steps;
 }
 
-pub keys-more : (n : ℕ) (ks : List ℕ) (old links : List LinkView) (i d : ℕ) (x : LinkView) → i < length ks → IsFirstEnd n (get_or ks i d) i x
+pub keys-more : (version : Version) (n : ℕ) (ks : List ℕ) (old links : List LinkView) (i d : ℕ) (x : LinkView) → i < length ks → IsFirstEnd version n (get_or ks i d) i x
     → map key_of links ≡ map key_of old ++ map (λ k. (n, k)) (take i ks) → map key_of (links ++ x ∷ []) ≡ map key_of old ++ map (λ k. (n, k)) (take (i + 1) ks)
-keys-more n ks old links i d x lt f e =
+keys-more version n ks old links i d x lt f e =
     map_push key_of links x
     ∙ ap₂ (λ (xs : List (ℕ × ℕ)) (y : ℕ × ℕ). xs ++ y ∷ []) e (ap₂ (λ (a b : ℕ). (a, b)) f.node f.peer)
     ∙ append_assoc (map key_of old) (map (λ k. (n, k)) (take i ks)) ((n, get_or ks i d) ∷ [])

@@ -27,3 +27,5 @@ pub mod FreshEnds
 pub mod Restarting
 pub mod Possibles
 pub mod NodeEnds
+pub mod Olds
+pub mod KeptFrames

@@ -9,7 +9,7 @@ use Rattle.tora_arq.specs.LinkEnd.{after_frame}
 use Rattle.tora_world.specs.declared.Event.TheVariants as Happens
 use Rattle.tora_world.specs.declared.SimError.TheVariants as Refused
 use Rattle.tora_world.specs.LinkMachine.{put_at}
-use Rattle.tora_world.specs.Topology.{Topology, is_node, is_link}
+use Rattle.tora_world.specs.Topology.{version_at, Topology, is_node, is_link}
 use Rattle.tora_world.specs.World.{World, refusal_of, effect_by, world_after, own_choice, with_end, after_receiving, datagram}
 use Rattle.tora_seat.specs.Serving.{put_one}
 use Rattle.tora_sim.specs.Keyed.{IsFirst}
@@ -85,7 +85,7 @@ module _ (t : Topology) (times : Times) (clock : ℕ) (nodes : List NodeView) (l
           let arms = node_changes n nodes j y disarmed first' at' same' arms_in
           ∙ ap (λ o. put_one (λ a. arms_in (node_at nodes a)) n (record (arms_in o) { receive = false })) (sym there') in
           nodes_same w seats inputs items counts arms
-          ∙ sym (effect ∙ ap (λ b. if b then record w { arms = put_one w.arms n (record (w.arms n) { receive = false }) } else with_end w n f.header.sender (after_frame (settings_of n f.header.sender times) (w.ends n f.header.sender) f clock)) (ap (λ o. (arms_in o).receive) there' ∙ armed))
+          ∙ sym (effect ∙ ap (λ b. if b then record w { arms = put_one w.arms n (record (w.arms n) { receive = false }) } else with_end w n f.header.sender (after_frame (settings_of (version_at t n) n f.header.sender times) (w.ends n f.header.sender) f clock)) (ap (λ o. (arms_in o).receive) there' ∙ armed))
 
       pub failed_done : (node : NodeView) → y.receive ≡ true → node ≡ disarmed → IsDone w (Happens.Deliver i) (world_of (state_of t times clock (set nodes j node) links ds))
       failed_done node armed a = record { accepted = accepted; world = ap (λ z. world_of (state_of t times clock (set nodes j z) links ds)) a ∙ failed_world armed }
@@ -106,10 +106,10 @@ module _ (t : Topology) (times : Times) (clock : ℕ) (nodes : List NodeView) (l
         at : slice_get links m ≡ Some x
         at = at_place t times clock nodes links ds h n k m x first read
 
-        set_for : x.settings ≡ settings_of n k times
+        set_for : x.settings ≡ settings_of (version_at t n) n k times
         set_for =
             let q = and_parts _ _ (subst (λ z. is_at n k z ≡ true) (sym read) (first.here x)) in
-            (h.each_link m x at).settings ∙ ap₂ (λ p r. settings_of p r times) (eqb-true x.node n q.0) (eqb-true x.peer k q.1)
+            (h.each_link m x at).settings ∙ ap₂ (λ p r. settings_of (version_at t p) p r times) (eqb-true x.node n q.0) (eqb-true x.peer k q.1)
 
         abbrev received : LinkView
         received = with_state x (after_frame x.settings x.state f clock)
@@ -126,7 +126,7 @@ module _ (t : Topology) (times : Times) (clock : ℕ) (nodes : List NodeView) (l
             let puts = link_stays n k links m x received first at same put_in refl in
             let steps = link_stays n k links m x received first at same steps_in refl in
             links_same w ends files lanes puts steps
-            ∙ sym (effect ∙ ap (λ b. if b then record w { arms = put_one w.arms n (record (w.arms n) { receive = false }) } else with_end w n k (after_frame (settings_of n k times) (w.ends n k) f clock)) (ap (λ o. (arms_in o).receive) there' ∙ armed))
+            ∙ sym (effect ∙ ap (λ b. if b then record w { arms = put_one w.arms n (record (w.arms n) { receive = false }) } else with_end w n k (after_frame (settings_of (version_at t n) n k times) (w.ends n k) f clock)) (ap (λ o. (arms_in o).receive) there' ∙ armed))
 
         pub received_done : (link : LinkView) → y.receive ≡ false → link ≡ received → IsDone w (Happens.Deliver i) (world_of (state_of t times clock nodes (set links m link) ds))
         received_done link armed a = record { accepted = accepted; world = ap (λ z. world_of (state_of t times clock nodes (set links m z) ds)) a ∙ received_world armed }

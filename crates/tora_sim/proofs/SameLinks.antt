@@ -4,7 +4,7 @@ use Rattle.tora_frame.specs.FrameParts.{FrameParts}
 use Rattle.tora_arq.specs.declared.Times.{Times}
 use Rattle.tora_arq.specs.Settings.{settings_of}
 use Rattle.tora_world.specs.World.{place_of}
-use Rattle.tora_world.specs.Topology.{Topology, is_node, is_link, neighbours_of}
+use Rattle.tora_world.specs.Topology.{version_at, Topology, is_node, is_link, neighbours_of}
 use Rattle.tora_sim.specs.Links.{LinkView, is_at}
 use Rattle.tora_sim.specs.Nodes.{NodeView}
 use Rattle.tora_sim.specs.Lanes.{bare, AreAlike}
@@ -87,7 +87,7 @@ before_same a b c d p q r s (inr h) = let e = h.0 in let lt = h.1 in inr (p ∙ 
 
 link_same : (t : Topology) (times : Times) (x y : LinkView) → IsSameLink x y → IsLinkOf t times x → IsLinkOf t times y
 link_same t times x y same h = record {
-  settings = same.settings ∙ h.settings ∙ ap₂ (λ y z. settings_of y z times) (sym same.node) (sym same.peer);
+  settings = same.settings ∙ h.settings ∙ ap₂ (λ y z. settings_of (version_at t y) y z times) (sym same.node) (sym same.peer);
   seat = same.seat ∙ h.seat ∙ ap₂ (λ y z. place_of y (neighbours_of t z)) (sym same.peer) (sym same.node);
   room = subst (λ m. m < 33) (sym same.seat) h.room;
   home = ap (is_node t) same.node ∙ h.home;

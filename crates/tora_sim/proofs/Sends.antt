@@ -13,7 +13,7 @@ use Rattle.tora_arq.specs.LinkFacts.LinkCall.{Transmit as Transmits}
 use Rattle.tora_world.specs.declared.Event.TheVariants as Happens
 use Rattle.tora_world.specs.declared.SimError.TheVariants as Refused
 use Rattle.tora_world.specs.LinkMachine.{put_at}
-use Rattle.tora_world.specs.Topology.{Topology, is_node, is_link}
+use Rattle.tora_world.specs.Topology.{version_at, Topology, is_node, is_link}
 use Rattle.tora_world.specs.World.{World, refusal_of, effect_by, world_after, unless_possible, after_sending, with_datagram, Sending as Sent}
 use Rattle.tora_world.specs.World.Sending.{Goes, IsLost, IsGone}
 use Rattle.tora_seat.specs.Serving.{put_one}
@@ -53,14 +53,14 @@ module _ (t : Topology) (times : Times) (clock : ℕ) (nodes : List NodeView) (l
   ends_of_it : (x.node ≡ n) × (x.peer ≡ k)
   ends_of_it = let q = and_parts _ _ (subst (λ z. is_at n k z ≡ true) (sym read) (first.here x)) in (eqb-true x.node n q.0, eqb-true x.peer k q.1)
 
-  set_for : x.settings ≡ settings_of n k times
-  set_for = (h.each_link i x at).settings ∙ ap₂ (λ y z. settings_of y z times) ends_of_it.0 ends_of_it.1
+  set_for : x.settings ≡ settings_of (version_at t n) n k times
+  set_for = (h.each_link i x at).settings ∙ ap₂ (λ y z. settings_of (version_at t y) y z times) ends_of_it.0 ends_of_it.1
 
-  due_is : frame_due (settings_of n k times) (end_in (link_at links n k)) clock ≡ frame_due x.settings x.state clock
+  due_is : frame_due (settings_of (version_at t n) n k times) (end_in (link_at links n k)) clock ≡ frame_due x.settings x.state clock
   due_is = ap₂ (λ (s : Settings) o. frame_due s (end_in o) clock) (sym set_for) there
 
   possible : (b : Bool) → is_some (frame_due x.settings x.state clock) ≡ b → refusal_of w (Happens.Transmit n k) ≡ unless_possible b
-  possible b e = at_end t times clock nodes links ds h n k i x first read (is_some (frame_due (settings_of n k times) (end_in (link_at links n k)) clock)) b (ap is_some due_is ∙ e)
+  possible b e = at_end t times clock nodes links ds h n k i x first read (is_some (frame_due (settings_of (version_at t n) n k times) (end_in (link_at links n k)) clock)) b (ap is_some due_is ∙ e)
 
   pub transmit_refused : is_some (frame_due x.settings x.state clock) ≡ false → IsRefused w (Happens.Transmit n k) Refused.NotPossible w
   transmit_refused e = refused_for w (Happens.Transmit n k) Refused.NotPossible (possible false e)
@@ -94,9 +94,9 @@ module _ (t : Topology) (times : Times) (clock : ℕ) (nodes : List NodeView) (l
     there' : node_at nodes n ≡ Some y
     there' = is_there t times clock nodes links ds h n j y first' read'
 
-    effect : world_after w (Happens.Transmit n k) ≡ after_sending w n k (after_transmit (settings_of n k times) (end_in (link_at links n k)) clock) (Some f)
+    effect : world_after w (Happens.Transmit n k) ≡ after_sending w n k (after_transmit (settings_of (version_at t n) n k times) (end_in (link_at links n k)) clock) (Some f)
     unfolding effect_by
-    effect = effect_is w (Happens.Transmit n k) (possible true (ap is_some due)) ∙ ap (after_sending w n k (after_transmit (settings_of n k times) (end_in (link_at links n k)) clock)) (due_is ∙ due)
+    effect = effect_is w (Happens.Transmit n k) (possible true (ap is_some due)) ∙ ap (after_sending w n k (after_transmit (settings_of (version_at t n) n k times) (end_in (link_at links n k)) clock)) (due_is ∙ due)
 
     sent_world : world_of (state_of t times clock (set nodes j disarmed) (set links i sent) datagrams) ≡ world_after w (Happens.Transmit n k)
     sent_world =
@@ -115,9 +115,9 @@ module _ (t : Topology) (times : Times) (clock : ℕ) (nodes : List NodeView) (l
         let w' = world_of (state_of t times clock nodes links datagrams) in
         let u = world_of (state_of t times clock (set nodes j disarmed) links datagrams) in
         links_same u ends files lanes puts steps
-        ∙ nodes_same (record w' { ends = put_at (λ a b. end_in (link_at links a b)) n k (after_transmit (settings_of n k times) (end_in (link_at links n k)) clock) }) seats inputs items counts arms
+        ∙ nodes_same (record w' { ends = put_at (λ a b. end_in (link_at links a b)) n k (after_transmit (settings_of (version_at t n) n k times) (end_in (link_at links n k)) clock) }) seats inputs items counts arms
         ∙ ap (λ o. record w {
-          ends = put_at (λ a b. end_in (link_at links a b)) n k (after_transmit (settings_of n k times) (end_in (link_at links n k)) clock);
+          ends = put_at (λ a b. end_in (link_at links a b)) n k (after_transmit (settings_of (version_at t n) n k times) (end_in (link_at links n k)) clock);
           arms = put_one (λ a. arms_in (node_at nodes a)) n (record (arms_in (node_at nodes n)) { sending = Goes });
           datagrams = with_datagram (arms_in o).sending ds f;
         }) (sym there')

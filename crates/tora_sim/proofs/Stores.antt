@@ -9,7 +9,7 @@ use Rattle.tora_frame.specs.FrameParts.{FrameParts}
 use Rattle.tora_arq.specs.declared.Times.{Times}
 use Rattle.tora_arq.specs.Settings.{settings_of}
 use Rattle.tora_world.specs.World.{place_of}
-use Rattle.tora_world.specs.Topology.{Topology, is_node, is_link, neighbours_of}
+use Rattle.tora_world.specs.Topology.{version_at, Topology, is_node, is_link, neighbours_of}
 use Rattle.tora_core.specs.Kept.{destinations_of}
 use Rattle.tora_world.specs.LinkMachine.{put_at}
 use Rattle.tora_seat.specs.Serving.{put_one}
@@ -206,7 +206,7 @@ module _ (n k : ℕ) (links : List LinkView) (i : ℕ) (x new : LinkView) (first
 
   pub link_set : (t : Topology) (times : Times) → IsLinkOf t times x → IsLinkOf t times new
   link_set t times h = record {
-    settings = same.settings ∙ h.settings ∙ ap₂ (λ y z. settings_of y z times) (sym same.node) (sym same.peer);
+    settings = same.settings ∙ h.settings ∙ ap₂ (λ y z. settings_of (version_at t y) y z times) (sym same.node) (sym same.peer);
     seat = same.seat ∙ h.seat ∙ ap₂ (λ y z. place_of y (neighbours_of t z)) (sym same.peer) (sym same.node);
     room = subst (λ m. m < 33) (sym same.seat) h.room;
     home = ap (is_node t) same.node ∙ h.home;

@@ -7,7 +7,7 @@ use Rattle.tora_arq.specs.declared.Times.{Times}
 use Rattle.tora_arq.specs.Settings.{Settings, settings_of}
 use Rattle.tora_arq.specs.LinkEnd.{EndState, after_tick}
 use Rattle.tora_world.specs.declared.Event.TheVariants.{Tick}
-use Rattle.tora_world.specs.Topology.{Topology}
+use Rattle.tora_world.specs.Topology.{version_at, Topology}
 use Rattle.tora_world.specs.World.{effect_by, world_by, world_after}
 use Rattle.tora_sim.specs.Links.{LinkView, is_at, ticked}
 use Rattle.tora_sim.specs.Nodes.{NodeView}
@@ -27,13 +27,13 @@ link_map now n k (x ∷ links) = go (is_at n k x) (link_map now n k links)
     go false again = again
 
 module _ (t : Topology) (times : Times) (clock : ℕ) (nodes : List NodeView) (links : List LinkView) (ds : List FrameParts) (h : IsStore (state_of t times clock nodes links ds)) where
-  ticked_end : (n k now : ℕ) (o : Option LinkView) → link_at links n k ≡ o → end_in (option_map (ticked now) o) ≡ after_tick (settings_of n k times) (end_in o) now
+  ticked_end : (n k now : ℕ) (o : Option LinkView) → link_at links n k ≡ o → end_in (option_map (ticked now) o) ≡ after_tick (settings_of (version_at t n) n k times) (end_in o) now
   unfolding after_tick
   ticked_end n k now None e = refl
   ticked_end n k now (Some x) e =
       let f = is_found (is_at n k) links x e in
       let q = and_parts _ _ f.passes in
-      ap (λ (s : Settings). after_tick s x.state now) ((h.each_link f.place x f.there).settings ∙ ap₂ (λ y z. settings_of y z times) (eqb-true x.node n q.0) (eqb-true x.peer k q.1))
+      ap (λ (s : Settings). after_tick s x.state now) ((h.each_link f.place x f.there).settings ∙ ap₂ (λ y z. settings_of (version_at t y) y z times) (eqb-true x.node n q.0) (eqb-true x.peer k q.1))
 
   stays : {A : Type 0} → (f : Option LinkView → A) (now : ℕ) → ((x : LinkView) → f (Some (ticked now x)) ≡ f (Some x)) → ◌≡◌ {A = ℕ → ℕ → A} (λ n k. f (link_at (map (ticked now) links) n k)) (λ n k. f (link_at links n k))
   stays {A} f now same = fun_ext (λ n. fun_ext (λ k. ap f (link_map now n k links) ∙ go (link_at links n k)))
@@ -46,8 +46,8 @@ module _ (t : Topology) (times : Times) (clock : ℕ) (nodes : List NodeView) (l
   unfolding world_by effect_by
   tick_world =
       let plus : clock + 1 ≡ suc clock = omega arith in
-      let ends : ◌≡◌ {A = ℕ → ℕ → EndState} (λ n k. end_in (link_at (map (ticked (clock + 1)) links) n k)) (λ n k. after_tick (settings_of n k times) (end_in (link_at links n k)) (suc clock)) =
-      fun_ext (λ n. fun_ext (λ k. ap end_in (link_map (clock + 1) n k links) ∙ ticked_end n k (clock + 1) (link_at links n k) refl ∙ ap (λ now. after_tick (settings_of n k times) (end_in (link_at links n k)) now) plus)) in
+      let ends : ◌≡◌ {A = ℕ → ℕ → EndState} (λ n k. end_in (link_at (map (ticked (clock + 1)) links) n k)) (λ n k. after_tick (settings_of (version_at t n) n k times) (end_in (link_at links n k)) (suc clock)) =
+      fun_ext (λ n. fun_ext (λ k. ap end_in (link_map (clock + 1) n k links) ∙ ticked_end n k (clock + 1) (link_at links n k) refl ∙ ap (λ now. after_tick (settings_of (version_at t n) n k times) (end_in (link_at links n k)) now) plus)) in
       let files = each_at file_in (link_at (map (ticked (clock + 1)) links)) (link_at links) (λ a b. stays (file_in a b) (clock + 1) (λ x. refl)) in
       let lanes = stays lane_in (clock + 1) (λ x. refl) in
       let puts = stays put_in (clock + 1) (λ x. refl) in

@@ -2,12 +2,13 @@
 use Rattle.std.specs.Prelude.{◌≡◌, ℕ, ◌+◌, ◌≤◌, false, List, [], ◌∷◌, ◌++◌, map, replicate, length, slice_get, Some}
 use Rattle.std.specs.List.{flat_map}
 use Rattle.tora_arq.specs.declared.TheConstants.Times.{STANDARD}
+use Rattle.tora_frame.specs.declared.parts.Version.{Version}
 use Rattle.tora_arq.specs.Settings.{settings_of}
 use Rattle.tora_arq.specs.LinkEnd.{first_end}
 use Rattle.tora_life.specs.State.{fresh_state}
 use Rattle.tora_life.specs.LifeRun.{opened}
 use Rattle.tora_seat.specs.Rows.{first_seat}
-use Rattle.tora_world.specs.Topology.{Topology, neighbours_of, new_core}
+use Rattle.tora_world.specs.Topology.{Topology, version_at, neighbours_of, new_core}
 use Rattle.tora_world.specs.World.{place_of, owner_of}
 use Rattle.tora_sim.specs.declared.nodes.TheConstants.{MOST_SEATS}
 use Rattle.tora_sim.specs.declared.nodes.Sending.TheVariants.{Goes}
@@ -16,12 +17,12 @@ use Rattle.tora_sim.specs.Nodes.{NodeView}
 use Rattle.tora_sim.specs.Store.{EachOf}
 use Rattle.tora_sim.specs.Readers.{ends_at}
 
--- the end of node n towards k, whose place among the neighbours this is
-pub record IsFirstEnd (n k place : ℕ) (link : LinkView) : Type 0 where
+-- the end of node n towards k, which speaks versions up to this one, and whose place among the neighbours this is
+pub record IsFirstEnd (version : Version) (n k place : ℕ) (link : LinkView) : Type 0 where
   pub node : link.node ≡ n
   pub peer : link.peer ≡ k
   pub seat : link.seat ≡ place
-  pub settings : link.settings ≡ settings_of n k STANDARD
+  pub settings : link.settings ≡ settings_of version n k STANDARD
   pub state : link.state ≡ first_end
   pub file : link.file ≡ opened (owner_of n k) (fresh_state [])
   pub put : link.put ≡ []
@@ -29,7 +30,7 @@ pub record IsFirstEnd (n k place : ℕ) (link : LinkView) : Type 0 where
   pub steps : link.steps ≡ []
 
 abbrev pub IsFirstLink : Topology → LinkView → Type 0
-IsFirstLink t link = IsFirstEnd link.node link.peer (place_of link.peer (neighbours_of t link.node)) link
+IsFirstLink t link = IsFirstEnd (version_at t link.node) link.node link.peer (place_of link.peer (neighbours_of t link.node)) link
 
 pub record IsFirstNode (t : Topology) (node : NodeView) : Type 0 where
   pub count : node.count ≡ length (neighbours_of t node.node)

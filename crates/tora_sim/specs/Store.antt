@@ -18,7 +18,7 @@ use Rattle.tora_core.specs.Kept.{destinations_of}
 use Rattle.tora_seat.specs.Serving.{SeatState, Parcel}
 use Rattle.tora_seat.specs.Rows as Rows
 use Rattle.tora_sim.specs.declared.nodes.TheConstants.{MOST_SEATS}
-use Rattle.tora_world.specs.Topology.{Topology, is_node, is_link, neighbours_of}
+use Rattle.tora_world.specs.Topology.{Topology, version_at, is_node, is_link, neighbours_of}
 use Rattle.tora_world.specs.World.{World, Arms, first_seat, place_of, owner_of}
 use Rattle.tora_world.specs.World.Sending.{Goes}
 use Rattle.tora_sim.specs.Links.{LinkView, is_at, waiting}
@@ -107,7 +107,7 @@ world_of s = record {
 -- ---- what every simulator keeps
 
 pub record IsLinkOf (t : Topology) (times : Times) (link : LinkView) : Type 0 where
-  pub settings : link.settings ≡ settings_of link.node link.peer times
+  pub settings : link.settings ≡ settings_of (version_at t link.node) link.node link.peer times
   pub seat : link.seat ≡ place_of link.peer (neighbours_of t link.node)
   pub room : link.seat < MOST_SEATS
   pub home : is_node t link.node ≡ true

@@ -1,7 +1,8 @@
 -- The links and destinations that are given.
-use Rattle.std.specs.Prelude.{◌≡◌, ℕ, ◌==◌, ◌<◌, List, map, None, if◌then◌else◌}
+use Rattle.std.specs.Prelude.{◌≡◌, ℕ, ◌+◌, ◌==◌, ◌<◌, ◌≤◌, List, [], ◌∷◌, ◌++◌, length, map, None, if◌then◌else◌}
 use Rattle.std.specs.List.{All}
-use Rattle.tora_world.specs.Topology.{Topology, Link, topology_fault, with_node}
+use Rattle.tora_core.specs.Numbers.{has_number}
+use Rattle.tora_world.specs.Topology.{Topology, Link, topology_fault, nodes_in, with_node}
 
 abbrev pub link_in : ℕ × ℕ → Link
 link_in ends = record { a = ends.0; b = ends.1 }
@@ -10,7 +11,20 @@ abbrev pub links_in : List (ℕ × ℕ) → List Link
 links_in links = map link_in links
 
 abbrev pub topology_of : List (ℕ × ℕ) → List ℕ → Topology
-topology_of links destinations = record { links = links_in links; destinations = destinations }
+topology_of links destinations = record { links = links_in links; destinations = destinations; olds = [] }
+
+-- the same, but for the nodes whose link ends speak version 1 of frames alone
+abbrev pub with_olds : Topology → List ℕ → Topology
+with_olds t olds = record t { olds = olds }
+
+-- one of them more
+abbrev pub with_old : ℕ → List ℕ → List ℕ
+with_old n olds = if has_number n olds then olds else olds ++ n ∷ []
+
+-- the nodes that are none of them
+abbrev pub others : List ℕ → List ℕ → List ℕ
+others olds [] = []
+others olds (n ∷ nodes) = if has_number n olds then others olds nodes else n ∷ others olds nodes
 
 -- with the other end of a link, where one end is the node
 abbrev pub with_end : ℕ → Link → List ℕ → List ℕ
@@ -27,3 +41,4 @@ pub record AreNumbers (t : Topology) : Type 0 where
 pub record IsTopology (t : Topology) : Type 0 where
   pub numbers : AreNumbers t
   pub sound : topology_fault t ≡ None
+  pub old_nodes : length t.olds + length (others t.olds (nodes_in t.links)) ≤ 64

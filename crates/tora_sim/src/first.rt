@@ -8,16 +8,18 @@ ghost use Rattle.tora_sim.specs.Store.{world_of};
 ghost use Rattle.tora_sim.specs.Firsts.{IsFirstEnd, AreAdded, IsMade};
 
 use crate::SimError;
+use crate::datagrams::Datagrams;
 use crate::files::open;
 use crate::hints::Hints;
-use crate::links::LinkSlot;
+use crate::links::{LinkSlot, end_of};
 use crate::nodes::{MOST_SEATS, NodeSlot, Sending};
 use crate::sim::Sim;
 use crate::topology::Topology;
 use std::alloc::Global;
 use std::collections::VecDeque;
-use tora_arq::{LinkEnd, Times, standard_times};
+use tora_arq::{Times, standard_times};
 use tora_core::{Core, numbers_are_put_in_order, numbers_come_and_go};
+use tora_frame::Version;
 use tora_height::Id;
 use tora_life::{MemDisk, Owner};
 use tora_seat::CoreSeat;
@@ -53,7 +55,7 @@ impl Sim {
             clock: 0,
             nodes,
             links,
-            datagrams: Vec::new(alloc),
+            datagrams: Datagrams::new(alloc),
             hints,
         })
     }
@@ -118,10 +120,11 @@ fn add_links(
     ensures { MatchResult result (λ _. AreAdded topology.now n links.old.items links.new.items) (λ e. e ≡ SimError.Memory) }
 {
     numbers_are_put_in_order();
+    let version = topology.version_of(n);
     let neighbours = topology.neighbours(n);
     let peers = neighbours.as_slice();
     for seat in 0..peers.len() {
-        let link = new_link(alloc, n, peers[seat], seat)?;
+        let link = new_link(alloc, version, n, peers[seat], seat)?;
         match links.push(link) {
             Ok(()) => {}
             Err(_) => return Err(SimError::Memory),
@@ -131,14 +134,20 @@ fn add_links(
 }
 
 /// The end of a link at its start.
-fn new_link(alloc: Global, n: Id, k: Id, seat: usize) -> Result<LinkSlot, SimError>
+fn new_link(
+    alloc: Global,
+    version: Version,
+    n: Id,
+    k: Id,
+    seat: usize,
+) -> Result<LinkSlot, SimError>
     requires me { 0 < n }
     requires peer { 0 < k }
     requires other { n ≢ k }
-    ensures { MatchResult result (λ link. IsFirstEnd n k seat link) (λ e. e ≡ SimError.Memory) }
+    ensures { MatchResult result (λ link. IsFirstEnd version n k seat link) (λ e. e ≡ SimError.Memory) }
 {
     standard_times();
-    let Ok(end) = LinkEnd::new(alloc, n, k, Times::STANDARD) else {
+    let Ok(end) = end_of(alloc, version, n, k, Times::STANDARD) else {
         return Err(SimError::Memory);
     };
     Ok(LinkSlot {

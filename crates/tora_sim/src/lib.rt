@@ -14,6 +14,7 @@
 //! ```
 #![tactic(auto)]
 
+mod datagrams;
 mod files;
 mod first;
 mod hints;

@@ -1,5 +1,6 @@
 //! The link ends of all nodes, one behind the other.
-ghost use Rattle.std.specs.Prelude.{◌≡◌, ◌<◌, ◌≤◌, ◌+◌, ◌++◌, ◌∷◌, [], ℕ, ⊤, IsTrue, IfSome, IfNone, OnOk, IfOk, IfErr, None, MatchOption, find, length, map, is_some, nat_lt, slice_get};
+ghost use Rattle.tora_arq.specs.Settings.{IsTimes, settings_of};
+ghost use Rattle.std.specs.Prelude.{◌≡◌, ◌≢◌, ◌<◌, ◌≤◌, ◌+◌, ◌++◌, ◌∷◌, [], ℕ, ⊤, IsTrue, IfSome, IfNone, OnOk, IfOk, IfErr, None, MatchOption, find, length, map, is_some, nat_lt, slice_get};
 ghost use Rattle.tora_arq.specs.LinkEnd.{is_closed, after_frame, after_tick, frame_due, after_transmit, first_event, after_poll_event};
 ghost use Rattle.tora_world.specs.World.{after_cargo};
 ghost use Rattle.tora_sim.specs.Links.{with_state, after_open_at, after_arm, after_pull_at, is_at, AreRising, ticked, AreChanged};
@@ -15,9 +16,9 @@ use crate::hints::Hints;
 use std::alloc::Global;
 use std::marker::Model;
 use std::mem;
-use tora_arq::{Life, LinkEnd, LinkEvent, lives_are_bound_once};
+use tora_arq::{ArqError, Life, LinkEnd, LinkEvent, Times, lives_are_bound_once};
 use tora_core::MOST_NEIGHBOURS;
-use tora_frame::Frame;
+use tora_frame::{Frame, Version};
 use tora_height::Id;
 use tora_life::{DiskCall, MemDisk, Owner};
 use tora_packet::Packet;
@@ -215,7 +216,8 @@ impl LinkSlot {
         ensures memory { IfErr result (λ e. e ≡ SimError.Memory) }
     {
         let peer = self.end.peer();
-        match LinkEnd::new(alloc, self.end.me(), peer, self.end.times()) {
+        let version = self.end.version();
+        match end_of(alloc, version, self.end.me(), peer, self.end.times()) {
             Ok(end) => Ok(end),
             Err(_) => Err(SimError::Memory),
         }
@@ -243,6 +245,26 @@ impl LinkSlot {
         ensures { self.new ≡ record self.old { steps = self.old.steps ++ record { life = life; packet = packet } ∷ [] } }
     {
         self.steps.push_reserved((life, packet));
+    }
+}
+
+/// A closed end that speaks versions up to this one.
+pub fn end_of(
+    alloc: Global,
+    version: Version,
+    me: Id,
+    peer: Id,
+    times: Times,
+) -> Result<LinkEnd, ArqError>
+    requires me { 0 < me }
+    requires peer { 0 < peer }
+    requires other { me ≢ peer }
+    requires times { IsTimes times }
+    ensures { IfOk result (λ end. end ≡ link_end_of (settings_of version me peer times) first_end) }
+{
+    match version {
+        Version::One => LinkEnd::new_v1(alloc, me, peer, times),
+        Version::Two => LinkEnd::new(alloc, me, peer, times),
     }
 }
 

@@ -8,9 +8,10 @@ ghost use Rattle.tora_sim.specs.Store.{world_of, numbered};
 ghost use Rattle.tora_sim.specs.Links.{parcel_in};
 ghost use Rattle.tora_sim.specs.Readers.{ends_in, height_at, hop_at, way_of};
 
+use crate::datagrams::Datagrams;
 use crate::links::{LinkSlot, place};
 use crate::nodes::{NodeSlot, place as node_place};
-use crate::sim::Sim;
+use crate::sim::{Sim, numbered};
 use crate::topology::Topology;
 use std::alloc::{AllocError, Global};
 use tora_arq::Life;
@@ -206,11 +207,13 @@ fn put_ends(ends: &mut Vec<(Id, Id)>, n: Id, neighbours: &[Id]) -> Result<(), Al
     Ok(())
 }
 
-fn way_of_numbered(datagrams: &[Frame], i: u64) -> Option<(Id, Id)>
-    ensures { result ≡ option_map way_of (numbered i datagrams.now) }
+fn way_of_numbered(datagrams: &Datagrams, i: u64) -> Option<(Id, Id)>
+    ensures { result ≡ option_map way_of (numbered i datagrams.now.items) }
 {
-    let place = usize::try_from(i).ok()?.checked_sub(1)?;
-    datagrams.get(place).map(|frame| way_of(frame))
+    match numbered(datagrams, i) {
+        Some(frame) => Some(way_of(&frame)),
+        None => None,
+    }
 }
 
 fn way_of(frame: &Frame) -> (Id, Id)

@@ -1,12 +1,14 @@
 //! The simulator.
-ghost use Rattle.std.specs.Prelude.{◌≡◌, ◌<◌, true, vec_len, vec_capacity};
+ghost use Rattle.std.specs.Prelude.{◌≡◌, ◌<◌, true};
 ghost use Rattle.tora_world.specs.declared.Event.TheVariants.{Tick, Open, Pull, Need, Transmit, Deliver, Pump, CoreTurn, Arm, Restart};
 ghost use Rattle.tora_world.specs.World.{with_datagram, what_of};
 ghost use Rattle.tora_sim.specs.Nodes.{is_of, sending_of};
 ghost use Rattle.tora_sim.specs.Store.{numbered, call_of};
 ghost use Rattle.tora_sim.specs.Keyed.{IsFirst};
+ghost use Rattle.tora_sim.specs.Datagrams.{HasRoom};
 ghost use Rattle.tora_sim.specs.Steps.{Does, Runs};
 
+use crate::datagrams::Datagrams;
 use crate::hints::Hints;
 use crate::lanes::make_room;
 use crate::links::{LinkSlot, arm, place, tick};
@@ -33,7 +35,7 @@ pub struct Sim {
     pub(crate) clock: u64,
     pub(crate) nodes: Vec<NodeSlot>,
     pub(crate) links: Vec<LinkSlot>,
-    pub(crate) datagrams: Vec<Frame>,
+    pub(crate) datagrams: Datagrams,
     /// Where the nodes and the link ends may stand.
     pub(crate) hints: Hints,
 }
@@ -116,14 +118,14 @@ impl Sim {
         let Some(home) = node_place(&self.nodes, &self.hints, n) else {
             return Err(SimError::NoNode);
         };
-        if self.datagrams.reserve(1).is_err() {
+        if self.datagrams.reserve().is_err() {
             return Err(SimError::Memory);
         }
         data_frames_are_what_was_submitted();
         let Some(frame) = self.links[at].send(self.clock) else {
             return Err(SimError::NotPossible);
         };
-        note_sent(&mut self.nodes[home], &mut self.datagrams, frame);
+        note_sent(&mut self.nodes[home], &mut self.datagrams, &frame);
         Ok(())
     }
 
@@ -299,23 +301,23 @@ fn what_of(event: LinkEvent) -> What
 }
 
 /// The datagram of a number from 1 on.
-fn numbered(datagrams: &Vec<Frame>, i: u64) -> Option<Frame>
+pub fn numbered(datagrams: &Datagrams, i: u64) -> Option<Frame>
     ensures { result ≡ numbered i datagrams.now.items }
 {
     let place = usize::try_from(i).ok()?.checked_sub(1)?;
-    datagrams.get(place).copied()
+    datagrams.get(place)
 }
 
 /// Notes a datagram that a node sent, unless the send is armed to lose it; the arm is used.
-fn note_sent(node: &mut NodeSlot, datagrams: &mut Vec<Frame>, frame: Frame)
-    requires { vec_len datagrams.old < vec_capacity datagrams.old }
+fn note_sent(node: &mut NodeSlot, datagrams: &mut Datagrams, frame: &Frame)
+    requires { HasRoom datagrams.old }
     ensures node { node.new ≡ record node.old { sending = Sending.Goes } }
-    ensures datagrams { datagrams.new.items ≡ with_datagram (sending_of node.old.sending) datagrams.old.items frame }
+    ensures datagrams { datagrams.new.items ≡ with_datagram (sending_of node.old.sending) datagrams.old.items frame.now }
 {
     match node.sending() {
-        Sending::Goes => datagrams.push_reserved(frame),
+        Sending::Goes => datagrams.push(frame),
         Sending::IsLost => {}
-        Sending::IsGone => datagrams.push_reserved(frame),
+        Sending::IsGone => datagrams.push(frame),
     }
     node.arm_sending(Sending::Goes);
 }

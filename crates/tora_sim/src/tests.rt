@@ -338,3 +338,50 @@ fn example_of_the_documentation(rt: HostRuntime) -> Result<(), Fail> {
     sees_route(&rt, &sim, 2, 2, Some(Some(Height::zero(2))), None);
     Ok(())
 }
+
+#[test]
+fn old_nodes_are_kept(rt: HostRuntime) -> Result<(), Fail> {
+    let mut topology = made(&rt, rt.alloc(), &[(3, 2), (1, 2)], &[3]).expect(&rt, "a topology");
+    assert_eq!(&rt; topology.olds().len(), 0);
+    assert_eq!(&rt; topology.set_old(4), Err(SimError::NoNode));
+    assert_eq!(&rt; topology.olds().len(), 0);
+    assert_eq!(&rt; topology.set_old(3), Ok(()));
+    assert_eq!(&rt; topology.set_old(1), Ok(()));
+    assert_eq!(&rt; topology.set_old(3), Ok(()));
+    assert_eq!(&rt; topology.olds(), [3, 1].as_slice());
+    Ok(())
+}
+
+/// The events by which the link of nodes 1 and 2 comes up, where node 2 speaks version 1 alone: node 1 says HELLO in both
+/// versions until it has heard.
+const MIXED: [Event; 14] = [
+    Event::Open(1, 2),
+    Event::Open(2, 1),
+    Event::Transmit(1, 2),
+    Event::Transmit(1, 2),
+    Event::Deliver(1),
+    Event::Deliver(2),
+    Event::Transmit(2, 1),
+    Event::Deliver(3),
+    Event::Transmit(1, 2),
+    Event::Transmit(1, 2),
+    Event::Deliver(4),
+    Event::Deliver(5),
+    Event::Pump(1, 2),
+    Event::Pump(2, 1),
+];
+
+#[test]
+fn old_node_is_met(rt: HostRuntime) -> Result<(), Fail> {
+    let alloc = rt.alloc();
+    let mut topology = made(&rt, alloc, &[(1, 2)], &[2]).expect(&rt, "a topology");
+    assert_eq!(&rt; topology.set_old(2), Ok(()));
+    let mut sim = Sim::new(alloc, &topology).expect(&rt, "a simulator");
+    assert_eq!(&rt; sim.run(&MIXED), Ok(()));
+    assert_eq!(&rt; sim.datagrams(), 5);
+    assert_eq!(&rt;
+        sim.step(&Event::Transmit(1, 2)),
+        Err(SimError::NotPossible)
+    );
+    Ok(())
+}

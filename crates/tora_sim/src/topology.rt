@@ -1,15 +1,17 @@
 //! Which nodes there are, which links, and the destinations of their tables.
-ghost use Rattle.std.specs.Prelude.{◌≡◌, ◌⊎◌, ◌<◌, ◌≤◌, None, Some, IfErr, IfOk, MatchOption, MatchBool, length, map, nat_lt, position};
+ghost use Rattle.std.specs.Prelude.{◌≡◌, ◌⊎◌, ◌<◌, ◌≤◌, None, Some, IfErr, IfOk, OnOk, true, false, MatchOption, MatchBool, length, map, nat_lt, position};
 ghost use Rattle.std.specs.List.{list_any};
 ghost use Rattle.tora_core.specs.Numbers.{ascending, has_number, has_repeat, with_number};
-ghost use Rattle.tora_world.specs.Topology.{Link, topology_fault, nodes_in, neighbours_of, with_node, different, different_neighbours, other_ends, has_too_many, is_same_link, has_link, has_repeated_link, has_own_link};
-ghost use Rattle.tora_sim.specs.Topologies.{topology_of, link_in, links_in, with_end, AreNumbers, IsTopology};
+ghost use Rattle.tora_world.specs.Topology.{Link, is_node, version_at, topology_fault, nodes_in, neighbours_of, with_node, different, different_neighbours, other_ends, has_too_many, is_same_link, has_link, has_repeated_link, has_own_link};
+ghost use Rattle.tora_sim.specs.Topologies.{topology_of, with_olds, with_old, link_in, links_in, with_end, AreNumbers, IsTopology};
 ghost use Rattle.arrayvec.specs.ArrayVec.{array_vec_len};
 
+use crate::SimError;
 use arrayvec::ArrayVec;
 use std::alloc::{AllocError, Global};
 use std::marker::Model;
 use tora_core::{CoreError, MOST_DESTINATIONS, MOST_NEIGHBOURS};
+use tora_frame::Version;
 use tora_height::Id;
 
 /// The most nodes of a world. Own profile.
@@ -22,22 +24,25 @@ const MOST_ENDS: usize = MOST_NEIGHBOURS + 1;
 /// The links of a world and the destinations that each node's table has.
 ///
 /// There are at most 64 nodes, each with at most 32 neighbours, and at most 64 destinations. No link, either way round,
-/// and no destination is named twice, and no link leads from a node to itself. No number is 0.
+/// and no destination is named twice, and no link leads from a node to itself. No number is 0. The link ends of some nodes
+/// may speak version 1 of frames alone.
 #[derive(Debug, Drop)]
 pub struct Topology {
     links: Vec<(Id, Id)>,
     destinations: Vec<Id>,
+    /// The nodes whose link ends speak version 1 of frames alone.
+    olds: ArrayVec<Id, MOST_NODES>,
 }
 
 impl Model for Topology {
     ghost use Rattle.tora_world.specs.Topology.{Topology};
-    ghost use Rattle.tora_sim.specs.Topologies.{topology_of, IsTopology};
+    ghost use Rattle.tora_sim.specs.Topologies.{topology_of, with_olds, IsTopology};
 
     ghost Value = { Topology };
 
-    ghost view = { λ t. topology_of t.links.items t.destinations.items };
+    ghost view = { λ t. with_olds (topology_of t.links.items t.destinations.items) t.olds.items };
 
-    ghost invariant = { λ t. IsTopology (topology_of t.links.items t.destinations.items) };
+    ghost invariant = { λ t. IsTopology (with_olds (topology_of t.links.items t.destinations.items) t.olds.items) };
 }
 
 impl Topology {
@@ -72,7 +77,33 @@ impl Topology {
         Ok(Topology {
             links,
             destinations,
+            olds: ArrayVec::new(),
         })
+    }
+
+    /// The link ends of a node speak version 1 of frames alone.
+    ///
+    /// # Errors
+    /// `NoNode` where there is no such node, which changes nothing.
+    pub fn set_old(&mut self, n: Id) -> Result<(), SimError>
+        ensures ok { OnOk result ((is_node self.old n ≡ true) × (self.new ≡ with_olds self.old (with_old n self.old.olds))) }
+        ensures err { IfErr result (λ e. (e ≡ SimError.NoNode) × (is_node self.old n ≡ false) × (self.new ≡ self.old)) }
+    {
+        let nodes = self.nodes();
+        if !has_number(n, nodes.as_slice()) {
+            return Err(SimError::NoNode);
+        }
+        if !has_number(n, self.olds.as_slice()) {
+            self.olds.push(n);
+        }
+        Ok(())
+    }
+
+    /// The nodes whose link ends speak version 1 of frames alone.
+    pub fn olds(&self) -> &[Id]
+        ensures { result.now ≡ self.now.olds }
+    {
+        self.olds.as_slice()
     }
 
     /// The links, as they were given.
@@ -108,15 +139,31 @@ impl Topology {
         neighbours_of(&self.links, n)
     }
 
+    /// The newest version of frames that the link ends of a node speak.
+    pub(crate) fn version_of(&self, n: Id) -> Version
+        ensures { result ≡ version_at self.now n }
+    {
+        if has_number(n, self.olds.as_slice()) {
+            Version::One
+        } else {
+            Version::Two
+        }
+    }
+
     /// The same topology once more.
     pub(crate) fn copied(&self, alloc: Global) -> Result<Topology, AllocError>
         ensures { IfOk result (λ t. t ≡ self.now) }
     {
         let links = Vec::from_slice(alloc, &self.links)?;
         let destinations = Vec::from_slice(alloc, &self.destinations)?;
+        let mut olds = ArrayVec::new();
+        let Ok(()) = olds.try_extend_from_slice(self.olds.as_slice()) else {
+            unreachable!()
+        };
         Ok(Topology {
             links,
             destinations,
+            olds,
         })
     }
 }

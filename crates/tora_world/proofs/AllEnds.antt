@@ -49,7 +49,8 @@ older_put m n k p o =
 
 tells_grow : (xs ys : List Parcel) (done done' : Life → ℕ → Type 0) (l : Life) → Grows xs ys → ((c : ℕ) → done l c → done' l c) → (b : Body) → Tells xs done l b → Tells ys done' l b
 tells_grow xs ys done done' l g d Hello h = h
-tells_grow xs ys done done' l g d (Data number count packet) h = (h.0, h.1, at_begins (packets_of l xs) (packets_of l ys) h.0 packet (g l) h.2, d count h.3)
+tells_grow xs ys done done' l g d (Data number count packets) h =
+    (λ place packet has. at_begins (packets_of l xs) (packets_of l ys) place packet (g l) (h.0 place packet has), d count h.1)
 tells_grow xs ys done done' l g d (Ack count) h = d count h
 
 abbrev pub SeenMore : Seen → Seen → Type 0

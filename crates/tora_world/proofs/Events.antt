@@ -3,6 +3,7 @@ use Rattle.std.proofs.Common.{◌≡◌, ◌≢◌, ℕ, zero, suc, Bool, true, 
 use Rattle.std.proofs.lemmas.Bool.{cond_both, cases_Bool, eqb-false}
 use Rattle.std.specs.Prelude.{slice_get, Result}
 use Rattle.tora_packet.specs.declared.Packet.{Packet}
+use Rattle.tora_frame.specs.declared.parts.Version.{Version}
 use Rattle.tora_frame.specs.declared.parts.Body.{Body}
 use Rattle.tora_frame.specs.declared.parts.Body.TheVariants.{Hello, Data, Ack}
 use Rattle.tora_frame.specs.FrameParts.{FrameParts}
@@ -31,7 +32,7 @@ use Rattle.tora_seat.specs.declared.Cargo.TheVariants as Gives
 use Rattle.tora_seat.specs.Serving.{Parcel, put_one}
 use Rattle.tora_world.specs.declared.Call.{Call}
 use Rattle.tora_world.specs.declared.Call.TheVariants as Fails
-use Rattle.tora_world.specs.Topology.{is_link}
+use Rattle.tora_world.specs.Topology.{version_at, is_link}
 use Rattle.tora_world.specs.Lists.{reversed, packet_where, packets_of, parcels_in, parcel_of, Begins, IsIn}
 use Rattle.tora_world.specs.LinkMachine.{put_at, MachineEnd, Machine, MachineStep, machine_after, made, IsLast}
 use Rattle.tora_world.specs.World.{World, Choice, Sending, settings, neighbours, place_of, datagram, first_seat, with_end, with_item, open_with, after_opening, after_pull, with_datagram, after_sending, after_receiving, what_of, after_pump, is_file_of, with_armed_files, after_arming, reopened, after_restart}
@@ -52,28 +53,27 @@ put_one_there f n v a e = ap (λ t. if t then v else f a) e
 
 -- ---- what frames tell
 
--- the packet of a frame is that of its number
+-- each packet of a frame is that of its number
 body_tells : (sent : List Parcel) (done : Life → ℕ → Type 0) (l : Life) (b : Body) → Tells sent done l b → BodyTells (IsPacketAt (packets_of l sent)) b
-body_tells sent done l Hello t = tt
-body_tells sent done l (Ack count) t = tt
-body_tells sent done l (Data number count packet) t =
-    λ place e. let same_place : t.0 ≡ place = omega (arith, e, t.1) in subst (λ i. IsPacketAt (packets_of l sent) i packet) same_place t.2
+body_tells sent done l Hello t = λ place packet has. absurd has
+body_tells sent done l (Ack count) t = λ place packet has. absurd has
+body_tells sent done l (Data number count packets) t = t.0
 
 body_counts : (sent : List Parcel) (done : Life → ℕ → Type 0) (l : Life) (b : Body) → done l 0 → Tells sent done l b → done l (count_of b)
 body_counts sent done l Hello z t = z
-body_counts sent done l (Data number count packet) z t = t.3
+body_counts sent done l (Data number count packets) z t = t.1
 body_counts sent done l (Ack count) z t = t
 
 -- what a frame of an end tells
 module _ (m : Machine) (seen : Seen) (n k : ℕ) where
-  told_by : (own heard : ℕ) (f : FrameParts) (times : Times) → f ≡ frame_sent (settings_of n k times) own heard f.body → IsIn own (m n k).drawn → Tells (m n k).sent (seen n k) (life_of own heard) f.body → Told m seen f
-  told_by own heard f times e i t = subst (λ h. IsIn h.life (m h.sender h.receiver).drawn × Tells (m h.sender h.receiver).sent (seen h.sender h.receiver) (life_of h.life h.heard) f.body) (sym (ap (λ (x : FrameParts). x.header) e)) (i, t)
+  told_by : (newest : Version) (own heard : ℕ) (f : FrameParts) (times : Times) → f ≡ frame_sent (settings_of newest n k times) f.header.version own heard f.body → IsIn own (m n k).drawn → Tells (m n k).sent (seen n k) (life_of own heard) f.body → Told m seen f
+  told_by newest own heard f times e i t = subst (λ h. IsIn h.life (m h.sender h.receiver).drawn × Tells (m h.sender h.receiver).sent (seen h.sender h.receiver) (life_of h.life h.heard) f.body) (sym (ap (λ (x : FrameParts). x.header) e)) (i, t)
 
 body_told : (submitted : List Packet) (sent : List Parcel) (accepted : ℕ) (done : Life → ℕ → Type 0) (l : Life) (b : Body) → Begins submitted (packets_of l sent) → done l accepted → IsBodyOf submitted accepted b → Tells sent done l b
 body_told submitted sent accepted done l Hello b d t = tt
 body_told submitted sent accepted done l (Ack count) b d t = subst (done l) (sym t) d
-body_told submitted sent accepted done l (Data number count packet) b d t =
-    (t.place, t.number_is, at_begins submitted (packets_of l sent) t.place packet b t.packet_is, subst (done l) (sym t.count_is) d)
+body_told submitted sent accepted done l (Data number count packets) b d t =
+    (λ place packet has. at_begins submitted (packets_of l sent) place packet b (t.packets_are place packet has), subst (done l) (sym t.count_is) d)
 
 last_in : (x : ℕ) (xs : List ℕ) → IsLast x xs → IsIn x xs
 last_in x [] e = absurd e
@@ -240,17 +240,17 @@ module _ (laws : LinkLaws) (lows : LifeLaws) (steps : List MachineStep) (w : Wor
       go : (ph : Phase) → (w.ends n k).phase ≡ ph → IsFrameSent (settings w n k) (w.ends n k) f → Told (machine_after steps) seen f
       go Closed q s = absurd (subst (λ x. IsFrameSentIn (settings w n k) (w.ends n k) f x) q s)
       go (Unbound own) q s =
-          let is : f ≡ frame_sent (settings w n k) own (w.ends n k).heard Hello = subst (λ x. IsFrameSentIn (settings w n k) (w.ends n k) f x) q s in
+          let is : f ≡ frame_sent (settings w n k) f.header.version own (w.ends n k).heard Hello = subst (λ x. IsFrameSentIn (settings w n k) (w.ends n k) f x) q s in
           let i : InWait own (machine_after steps n k) = subst (λ x. InPhase x (end_views w n k) (machine_after steps n k) (machine_after steps k n).sent (seen_at_other seen n k)) q (g.sides n k).phase in
           let b : Hello ≡ f.body = sym (ap (λ (x : FrameParts). x.body) is) in
-          told_by (machine_after steps) seen n k own (w.ends n k).heard f w.times (subst (λ x. f ≡ frame_sent (settings w n k) own (w.ends n k).heard x) b is) (last_in own (machine_after steps n k).drawn i.last)
+          told_by (machine_after steps) seen n k (version_at w.topology n) own (w.ends n k).heard f w.times (subst (λ x. f ≡ frame_sent (settings w n k) f.header.version own (w.ends n k).heard x) b is) (last_in own (machine_after steps n k).drawn i.last)
           (subst (λ x. Tells (machine_after steps n k).sent (seen n k) (life_of own (w.ends n k).heard) x) b tt)
       go (Bound l) q s =
           let is = subst (λ x. IsFrameSentIn (settings w n k) (w.ends n k) f x) q s in
           let i : InLife l (w.ends n k) ((w.seats n).current k) (end_views w n k).coming (end_views w n k).out (end_views w n k).sent (end_views w n k).taken (machine_after steps k n).sent (machine_after steps n k) (seen_at_other seen n k) =
           subst (λ x. InPhase x (end_views w n k) (machine_after steps n k) (machine_after steps k n).sent (seen_at_other seen n k)) q (g.sides n k).phase in
           let b = laws.content (settings w n k) (w.ends n k) f l i.queued.submitted q s i.queued.queue in
-          told_by (machine_after steps) seen n k l.own l.peer f w.times is.0 i.drawn
+          told_by (machine_after steps) seen n k (version_at w.topology n) l.own l.peer f w.times is.0 i.drawn
           (body_told i.queued.submitted (machine_after steps n k).sent (w.ends n k).accepted (seen n k) l f.body
           (packets_of l (end_views w n k).out, i.queued.waits ∙ ap (packets_of l) (sym (g.sides n k).histories.sent_is)) (now_seen l q) b)
 

@@ -14,7 +14,7 @@ use Rattle.tora_arq.specs.declared.state.Phase.TheVariants.{Closed, Unbound, Bou
 use Rattle.tora_arq.specs.Lives.{is_same_life, life_of}
 use Rattle.tora_arq.specs.Settings.{Settings}
 use Rattle.tora_arq.specs.LinkEnd.{EndState}
-use Rattle.tora_arq.specs.LinkFacts.{IsEnd, IsQueueOf, IsPacketAt, AreHeld}
+use Rattle.tora_arq.specs.LinkFacts.{IsEnd, IsQueueOf, IsPacketAt, BodyTells, AreHeld}
 use Rattle.tora_life.specs.LifeRun.{LifeDisk, IsFloor}
 use Rattle.tora_seat.specs.Serving.{Parcel}
 use Rattle.tora_world.specs.Lists.{reversed, packets_of, Begins, IsIn, Each}
@@ -166,7 +166,7 @@ pub record FollowsMachine (v : EndView) (p : MachineEnd) (other : List Parcel) (
 -- a frame tells what its sender has sent, and no more than it has accepted
 abbrev pub Tells : List Parcel → (Life → ℕ → Type 0) → Life → Body → Type 0
 Tells sent done l Hello = Unit {0}
-Tells sent done l (Data number count packet) = (place : ℕ) × (number ≡ suc place) × IsPacketAt (packets_of l sent) place packet × done l count
+Tells sent done l (Data number count packets) = BodyTells (IsPacketAt (packets_of l sent)) (Data number count packets) × done l count
 Tells sent done l (Ack count) = done l count
 
 -- which counts were seen, of each end and life

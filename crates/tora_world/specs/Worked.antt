@@ -14,7 +14,7 @@ use Rattle.tora_world.specs.FreeWorld.{Schedule, after_schedule, own_schedule}
 
 -- nodes 1 and 2, their link, and the destination 2
 abbrev pub pair : Topology
-pair = record { links = record { a = 1; b = 2 } ∷ []; destinations = 2 ∷ [] }
+pair = record { links = record { a = 1; b = 2 } ∷ []; destinations = 2 ∷ []; olds = [] }
 
 abbrev pub times : Times
 times = record { hello = 10; silent = 50; retry = 5; tries = 8 }
@@ -82,7 +82,7 @@ handed_back = after_schedule refusal start
 
 -- the same two nodes, where a node that is neither of them is the destination
 abbrev pub pair_elsewhere : Topology
-pair_elsewhere = record { links = record { a = 1; b = 2 } ∷ []; destinations = 3 ∷ [] }
+pair_elsewhere = record { links = record { a = 1; b = 2 } ∷ []; destinations = 3 ∷ []; olds = [] }
 
 abbrev pub start_elsewhere : World
 start_elsewhere = first_world pair_elsewhere times

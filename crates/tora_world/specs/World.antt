@@ -27,7 +27,7 @@ use Rattle.tora_world.specs.declared.Call.{Call}
 use Rattle.tora_world.specs.declared.Call.TheVariants as Fails
 use Rattle.tora_world.specs.declared.SimError.{SimError}
 use Rattle.tora_world.specs.declared.SimError.TheVariants as Refused
-use Rattle.tora_world.specs.Topology.{Topology, neighbours_of, is_node, is_link, new_core}
+use Rattle.tora_world.specs.Topology.{Topology, version_at, neighbours_of, is_node, is_link, new_core}
 use Rattle.tora_world.specs.Lists.{packets_of, parcels_in}
 use Rattle.tora_world.specs.LinkMachine.{put_at}
 
@@ -88,7 +88,7 @@ first_world t times = record {
 -- ---- what is asked of a world
 
 abbrev pub settings : World → ℕ → ℕ → Settings
-settings w n k = settings_of n k w.times
+settings w n k = settings_of (version_at w.topology n) n k w.times
 
 abbrev pub neighbours : World → ℕ → List ℕ
 neighbours w n = neighbours_of w.topology n

@@ -8,8 +8,9 @@ use tora_frame::decode;
 
 const LIFE: Life = Life { own: 5, peer: 9 };
 
-/// The frames of the formats: two HELLOs, a DATA frame with a query, and an ACK; and DATA frames with an update and a clear.
-const VECTORS: [&str; 6] = [
+/// The frames of the formats: two HELLOs, a DATA frame with a query, and an ACK; DATA frames with an update and a clear; and
+/// one of version 2 with a query and a clear.
+const VECTORS: [&str; 7] = [
     "01010000000000010000000200000000000000050000000000000000",
     "01010000000000020000000100000000000000090000000000000005",
     "0102001800000001000000020000000000000005000000000000000900000000000000010000000000000000\
@@ -19,10 +20,12 @@ const VECTORS: [&str; 6] = [
      010200000000000400000000000000070000000300000000ffffffff00000002",
     "0102002400000002000000010000000000000009000000000000000500000000000000020000000000000000\
      0103000000000004000000000000000700000003",
+    "0202003000000002000000010000000000000009000000000000000500000000000000010000000000000000\
+     0200000001010000000000040103000000000004000000000000000700000003",
 ];
 
 /// What an end of node 1 to node 2, bound to {5, 9} with nothing to tell, makes of a datagram.
-const HOSTILE: [(&str, Intake); 10] = [
+const HOSTILE: [(&str, Intake); 11] = [
     ("", Intake::Bad(FrameError::Short)),
     // A HELLO (9,5) and one byte more.
     (
@@ -66,6 +69,12 @@ const HOSTILE: [(&str, Intake); 10] = [
         "0102001800000002000000010000000000000009000000000000000540000000000000000000000000000000\
          0101000000000004",
         Intake::Seen(Verdict::Ahead),
+    ),
+    // A DATA frame of version 2 with no packet.
+    (
+        "0202003000000002000000010000000000000009000000000000000500000000000000010000000000000000\
+         0000000001010000000000040103000000000004000000000000000700000003",
+        Intake::Bad(FrameError::Count),
     ),
     // A HELLO (2^62,0).
     (

@@ -85,7 +85,8 @@ fn a_life_that_is_cut_goes_down(rt: HostRuntime) -> Result<(), Fail> {
     Ok(())
 }
 
-// Each turn sends a HELLO and receives once, and both fail: the 50th turn has the hundredth failure, and puts no beat.
+// Each turn sends a HELLO of each version and receives once, and all three fail: the 34th turn has the hundredth failure, and
+// puts no beat.
 #[test]
 fn a_wire_that_always_fails_ends_the_link(rt: HostRuntime) -> Result<(), Fail> {
     let alloc = rt.alloc();
@@ -93,16 +94,16 @@ fn a_wire_that_always_fails_ends_the_link(rt: HostRuntime) -> Result<(), Fail> {
     let file = file_of(&rt, MemDisk::new());
     let finished = run_over(&rt, alloc, 10, file, wire, hub_of(alloc, 1000)?);
     assert_eq!(&rt; finished.fault, Some(NodeError::Wire(2)));
-    assert_eq!(&rt; finished.hub.kept().len(), 49);
+    assert_eq!(&rt; finished.hub.kept().len(), 33);
     assert_eq!(&rt; total(&finished.tally), 0);
     Ok(())
 }
 
-// Two calls of the first turn pass, which binds a life. Of each later turn one call fails at least, until the life is cut.
+// Three calls of the first turn pass, which binds a life. Of each later turn one call fails at least, until the life is cut.
 #[test]
 fn a_bound_life_goes_down_before_a_broken_wire_ends_the_link(rt: HostRuntime) -> Result<(), Fail> {
     let alloc = rt.alloc();
-    let wire = FuseWire::new(MemWire::<16>::new(one_hello(alloc)?), 2, FuseMode::Always);
+    let wire = FuseWire::new(MemWire::<16>::new(one_hello(alloc)?), 3, FuseMode::Always);
     let file = file_of(&rt, MemDisk::new());
     let finished = run_over(&rt, alloc, 0, file, wire, hub_of(alloc, 1000)?);
     assert_eq!(&rt; finished.fault, Some(NodeError::Wire(2)));
@@ -113,7 +114,7 @@ fn a_bound_life_goes_down_before_a_broken_wire_ends_the_link(rt: HostRuntime) ->
 #[test]
 fn a_wire_that_fails_once_binds_a_life(rt: HostRuntime) -> Result<(), Fail> {
     let alloc = rt.alloc();
-    let wire = FuseWire::new(MemWire::<16>::new(one_hello(alloc)?), 1, FuseMode::Once);
+    let wire = FuseWire::new(MemWire::<16>::new(one_hello(alloc)?), 2, FuseMode::Once);
     let file = file_of(&rt, MemDisk::new());
     let finished = run_over(&rt, alloc, 10, file, wire, hub_of(alloc, 2)?);
     assert_eq!(&rt; finished.fault, None);

@@ -33,11 +33,11 @@ module _ (c : goal.After-new) where
 
 pub invariant_of-result : goal.invariant_of-result
 invariant_of-result c =
-    subst (λ (ds : List FrameParts). IsStore (state_of c.in-Ok.own STANDARD 0 c.loop-n.nodes.items c.loop-n.links.items ds)) (sym c.new.ensures.items)
+    subst (λ (ds : List FrameParts). IsStore (state_of c.in-Ok.own STANDARD 0 c.loop-n.nodes.items c.loop-n.links.items ds)) (sym c.new.ensures)
     (is-store c.numbers_are_put_in_order.ensures.order c.numbers_come_and_go.ensures.in_order c.in-Ok.own c.nodes-named.ensures.kept c.loop-n.nodes.items c.loop-n.links.items (made c))
 
 pub returns-clause-made : goal.returns-clause-made
 returns-clause-made c =
-    ap (λ (ds : List FrameParts). world_of (state_of c.in-Ok.own STANDARD 0 c.loop-n.nodes.items c.loop-n.links.items ds)) c.new.ensures.items
+    ap (λ (ds : List FrameParts). world_of (state_of c.in-Ok.own STANDARD 0 c.loop-n.nodes.items c.loop-n.links.items ds)) c.new.ensures
     ∙ is-first c.numbers_are_put_in_order.ensures.order c.numbers_come_and_go.ensures.in_order c.in-Ok.own c.nodes-named.ensures.kept c.loop-n.nodes.items c.loop-n.links.items (made c)
     ∙ ap (λ (t : Topology). first_world t STANDARD) c.in-Ok.ensures

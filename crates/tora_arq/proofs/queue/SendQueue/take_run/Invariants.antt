@@ -1,0 +1,13 @@
+use Rattle.std.proofs.Common.{◌≡◌, ◌-◌, ◌+◌, ◌++◌, take, drop, length}
+use Rattle.tora_arq.specs.SendQueue.{ready_run}
+use Rattle.tora_arq.proofs.QueueLemmas.{Taking}
+use Rattle.tora_arq.proofs.queue.SendQueue.take_run.Given as goal
+
+-- what is taken, and what is left to take, are those of the queue as it was
+abbrev pub invariant-loop-at : goal.invariant-loop-at
+invariant-loop-at l = record {
+  taking : Taking l.times l.now (l.end - l.at) l.at l.packets.items l.self (ready_run l.times l.now (l.end - l.place) (drop l.place l.fn.self)).packets
+      (take l.place l.fn.self ++ (ready_run l.times l.now (l.end - l.place) (drop l.place l.fn.self)).queue);
+  taken : length l.packets.items + l.place ≡ l.at;
+  len : length l.self ≡ length l.fn.self;
+}

@@ -1,0 +1,8 @@
+use Rattle.std.proofs.Common.{◌≡◌, false, take}
+use Rattle.std.specs.List.{list_any}
+use Rattle.tora_arq.specs.LinkEnd.{is_update_of_another}
+use Rattle.tora_arq.proofs.settings.is_any_of_another.Given as goal
+
+-- none of the packets so far
+abbrev pub invariant-loop-packet : goal.invariant-loop-packet
+invariant-loop-packet l = list_any (is_update_of_another l.sender) (take l.packet-index l.packets) ≡ false

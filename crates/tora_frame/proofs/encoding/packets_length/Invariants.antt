@@ -1,0 +1,10 @@
+use Rattle.std.proofs.Common.{◌≡◌, ◌≤◌, ◌*◌, take}
+use Rattle.tora_frame.specs.FrameGrammar.{packets_length}
+use Rattle.tora_frame.proofs.encoding.packets_length.Given as goal
+
+-- the bytes of the packets so far
+abbrev pub invariant-loop-packet : goal.invariant-loop-packet
+invariant-loop-packet l = record {
+  len : l.len ≡ packets_length (take l.packet-index l.packets);
+  most : l.len ≤ 32 * l.packet-index;
+}

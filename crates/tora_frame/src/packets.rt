@@ -1,0 +1,155 @@
+//! Bytes to the packets of a DATA frame.
+ghost use Rattle.std.specs.Prelude.{◌≡◌, ◌+◌, ◌<◌, ◌≤◌, ◌^◌, [], ◌∷◌, take, drop, length, MatchOption, MatchBool, IfOk, OnOk, IsOk, Ok, Err};
+ghost use Rattle.std.specs.List.{AllByRecursion};
+ghost use Rattle.arrayvec.specs.ArrayVec.{array_vec_len};
+ghost use Rattle.tora_packet.specs.AnyPacket.{IsPacket};
+ghost use Rattle.tora_packet.specs.PacketGrammar.{u64_at};
+ghost use Rattle.tora_frame.specs.FrameParts.{IsBatchSize};
+ghost use Rattle.tora_frame.specs.FrameGrammar.{version_at, version_of, whole_packet_fault, whole_packet_at, first_packet, behind_first, packets_fault, packets_at, batch_size_at, is_bad_batch_size, batch_fault, fault_inside, packets_inside};
+
+use crate::layout::{BATCH_OFFSET, PACKET_OFFSET};
+use crate::{FrameError, GREATEST_NUMBER, MOST_PACKETS, Packets, Version};
+use tora_packet::{Packet, PacketError};
+
+/// The packet that all the bytes spell.
+fn read_packet(bytes: &[u8]) -> Result<Packet, FrameError>
+    ensures exact { MatchOption (whole_packet_fault bytes.now) (result ≡ Ok (whole_packet_at bytes.now)) (λ e. result ≡ Err e) }
+    ensures valid { IfOk result IsPacket }
+{
+    match tora_packet::decode(bytes) {
+        Ok(packet) => Ok(packet),
+        Err(error) => Err(FrameError::Packet(error)),
+    }
+}
+
+/// How many bytes the first packet has: no more than its kind, where they begin as a packet.
+#[tactic(auto, unfolding(crate::specs::FrameGrammar::first_packet))]
+fn first_length(bytes: &[u8]) -> usize
+    ensures length { result ≡ length (first_packet bytes.now) }
+    ensures front { take result bytes.now ≡ first_packet bytes.now }
+    ensures within { result ≤ length bytes.now }
+{
+    let all = bytes.len();
+    if all < 2 || bytes[0] != 1 {
+        return all;
+    }
+    match bytes[1] {
+        1 => all.min(8),
+        2 => all.min(32),
+        3 => all.min(20),
+        _ => all,
+    }
+}
+
+/// The bytes of the first packet, and those behind it.
+fn cut_packet(bytes: &[u8]) -> (&[u8], &[u8])
+    ensures first { result.0.now ≡ first_packet bytes.now }
+    ensures behind { result.1.now ≡ behind_first bytes.now }
+{
+    bytes.split_at(first_length(bytes))
+}
+
+/// The bytes from an offset on.
+fn behind(bytes: &[u8], offset: usize) -> &[u8]
+    requires { offset ≤ length bytes.now }
+    ensures { result.now ≡ drop offset bytes.now }
+{
+    let (_, rest) = bytes.split_at(offset);
+    rest
+}
+
+/// So many packets one after another, with no byte behind them. An `Err` may leave some of them.
+fn read_list(bytes: &[u8], many: usize, packets: &mut Packets) -> Result<(), FrameError>
+    requires many { many ≤ MOST_PACKETS }
+    requires empty { packets.old.items ≡ [] }
+    ensures exact { MatchOption (packets_fault many bytes.now) (IsOk result) (λ e. result ≡ Err e) }
+    ensures packets { OnOk result (packets.new.items ≡ packets_at many bytes.now) }
+    ensures valid { OnOk result (AllByRecursion IsPacket packets.new.items) }
+    ensures len { OnOk result (array_vec_len packets.new ≡ many) }
+{
+    let mut rest = bytes;
+    for _ in 0..many {
+        let (first, behind) = cut_packet(rest);
+        packets.push(read_packet(first)?);
+        rest = behind;
+    }
+    if !rest.is_empty() {
+        return Err(FrameError::Packet(PacketError::Long));
+    }
+    Ok(())
+}
+
+/// How many packets a frame of version 2 has, where the first one has this number, and the test of it.
+fn read_batch_size(bytes: &[u8], number: u64) -> Result<usize, FrameError>
+    requires len { 48 ≤ length bytes.now }
+    requires number { number ≡ u64_at 28 bytes.now }
+    requires fits { number ≤ 2 ^ 62 }
+    ensures exact { MatchBool (is_bad_batch_size bytes.now) (result ≡ Err FrameError.Count) (result ≡ Ok (batch_size_at bytes.now)) }
+    ensures valid { IfOk result (λ many. (0 < many) × (many ≤ 16) × (number + many ≤ 2 ^ 62 + 1)) }
+{
+    let many = bytes[44];
+    if many == 0 || usize::from(many) > MOST_PACKETS {
+        return Err(FrameError::Count);
+    }
+    if bytes[45] != 0 || bytes[46] != 0 || bytes[47] != 0 {
+        return Err(FrameError::Count);
+    }
+    if number + u64::from(many) - 1 > GREATEST_NUMBER {
+        return Err(FrameError::Count);
+    }
+    Ok(usize::from(many))
+}
+
+/// The packets of a frame of version 2, and the tests of them.
+#[tactic(auto, unfolding(crate::specs::FrameGrammar::batch_fault))]
+fn read_batch(bytes: &[u8], number: u64, packets: &mut Packets) -> Result<(), FrameError>
+    requires len { 48 ≤ length bytes.now }
+    requires number { number ≡ u64_at 28 bytes.now }
+    requires fits { number ≤ 2 ^ 62 }
+    requires empty { packets.old.items ≡ [] }
+    ensures exact { MatchOption (batch_fault bytes.now) (IsOk result) (λ e. result ≡ Err e) }
+    ensures packets { OnOk result (packets.new.items ≡ packets_at (batch_size_at bytes.now) (drop 48 bytes.now)) }
+    ensures valid { OnOk result (AllByRecursion IsPacket packets.new.items) }
+    ensures many { OnOk result ((0 < array_vec_len packets.new) × (array_vec_len packets.new ≤ 16) × (number + array_vec_len packets.new ≤ 2 ^ 62 + 1)) }
+{
+    let many = read_batch_size(bytes, number)?;
+    read_list(behind(bytes, BATCH_OFFSET), many, packets)
+}
+
+/// The packet of a frame of version 1, which all the bytes behind the numbers are of.
+fn read_one(bytes: &[u8], packets: &mut Packets) -> Result<(), FrameError>
+    requires len { 44 ≤ length bytes.now }
+    requires empty { packets.old.items ≡ [] }
+    ensures exact { MatchOption (whole_packet_fault (drop 44 bytes.now)) (IsOk result) (λ e. result ≡ Err e) }
+    ensures packets { OnOk result (packets.new.items ≡ whole_packet_at (drop 44 bytes.now) ∷ []) }
+    ensures valid { OnOk result (AllByRecursion IsPacket packets.new.items) }
+{
+    packets.push(read_packet(behind(bytes, PACKET_OFFSET))?);
+    Ok(())
+}
+
+/// Reads the packets of a DATA frame of this version, where the first one has this number, and tests them. An `Err` may
+/// leave some of them.
+#[tactic(auto, unfolding(crate::specs::FrameGrammar::packets_inside))]
+pub fn read_packets(
+    bytes: &[u8],
+    version: Version,
+    number: u64,
+    packets: &mut Packets,
+) -> Result<(), FrameError>
+    requires len { 48 ≤ length bytes.now }
+    requires version { version ≡ version_of (version_at bytes.now) }
+    requires number { number ≡ u64_at 28 bytes.now }
+    requires fits { number ≤ 2 ^ 62 }
+    requires empty { packets.old.items ≡ [] }
+    ensures exact { MatchOption (fault_inside bytes.now) (IsOk result) (λ e. result ≡ Err e) }
+    ensures packets { OnOk result (packets.new.items ≡ packets_inside bytes.now) }
+    ensures valid { OnOk result (AllByRecursion IsPacket packets.new.items) }
+    ensures many { OnOk result (IsBatchSize version (array_vec_len packets.new)) }
+    ensures last { OnOk result (number + array_vec_len packets.new ≤ 2 ^ 62 + 1) }
+{
+    match version {
+        Version::One => read_one(bytes, packets),
+        Version::Two => read_batch(bytes, number, packets),
+    }
+}

@@ -1,0 +1,67 @@
+-- Nodes whose link ends speak version 1, and the other nodes.
+use Rattle.std.proofs.Common.{◌≡◌, ◌⊎◌, inl, inr, ⊎_elim, ℕ, suc, ◌+◌, ◌≤◌, ◌<◌, Bool, true, false, cond, ◌||◌, ◌==◌, List, [], ◌∷◌, ◌++◌, length, refl, sym, ap, ◌∙◌, subst, arith, eqb-true, eq-eqb, true≢false, length-append}
+use Rattle.std.proofs.lemmas.Bool.{cases_Bool}
+use Rattle.std.proofs.lemmas.List.Folds.{list_any-append}
+use Rattle.tora_core.specs.Numbers.{has_number}
+use Rattle.tora_sim.specs.Topologies.{others}
+
+-- a number that is among them is among more
+still : (m n : ℕ) (olds : List ℕ) → has_number m olds ≡ true → has_number m (olds ++ n ∷ []) ≡ true
+still m n olds h = list_any-append (λ x. x == m) olds (n ∷ []) ∙ ap (λ b. b || has_number m (n ∷ [])) h
+
+-- the last one is among them
+among : (n : ℕ) (olds : List ℕ) → has_number n olds ≡ false → has_number n (olds ++ n ∷ []) ≡ true
+among n olds h = list_any-append (λ x. x == n) olds (n ∷ []) ∙ ap (λ b. b || has_number n (n ∷ [])) h ∙ same n
+  where
+    same : (n : ℕ) → has_number n (n ∷ []) ≡ true
+    same n = ap (λ b. b || false) (eq-eqb n n refl)
+
+-- one node more or none: the choices for the front
+front : (a b : Bool) (x y : List ℕ) (m : ℕ) → (a ≡ true → b ≡ true) → length y ≤ length x → length (cond b y (m ∷ y)) ≤ length (cond a x (m ∷ x))
+front true true x y m h le = le
+front true false x y m h le = absurd (true≢false (sym (h refl)))
+front false true x y m h le = omega arith
+front false false x y m h le = omega arith
+
+more_olds : (n : ℕ) (olds nodes : List ℕ) → length (others (olds ++ n ∷ []) nodes) ≤ length (others olds nodes)
+more_olds n olds [] = omega arith
+more_olds n olds (m ∷ nodes) =
+    front (has_number m olds) (has_number m (olds ++ n ∷ [])) (others olds nodes) (others (olds ++ n ∷ []) nodes) m (still m n olds) (more_olds n olds nodes)
+
+front_fewer : (a b : Bool) (x y : List ℕ) (m : ℕ) → (a ≡ true → b ≡ true) → suc (length y) ≤ length x → suc (length (cond b y (m ∷ y))) ≤ length (cond a x (m ∷ x))
+front_fewer true true x y m h le = le
+front_fewer true false x y m h le = absurd (true≢false (sym (h refl)))
+front_fewer false true x y m h le = omega arith
+front_fewer false false x y m h le = omega arith
+
+front_here : (a b : Bool) (x y : List ℕ) (m : ℕ) → a ≡ false → b ≡ true → length y ≤ length x → suc (length (cond b y (m ∷ y))) ≤ length (cond a x (m ∷ x))
+front_here true b x y m h k le = absurd (true≢false h)
+front_here false true x y m h k le = omega arith
+front_here false false x y m h k le = absurd (true≢false (sym k))
+
+-- a node that becomes one of them is no other one from then on
+pub fewer : (n : ℕ) (olds nodes : List ℕ) → has_number n nodes ≡ true → has_number n olds ≡ false → suc (length (others (olds ++ n ∷ []) nodes)) ≤ length (others olds nodes)
+fewer n olds [] there new = absurd (true≢false (sym there))
+fewer n olds (m ∷ nodes) there new =
+    ⊎_elim
+    (λ (here : (m == n) ≡ true).
+    let is : n ≡ m = sym (eqb-true m n here) in
+    front_here (has_number m olds) (has_number m (olds ++ n ∷ [])) (others olds nodes) (others (olds ++ n ∷ []) nodes) m
+    (subst (λ x. has_number x olds ≡ false) is new) (subst (λ x. has_number x (olds ++ n ∷ []) ≡ true) is (among n olds new)) (more_olds n olds nodes))
+    (λ (further : (m == n) ≡ false).
+    front_fewer (has_number m olds) (has_number m (olds ++ n ∷ [])) (others olds nodes) (others (olds ++ n ∷ []) nodes) m (still m n olds)
+    (fewer n olds nodes (ap (λ b. b || has_number n nodes) (sym further) ∙ there) new))
+    (cases_Bool (m == n))
+
+-- where there are none, all nodes are others
+pub all_others : (nodes : List ℕ) → others [] nodes ≡ nodes
+all_others [] = refl
+all_others (n ∷ nodes) = ap (λ (xs : List ℕ). n ∷ xs) (all_others nodes)
+
+-- so there is a place for it
+pub room : (n : ℕ) (olds nodes : List ℕ) → has_number n nodes ≡ true → has_number n olds ≡ false → length olds + length (others olds nodes) ≤ 64 → length olds < 64
+room n olds nodes there new h = omega (arith, h, fewer n olds nodes there new)
+
+pub kept : (n : ℕ) (olds nodes : List ℕ) → has_number n nodes ≡ true → has_number n olds ≡ false → length olds + length (others olds nodes) ≤ 64 →
+    length (olds ++ n ∷ []) + length (others (olds ++ n ∷ []) nodes) ≤ 64
+kept n olds nodes there new h = omega (arith, h, fewer n olds nodes there new, length-append olds (n ∷ []))

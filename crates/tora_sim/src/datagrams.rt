@@ -1,0 +1,156 @@
+//! All datagrams that were ever sent.
+ghost use Rattle.std.specs.Prelude.{◌≡◌, ◌<◌, ◌≤◌, ◌+◌, ◌∷◌, ◌++◌, [], length, slice_get, slice_range, vec_len, vec_capacity, OnOk};
+ghost use Rattle.std.specs.List.{AllByRecursion};
+ghost use Rattle.tora_frame.specs.FrameParts.{IsFrame};
+ghost use Rattle.tora_sim.specs.Datagrams.{DatagramList, HasRoom, IsKept, frame_in, kept_frame, packets_carried};
+
+use std::alloc::{AllocError, Global};
+use std::marker::Model;
+use tora_frame::{Body, Frame, Header, MOST_PACKETS, Packets};
+use tora_packet::Packet;
+
+/// What a datagram carries, but for the packets of a DATA frame.
+#[derive(Clone, Copy, Debug, PartialEq, Eq, Hash)]
+pub enum KeptBody {
+    /// A HELLO.
+    Hello,
+    /// The number of the first packet, the count of packets accepted, the place of the first packet among all that are
+    /// kept, and how many packets there are.
+    Data(u64, u64, usize, usize),
+    /// The count of packets accepted.
+    Ack(u64),
+}
+
+/// A datagram, whose packets stand apart: a frame of few packets takes no room for sixteen.
+#[derive(Clone, Copy, Debug, PartialEq, Eq, Hash)]
+pub struct KeptFrame {
+    pub header: Header,
+    pub body: KeptBody,
+}
+
+/// All datagrams that were ever sent, in order.
+#[derive(Debug, Drop)]
+pub struct Datagrams {
+    frames: Vec<KeptFrame>,
+    packets: Vec<Packet>,
+}
+
+impl Model for Datagrams {
+    ghost use Rattle.std.specs.Prelude.{◌-◌, map, length, vec_capacity};
+    ghost use Rattle.std.specs.List.{AllByRecursion};
+    ghost use Rattle.tora_sim.specs.Datagrams.{DatagramList, IsKept, frame_in};
+
+    ghost Value = { DatagramList };
+
+    ghost view = { λ d. record {
+      items = map (frame_in d.packets.items) d.frames.items;
+      places = vec_capacity d.frames - length d.frames.items;
+      packet_places = vec_capacity d.packets - length d.packets.items;
+    } };
+
+    ghost invariant = { λ d. AllByRecursion (IsKept d.packets.items) d.frames.items };
+}
+
+impl Datagrams {
+    /// No datagrams.
+    pub fn new(alloc: Global) -> Datagrams
+        ensures { result.items ≡ [] }
+    {
+        Datagrams {
+            frames: Vec::new(alloc),
+            packets: Vec::new(alloc),
+        }
+    }
+
+    /// How many there are.
+    pub fn len(&self) -> usize
+        ensures { result ≡ length self.now.items }
+    {
+        self.frames.len()
+    }
+
+    /// Makes room for one more.
+    pub fn reserve(&mut self) -> Result<(), AllocError>
+        ensures items { self.new.items ≡ self.old.items }
+        ensures room { OnOk result (HasRoom self.new) }
+    {
+        self.frames.reserve(1)?;
+        self.packets.reserve(MOST_PACKETS)
+    }
+
+    /// Appends a datagram. There must be room for it.
+    pub fn push(&mut self, frame: &Frame)
+        requires { HasRoom self.old }
+        ensures { self.new.items ≡ self.old.items ++ frame.now ∷ [] }
+    {
+        keep(&mut self.frames, &mut self.packets, frame);
+    }
+
+    /// The datagram that stands behind so many others.
+    pub fn get(&self, place: usize) -> Option<Frame>
+        ensures { result ≡ slice_get self.now.items place }
+    {
+        let Some(kept) = self.frames.get(place) else {
+            return None;
+        };
+        Some(frame_of(&self.packets, kept))
+    }
+}
+
+/// Keeps a frame, and its packets behind all others.
+fn keep(frames: &mut Vec<KeptFrame>, packets: &mut Vec<Packet>, frame: &Frame)
+    requires place { vec_len frames.old < vec_capacity frames.old }
+    requires packet_places { vec_len packets.old + 16 ≤ vec_capacity packets.old }
+    ensures frames { frames.new.items ≡ frames.old.items ++ kept_frame (length packets.old.items) frame.now ∷ [] }
+    ensures packets { packets.new.items ≡ packets.old.items ++ packets_carried frame.now.body }
+    ensures valid { IsFrame frame.now }
+{
+    let body = match frame.body() {
+        Body::Hello => KeptBody::Hello,
+        Body::Data(number, count, carried) => {
+            let from = packets.len();
+            keep_packets(packets, carried.as_slice());
+            KeptBody::Data(*number, *count, from, carried.len())
+        }
+        Body::Ack(count) => KeptBody::Ack(*count),
+    };
+    let header = *frame.header();
+    frames.push_reserved(KeptFrame { header, body });
+}
+
+fn keep_packets(packets: &mut Vec<Packet>, carried: &[Packet])
+    requires { vec_len packets.old + length carried.now ≤ vec_capacity packets.old }
+    ensures { packets.new.items ≡ packets.old.items ++ carried.now }
+{
+    for packet in carried {
+        packets.push_reserved(*packet);
+    }
+}
+
+/// The frame that is kept so.
+fn frame_of(packets: &[Packet], kept: &KeptFrame) -> Frame
+    requires { IsKept packets.now kept.now }
+    ensures { result ≡ frame_in packets.now kept.now }
+{
+    let header = kept.header;
+    match kept.body {
+        KeptBody::Hello => Frame::hello(header),
+        KeptBody::Data(number, count, from, many) => {
+            Frame::data(header, number, count, packets_from(packets, from, many))
+        }
+        KeptBody::Ack(count) => Frame::ack(header, count),
+    }
+}
+
+/// So many packets from a place on.
+fn packets_from(packets: &[Packet], from: usize, many: usize) -> Packets
+    requires within { from + many ≤ length packets.now }
+    requires most { many ≤ 16 }
+    ensures { result.items ≡ slice_range packets.now from (from + many) }
+{
+    let mut carried = Packets::new();
+    let Ok(()) = carried.try_extend_from_slice(&packets[from..from + many]) else {
+        unreachable!()
+    };
+    carried
+}
