@@ -3,6 +3,7 @@ pub mod Disk
 pub mod DiskView
 pub mod Errors
 pub mod FileView
+pub mod Fuse
 pub mod FuseDisk
 pub mod InMemory
 pub mod LifeFile

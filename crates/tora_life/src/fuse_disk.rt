@@ -1,18 +1,9 @@
 //! A disk whose calls fail on purpose, for tests.
-ghost use Rattle.std.specs.Prelude.{◌≡◌, ◌+◌, ◌-◌, ◌^◌, min, not, Some};
-ghost use Rattle.tora_life.specs.FuseDisk.{is_blown, left_after};
+ghost use Rattle.std.specs.Prelude.{◌≡◌, ◌+◌, ◌-◌, ◌^◌, min, Some};
 
 use crate::disk::{Disk, DiskError};
+use crate::fuse::{Fuse, FuseMode};
 use std::marker::Model;
-
-/// How long a fuse lets calls fail, once it has blown.
-#[derive(Clone, Copy, Debug, PartialEq, Eq, Hash)]
-pub enum FuseMode {
-    /// One call fails.
-    Once,
-    /// Each call fails from then on.
-    Always,
-}
 
 /// A disk around another one: so many calls pass, and then one fails, or all do. Own profile.
 ///
@@ -21,8 +12,7 @@ pub enum FuseMode {
 #[derive(Drop)]
 pub struct FuseDisk<D: Disk> {
     disk: D,
-    mode: FuseMode,
-    left: Option<u64>,
+    fuse: Fuse,
     failures: u64,
 }
 
@@ -31,18 +21,17 @@ impl<D: Disk> Model for FuseDisk<D> {
 
     ghost Value = { FuseView D };
 
-    ghost view = { λ f. record { disk = f.disk; mode = f.mode; left = f.left; failures = f.failures } };
+    ghost view = { λ f. record { disk = f.disk; fuse = f.fuse; failures = f.failures } };
 }
 
 impl<D: Disk> FuseDisk<D> {
     /// A disk over which `k` calls pass, reads, writes and syncs together.
     pub fn new(disk: D, k: u64, mode: FuseMode) -> FuseDisk<D>
-        ensures { result ≡ record { disk = disk; mode = mode; left = Some k; failures = 0 } }
+        ensures { result ≡ record { disk = disk; fuse = record { mode = mode; left = Some k }; failures = 0 } }
     {
         FuseDisk {
             disk,
-            mode,
-            left: Some(k),
+            fuse: Fuse::new(k, mode),
             failures: 0,
         }
     }
@@ -53,8 +42,7 @@ impl<D: Disk> FuseDisk<D> {
     {
         let FuseDisk {
             disk,
-            mode: _,
-            left: _,
+            fuse: _,
             failures: _,
         } = self;
         disk
@@ -64,27 +52,6 @@ impl<D: Disk> FuseDisk<D> {
         ensures { self.new ≡ record self.old { failures = min (self.old.failures + 1) (2 ^ 64 - 1) } }
     {
         self.failures = self.failures.saturating_add(1);
-    }
-
-    // Whether the next call passes. One that doesn't is not counted here.
-    fn passes(&mut self) -> bool
-        ensures answer { result ≡ not (is_blown self.old.left) }
-        ensures left { self.new ≡ record self.old { left = left_after self.old.mode self.old.left } }
-    {
-        match self.left {
-            None => true,
-            Some(n) => {
-                if n > 0 {
-                    self.left = Some(n - 1);
-                    return true;
-                }
-                match self.mode {
-                    FuseMode::Once => self.left = None,
-                    FuseMode::Always => {}
-                }
-                false
-            }
-        }
     }
 }
 
@@ -116,7 +83,7 @@ impl<D: Disk> Disk for FuseDisk<D> {
     ghost only_now = { λ f c left. D.only_now f.disk c left };
 
     fn read(&mut self, at: usize, buf: &mut [u8]) -> Result<usize, DiskError> {
-        if !self.passes() {
+        if !self.fuse.passes() {
             self.count();
             return Err(DiskError);
         }
@@ -130,7 +97,7 @@ impl<D: Disk> Disk for FuseDisk<D> {
     }
 
     fn write_at(&mut self, at: usize, bytes: &[u8]) -> Result<(), DiskError> {
-        if !self.passes() {
+        if !self.fuse.passes() {
             self.count();
             return Err(DiskError);
         }
@@ -144,7 +111,7 @@ impl<D: Disk> Disk for FuseDisk<D> {
     }
 
     fn sync(&mut self) -> Result<(), DiskError> {
-        if !self.passes() {
+        if !self.fuse.passes() {
             self.count();
             return Err(DiskError);
         }

@@ -26,6 +26,7 @@
 mod call_record;
 mod disk;
 mod file_disk;
+mod fuse;
 mod fuse_disk;
 mod laws;
 mod life_file;
@@ -42,7 +43,8 @@ mod writing;
 
 pub use disk::{Disk, DiskError};
 pub use file_disk::FileDisk;
-pub use fuse_disk::{FuseDisk, FuseMode};
+pub use fuse::{Fuse, FuseMode};
+pub use fuse_disk::FuseDisk;
 pub use laws::{drawn_life_numbers_rise, tags_name_their_owners};
 pub use life_file::{LifeFile, OpenFault};
 pub use mem_disk::MemDisk;

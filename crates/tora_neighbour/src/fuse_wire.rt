@@ -1,18 +1,9 @@
 //! A wire whose calls fail on purpose, for tests.
-ghost use Rattle.std.specs.Prelude.{◌≡◌, ◌+◌, ◌-◌, ◌^◌, min, not, Some, true};
-ghost use Rattle.tora_neighbour.specs.FuseWire.{FuseView, is_blown, left_after};
+ghost use Rattle.std.specs.Prelude.{◌≡◌, ◌+◌, ◌-◌, ◌^◌, min, Some, true};
 
 use crate::wire::{Wire, WireError};
 use std::marker::Model;
-
-/// How long a fuse lets calls fail, once it has blown.
-#[derive(Clone, Copy, Debug, PartialEq, Eq, Hash)]
-pub enum FuseMode {
-    /// One call fails.
-    Once,
-    /// Each call fails from then on.
-    Always,
-}
+use tora_life::{Fuse, FuseMode};
 
 /// A wire around another one: so many calls pass, and then one fails, or all do.
 ///
@@ -22,8 +13,7 @@ pub enum FuseMode {
 #[derive(Drop)]
 pub struct FuseWire<W: Wire> {
     wire: W,
-    mode: FuseMode,
-    left: Option<u64>,
+    fuse: Fuse,
     told: bool,
     failures: u64,
 }
@@ -33,18 +23,17 @@ impl<W: Wire> Model for FuseWire<W> {
 
     ghost Value = { FuseView W };
 
-    ghost view = { λ f. record { wire = f.wire; mode = f.mode; left = f.left; told = f.told; failures = f.failures } };
+    ghost view = { λ f. record { wire = f.wire; fuse = f.fuse; told = f.told; failures = f.failures } };
 }
 
 impl<W: Wire> FuseWire<W> {
     /// A wire over which `k` calls pass, sends and receives together.
     pub fn new(wire: W, k: u64, mode: FuseMode) -> FuseWire<W>
-        ensures { result ≡ record { wire = wire; mode = mode; left = Some k; told = true; failures = 0 } }
+        ensures { result ≡ record { wire = wire; fuse = record { mode = mode; left = Some k }; told = true; failures = 0 } }
     {
         FuseWire {
             wire,
-            mode,
-            left: Some(k),
+            fuse: Fuse::new(k, mode),
             told: true,
             failures: 0,
         }
@@ -56,8 +45,7 @@ impl<W: Wire> FuseWire<W> {
     {
         let FuseWire {
             wire,
-            mode: _,
-            left: _,
+            fuse: _,
             told: _,
             failures: _,
         } = self;
@@ -68,27 +56,6 @@ impl<W: Wire> FuseWire<W> {
         ensures { self.new ≡ record self.old { failures = min (self.old.failures + 1) (2 ^ 64 - 1) } }
     {
         self.failures = self.failures.saturating_add(1);
-    }
-
-    // Whether the next call passes. One that doesn't is not counted here.
-    fn passes(&mut self) -> bool
-        ensures answer { result ≡ not (is_blown self.old.left) }
-        ensures left { self.new ≡ record self.old { left = left_after self.old.mode self.old.left } }
-    {
-        match self.left {
-            None => true,
-            Some(n) => {
-                if n > 0 {
-                    self.left = Some(n - 1);
-                    return true;
-                }
-                match self.mode {
-                    FuseMode::Once => self.left = None,
-                    FuseMode::Always => {}
-                }
-                false
-            }
-        }
     }
 }
 
@@ -109,7 +76,7 @@ impl<W: Wire> Wire for FuseWire<W> {
     ghost did_receive = { λ f answer buffer after. ReceivesThroughFuse W.did_receive f answer buffer after };
 
     fn send(&mut self, bytes: &[u8]) -> Result<(), WireError> {
-        if !self.passes() {
+        if !self.fuse.passes() {
             self.told = false;
             self.count();
             return Err(WireError);
@@ -124,7 +91,7 @@ impl<W: Wire> Wire for FuseWire<W> {
     }
 
     fn receive(&mut self, buf: &mut [u8]) -> Result<Option<usize>, WireError> {
-        if !self.passes() {
+        if !self.fuse.passes() {
             self.count();
             return Err(WireError);
         }

@@ -292,7 +292,7 @@ pub fn place(links: &Vec<LinkSlot>, hints: &Hints, n: Id, k: Id) -> Option<usize
     }
 }
 
-/// The place of the end, where it is among the eight from the place `first` on.
+/// The place of the end, where it is among those from the place `first` on, as many as a node may have.
 fn near(links: &[LinkSlot], first: usize, n: Id, k: Id) -> Option<usize>
     requires { AreRising links.now }
     ensures { IfSome result (λ i. IsFirst (is_at n k) links.now i) }
