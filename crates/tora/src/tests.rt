@@ -8,6 +8,7 @@ use std::process::Abort;
 use std::test::*;
 use tora_core::CoreError;
 
+mod each_call;
 mod simulation_causes;
 mod simulations;
 
