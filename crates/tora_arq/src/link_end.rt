@@ -10,7 +10,7 @@ use crate::state::{Phase, State};
 use crate::{ArqError, Life, LinkEvent, SubmitError, Times, Verdict};
 use std::alloc::Global;
 use std::marker::Model;
-use tora_frame::{Frame, Version};
+use tora_frame::{BorrowedFrame, Frame, Packets, Version};
 use tora_height::Id;
 use tora_packet::Packet;
 
@@ -211,6 +211,14 @@ impl LinkEnd {
         ensures verdict { result ≡ verdict_of self.old.settings self.old.state frame.now now }
         ensures state { self.new ≡ record self.old { state = after_frame self.old.settings self.old.state frame.now now } }
     {
+        self.on_borrowed_frame(&frame.borrowed(), now)
+    }
+
+    /// As `on_frame`, for a frame whose packets stand in a list elsewhere.
+    pub fn on_borrowed_frame(&mut self, frame: &BorrowedFrame<'_>, now: u64) -> Verdict
+        ensures verdict { result ≡ verdict_of self.old.settings self.old.state frame.now now }
+        ensures state { self.new ≡ record self.old { state = after_frame self.old.settings self.old.state frame.now now } }
+    {
         self.state.on_frame(&self.settings, frame, now)
     }
 
@@ -270,7 +278,23 @@ impl LinkEnd {
         ensures state { self.new ≡ record self.old { state = after_transmit self.old.settings self.old.state now } }
         ensures none { IfNone result (self.new ≡ self.old) }
     {
-        self.state.poll_transmit(&self.settings, now)
+        let mut packets = Packets::new();
+        let frame = self.poll_transmit_into(now, &mut packets)?;
+        Some(frame.to_frame())
+    }
+
+    /// As `poll_transmit`: the packets of a DATA frame are put into `packets` in place of what was there, and the frame
+    /// borrows them. Where the frame is no DATA frame, or none is due, `packets` may have any packets.
+    pub fn poll_transmit_into<'a>(
+        &mut self,
+        now: u64,
+        packets: &'a mut Packets,
+    ) -> Option<BorrowedFrame<'a>>
+        ensures frame { result ≡ frame_due self.old.settings self.old.state now }
+        ensures state { self.new ≡ record self.old { state = after_transmit self.old.settings self.old.state now } }
+        ensures none { IfNone result (self.new ≡ self.old) }
+    {
+        self.state.poll_transmit(&self.settings, now, packets)
     }
 
     /// Ends a life where it is the bound one, and otherwise changes nothing.

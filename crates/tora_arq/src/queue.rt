@@ -71,13 +71,6 @@ impl QueuedPacket {
     }
 }
 
-/// Packets that are due in one frame, and how many packets of the send queue stand before them.
-#[derive(Debug, PartialEq, Eq, Hash, Drop)]
-pub struct Due {
-    pub place: usize,
-    pub packets: Packets,
-}
-
 /// The packets that were submitted and are not acknowledged, in order, 256 at most.
 #[derive(Debug, Drop)]
 pub struct SendQueue {
@@ -191,38 +184,51 @@ impl SendQueue {
         }
     }
 
-    /// The packets from a place up to another, as far as each is due; they count as transmitted now.
-    fn take_run(&mut self, times: &Times, now: u64, place: usize, end: usize) -> Packets
+    /// Appends the packets from a place up to another, as far as each is due; they count as transmitted now.
+    fn take_run(
+        &mut self,
+        times: &Times,
+        now: u64,
+        place: usize,
+        end: usize,
+        packets: &mut Packets,
+    )
         requires within { end ≤ length self.old }
         requires most { end ≤ place + MOST_PACKETS }
-        ensures packets { result.items ≡ (ready_run times.now now (end - place) (drop place self.old)).packets }
+        requires empty { packets.old.items ≡ [] }
+        ensures packets { packets.new.items ≡ (ready_run times.now now (end - place) (drop place self.old)).packets }
         ensures queue { self.new ≡ take place self.old ++ (ready_run times.now now (end - place) (drop place self.old)).queue }
     {
-        let mut packets = Packets::new();
         for at in place..end {
             let packet = self.packet_at(at);
             if !packet.is_ready(times, now) {
-                return packets;
+                return;
             }
             packets.push(packet.packet);
             set(&mut self.ring, at, packet.retried(now));
         }
-        packets
     }
 
-    /// The first packet due within the window, and those that follow it and are due too, at most so many in all; they
-    /// count as transmitted now.
-    pub fn take_due(&mut self, times: &Times, now: u64, most: usize) -> Option<Due>
+    /// Puts the first packet due within the window, and those that follow it and are due too, at most so many in all, into
+    /// `packets` in place of what was there; they count as transmitted now. It answers how many packets stand before them.
+    pub fn take_due(
+        &mut self,
+        times: &Times,
+        now: u64,
+        most: usize,
+        packets: &mut Packets,
+    ) -> Option<usize>
         requires { (0 < most) × (most ≤ MOST_PACKETS) }
-        ensures due { (number : ℕ) → first_due times.now now most number WINDOW self.old ≡ option_map (λ d. record { number = number + d.place; packets = d.packets.items; queue = self.new }) result }
+        ensures due { (number : ℕ) → first_due times.now now most number WINDOW self.old ≡ option_map (λ place. record { number = number + place; packets = packets.new.items; queue = self.new }) result }
         ensures none { IfNone result (self.new ≡ self.old) }
-        ensures some { IfSome result (λ d. (0 < length d.packets.items) × (length d.packets.items ≤ most) × (d.place + length d.packets.items ≤ length self.old)) }
+        ensures some { IfSome result (λ place. (0 < length packets.new.items) × (length packets.new.items ≤ most) × (place + length packets.new.items ≤ length self.old)) }
     {
         let Some((place, _)) = self.first_ready(times, now) else {
             return None;
         };
         let end = self.within_window().min(place + most);
-        let packets = self.take_run(times, now, place, end);
-        Some(Due { place, packets })
+        packets.clear();
+        self.take_run(times, now, place, end, packets);
+        Some(place)
     }
 }

@@ -1,6 +1,7 @@
 //! What a link end makes of a frame.
 ghost use Rattle.std.specs.Prelude.{◌≡◌, ◌<◌, ◌≤◌, ◌+◌, ◌^◌, length};
-ghost use Rattle.tora_frame.specs.FrameParts.{IsFrame};
+ghost use Rattle.tora_frame.specs.FrameParts.{IsFrame, batch};
+ghost use Rattle.tora_frame.specs.BorrowedFrames.{body_of};
 ghost use Rattle.tora_arq.specs.Held.{hold_at};
 ghost use Rattle.tora_arq.specs.LinkEnd.{count_of, passed, on_life_told, after_release, after_packet, after_packets, on_data, on_matched, on_frame_in, on_frame};
 ghost use Rattle.tora_arq.specs.EndRange.{HasRoom, IsNumbered};
@@ -10,17 +11,17 @@ use crate::settings::Settings;
 use crate::state::{Phase, State};
 use crate::transmit::is_two;
 use crate::{Life, Reason, Verdict, WINDOW};
-use tora_frame::{Body, Frame, Packets, Version};
+use tora_frame::{BorrowedBody, BorrowedFrame, Version};
 use tora_packet::Packet;
 
 /// The count that a frame acknowledges.
-fn count_of(body: &Body) -> u64
-    ensures { result ≡ count_of body.now }
+fn count_of(body: BorrowedBody<'_>) -> u64
+    ensures { result ≡ count_of (body_of body.entry) }
 {
     match body {
-        Body::Hello => 0,
-        Body::Data(_, count, _) => *count,
-        Body::Ack(count) => *count,
+        BorrowedBody::Hello => 0,
+        BorrowedBody::Data(_, count, _) => count,
+        BorrowedBody::Ack(count) => count,
     }
 }
 
@@ -33,12 +34,12 @@ impl State {
     }
 
     /// A frame that does not tell the own number, at an end that is not bound.
-    fn on_life_told(&mut self, version: Version, life: u64, body: &Body) -> Verdict
-        ensures verdict { result ≡ (on_life_told (state_in self.old) version life body.now).0 }
-        ensures state { state_in self.new ≡ (on_life_told (state_in self.old) version life body.now).1 }
+    fn on_life_told(&mut self, version: Version, life: u64, body: BorrowedBody<'_>) -> Verdict
+        ensures verdict { result ≡ (on_life_told (state_in self.old) version life (body_of body.entry)).0 }
+        ensures state { state_in self.new ≡ (on_life_told (state_in self.old) version life (body_of body.entry)).1 }
     {
         match body {
-            Body::Hello => {
+            BorrowedBody::Hello => {
                 if life < self.heard {
                     return Verdict::Stale;
                 }
@@ -51,8 +52,8 @@ impl State {
                 self.owes_hello = true;
                 Verdict::Accepted
             }
-            Body::Data(_, _, _) => Verdict::Stale,
-            Body::Ack(_) => Verdict::Stale,
+            BorrowedBody::Data(_, _, _) => Verdict::Stale,
+            BorrowedBody::Ack(_) => Verdict::Stale,
         }
     }
 
@@ -104,18 +105,18 @@ impl State {
 
     /// A DATA frame of the bound life.
     #[tactic(auto, unfolding(crate::specs::LinkEnd::on_data))]
-    fn on_data(&mut self, life: Life, number: u64, packets: &Packets) -> Verdict
+    fn on_data(&mut self, life: Life, number: u64, packets: &[Packet]) -> Verdict
         requires room { length self.old.events ≤ 31 }
         requires accepted { self.old.accepted ≤ 2 ^ 62 }
         requires held { length self.old.held ≤ WINDOW }
-        requires some { 0 < length packets.now.items }
-        requires number { number + length packets.now.items ≤ 2 ^ 62 + 1 }
-        ensures verdict { result ≡ (on_data WINDOW (state_in self.old) life number packets.now.items).0 }
-        ensures state { state_in self.new ≡ (on_data WINDOW (state_in self.old) life number packets.now.items).1 }
+        requires some { 0 < length packets.now }
+        requires number { number + length packets.now ≤ 2 ^ 62 + 1 }
+        ensures verdict { result ≡ (on_data WINDOW (state_in self.old) life number packets.now).0 }
+        ensures state { state_in self.new ≡ (on_data WINDOW (state_in self.old) life number packets.now).1 }
     {
         let accepted = self.accepted;
         let last = number + packets.len() as u64 - 1;
-        self.on_packets(life, number, packets.as_slice());
+        self.on_packets(life, number, packets);
         if last <= accepted {
             return Verdict::Repeated;
         }
@@ -127,27 +128,27 @@ impl State {
 
     /// A frame of the bound life; `binds` says that it bound it.
     #[tactic(auto, unfolding(crate::specs::LinkEnd::on_matched))]
-    fn on_matched(&mut self, life: Life, binds: bool, now: u64, body: &Body) -> Verdict
-        requires numbered { IsNumbered body.now }
+    fn on_matched(&mut self, life: Life, binds: bool, now: u64, body: BorrowedBody<'_>) -> Verdict
+        requires numbered { IsNumbered (body_of body) }
         requires room { length self.old.events ≤ 31 }
         requires accepted { self.old.accepted ≤ 2 ^ 62 }
         requires held { length self.old.held ≤ WINDOW }
-        ensures verdict { result ≡ (on_matched WINDOW (state_in self.old) life binds now body.now).0 }
-        ensures state { state_in self.new ≡ (on_matched WINDOW (state_in self.old) life binds now body.now).1 }
+        ensures verdict { result ≡ (on_matched WINDOW (state_in self.old) life binds now (body_of body.entry)).0 }
+        ensures state { state_in self.new ≡ (on_matched WINDOW (state_in self.old) life binds now (body_of body.entry)).1 }
     {
         match body {
-            Body::Hello => {
+            BorrowedBody::Hello => {
                 self.last_hearing = now;
                 Verdict::Accepted
             }
-            Body::Data(number, count, packets) => {
-                self.acknowledge(*count, now);
+            BorrowedBody::Data(number, count, packets) => {
+                self.acknowledge(count, now);
                 self.owes_ack = true;
-                self.on_data(life, *number, packets)
+                self.on_data(life, number, packets)
             }
-            Body::Ack(count) => {
-                let is_news = binds || self.acknowledged < *count;
-                self.acknowledge(*count, now);
+            BorrowedBody::Ack(count) => {
+                let is_news = binds || self.acknowledged < count;
+                self.acknowledge(count, now);
                 if is_news {
                     Verdict::Accepted
                 } else {
@@ -158,7 +159,7 @@ impl State {
     }
 
     #[tactic(auto, unfolding(crate::specs::LinkEnd::on_frame_in))]
-    fn on_unbound_frame(&mut self, own: u64, frame: &Frame, now: u64) -> Verdict
+    fn on_unbound_frame(&mut self, own: u64, frame: &BorrowedFrame<'_>, now: u64) -> Verdict
         requires room { length self.old.events ≤ 30 }
         ensures verdict { result ≡ (on_frame_in WINDOW (state_in self.old) frame.now now (Phase.Unbound own)).0 }
         ensures state { state_in self.new ≡ (on_frame_in WINDOW (state_in self.old) frame.now now (Phase.Unbound own)).1 }
@@ -183,7 +184,7 @@ impl State {
     }
 
     #[tactic(auto, unfolding(crate::specs::LinkEnd::on_frame_in))]
-    fn on_bound_frame(&mut self, life: Life, frame: &Frame, now: u64) -> Verdict
+    fn on_bound_frame(&mut self, life: Life, frame: &BorrowedFrame<'_>, now: u64) -> Verdict
         requires room { length self.old.events ≤ 30 }
         requires accepted { self.old.accepted ≤ 2 ^ 62 }
         requires held { length self.old.held ≤ WINDOW }
@@ -207,7 +208,7 @@ impl State {
 
     /// A frame that came.
     #[tactic(auto, unfolding(crate::specs::LinkEnd::on_frame, crate::specs::LinkEnd::on_frame_in))]
-    pub fn on_frame(&mut self, settings: &Settings, frame: &Frame, now: u64) -> Verdict
+    pub fn on_frame(&mut self, settings: &Settings, frame: &BorrowedFrame<'_>, now: u64) -> Verdict
         requires accepted { self.old.accepted ≤ 2 ^ 62 }
         requires held { length self.old.held ≤ WINDOW }
         ensures verdict { result ≡ (on_frame (settings_in settings.now) (state_in self.old) frame.now now).0 }

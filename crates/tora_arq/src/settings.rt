@@ -2,12 +2,13 @@
 ghost use Rattle.std.specs.Prelude.{◌≡◌};
 ghost use Rattle.std.specs.List.{list_any};
 ghost use Rattle.tora_frame.specs.FrameParts.{IsFrame};
+ghost use Rattle.tora_frame.specs.BorrowedFrames.{body_of};
 ghost use Rattle.tora_arq.specs.Settings.{ticks_passed};
 ghost use Rattle.tora_arq.specs.LinkEnd.{is_foreign, is_unknown, is_update_of_another, has_update_of_another};
 ghost use Rattle.tora_arq.specs.StateView.{settings_in};
 
 use crate::Times;
-use tora_frame::{Body, Frame, Version};
+use tora_frame::{BorrowedBody, BorrowedFrame, Version};
 use tora_height::Id;
 use tora_packet::Packet;
 
@@ -49,13 +50,13 @@ fn is_any_of_another(sender: Id, packets: &[Packet]) -> bool
     false
 }
 
-fn has_update_of_another(sender: Id, body: &Body) -> bool
-    ensures { result ≡ has_update_of_another sender body.now }
+fn has_update_of_another(sender: Id, body: BorrowedBody<'_>) -> bool
+    ensures { result ≡ has_update_of_another sender (body_of body.entry) }
 {
     match body {
-        Body::Hello => false,
-        Body::Data(_, _, packets) => is_any_of_another(sender, packets.as_slice()),
-        Body::Ack(_) => false,
+        BorrowedBody::Hello => false,
+        BorrowedBody::Data(_, _, packets) => is_any_of_another(sender, packets),
+        BorrowedBody::Ack(_) => false,
     }
 }
 
@@ -74,7 +75,7 @@ fn is_unknown(newest: Version, version: Version) -> bool
 
 impl Settings {
     /// Whether the frame is not one that the peer sends to this node.
-    pub fn is_foreign(&self, frame: &Frame) -> bool
+    pub fn is_foreign(&self, frame: &BorrowedFrame<'_>) -> bool
         ensures value { result ≡ is_foreign (settings_in self.now) frame.now }
         ensures valid { IsFrame frame.now }
     {

@@ -1,6 +1,7 @@
 //! The frames that a link end has to send.
 ghost use Rattle.std.specs.Prelude.{◌≡◌, ◌<◌, ◌≤◌, ◌+◌, ◌^◌, ◌||◌, false, None, IfNone, is_some, length};
 ghost use Rattle.tora_frame.specs.FrameParts.{IsHeader, IsLifeNumber};
+ghost use Rattle.tora_frame.specs.declared.parts.Body.{Body};
 ghost use Rattle.tora_arq.specs.Settings.{IsLink};
 ghost use Rattle.tora_arq.specs.LinkEnd.{is_two, data_version, most_packets, is_hello_due, is_old_hello_due, frame_sent, after_hello, after_old_hello, on_hello, due_of, on_transmit_due, on_transmit};
 ghost use Rattle.tora_arq.specs.EndRange.{IsEndState};
@@ -9,7 +10,7 @@ ghost use Rattle.tora_arq.specs.StateView.{settings_in, state_in};
 use crate::Life;
 use crate::settings::{Settings, ticks_passed};
 use crate::state::{Phase, State};
-use tora_frame::{Body, Frame, Header, MOST_PACKETS, Version};
+use tora_frame::{BorrowedFrame, Header, MOST_PACKETS, Packets, Version};
 
 impl Settings {
     /// The header of a frame of this end.
@@ -60,7 +61,13 @@ impl State {
     }
 
     /// Sends a HELLO of the newest version.
-    fn take_hello(&mut self, settings: &Settings, life: u64, heard: u64, now: u64) -> Frame
+    fn take_hello<'a>(
+        &mut self,
+        settings: &Settings,
+        life: u64,
+        heard: u64,
+        now: u64,
+    ) -> BorrowedFrame<'a>
         requires link { IsLink settings.now.me settings.now.peer }
         requires life { IsLifeNumber life }
         requires heard { heard ≤ 2 ^ 62 }
@@ -70,11 +77,16 @@ impl State {
         self.owes_hello = false;
         self.owes_old_hello = is_two(settings.version);
         self.last_hello = Some(now);
-        Frame::hello(settings.header(settings.version, life, heard))
+        BorrowedFrame::hello(settings.header(settings.version, life, heard))
     }
 
     /// Sends a HELLO of version 1 behind one of version 2.
-    fn take_old_hello(&mut self, settings: &Settings, life: u64, heard: u64) -> Frame
+    fn take_old_hello<'a>(
+        &mut self,
+        settings: &Settings,
+        life: u64,
+        heard: u64,
+    ) -> BorrowedFrame<'a>
         requires link { IsLink settings.now.me settings.now.peer }
         requires life { IsLifeNumber life }
         requires heard { heard ≤ 2 ^ 62 }
@@ -82,11 +94,17 @@ impl State {
         ensures state { state_in self.new ≡ after_old_hello (state_in self.old) }
     {
         self.owes_old_hello = false;
-        Frame::hello(settings.header(Version::One, life, heard))
+        BorrowedFrame::hello(settings.header(Version::One, life, heard))
     }
 
-    /// Sends the first packets due, or an ACK where one is owed.
-    fn take_due(&mut self, settings: &Settings, life: Life, now: u64) -> Option<Frame>
+    /// Sends the first packets due, which are put into `packets`, or an ACK where one is owed.
+    fn take_due<'a>(
+        &mut self,
+        settings: &Settings,
+        life: Life,
+        now: u64,
+        packets: &'a mut Packets,
+    ) -> Option<BorrowedFrame<'a>>
         requires link { IsLink settings.now.me settings.now.peer }
         requires own { IsLifeNumber life.own }
         requires peer { IsLifeNumber life.peer }
@@ -98,19 +116,18 @@ impl State {
         let version = self.data_version();
         let header = settings.header(version, life.own, life.peer);
         let accepted = self.accepted;
-        if let Some(due) = self
-            .queue
-            .take_due(&settings.times, now, most_packets(version))
-        {
-            let number = self.acknowledged + 1 + due.place as u64;
-            let last = number + due.packets.len() as u64 - 1;
+        let most = most_packets(version);
+        if let Some(place) = self.queue.take_due(&settings.times, now, most, packets) {
+            let number = self.acknowledged + 1 + place as u64;
+            let packets = packets.as_slice();
+            let last = number + packets.len() as u64 - 1;
             self.transmitted = self.transmitted.max(last);
             self.owes_ack = false;
-            return Some(Frame::data(header, number, accepted, due.packets));
+            return Some(BorrowedFrame::data(header, number, accepted, packets));
         }
         if self.owes_ack {
             self.owes_ack = false;
-            return Some(Frame::ack(header, accepted));
+            return Some(BorrowedFrame::ack(header, accepted));
         }
         None
     }
@@ -144,7 +161,13 @@ impl State {
     }
 
     /// A HELLO of the newest version, or of version 1, where one is due.
-    fn poll_hello(&mut self, settings: &Settings, life: u64, heard: u64, now: u64) -> Option<Frame>
+    fn poll_hello<'a>(
+        &mut self,
+        settings: &Settings,
+        life: u64,
+        heard: u64,
+        now: u64,
+    ) -> Option<BorrowedFrame<'a>>
         requires link { IsLink settings.now.me settings.now.peer }
         requires life { IsLifeNumber life }
         requires heard { heard ≤ 2 ^ 62 }
@@ -162,9 +185,14 @@ impl State {
         None
     }
 
-    /// The first frame due.
+    /// The first frame due. Its packets are put into `packets`.
     #[tactic(auto, unfolding(crate::specs::LinkEnd::on_transmit, crate::specs::LinkEnd::on_transmit_in))]
-    pub fn poll_transmit(&mut self, settings: &Settings, now: u64) -> Option<Frame>
+    pub fn poll_transmit<'a>(
+        &mut self,
+        settings: &Settings,
+        now: u64,
+        packets: &'a mut Packets,
+    ) -> Option<BorrowedFrame<'a>>
         requires { IsEndState (settings_in settings.now) (state_in self.old) }
         ensures frame { result ≡ (on_transmit (settings_in settings.now) (state_in self.old) now).0 }
         ensures state { state_in self.new ≡ (on_transmit (settings_in settings.now) (state_in self.old) now).1 }
@@ -176,7 +204,7 @@ impl State {
                 if let Some(hello) = self.poll_hello(settings, life.own, life.peer, now) {
                     return Some(hello);
                 }
-                self.take_due(settings, life, now)
+                self.take_due(settings, life, now, packets)
             }
         }
     }

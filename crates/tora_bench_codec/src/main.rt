@@ -9,7 +9,7 @@
 use std::alloc::Global;
 use std::io;
 use std::time::{Duration, Instant};
-use tora_frame::{Frame, Header, MOST_PACKETS, Packets, Version};
+use tora_frame::{Frame, Header, MOST_PACKETS, Packets, Version, decode_into, encode_into};
 use tora_height::Height;
 use tora_packet::{Packet, Update};
 
@@ -103,7 +103,8 @@ fn run_packets(alloc: Global, steps: u32) -> Option<u64> {
     Some(sum)
 }
 
-/// DATA frames with the updates, encoded and then decoded again, until `steps` are done.
+/// DATA frames with the updates, encoded and then decoded again, until `steps` are done, by the calls that a neighbour's
+/// thread makes: the bytes go into buffers that are kept, and the packets into one list that is kept.
 fn run_frames(alloc: Global, steps: u32, coded: Coded) -> Option<u64> {
     let mut frames = Vec::new(alloc);
     let mut wires = Vec::new(alloc);
@@ -112,13 +113,14 @@ fn run_frames(alloc: Global, steps: u32, coded: Coded) -> Option<u64> {
         wires.push(tora_frame::encode(&frame)).ok()?;
         frames.push(frame).ok()?;
     }
+    let mut packets = Packets::new();
     let mut sum = 0u64;
     for _ in 0..steps / BATCH {
         for (frame, wire) in frames.iter().zip(wires.iter_mut()) {
-            *wire = tora_frame::encode(frame);
+            encode_into(&frame.borrowed(), wire);
         }
         for wire in wires.iter() {
-            if let Ok(frame) = tora_frame::decode(wire.as_slice()) {
+            if let Ok(frame) = decode_into(wire.as_slice(), &mut packets) {
                 sum = sum.wrapping_add(frame.header().life);
             }
         }

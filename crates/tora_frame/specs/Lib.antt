@@ -1,2 +1,3 @@
 pub mod FrameParts
+pub mod BorrowedFrames
 pub mod FrameGrammar

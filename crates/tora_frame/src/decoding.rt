@@ -3,12 +3,14 @@ ghost use Rattle.std.specs.Prelude.{◌≡◌, ◌≢◌, ℕ, List, [], ◌++�
 ghost use Rattle.std.specs.List.{AllByRecursion};
 ghost use Rattle.tora_packet.specs.AnyPacket.{IsPacket};
 ghost use Rattle.tora_packet.specs.PacketGrammar.{u32_at, u64_at};
-ghost use Rattle.tora_frame.specs.FrameParts.{FrameParts, IsHeader, IsBatchSize, IsBody, IsFrame, batch};
+ghost use Rattle.tora_frame.specs.FrameParts.{FrameParts, IsHeader, IsFrame, batch, frame_of};
 ghost use Rattle.tora_frame.specs.FrameGrammar.{SpellsFrame, u16_at, version_at, version_of, kind_at, version_number, is_version, is_data_length, is_payload_length, layout_fault, header_at, header_fault, body_at, body_fault, is_bad_number, packets_inside, fault_inside, frame_at, frame_fault, frame_spelling, frame_reading};
 
 use crate::layout::{ACK, DATA, HEADER_LENGTH, HELLO};
 use crate::packets::read_packets;
-use crate::{Body, Frame, FrameError, GREATEST_NUMBER, Header, Packets, Version};
+use crate::{
+    BorrowedBody, BorrowedFrame, Frame, FrameError, GREATEST_NUMBER, Header, Packets, Version,
+};
 
 #[tactic(auto, unfolding(crate::specs::FrameGrammar::u16_at))]
 fn u16_at(bytes: &[u8], at: usize) -> u16
@@ -144,54 +146,67 @@ fn read_numbers(bytes: &[u8]) -> Result<(u64, u64), FrameError>
     Ok((number, count))
 }
 
-/// The body of a DATA frame, and the tests of it.
+/// A DATA frame whose header has no fault, and the tests of its body.
 #[tactic(auto, unfolding(crate::specs::FrameGrammar::body_fault, crate::specs::FrameGrammar::body_at))]
-fn read_data(bytes: &[u8], header: &Header) -> Result<Body, FrameError>
+fn read_data<'a>(
+    bytes: &[u8],
+    header: Header,
+    packets: &'a mut Packets,
+) -> Result<BorrowedFrame<'a>, FrameError>
     requires len { 52 ≤ length bytes.now }
     requires kind { kind_at bytes.now ≡ 2 }
-    requires version { header.now.version ≡ version_of (version_at bytes.now) }
-    requires heard { 0 < header.now.heard }
-    ensures exact { MatchOption (body_fault bytes.now) (result ≡ Ok (body_at bytes.now)) (λ e. result ≡ Err e) }
-    ensures valid { IfOk result (IsBody header.now) }
+    requires version { header.version ≡ version_of (version_at bytes.now) }
+    requires header { IsHeader header }
+    requires heard { 0 < header.heard }
+    ensures exact { MatchOption (body_fault bytes.now) (result ≡ Ok (frame_of header (body_at bytes.now))) (λ e. result ≡ Err e) }
+    ensures valid { IfOk result IsFrame }
 {
     let (number, count) = read_numbers(bytes)?;
-    let mut packets = Packets::new();
-    read_packets(bytes, header.version, number, &mut packets)?;
-    Ok(Body::Data(number, count, packets))
+    packets.clear();
+    read_packets(bytes, header.version, number, packets)?;
+    let body = BorrowedBody::Data(number, count, packets.as_slice());
+    Ok(BorrowedFrame::of(header, body))
 }
 
-/// The body of a frame whose header has no fault, and the tests of it.
+/// A frame whose header has no fault, and the tests of its body.
 #[tactic(auto, unfolding(crate::specs::FrameGrammar::body_fault, crate::specs::FrameGrammar::body_at))]
-fn read_body(bytes: &[u8], header: &Header) -> Result<Body, FrameError>
-    requires header { 28 ≤ length bytes.now }
+fn read_body<'a>(
+    bytes: &[u8],
+    header: Header,
+    packets: &'a mut Packets,
+) -> Result<BorrowedFrame<'a>, FrameError>
+    requires len { 28 ≤ length bytes.now }
     requires count { kind_at bytes.now ≢ 1 → 36 ≤ length bytes.now }
     requires packet { kind_at bytes.now ≡ 2 → 52 ≤ length bytes.now }
-    requires version { header.now.version ≡ version_of (version_at bytes.now) }
-    requires heard { kind_at bytes.now ≢ 1 → 0 < header.now.heard }
-    ensures exact { MatchOption (body_fault bytes.now) (result ≡ Ok (body_at bytes.now)) (λ e. result ≡ Err e) }
-    ensures valid { IfOk result (IsBody header.now) }
+    requires version { header.version ≡ version_of (version_at bytes.now) }
+    requires header { IsHeader header }
+    requires heard { kind_at bytes.now ≢ 1 → 0 < header.heard }
+    ensures exact { MatchOption (body_fault bytes.now) (result ≡ Ok (frame_of header (body_at bytes.now))) (λ e. result ≡ Err e) }
+    ensures valid { IfOk result IsFrame }
 {
     match bytes[1] {
-        HELLO => Ok(Body::Hello),
-        DATA => read_data(bytes, header),
+        HELLO => Ok(BorrowedFrame::of(header, BorrowedBody::Hello)),
+        DATA => read_data(bytes, header, packets),
         _ => {
             let count = u64_at(bytes, 28);
             if count > GREATEST_NUMBER {
                 return Err(FrameError::Number);
             }
-            Ok(Body::Ack(count))
+            Ok(BorrowedFrame::of(header, BorrowedBody::Ack(count)))
         }
     }
 }
 
-fn read_frame(bytes: &[u8]) -> Result<Frame, FrameError>
+fn read_frame<'a>(
+    bytes: &[u8],
+    packets: &'a mut Packets,
+) -> Result<BorrowedFrame<'a>, FrameError>
     ensures exact { MatchOption (frame_fault bytes.now) (result ≡ Ok (frame_at bytes.now)) (λ e. result ≡ Err e) }
     ensures valid { IfOk result IsFrame }
 {
     let version = read_layout(bytes)?;
     let header = read_header(bytes, version)?;
-    let body = read_body(bytes, &header)?;
-    Ok(Frame::of(header, body))
+    read_body(bytes, header, packets)
 }
 
 /// The frame that the bytes spell, all of the bytes. Own profile.
@@ -210,7 +225,30 @@ pub fn decode(bytes: &[u8]) -> Result<Frame, FrameError>
     // The three together, as one function.
     ensures exact { result ≡ frame_reading bytes.now }
 {
-    read_frame(bytes)
+    let mut packets = Packets::new();
+    let frame = decode_into(bytes, &mut packets)?;
+    Ok(frame.to_frame())
+}
+
+/// The frame that the bytes spell, as `decode`. Its packets are put into `packets` in place of what was there, and the
+/// frame borrows them. After an error `packets` may have any packets. Own profile.
+///
+/// # Errors
+/// Those of `decode`.
+pub fn decode_into<'a>(
+    bytes: &[u8],
+    packets: &'a mut Packets,
+) -> Result<BorrowedFrame<'a>, FrameError>
+    // What is read is spelled so.
+    ensures found { IfOk result (SpellsFrame bytes.now) }
+    // What is spelled so is read.
+    ensures only { (frame : FrameParts) → SpellsFrame bytes.now frame → result ≡ Ok frame }
+    // Which fault it is.
+    ensures fault { MatchOption (frame_fault bytes.now) (IsOk result) (λ e. result ≡ Err e) }
+    // The three together, as one function.
+    ensures exact { result ≡ frame_reading bytes.now }
+{
+    read_frame(bytes, packets)
 }
 
 /// Each frame has one spelling, which is read as that frame, and no spelling begins another.

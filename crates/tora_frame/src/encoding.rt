@@ -5,10 +5,11 @@ ghost use Rattle.tora_packet.specs.declared.Packet.{Packet as AnyPacket};
 ghost use Rattle.tora_packet.specs.PacketParts.{UpdateParts};
 ghost use Rattle.tora_frame.specs.FrameGrammar.{SpellsFrame, frame_spelling, header_spelling, packet_length, packets_length, packets_spelling, data_head_length, batch_size_spelling};
 ghost use Rattle.tora_frame.specs.declared.parts.Header.{Header};
+ghost use Rattle.tora_frame.specs.declared.parts.Body.{Body};
 ghost use Rattle.tora_frame.specs.FrameParts.{FrameParts, IsFrame, batch, frame_of};
 
 use crate::layout::{ACK, DATA, HELLO};
-use crate::{Body, Frame, Header, MOST_PACKETS, Packets, Version};
+use crate::{BorrowedBody, BorrowedFrame, Frame, Header, MOST_PACKETS, Version};
 use arrayvec::ArrayVec;
 use tora_packet::{Packet, append};
 
@@ -100,17 +101,18 @@ fn put_packets(packets: &[Packet], out: &mut Bytes)
 }
 
 /// The bytes of a DATA frame.
-fn put_data(header: &Header, number: u64, count: u64, packets: &Packets, out: &mut Bytes)
-    requires { out.old.items ≡ [] }
-    ensures { out.new.items ≡ frame_spelling (frame_of header.now (Body.Data number count packets.now)) }
+fn put_data(header: &Header, number: u64, count: u64, packets: &[Packet], out: &mut Bytes)
+    requires empty { out.old.items ≡ [] }
+    requires many { length packets.now ≤ MOST_PACKETS }
+    ensures { out.new.items ≡ frame_spelling (frame_of header.now (Body.Data number count (batch packets.now))) }
 {
     let version = header.version;
-    let len = data_head_length(version) + packets_length(packets.as_slice());
+    let len = data_head_length(version) + packets_length(packets);
     put_header(DATA, len, header, out);
     put(out, &number.to_be_bytes());
     put(out, &count.to_be_bytes());
     put_batch_size(version, packets.len(), out);
-    put_packets(packets.as_slice(), out);
+    put_packets(packets, out);
 }
 
 /// The bytes of an ACK.
@@ -128,14 +130,23 @@ pub fn encode(frame: &Frame) -> ArrayVec<u8, LONGEST_FRAME>
     ensures spells { SpellsFrame result.items frame.now }
     ensures exact { result.items ≡ frame_spelling frame.now }
 {
-    let header = frame.header();
     let mut out = ArrayVec::new();
-    match frame.body() {
-        Body::Hello => put_header(HELLO, 0, header, &mut out),
-        Body::Data(number, count, packets) => put_data(header, *number, *count, packets, &mut out),
-        Body::Ack(count) => put_ack(header, *count, &mut out),
-    }
+    encode_into(&frame.borrowed(), &mut out);
     out
+}
+
+/// Puts the bytes of a frame, as `encode`, into `out` in place of what was there. Own profile.
+pub fn encode_into(frame: &BorrowedFrame<'_>, out: &mut ArrayVec<u8, LONGEST_FRAME>)
+    ensures spells { SpellsFrame out.new.items frame.now }
+    ensures exact { out.new.items ≡ frame_spelling frame.now }
+{
+    out.clear();
+    let header = frame.header();
+    match frame.body() {
+        BorrowedBody::Hello => put_header(HELLO, 0, header, out),
+        BorrowedBody::Data(number, count, packets) => put_data(header, number, count, packets, out),
+        BorrowedBody::Ack(count) => put_ack(header, count, out),
+    }
 }
 
 /// No frame has more bytes than `LONGEST_FRAME`, which are those of a DATA frame of version 2 with sixteen updates. Own

@@ -17,14 +17,16 @@
 ghost use Rattle.std.specs.Prelude.{◌≡◌};
 ghost use Rattle.tora_frame.specs.FrameGrammar.{frame_error_number};
 
+mod borrowed;
 mod decoding;
 mod encoding;
 mod layout;
 mod packets;
 mod parts;
 
-pub use decoding::{decode, one_frame_spelling};
-pub use encoding::{LONGEST_FRAME, encode, longest_frame};
+pub use borrowed::{BorrowedBody, BorrowedFrame};
+pub use decoding::{decode, decode_into, one_frame_spelling};
+pub use encoding::{LONGEST_FRAME, encode, encode_into, longest_frame};
 pub use parts::{Body, Frame, GREATEST_NUMBER, Header, MOST_PACKETS, Packets, Version};
 use thiserror::Error;
 use tora_packet::PacketError;

@@ -12,6 +12,7 @@ use crate::{FrameError, GREATEST_NUMBER, MOST_PACKETS, Packets, Version};
 use tora_packet::{Packet, PacketError};
 
 /// The packet that all the bytes spell.
+#[inline(always)]
 fn read_packet(bytes: &[u8]) -> Result<Packet, FrameError>
     ensures exact { MatchOption (whole_packet_fault bytes.now) (result ≡ Ok (whole_packet_at bytes.now)) (λ e. result ≡ Err e) }
     ensures valid { IfOk result IsPacket }

@@ -90,7 +90,7 @@ impl Model for Frame {
 }
 
 /// The parts of packets are in their ranges, each as its type keeps it.
-fn know(packets: &[Packet])
+pub(crate) fn know(packets: &[Packet])
     ensures { AllByRecursion IsPacket packets.now }
 {
     for packet in packets {

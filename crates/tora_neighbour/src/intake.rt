@@ -6,7 +6,7 @@ ghost use Rattle.tora_neighbour.specs.Tally.{counted};
 
 use crate::tally::Tally;
 use tora_arq::{LinkEnd, Verdict};
-use tora_frame::{FrameError, decode};
+use tora_frame::{FrameError, Packets, decode_into};
 
 /// What a link end made of a datagram.
 #[derive(Clone, Copy, Debug, PartialEq, Eq, Hash)]
@@ -26,8 +26,9 @@ pub fn take_in(end: &mut LinkEnd, tally: &mut Tally, datagram: &[u8], now: u64) 
     ensures end { end.new ≡ record end.old { state = after_reading end.old.settings end.old.state now (frame_reading datagram.now) } }
     ensures tally { tally.new ≡ counted result tally.old }
 {
-    let intake = match decode(datagram) {
-        Ok(frame) => Intake::Seen(end.on_frame(&frame, now)),
+    let mut packets = Packets::new();
+    let intake = match decode_into(datagram, &mut packets) {
+        Ok(frame) => Intake::Seen(end.on_borrowed_frame(&frame, now)),
         Err(error) => Intake::Bad(error),
     };
     tally.add(intake);

@@ -19,9 +19,10 @@ use crate::hub::Hub;
 use crate::intake::take_in;
 use crate::tally::Tally;
 use crate::wire::Wire;
+use arrayvec::ArrayVec;
 use std::sync::Wait;
 use tora_arq::{LinkEnd, LinkEvent};
-use tora_frame::encode;
+use tora_frame::{LONGEST_FRAME, Packets, encode_into};
 use tora_lane::{Cargo, Gone, What};
 use tora_life::{Disk, LifeError, LifeFile};
 
@@ -166,7 +167,7 @@ pub fn try_send<W: Wire>(wire: &mut W, row: &mut u64, bytes: &[u8]) -> Result<()
     }
 }
 
-/// Sends each frame that is due.
+/// Sends each frame that is due. One list of packets and one buffer of bytes serve them all.
 pub fn send_frames<R: Wait, W: Wire>(
     rt: &R,
     end: &mut LinkEnd,
@@ -183,11 +184,14 @@ pub fn send_frames<R: Wait, W: Wire>(
     ensures all { OnOk result ((frames : List FrameParts) × AreDue end.old.settings end.old.state now frames × (frame_due end.old.settings (after_frames end.old.settings end.old.state now frames) now ≡ None) × (end.new ≡ record end.old { state = after_transmit end.old.settings (after_frames end.old.settings end.old.state now frames) now }) × (IsTrue (W.tells wire.new) → W.tries wire.new ≡ W.tries wire.old ++ map frame_spelling frames) × SendsSome W.did_send wire.old frames wire.new) }
     ensures some { OnErr result ((frames : List FrameParts) × AreDue end.old.settings end.old.state now frames × (end.new ≡ record end.old { state = after_frames end.old.settings end.old.state now frames }) × (IsTrue (W.tells wire.new) → W.tries wire.new ≡ W.tries wire.old ++ map frame_spelling frames) × SendsSome W.did_send wire.old frames wire.new) }
 {
+    let mut packets = Packets::new();
+    let mut bytes = ArrayVec::<u8, LONGEST_FRAME>::new();
     for _ in rt.forever() {
-        match end.poll_transmit(now) {
+        match end.poll_transmit_into(now, &mut packets) {
             None => return Ok(()),
-            Some(frame) => try_send(wire, row, encode(&frame).as_slice())?,
+            Some(frame) => encode_into(&frame, &mut bytes),
         }
+        try_send(wire, row, bytes.as_slice())?;
     }
     unreachable!()
 }

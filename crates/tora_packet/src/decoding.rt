@@ -59,6 +59,7 @@ fn update_at(bytes: &[u8]) -> Result<Packet, PacketError>
     }
 }
 
+#[inline(always)]
 fn packet_at(bytes: &[u8]) -> Result<Packet, PacketError>
     ensures exact { MatchOption (packet_fault bytes.now) (result ≡ Ok (packet_at bytes.now)) (λ e. result ≡ Err e) }
     ensures valid { IfOk result IsPacket }
@@ -96,6 +97,7 @@ fn packet_at(bytes: &[u8]) -> Result<Packet, PacketError>
 /// # Errors
 /// The first that stands, in this order: `Short` (under 2 bytes), `Version`, `Kind`, `Short` (fewer bytes than the kind
 /// has), `Long`, `Reserved`, `Height`.
+#[inline(always)]
 pub fn decode(bytes: &[u8]) -> Result<Packet, PacketError>
     // What is read is spelled so.
     ensures found { IfOk result (SpellsPacket bytes.now) }

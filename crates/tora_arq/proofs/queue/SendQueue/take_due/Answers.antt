@@ -15,7 +15,7 @@ returns-clause-due c = λ number.
     let same = same_run c.args.times.now c.args.now c.args.most WINDOW c.in-Some.place c.min-end.result c.args.self.now end in
     due_at c.args.times.now c.args.now c.args.most number WINDOW c.in-Some.place c.args.self.now c.in-Some.field-0-1 first.within first.before first.packet_is first.ready
     ∙ ap (λ (r : ReadyRun). Some (record { number = number + c.in-Some.place; packets = r.packets; queue = take c.in-Some.place c.args.self.now ++ r.queue })) same
-    ∙ rw (c.take_run-packets.ensures.packets, c.take_run-packets.ensures.queue) refl
+    ∙ rw (c.take_run.ensures.packets, c.take_run.ensures.queue) refl
 
 pub returns-clause-some : goal.returns-clause-some
 returns-clause-some c =
@@ -24,5 +24,5 @@ returns-clause-some c =
     let some = taken_some c.args.times.now c.args.now (c.min-end.result - c.in-Some.place) c.in-Some.place c.args.self.now c.in-Some.field-0-1
     (omega (arith, c.min-end.ensures, c.within_window.ensures, here, first.within, c.requires.0)) first.packet_is first.ready in
     let most = taken_most c.args.times.now c.args.now (c.min-end.result - c.in-Some.place) c.in-Some.place c.args.self.now in
-    let len = ap length c.take_run-packets.ensures.packets in
+    let len = ap length c.take_run.ensures.packets in
     (omega (arith, some, len), omega (arith, most, len, c.min-end.ensures), omega (arith, most, len, here))

@@ -6,7 +6,7 @@ use Rattle.tora_arq.proofs.QueueLemmas.{Taking, taking_on, taking_stops, taking_
 use Rattle.tora_arq.proofs.queue.SendQueue.take_run.Goals as goal
 
 pub loop-at-init : goal.loop-at-init
-loop-at-init c = record { taking = record { packets_are = rw c.new-packets.ensures refl; queue_is = refl }; taken = omega (arith, ap length c.new-packets.ensures); len = refl }
+loop-at-init c = record { taking = record { packets_are = rw c.requires.empty refl; queue_is = refl }; taken = omega (arith, ap length c.requires.empty); len = refl }
 
 pub returns-then-not-is_ready-clause-packets : goal.returns-then-not-is_ready-clause-packets
 returns-then-not-is_ready-clause-packets c =

@@ -2,7 +2,7 @@ use Rattle.std.proofs.Common.{sym, subst}
 use Rattle.tora_arq.specs.EndRange.{IsEndState}
 use Rattle.tora_arq.specs.StateView.{settings_in, state_in}
 use Rattle.tora_arq.proofs.RangeLemmas.{frame_kept}
-use Rattle.tora_arq.proofs.link_end.LinkEnd.on_frame.Goals as goal
+use Rattle.tora_arq.proofs.link_end.LinkEnd.on_borrowed_frame.Goals as goal
 
 pub invariant_of-self : goal.invariant_of-self
 invariant_of-self c =

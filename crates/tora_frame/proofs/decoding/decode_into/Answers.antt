@@ -1,6 +1,6 @@
 use Rattle.std.proofs.Common.{arith}
 use Rattle.tora_frame.proofs.FrameLaws.{is_found, is_only, is_fault, is_reading}
-use Rattle.tora_frame.proofs.decoding.decode.Goals as goal
+use Rattle.tora_frame.proofs.decoding.decode_into.Goals as goal
 
 pub returns-clause-found : goal.returns-clause-found
 returns-clause-found c = is_found c.args.bytes.now c.read_frame.result (λ i. omega (arith, c.type_inv.bytes i)) c.read_frame.ensures.exact c.read_frame.ensures.valid

@@ -3,7 +3,7 @@ use Rattle.tora_arq.specs.EndRange.{IsEndState, link_end_of}
 use Rattle.tora_arq.specs.StateView.{settings_in, state_in}
 use Rattle.tora_arq.proofs.FactCalls.{transmit-idle}
 use Rattle.tora_arq.proofs.RangeLemmas.{transmit_kept}
-use Rattle.tora_arq.proofs.link_end.LinkEnd.poll_transmit.Goals as goal
+use Rattle.tora_arq.proofs.link_end.LinkEnd.poll_transmit_into.Goals as goal
 
 if_none : {A : Type 0} (o : Option A) (P : Type 0) → (o ≡ None → P) → IfNone o P
 if_none None P h = h refl
