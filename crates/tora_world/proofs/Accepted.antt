@@ -67,7 +67,7 @@ put_with P k (o ∷ offers) h = go (nat_eq o.to k && o.put) (put_with P k offers
 pub put_of : (n k : ℕ) (offers : List Offer) → AreOffersOf n offers → Each (IsCargoOf n) (put_to k offers)
 put_of n k offers h = put_with (IsCargoOf n) k offers h
 
-current_is : (l : Life) (o : Option Life) → is_current l o ≡ true → o ≡ Some l
+pub current_is : (l : Life) (o : Option Life) → is_current l o ≡ true → o ≡ Some l
 current_is l None e = absurd (true≢false (sym e))
 current_is l (Some j) e = ap Some (sym (same_true l j e))
 

@@ -16,6 +16,7 @@ use Rattle.tora_core.specs.declared.Input.TheVariants as In
 use Rattle.tora_core.specs.declared.errors.StepError.{StepError}
 use Rattle.tora_core.specs.declared.destination.Broadcast.{Broadcast}
 use Rattle.tora_core.specs.declared.destination.Broadcast.TheVariants as Tell
+use Rattle.tora_core.specs.Numbers.{has_number}
 use Rattle.tora_core.specs.View.{View}
 use Rattle.tora_core.specs.Rules.{outcome_of, packet_of, packet_sent}
 use Rattle.tora_core.specs.CoreRun.{CoreView, refusal_of, concerns, next_packet, core_after, core_after_all, sends_of}
@@ -33,7 +34,7 @@ use Rattle.tora_world.specs.declared.Event.TheVariants.{Need, Tick, Open, Pull, 
 use Rattle.tora_world.specs.declared.Call.{Call}
 use Rattle.tora_world.specs.declared.Call.TheVariants as Fails
 use Rattle.tora_world.specs.Topology.{Topology, neighbours_of, new_core}
-use Rattle.tora_world.specs.Lists.{parcel_of, Each}
+use Rattle.tora_world.specs.Lists.{reversed, parcel_of, Each}
 use Rattle.tora_world.specs.LinkMachine.{MachineStep, made}
 use Rattle.tora_world.specs.MachineRun.{steps_by}
 use Rattle.tora_world.specs.World.{World, Choice, settings, neighbours, datagram, first_seat, first_world, refusal_by, with_end, after_pull, after_sending, after_receiving, after_pump, after_serving, after_turn, after_arming, after_restart, effect_by, world_by}
@@ -45,7 +46,7 @@ use Rattle.tora_world.proofs.AllEnds.{more_seen}
 use Rattle.tora_world.proofs.EndViews.{end_views}
 use Rattle.tora_world.proofs.AllRuns.{world_follows, first_follows}
 use Rattle.tora_world.proofs.Cores.{core_after-push}
-use Rattle.tora_world.proofs.Accepted.{IsCargoWith, put_with, each_push, at_in}
+use Rattle.tora_world.proofs.Accepted.{IsCargoWith, put_with, each_push, current_is, at_in}
 use Rattle.tora_world.proofs.Refused.{each_both, packet_put, taken_is_put}
 
 -- ---- packets that are sent
@@ -107,10 +108,14 @@ run_on t n c input now ok r = record {
 first_run : (t : Topology) (n : ℕ) → IsRunOf t n (new_core t n)
 first_run t n = record { inputs = []; made = refl; sound = tt }
 
+-- an item that is being served: the core comes of packets, and so does what is offered
+record IsFine (t : Topology) (n : ℕ) (v : Serving) : Type 0 where
+  core : IsRunOf t n v.seat.core
+  sends : Each (λ (o : Offer). IsCargoWith IsPacket o.cargo) v.offers
+
 module _ (t : Topology) (n : ℕ) (keeps : KeepsLaws t n) (ks : List ℕ) (answers : Answers) where
-  record Fine (v : Serving) : Type 0 where
-    core : IsRunOf t n v.seat.core
-    sends : Each (λ (o : Offer). IsCargoWith IsPacket o.cargo) v.offers
+  abbrev Fine : Serving → Type 0
+  Fine v = IsFine t n v
 
   cut_fine : (v : Serving) (k : ℕ) (o : Option Life) → Fine v → Fine (after_cut_tried answers v k o)
   cut_fine v k None h = h
@@ -223,3 +228,139 @@ module _ (t : Topology) (n : ℕ) (keeps : KeepsLaws t n) (ks : List ℕ) (answe
           link_item_fine (after_cuts_tried answers ks (begin_serving seat)) k item.now item.what
           (λ l p w on. from k l p e w (sym (ap (λ (f : ℕ → Option Life). is_current l (f k)) (cuts_current ks (begin_serving seat))) ∙ on)) begun
       go None e = other_item_fine (after_cuts_tried answers ks (begin_serving seat)) item.now item.what begun
+
+-- ---- all nodes
+
+-- each node that has a number of a node: its core comes of packets, and so does what it put
+record AreKept (t : Topology) (w : World) : Type 0 where
+  topology : w.topology ≡ t
+  cores : (n : ℕ) → IsId n → IsRunOf t n (w.seats n).core
+  put : (n k : ℕ) → IsId n → Each (IsCargoWith IsPacket) (w.put n k)
+
+same_kept : (t : Topology) (w w' : World) → w'.topology ≡ w.topology → w'.seats ≡ w.seats → w'.put ≡ w.put → AreKept t w → AreKept t w'
+same_kept t w w' a b c h = record {
+  topology = a ∙ h.topology;
+  cores = λ n id. subst (λ (f : ℕ → SeatState). IsRunOf t n (f n).core) (sym b) (h.cores n id);
+  put = λ n k id. subst (λ (f : ℕ → ℕ → List Cargo). Each (IsCargoWith IsPacket) (f n k)) (sym c) (h.put n k id);
+}
+
+-- the laws of all cores of the topology, and the numbers of its nodes
+pub record IsKeeping (t : Topology) : Type 0 where
+  pub laws : (n : ℕ) → IsId n → KeepsLaws t n
+  pub ids : (n k : ℕ) → has_number k (neighbours_of t n) ≡ true → IsId k
+
+module _ (t : Topology) (keeping : IsKeeping t) (steps : List MachineStep) (w : World) (seen : Seen) (g : AllEndsFollow steps (end_views w) w.datagrams seen) (h : AreKept t w) where
+  -- the packet of the next item is one of those that its neighbour put
+  packet_is : (n : ℕ) (item : Item) (items : List Item) → w.items n ≡ item ∷ items → (k : ℕ) (l : Life) (p : Packet) → slice_get (neighbours w n) item.seat ≡ Some k → item.what ≡ Tells.Packet l p → is_current l ((w.seats n).current k) ≡ true → IsPacket p
+  packet_is n item items q k l p seat what on =
+      let x = taken_is_put steps w seen g n item items q k l p seat what (current_is l ((w.seats n).current k) on) in
+      let id : IsId k = keeping.ids n k (subst (λ (u : Topology). has_number k (neighbours_of u n) ≡ true) h.topology (at_in (neighbours w n) item.seat k seat)) in
+      packet_put IsPacket (reversed l) (w.put k n) x.0 p (h.put k n id) x.1
+
+  serving_kept : (n : ℕ) (answers : Answers) (items : List Item) (v : Serving) → (IsId n → IsFine t n v) → AreKept t (after_serving w n items v)
+  serving_kept n answers items v fine = record {
+    topology = h.topology;
+    cores = λ a id. core_at a id (cases_Bool (nat_eq a n));
+    put = λ a k id. put_at a k id (cases_Bool (nat_eq a n));
+  }
+    where
+      core_at : (a : ℕ) → IsId a → (nat_eq a n ≡ true) ⊎ (nat_eq a n ≡ false) → IsRunOf t a (if nat_eq a n then v.seat else w.seats a).core
+      core_at a id (inl e) =
+          subst (λ x. IsRunOf t a (if x then v.seat else w.seats a).core) (sym e)
+          (subst (λ m. IsRunOf t m v.seat.core) (sym (eqb-true a n e)) (fine (subst IsId (eqb-true a n e) id)).core)
+      core_at a id (inr e) = subst (λ x. IsRunOf t a (if x then v.seat else w.seats a).core) (sym e) (h.cores a id)
+
+      put_at : (a k : ℕ) → IsId a → (nat_eq a n ≡ true) ⊎ (nat_eq a n ≡ false) → Each (IsCargoWith IsPacket) ((if nat_eq a n then (λ k. w.put n k ++ put_to k v.offers) else w.put a) k)
+      put_at a k id (inl e) =
+          let here : IsId n = subst IsId (eqb-true a n e) id in
+          subst (λ x. Each (IsCargoWith IsPacket) ((if x then (λ k. w.put n k ++ put_to k v.offers) else w.put a) k)) (sym e)
+          (each_both (IsCargoWith IsPacket) (w.put n k) (put_to k v.offers) (h.put n k here) (put_with (IsCargoWith IsPacket) k v.offers (fine here).sends))
+      put_at a k id (inr e) = subst (λ x. Each (IsCargoWith IsPacket) ((if x then (λ k. w.put n k ++ put_to k v.offers) else w.put a) k)) (sym e) (h.put a k id)
+
+  turn_kept : (c : Choice) (n : ℕ) (items : List Item) → w.items n ≡ items → AreKept t (after_turn w c n items)
+  turn_kept c n [] q = h
+  turn_kept c n (item ∷ items) q =
+      serving_kept n c.answers items (serving_of c.answers (neighbours w n) (w.seats n) item)
+      (λ id. serving_fine t n (keeping.laws n id) (neighbours w n) c.answers (w.seats n) item (h.cores n id) (packet_is n item items q))
+
+  restart_kept : (n : ℕ) (torn : Option (List ℕ)) → AreKept t (after_restart w n torn)
+  restart_kept n torn = record {
+    topology = h.topology;
+    cores = λ a id. core_at a id (cases_Bool (nat_eq a n));
+    put = h.put;
+  }
+    where
+      core_at : (a : ℕ) → IsId a → (nat_eq a n ≡ true) ⊎ (nat_eq a n ≡ false) → IsRunOf t a (if nat_eq a n then first_seat w.topology n else w.seats a).core
+      core_at a id (inl e) =
+          subst (λ x. IsRunOf t a (if x then first_seat w.topology n else w.seats a).core) (sym e)
+          (subst (λ (u : Topology). IsRunOf t a (first_seat u n).core) (sym h.topology) (subst (λ m. IsRunOf t m (first_seat t n).core) (sym (eqb-true a n e)) (first_run t n)))
+      core_at a id (inr e) = subst (λ x. IsRunOf t a (if x then first_seat w.topology n else w.seats a).core) (sym e) (h.cores a id)
+
+  effect_kept : (c : Choice) (event : Event) → AreKept t (effect_by c w event)
+  unfolding effect_by
+  effect_kept c (Need m d) = same_kept t w (effect_by c w (Need m d)) refl refl refl h
+  effect_kept c Tick = same_kept t w (effect_by c w Tick) refl refl refl h
+  effect_kept c (Open m j) = same_kept t w (effect_by c w (Open m j)) refl refl refl h
+  effect_kept c (Pull m j) = go (w.cargoes m j)
+    where
+      go : (cs : List Cargo) → AreKept t (after_pull w m j cs)
+      go [] = h
+      go (x ∷ cs) = same_kept t w (after_pull w m j (x ∷ cs)) refl refl refl h
+  effect_kept c (Transmit m j) = go (frame_due (settings w m j) (w.ends m j) (c.now m j))
+    where
+      go : (r : Option FrameParts) → AreKept t (after_sending w m j (after_transmit (settings w m j) (w.ends m j) (c.now m j)) r)
+      go None = h
+      go (Some f) = same_kept t w (after_sending w m j (after_transmit (settings w m j) (w.ends m j) (c.now m j)) (Some f)) refl refl refl h
+  effect_kept c (Deliver i) = go (datagram w i)
+    where
+      go : (r : Option FrameParts) → AreKept t (after_receiving w c r)
+      go None = h
+      go (Some f) = cond_both (w.arms f.header.receiver).receive _ _ (AreKept t)
+          (λ _. same_kept t w (record w { arms = put_one w.arms f.header.receiver (record (w.arms f.header.receiver) { receive = false }) }) refl refl refl h)
+          (λ _. same_kept t w (with_end w f.header.receiver f.header.sender (after_frame (settings w f.header.receiver f.header.sender) (w.ends f.header.receiver f.header.sender) f (c.now f.header.receiver f.header.sender))) refl refl refl h)
+  effect_kept c (Pump m j) = go (first_event (w.ends m j))
+    where
+      go : (r : Option LinkEvent) → AreKept t (after_pump w c m j r)
+      go None = h
+      go (Some event) = same_kept t w (after_pump w c m j (Some event)) refl refl refl h
+  effect_kept c (CoreTurn m) = turn_kept c m (w.items m) refl
+  effect_kept c (Arm m call) = go call
+    where
+      go : (x : Call) → AreKept t (after_arming w m x)
+      go Fails.SendLost = same_kept t w (after_arming w m Fails.SendLost) refl refl refl h
+      go Fails.SendGone = same_kept t w (after_arming w m Fails.SendGone) refl refl refl h
+      go Fails.Receive = same_kept t w (after_arming w m Fails.Receive) refl refl refl h
+      go Fails.Read = same_kept t w (after_arming w m Fails.Read) refl refl refl h
+      go Fails.Write = same_kept t w (after_arming w m Fails.Write) refl refl refl h
+      go Fails.Sync = same_kept t w (after_arming w m Fails.Sync) refl refl refl h
+  effect_kept c (Restart m torn) = restart_kept m torn
+
+  world_kept : (c : Choice) (event : Event) → AreKept t (world_by c w event)
+  unfolding world_by
+  world_kept c event = cond_both (is_some (refusal_by c w event)) _ _ (AreKept t) (λ _. h) (λ _. effect_kept c event)
+
+-- ---- runs
+
+module _ (laws : LinkLaws) (lows : LifeLaws) (t : Topology) (keeping : IsKeeping t) where
+  run_kept : (es : Schedule) (steps : List MachineStep) (w : World) (seen : Seen) → ((a b : ℕ) (l : Life) → seen a b l 0) → AllEndsFollow steps (end_views w) w.datagrams seen → AreKept t w → AreKept t (after_schedule es w)
+  unfolding after_schedule
+  run_kept [] steps w seen z g h = h
+  run_kept (e ∷ es) steps w seen z g h =
+      let now : Seen = λ a b l c. seen a b l c ⊎ HasAccepted a b l c w in
+      let w' : World = world_by e.1 w e.0 in
+      let steps' : List MachineStep = made (steps_by e.1 w e.0) steps in
+      let g' : AllEndsFollow steps' (end_views w') w'.datagrams now =
+      world_follows laws lows steps w now (λ a b l. inl (z a b l)) (λ a b l j. inr (record { bound = j; accepted = omega arith })) e.1 e.0 (more_seen steps (end_views w) w.datagrams seen now (λ a b l c x. inl x) g) in
+      run_kept es steps' w' now (λ a b l. inl (z a b l)) g' (world_kept t keeping steps w seen g h e.1 e.0)
+
+  kept : (times : Times) (es : Schedule) → AreKept t (after_schedule es (first_world t times))
+  kept times es =
+      run_kept es [] (first_world t times) (λ a b l c. c ≡ 0) (λ a b l. refl) (first_follows laws lows t times)
+      (record { topology = refl; cores = λ n id. first_run t n; put = λ n k id. tt })
+
+  -- every core of a node is one that keeps the laws
+  pub cores_kept : (times : Times) (es : Schedule) (n : ℕ) → IsId n → IsRunOf t n ((after_schedule es (first_world t times)).seats n).core
+  cores_kept times es n id = (kept times es).cores n id
+
+  pub topology_kept : (times : Times) (es : Schedule) → (after_schedule es (first_world t times)).topology ≡ t
+  topology_kept times es = (kept times es).topology

@@ -1,13 +1,12 @@
 -- Where the entries of all nodes for a destination are their neighbours' heights, and the walk that follows next hops.
 use Rattle.std.specs.Prelude.{◌≡◌, ◌≢◌, ℕ, zero, suc, ◌≤◌, ◌==◌, Bool, true, false, if◌then◌else◌, List, [], ◌∷◌, length, Option, Some, None, option_map}
-use Rattle.std.specs.List.{list_all}
+use Rattle.std.specs.List.{list_all, AllByRecursion}
 use Rattle.std.specs.Ordering.{is_eq}
 use Rattle.tora_height.specs.Height.{Quintuple}
 use Rattle.tora_height.specs.HeightOrder.{IsLower, height_cmp}
 use Rattle.tora_packet.specs.PacketParts.{IsId}
 use Rattle.tora_arq.specs.declared.Times.{Times}
 use Rattle.tora_core.specs.CoreRun.{height_of, entry_of, hop_of}
-use Rattle.tora_world.specs.Lists.{Each}
 use Rattle.tora_world.specs.Topology.{Topology, Link, topology_fault, nodes_in, neighbours_of, is_node}
 use Rattle.tora_world.specs.World.{World, first_world}
 use Rattle.tora_world.specs.FreeWorld.{Schedule, after_schedule}
@@ -96,8 +95,8 @@ pub record Arrives (w : World) (n d : ℕ) : Type 0 where
 
 -- the numbers of the topology are those that nodes have
 pub record AreIds (t : Topology) : Type 0 where
-  pub links : Each (λ (link : Link). IsId link.a × IsId link.b) t.links
-  pub destinations : Each IsId t.destinations
+  pub links : AllByRecursion (λ (link : Link). IsId link.a × IsId link.b) t.links
+  pub destinations : AllByRecursion IsId t.destinations
 
 -- this holds of every world that events reach over a topology that is not refused
 abbrev pub EveryWorld : (World → Type 0) → Type 0

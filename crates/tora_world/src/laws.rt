@@ -3,7 +3,7 @@ ghost use Rattle.std.specs.Prelude.{◌≡◌, List, [], ◌∷◌, Some, None};
 ghost use Rattle.tora_packet.specs.declared.Packet.TheVariants.{Qry};
 ghost use Rattle.tora_arq.specs.declared.Times.{Times};
 ghost use Rattle.tora_world.specs.declared.Event.{Event};
-ghost use Rattle.tora_world.specs.Layers.{LinkLaws, LifeLaws, CoreLaws, SeatLaws};
+ghost use Rattle.tora_world.specs.Layers.{LinkLaws, LifeLaws, CoreLaws, SeatLaws, RuleLaws};
 ghost use Rattle.tora_world.specs.Topology.{Topology};
 ghost use Rattle.tora_world.specs.World.{first_world, world_after_all, sent_packets, taken_packets};
 ghost use Rattle.tora_world.specs.FreeWorld.{after_schedule, own_schedule};
@@ -23,18 +23,20 @@ use tora_arq::{
 };
 use tora_core::{
     inputs_are_accepted, links_follow_inputs, numbers_are_put_in_order, numbers_come_and_go,
-    tables_stay,
+    runs_are_kept, tables_stay, words_are_computed,
 };
+use tora_height::heights_are_totally_ordered;
 use tora_life::drawn_life_numbers_rise;
 use tora_seat::{accepted_inputs_make_the_core, cut_links_go_down};
 
-/// What the link end, the life file, the core and its seat promise. A law of theirs is the contract of a function that does nothing, so a
+/// What heights, the link end, the life file, the core and its seat promise. A law of theirs is the contract of a function that does nothing, so a
 /// law that rests on it calls that function: the call brings its clauses in.
 fn layers_keep_their_laws()
     ensures links { LinkLaws }
     ensures files { LifeLaws }
     ensures cores { CoreLaws }
     ensures seats { SeatLaws }
+    ensures rules { RuleLaws }
 {
     calls_keep_an_end();
     lives_are_bound_once();
@@ -51,6 +53,9 @@ fn layers_keep_their_laws()
     numbers_are_put_in_order();
     accepted_inputs_make_the_core();
     cut_links_go_down();
+    heights_are_totally_ordered();
+    runs_are_kept();
+    words_are_computed();
 }
 
 /// The prefix law: the packets that a node's core has taken from a neighbour in one life of their link are a prefix of
