@@ -59,6 +59,7 @@ returns-clause-rules c = record {
   lower = c.heights_are_totally_ordered.ensures.lower;
   same = c.heights_are_totally_ordered.ensures.same;
   kept = c.runs_are_kept.ensures;
+  up = c.up_links_are_of_neighbours.ensures.neighbours;
   downstream = c.words_are_computed.ensures.downstream;
   next_hop = c.words_are_computed.ensures.next_hop;
 }
