@@ -9,7 +9,7 @@ use Rattle.tora_sim.specs.Nodes as Nodes
 use Rattle.tora_sim.specs.Nodes.{NodeView, is_of}
 use Rattle.tora_sim.specs.Readers.{ends_at}
 use Rattle.tora_sim.specs.Firsts.{key_of}
-use Rattle.tora_sim.proofs.Sound.{unnamed}
+use Rattle.tora_world.proofs.SoundTopology.{unnamed}
 use Rattle.tora_sim.proofs.Peers.{has-ascending}
 
 abbrev pub has_key : ℕ → ℕ → List (ℕ × ℕ) → Bool

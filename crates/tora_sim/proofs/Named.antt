@@ -5,14 +5,10 @@ use Rattle.std.proofs.lemmas.Bool.Decides.{nat_tests}
 use Rattle.std.proofs.lemmas.List.{drop_more}
 use Rattle.tora_core.specs.Numbers.{has_number, with_number, without_number}
 use Rattle.tora_world.specs.Topology.{Link, nodes_in, with_node, different, different_neighbours, other_ends}
+use Rattle.tora_world.proofs.SoundTopology.{length-with_number, one_if, IsSplit, split-different}
 use Rattle.tora_sim.specs.Topologies.{link_in, links_in, with_end}
 
 -- ---- a number more is no shorter list
-
-pub length-with_number : (k : ℕ) (ns : List ℕ) → length (with_number k ns) ≡ suc (length ns)
-length-with_number k [] = refl
-length-with_number k (n ∷ ns) =
-    cond_both (nat_lt k n) (k ∷ n ∷ ns) (n ∷ with_number k ns) (λ (xs : List ℕ). length xs ≡ suc (suc (length ns))) (λ _. refl) (λ _. ap suc (length-with_number k ns))
 
 pub length-with_node-le : (k : ℕ) (ns : List ℕ) → length ns ≤ length (with_node k ns)
 length-with_node-le k ns =
@@ -99,72 +95,6 @@ ends-fewer n (x ∷ links) (suc i) =
     subst (λ (xs : List ℕ). length (ends_from n links i) ≤ length xs) (sym more) (omega arith)
 
 -- ---- how many of them are not the node itself
-
--- 0 for the number that is left out, else 1
-abbrev pub weight : Bool → ℕ
-weight true = 0
-weight false = 1
-
-without-front : (n k : ℕ) (ns : List ℕ) → length (without_number n (k ∷ ns)) ≡ weight (k == n) + length (without_number n ns)
-without-front n k ns = go (k == n)
-  where
-    go : (b : Bool) → length (cond (not b) (k ∷ without_number n ns) (without_number n ns)) ≡ weight b + length (without_number n ns)
-    go true = omega arith
-    go false = omega arith
-
-without-with_number : (n k : ℕ) (ns : List ℕ) → length (without_number n (with_number k ns)) ≡ weight (k == n) + length (without_number n ns)
-without-with_number n k [] = without-front n k []
-without-with_number n k (m ∷ ns) =
-    cond_both (nat_lt k m) (k ∷ m ∷ ns) (m ∷ with_number k ns) (λ (xs : List ℕ). length (without_number n xs) ≡ weight (k == n) + length (without_number n (m ∷ ns)))
-    (λ _. without-front n k (m ∷ ns))
-    (λ _.
-    let rest = without-with_number n k ns in
-    let one = without-front n m (with_number k ns) in
-    let two = without-front n m ns in
-    omega arith)
-
-pub has-with_number : (n k : ℕ) (ns : List ℕ) → has_number n (with_number k ns) ≡ ((k == n) || has_number n ns)
-has-with_number n k [] = refl
-has-with_number n k (m ∷ ns) =
-    cond_both (nat_lt k m) (k ∷ m ∷ ns) (m ∷ with_number k ns) (λ (xs : List ℕ). has_number n xs ≡ ((k == n) || has_number n (m ∷ ns)))
-    (λ _. refl)
-    (λ _. ap (λ b. (m == n) || b) (has-with_number n k ns) ∙ turned (m == n) (k == n) (has_number n ns))
-  where
-    turned : (a b c : Bool) → (a || (b || c)) ≡ (b || (a || c))
-    turned true true c = refl
-    turned true false c = refl
-    turned false true c = refl
-    turned false false c = refl
-
--- 1 where it is there
-abbrev pub one_if : Bool → ℕ
-one_if true = 1
-one_if false = 0
-
-abbrev pub IsSplit : ℕ → List ℕ → Type 0
-IsSplit n ns = length (without_number n ns) + one_if (has_number n ns) ≡ length ns
-
-split-more : (n k : ℕ) (ns : List ℕ) → has_number k ns ≡ false → IsSplit n ns → IsSplit n (with_number k ns)
-split-more n k ns absent e = go (k == n) refl
-  where
-    go : (b : Bool) → (k == n) ≡ b → IsSplit n (with_number k ns)
-    go true is =
-        let same : k ≡ n = grind (arith, nat_tests) in
-        let none : has_number n ns ≡ false = subst (λ m. has_number m ns ≡ false) same absent in
-        let had : length (without_number n ns) + 0 ≡ length ns = subst (λ b. length (without_number n ns) + one_if b ≡ length ns) none e in
-        let there : has_number n (with_number k ns) ≡ true = has-with_number n k ns ∙ ap (λ b. b || has_number n ns) is in
-        let size : length (without_number n (with_number k ns)) ≡ 0 + length (without_number n ns) = without-with_number n k ns ∙ ap (λ b. weight b + length (without_number n ns)) is in
-        subst (λ b. length (without_number n (with_number k ns)) + one_if b ≡ length (with_number k ns)) (sym there) (omega (arith, length-with_number k ns))
-    go false is =
-        let there : has_number n (with_number k ns) ≡ has_number n ns = has-with_number n k ns ∙ ap (λ b. b || has_number n ns) is in
-        let size : length (without_number n (with_number k ns)) ≡ 1 + length (without_number n ns) = without-with_number n k ns ∙ ap (λ b. weight b + length (without_number n ns)) is in
-        subst (λ b. length (without_number n (with_number k ns)) + one_if b ≡ length (with_number k ns)) (sym there) (omega (arith, length-with_number k ns))
-
-pub split-different : (n : ℕ) (ns : List ℕ) → IsSplit n (different ns)
-split-different n [] = omega arith
-split-different n (k ∷ ns) =
-    let rest = split-different n ns in
-    cond_both (has_number k (different ns)) (different ns) (with_number k (different ns)) (IsSplit n) (λ _. rest) (λ absent. split-more n k (different ns) absent rest)
 
 -- where there are more than 33, more than 32 are others
 pub many-above : (n : ℕ) (links : List (ℕ × ℕ)) → 33 < length (different (other_ends n (links_in links))) → nat_lt 32 (length (different_neighbours n (links_in links))) ≡ true

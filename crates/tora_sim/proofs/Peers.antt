@@ -7,8 +7,9 @@ use Rattle.tora_core.specs.Numbers.{has_number, has_repeat, with_number, ascendi
 use Rattle.tora_world.specs.Topology.{Topology, Link, nodes_in, with_node, other_ends, neighbours_of}
 use Rattle.tora_world.specs.World.{place_of}
 use Rattle.tora_sim.specs.Topologies.{IsTopology}
-use Rattle.tora_sim.proofs.Named.{has-with_number, length-with_number}
-use Rattle.tora_sim.proofs.Sound.{sorted_on, sound, others-apart, others-once, few-ends, has-with_node}
+use Rattle.tora_world.proofs.SoundTopology.{has-with_number, length-with_number}
+use Rattle.tora_sim.proofs.Sound.{sorted_on}
+use Rattle.tora_world.proofs.SoundTopology.{sound, others-apart, others-once, few-ends, has-with_node}
 
 -- what tora_core's law says of numbers that are put in order
 abbrev pub PutInOrder : Type 0

@@ -40,27 +40,34 @@ stepped-push k (x ∷ steps) s =
     ap (λ ys. (if nat_eq x.from k then x.parcel ∷ [] else []) ++ ys) (stepped-push k steps s)
     ∙ sym (append_assoc (if nat_eq x.from k then x.parcel ∷ [] else []) (stepped_from k steps) (if nat_eq s.from k then s.parcel ∷ [] else []))
 
-each_push : {A : Type 0} (P : A → Type 0) (xs : List A) (y : A) → Each P xs → P y → Each P (xs ++ y ∷ [])
+pub each_push : {A : Type 0} (P : A → Type 0) (xs : List A) (y : A) → Each P xs → P y → Each P (xs ++ y ∷ [])
 each_push P [] y a p = (p, tt)
 each_push P (x ∷ xs) y a p = (a.0, each_push P xs y a.1 p)
 
+-- a cargo with such a packet
+abbrev pub IsCargoWith : (Packet → Type 0) → Cargo → Type 0
+IsCargoWith P (Gives.Packet life packet) = P packet
+IsCargoWith P (Gives.Cut life) = Unit {0}
+
 -- a cargo with a packet of this node
 abbrev pub IsCargoOf : ℕ → Cargo → Type 0
-IsCargoOf n (Gives.Packet life packet) = IsSentBy n packet
-IsCargoOf n (Gives.Cut life) = Unit {0}
+IsCargoOf n cargo = IsCargoWith (IsSentBy n) cargo
 
 abbrev pub AreOffersOf : ℕ → List Offer → Type 0
 AreOffersOf n offers = Each (λ (o : Offer). IsCargoOf n o.cargo) offers
 
-pub put_of : (n k : ℕ) (offers : List Offer) → AreOffersOf n offers → Each (IsCargoOf n) (put_to k offers)
-put_of n k [] h = tt
-put_of n k (o ∷ offers) h = go (nat_eq o.to k && o.put) (put_of n k offers h.1)
+pub put_with : (P : Cargo → Type 0) (k : ℕ) (offers : List Offer) → Each (λ (o : Offer). P o.cargo) offers → Each P (put_to k offers)
+put_with P k [] h = tt
+put_with P k (o ∷ offers) h = go (nat_eq o.to k && o.put) (put_with P k offers h.1)
   where
-    go : (b : Bool) → Each (IsCargoOf n) (put_to k offers) → Each (IsCargoOf n) ((if b then o.cargo ∷ [] else []) ++ put_to k offers)
+    go : (b : Bool) → Each P (put_to k offers) → Each P ((if b then o.cargo ∷ [] else []) ++ put_to k offers)
     go true r = (h.0, r)
     go false r = r
 
-current_is : (l : Life) (o : Option Life) → is_current l o ≡ true → o ≡ Some l
+pub put_of : (n k : ℕ) (offers : List Offer) → AreOffersOf n offers → Each (IsCargoOf n) (put_to k offers)
+put_of n k offers h = put_with (IsCargoOf n) k offers h
+
+pub current_is : (l : Life) (o : Option Life) → is_current l o ≡ true → o ≡ Some l
 current_is l None e = absurd (true≢false (sym e))
 current_is l (Some j) e = ap Some (sym (same_true l j e))
 

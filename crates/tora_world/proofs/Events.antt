@@ -1,5 +1,5 @@
 -- Each event but the core's turn keeps what is said of all ends.
-use Rattle.std.proofs.Common.{◌≡◌, ◌≢◌, ℕ, zero, suc, Bool, true, false, true≢false, ◌&&◌, ◌⊎◌, inl, inr, ⊎_elim, List, [], ◌∷◌, ◌++◌, length, map, drop, Option, Some, None, nat_eq, if◌then◌else◌, refl, sym, ap, ap₂, ◌∙◌, subst, subst₂, append_assoc, append-nil, arith, eqb-true, eq-eqb, ne_eqb, Ok, Err}
+use Rattle.std.proofs.Common.{◌≡◌, ◌≢◌, ℕ, zero, suc, Bool, true, false, true≢false, ◌&&◌, ◌⊎◌, inl, inr, ⊎_elim, List, [], ◌∷◌, ◌++◌, length, map, drop, Option, Some, None, nat_eq, if◌then◌else◌, refl, sym, ap, ap₂, ◌∙◌, subst, subst₂, append_assoc, append-nil, eqb-true, eq-eqb, ne_eqb, Ok, Err}
 use Rattle.std.proofs.lemmas.Bool.{cond_both, cases_Bool, eqb-false}
 use Rattle.std.specs.Prelude.{slice_get, Result}
 use Rattle.tora_packet.specs.declared.Packet.{Packet}

@@ -1,7 +1,7 @@
 -- The invariant of the prefix law: what is said of every end of a link, its lanes, its core's seat and its life file, beside a run of the
 -- link machine. Read it from the bottom: AllEndsFollow is the whole, FollowsMachine the part of one node and one neighbour. Timers, tries,
 -- what is owed, the window, pending cuts, answers and the core's views are not looked at.
-use Rattle.std.proofs.Common.{◌≡◌, ◌≢◌, ℕ, suc, ◌<◌, ◌≤◌, Bool, true, false, ◌&&◌, List, [], ◌∷◌, ◌++◌, length, Option, Some, None, if◌then◌else◌}
+use Rattle.std.proofs.Common.{◌≡◌, ◌≢◌, ℕ, ◌<◌, ◌≤◌, Bool, true, false, ◌&&◌, List, [], ◌∷◌, ◌++◌, length, Option, Some, None, if◌then◌else◌}
 use Rattle.tora_packet.specs.declared.Packet.{Packet}
 use Rattle.tora_frame.specs.declared.parts.Body.{Body}
 use Rattle.tora_frame.specs.declared.parts.Body.TheVariants.{Hello, Data, Ack}

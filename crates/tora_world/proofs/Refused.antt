@@ -38,7 +38,7 @@ use Rattle.tora_world.proofs.EndViews.{arrivals_in, arrivals_of, end_views, map-
 use Rattle.tora_world.proofs.AllRuns.{world_follows, first_follows}
 use Rattle.tora_seat.specs.Serves.{IsCut}
 use Rattle.tora_world.proofs.OwnHeights.{IsOwnView, IsSentBy, first_own}
-use Rattle.tora_world.proofs.Accepted.{IsCargoOf, put_of, accepted-append, Done, serving_done}
+use Rattle.tora_world.proofs.Accepted.{IsCargoWith, IsCargoOf, put_of, accepted-append, Done, serving_done}
 
 -- ---- one node
 
@@ -70,40 +70,50 @@ record AreNodes (w : World) : Type 0 where
   put : (n k : ℕ) → Each (IsCargoOf n) (w.put n k)
   agreed : SteppedAreAccepted w
 
-each_both : {A : Type 0} (P : A → Type 0) (xs ys : List A) → Each P xs → Each P ys → Each P (xs ++ ys)
+pub each_both : {A : Type 0} (P : A → Type 0) (xs ys : List A) → Each P xs → Each P ys → Each P (xs ++ ys)
 each_both P [] ys a b = b
 each_both P (x ∷ xs) ys a b = (a.0, each_both P xs ys a.1 b)
 
--- a packet that was put is of its node
-sent_from : (n : ℕ) (l : Life) (cargoes : List Cargo) (i : ℕ) (p : Packet) → Each (IsCargoOf n) cargoes → slice_get (packets_of l (parcels_in cargoes)) i ≡ Some p → IsSentBy n p
-sent_from n l cargoes i p h e = go (packets_of l (parcels_in cargoes)) (all_of cargoes h) i e
+-- what holds of all packets that were put
+pub packet_put : (P : Packet → Type 0) (l : Life) (cargoes : List Cargo) (i : ℕ) (p : Packet) → Each (IsCargoWith P) cargoes → slice_get (packets_of l (parcels_in cargoes)) i ≡ Some p → P p
+packet_put P l cargoes i p h e = go (packets_of l (parcels_in cargoes)) (all_of cargoes h) i e
   where
-    one : (b : Bool) (x : Packet) (xs : List Packet) → IsSentBy n x → Each (IsSentBy n) xs → Each (IsSentBy n) ((if b then x ∷ [] else []) ++ xs)
+    one : (b : Bool) (x : Packet) (xs : List Packet) → P x → Each P xs → Each P ((if b then x ∷ [] else []) ++ xs)
     one true x xs a r = (a, r)
     one false x xs a r = r
 
-    all_of : (cs : List Cargo) → Each (IsCargoOf n) cs → Each (IsSentBy n) (packets_of l (parcels_in cs))
+    all_of : (cs : List Cargo) → Each (IsCargoWith P) cs → Each P (packets_of l (parcels_in cs))
     all_of [] h = tt
     all_of (Gives.Packet life packet ∷ cs) h = one _ packet (packets_of l (parcels_in cs)) h.0 (all_of cs h.1)
     all_of (Gives.Cut life ∷ cs) h = all_of cs h.1
 
-    go : (ps : List Packet) → Each (IsSentBy n) ps → (i : ℕ) → slice_get ps i ≡ Some p → IsSentBy n p
+    go : (ps : List Packet) → Each P ps → (i : ℕ) → slice_get ps i ≡ Some p → P p
     go [] h i e = absurd (cc)
-    go (x ∷ ps) h zero e = let q : x ≡ p = cc in subst (IsSentBy n) q h.0
+    go (x ∷ ps) h zero e = let q : x ≡ p = cc in subst P q h.0
     go (x ∷ ps) h (suc i) e = go ps h.1 i e
 
--- a packet that is to be taken was sent by the neighbour
-taken_from : (steps : List MachineStep) (w : World) (seen : Seen) → AllEndsFollow steps (end_views w) w.datagrams seen → AreNodes w → (n : ℕ) (item : Item) (items : List Item) → w.items n ≡ item ∷ items →
-    (k : ℕ) (l : Life) (p : Packet) → slice_get (neighbours w n) item.seat ≡ Some k → item.what ≡ Tells.Packet l p → (w.seats n).current k ≡ Some l → is_from k p ≡ true
-taken_from steps w seen g a n item items q k l p seat what on =
+-- a packet that is to be taken was put by the neighbour
+pub taken_is_put : (steps : List MachineStep) (w : World) (seen : Seen) → AllEndsFollow steps (end_views w) w.datagrams seen → (n : ℕ) (item : Item) (items : List Item) → w.items n ≡ item ∷ items →
+    (k : ℕ) (l : Life) (p : Packet) → slice_get (neighbours w n) item.seat ≡ Some k → item.what ≡ Tells.Packet l p → (w.seats n).current k ≡ Some l →
+    (i : ℕ) × (slice_get (packets_of (reversed l) (parcels_in (w.put k n))) i ≡ Some p)
+taken_is_put steps w seen g n item items q k l p seat what on =
     let come : (end_views w n k).coming ≡ PacketComes l p ∷ (arrivals_of (neighbours w n) k items ++ map arrival_of (w.ends n k).events) =
     ap (λ is. arrivals_of (neighbours w n) k is ++ map arrival_of (w.ends n k).events) q
     ∙ ap (λ r. (arrivals_in k r item.what ++ arrivals_of (neighbours w n) k items) ++ map arrival_of (w.ends n k).events) seat
     ∙ ap (λ (x : What). (arrivals_in k (Some k) x ++ arrivals_of (neighbours w n) k items) ++ map arrival_of (w.ends n k).events) what
     ∙ ap (λ (b : Bool). ((if b then PacketComes l p ∷ [] else []) ++ arrivals_of (neighbours w n) k items) ++ map arrival_of (w.ends n k).events) (eq-eqb k k refl) in
     let next : slice_get (packets_of (reversed l) (machine_after steps k n).sent) (length (packets_of l (machine_after steps n k).taken)) ≡ Some p =
-    takes_next (end_views w n k) (machine_after steps n k) (machine_after steps k n).sent (seen_at_other seen n k) l p (arrivals_of (neighbours w n) k items ++ map arrival_of (w.ends n k).events) come on (g.sides n k) in
-    sent_from k (reversed l) (w.put k n) (length (packets_of l (machine_after steps n k).taken)) p (a.put k n) (subst (λ xs. slice_get (packets_of (reversed l) xs) (length (packets_of l (machine_after steps n k).taken)) ≡ Some p) (g.sides k n).histories.sent_is next)
+    takes_next (end_views w n k) (machine_after steps n k) (machine_after steps k n).sent (seen_at_other seen n k) l p (arrivals_of (neighbours w n) k items ++ map arrival_of (w.ends n k).events) come on (g.sides n k) in (
+      length (packets_of l (machine_after steps n k).taken),
+      subst (λ xs. slice_get (packets_of (reversed l) xs) (length (packets_of l (machine_after steps n k).taken)) ≡ Some p) (g.sides k n).histories.sent_is next,
+    )
+
+-- so it was sent by the neighbour
+taken_from : (steps : List MachineStep) (w : World) (seen : Seen) → AllEndsFollow steps (end_views w) w.datagrams seen → AreNodes w → (n : ℕ) (item : Item) (items : List Item) → w.items n ≡ item ∷ items →
+    (k : ℕ) (l : Life) (p : Packet) → slice_get (neighbours w n) item.seat ≡ Some k → item.what ≡ Tells.Packet l p → (w.seats n).current k ≡ Some l → is_from k p ≡ true
+taken_from steps w seen g a n item items q k l p seat what on =
+    let x = taken_is_put steps w seen g n item items q k l p seat what on in
+    packet_put (IsSentBy k) (reversed l) (w.put k n) x.0 p (a.put k n) x.1
 
 -- nothing of this changes
 same_nodes : (w w' : World) → w'.topology ≡ w.topology → w'.seats ≡ w.seats → w'.put ≡ w.put → w'.inputs ≡ w.inputs → w'.steps ≡ w.steps → AreNodes w → AreNodes w'

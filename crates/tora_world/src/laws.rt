@@ -1,11 +1,13 @@
 // The laws of all schedules. Each stands over the definitions alone: a function without parameters that does nothing.
-ghost use Rattle.std.specs.Prelude.{◌≡◌, List, [], ◌∷◌, Some, None};
+ghost use Rattle.std.specs.Prelude.{◌≡◌, ◌↔◌, ℕ, suc, ◌≤◌, true, List, [], ◌∷◌, length, Some, None};
+ghost use Rattle.tora_height.specs.Height.{Quintuple};
 ghost use Rattle.tora_packet.specs.declared.Packet.TheVariants.{Qry};
 ghost use Rattle.tora_arq.specs.declared.Times.{Times};
 ghost use Rattle.tora_world.specs.declared.Event.{Event};
-ghost use Rattle.tora_world.specs.Layers.{LinkLaws, LifeLaws, CoreLaws, SeatLaws};
-ghost use Rattle.tora_world.specs.Topology.{Topology};
-ghost use Rattle.tora_world.specs.World.{first_world, world_after_all, sent_packets, taken_packets};
+ghost use Rattle.tora_world.specs.Layers.{LinkLaws, LifeLaws, CoreLaws, SeatLaws, RuleLaws};
+ghost use Rattle.tora_world.specs.Topology.{Topology, nodes_in};
+ghost use Rattle.tora_world.specs.Walks.{EveryWorld, height_at, IsExact, exact_in, IsWalk, walk_of, Arrives};
+ghost use Rattle.tora_world.specs.World.{World, first_world, world_after_all, sent_packets, taken_packets};
 ghost use Rattle.tora_world.specs.FreeWorld.{after_schedule, own_schedule};
 ghost use Rattle.tora_world.specs.MachineRun.{machine_steps};
 ghost use Rattle.tora_world.specs.Law.{EveryRun, TakenBeginsSent, IsOfMachine, CoresFollow, BindsOnce, AcknowledgedIsAccepted};
@@ -23,18 +25,20 @@ use tora_arq::{
 };
 use tora_core::{
     inputs_are_accepted, links_follow_inputs, numbers_are_put_in_order, numbers_come_and_go,
-    tables_stay,
+    runs_are_kept, tables_stay, up_links_are_of_neighbours, words_are_computed,
 };
+use tora_height::heights_are_totally_ordered;
 use tora_life::drawn_life_numbers_rise;
 use tora_seat::{accepted_inputs_make_the_core, cut_links_go_down};
 
-/// What the link end, the life file, the core and its seat promise. A law of theirs is the contract of a function that does nothing, so a
+/// What heights, the link end, the life file, the core and its seat promise. A law of theirs is the contract of a function that does nothing, so a
 /// law that rests on it calls that function: the call brings its clauses in.
 fn layers_keep_their_laws()
     ensures links { LinkLaws }
     ensures files { LifeLaws }
     ensures cores { CoreLaws }
     ensures seats { SeatLaws }
+    ensures rules { RuleLaws }
 {
     calls_keep_an_end();
     lives_are_bound_once();
@@ -51,6 +55,10 @@ fn layers_keep_their_laws()
     numbers_are_put_in_order();
     accepted_inputs_make_the_core();
     cut_links_go_down();
+    heights_are_totally_ordered();
+    runs_are_kept();
+    up_links_are_of_neighbours();
+    words_are_computed();
 }
 
 /// The prefix law: the packets that a node's core has taken from a neighbour in one life of their link are a prefix of
@@ -97,6 +105,25 @@ pub fn only_needs_are_refused()
     // Of the packets that were ever taken from a neighbour, the last ones are those that the core has accepted from it
     // since its node's last restart.
     ensures accepted { EveryRun (λ first es w. SteppedAreAccepted w) }
+{
+    layers_keep_their_laws();
+}
+
+/// Exact entries give walks: where each entry for a destination that is not NULL is the height of the neighbour whose
+/// entry it is, the next hops lead from any node with a height to the destination.
+///
+/// It holds of every world that events reach over a topology that is not refused. It rests on the lower neighbour law, by
+/// which a node other than the destination that has a height has a lower entry, and on the order of heights alone: along
+/// the hops heights fall, so that no node is met twice. Nothing says that entries ever become exact.
+pub fn exact_entries_give_walks()
+    // The hops from a node with a height reach the destination within as many hops as there are nodes, each to a lower
+    // height, and they are the walk.
+    ensures walks { EveryWorld (λ w. (d n : ℕ) (height : Quintuple) → IsExact w d → height_at w n d ≡ Some (Some height) → Arrives w n d) }
+    // The comparison of all entries says just where they are exact.
+    ensures exact { EveryWorld (λ w. (d : ℕ) → (exact_in w d ≡ true) ↔ IsExact w d) }
+    // A walk is found just where there is one of at most as many hops as there are nodes, and it is that walk.
+    ensures found { (w : World) (n d : ℕ) (nodes : List ℕ) → (walk_of w n d ≡ Some nodes)
+        ↔ (IsWalk w n d nodes × (length nodes ≤ suc (length (nodes_in w.topology.links)))) }
 {
     layers_keep_their_laws();
 }

@@ -7,8 +7,8 @@ ghost use Rattle.tora_world.specs.Errors.{sim_error_number};
 mod laws;
 
 pub use laws::{
-    no_gap_law, only_needs_are_refused, prefix_law, simulator_runs_are_free_runs,
-    worked_events_hold, worked_schedules_hold,
+    exact_entries_give_walks, no_gap_law, only_needs_are_refused, prefix_law,
+    simulator_runs_are_free_runs, worked_events_hold, worked_schedules_hold,
 };
 use thiserror::Error;
 use tora_height::Id;

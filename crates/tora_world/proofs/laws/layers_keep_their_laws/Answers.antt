@@ -52,3 +52,14 @@ returns-clause-seats c = record {
   next = c.cut_links_go_down.ensures.next;
   none_left = c.cut_links_go_down.ensures.none_left;
 }
+
+pub returns-clause-rules : goal.returns-clause-rules
+returns-clause-rules c = record {
+  order = c.heights_are_totally_ordered.ensures.total;
+  lower = c.heights_are_totally_ordered.ensures.lower;
+  same = c.heights_are_totally_ordered.ensures.same;
+  kept = c.runs_are_kept.ensures;
+  up = c.up_links_are_of_neighbours.ensures.neighbours;
+  downstream = c.words_are_computed.ensures.downstream;
+  next_hop = c.words_are_computed.ensures.next_hop;
+}

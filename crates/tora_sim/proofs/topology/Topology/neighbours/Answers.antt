@@ -1,7 +1,7 @@
 use Rattle.std.proofs.Common.{◌≤◌, ℕ, List, length, sym, subst}
 use Rattle.tora_world.specs.Topology.{other_ends}
 use Rattle.tora_sim.specs.Topologies.{topology_of, links_in}
-use Rattle.tora_sim.proofs.Sound.{sound, few-ends}
+use Rattle.tora_world.proofs.SoundTopology.{sound, few-ends}
 use Rattle.tora_sim.proofs.topology.Topology.neighbours.Goals as goal
 
 pub neighbours_of-requires : goal.neighbours_of-requires

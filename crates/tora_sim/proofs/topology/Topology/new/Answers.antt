@@ -2,7 +2,7 @@ use Rattle.std.proofs.Common.{◌≡◌, length, None, sym, ap, ◌∙◌, arith
 use Rattle.tora_world.specs.Topology.{nodes_in, topology_fault}
 use Rattle.tora_sim.specs.Topologies.{topology_of}
 use Rattle.tora_sim.proofs.Olds.{all_others}
-use Rattle.tora_sim.proofs.Sound.{sound}
+use Rattle.tora_world.proofs.SoundTopology.{sound}
 use Rattle.tora_sim.proofs.topology.Topology.new.Goals as goal
 
 pub invariant_of-result : goal.invariant_of-result
