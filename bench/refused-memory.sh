@@ -1,31 +1,60 @@
 #!/usr/bin/env bash
-# Runs the tests of a crate again and again, each time with the Nth allocation of each test refused, N from FIRST to LAST.
-# In every run the tests named `want_of_memory..` must pass, and no test may fault, hang or end with two different outputs.
-# Another test may fail, since it wants memory; the script doesn't look into why.
-# usage: bench/refused-memory.sh CRATE [FIRST] [LAST]     for example: bench/refused-memory.sh tora_core
+# Refuses memory to every test of every crate: the Nth call for it, N from 1 on until none is refused any more, each in a run
+# of its own. A test named `want_of_memory..` must pass in every run. Any other test may fail where it wants memory, but none
+# may fault, hang, or end with another status than 0 and 101.
+# usage: bench/refused-memory.sh [-m MOST] [CRATE ..]     all crates where none is named; MOST is 2000 without -m
+# Behind the MOSTth call N goes on in steps of a twentieth. The crates' tests are built by `rt test`, which proves them, where
+# they are not built. It needs a C compiler.
 set -u
 top=$(cd "$(dirname "$0")/.." && pwd)
-crate=${1:?a crate, as tora_core}
-first=${2:-1}
-last=${3:-200}
-log=$(mktemp)
-trap 'rm -f "$log"' EXIT
-for n in $(seq "$first" "$last"); do
-  (cd "$top/crates/$crate" && rt try --test --fail-alloc "$n") >"$log" 2>&1
-  status=$?
-  case $status in
-    0) echo "allocation $n: all tests passed" ;;
-    101)
-      if grep -E 'want_of_memory.*FAILED' "$log"; then
-        echo "allocation $n: wrong answer"
-        exit 1
-      fi
-      echo "allocation $n: refused; $(grep -c 'FAILED$' "$log") tests met it"
-      ;;
-    *)
-      tail -n 5 "$log"
-      echo "allocation $n: status $status"
-      exit 1
-      ;;
-  esac
+most=2000
+case ${1-} in
+  -h | --help) sed -n '2,7s/^# //p' "$0"; exit 0 ;;
+  -m) most=${2:?a number}; shift 2 ;;
+esac
+[[ $most =~ ^[1-9][0-9]*$ ]] || { echo "refused-memory.sh: -m takes a number from 1 on, not '$most'" >&2; exit 2; }
+work=$(mktemp -d)
+trap 'rm -rf "$work"' EXIT
+cc -O1 -shared -fPIC -o "$work/refuse.so" "$top/bench/refuse.c" || exit 2
+
+# One run of a test with the Nth call refused; its status.
+run() {
+  rm -f "$work/came"
+  (cd "$work" && LD_PRELOAD="$work/refuse.so" REFUSE_AT=$3 REFUSE_LOG="$work/came" timeout 120 "$1" "$2") >"$work/log" 2>&1
+}
+
+# Each call of one test refused in turn; 1 where a run is wrong.
+sweep() {
+  local tests=$1 name=$2 n=1 runs=0 failed=0 status
+  while :; do
+    run "$tests" "$name" "$n"
+    status=$?
+    if [ "$status" -ne 0 ] && [ "$status" -ne 101 ] || { [ "$status" -ne 0 ] && [[ $name == *want_of_memory* ]]; }; then
+      tail -n 5 "$work/log"
+      echo "$name: status $status where call $n is refused"
+      return 1
+    fi
+    [ -e "$work/came" ] || break
+    runs=$((runs + 1))
+    [ "$status" -eq 0 ] || failed=$((failed + 1))
+    if [ "$n" -lt "$most" ]; then n=$((n + 1)); else n=$((n + n / 20)); fi
+  done
+  calls=$((calls + n - 1)) all_runs=$((all_runs + runs)) all_failed=$((all_failed + failed))
+  [ "$n" -le "$most" ] || thinned="$thinned $name"
+}
+
+cd "$top/crates" || exit 2
+[ $# -gt 0 ] || set -- $(for tests in */src/tests.rt; do echo "${tests%%/*}"; done)
+wrong=0
+for crate in "$@"; do
+  [ -e "$crate/src/tests.rt" ] || { echo "refused-memory.sh: no crate with tests is named $crate" >&2; exit 2; }
+  tests=$top/crates/$crate/out/${crate}_tests
+  [ -x "$tests" ] || (cd "$crate" && rt test) >"$work/built" 2>&1 || { tail -n 5 "$work/built"; exit 2; }
+  calls=0 all_runs=0 all_failed=0 thinned= count=0
+  for name in $("$tests" --list | sed -n 's/: test$//p'); do
+    count=$((count + 1))
+    sweep "$tests" "$name" || wrong=$((wrong + 1))
+  done
+  echo "$crate: $count tests, which call for memory $calls times; $all_runs runs with one call refused, of which $all_failed ended a test${thinned:+; in steps:$thinned}"
 done
+[ "$wrong" -eq 0 ] && echo "no run was wrong" || { echo "$wrong tests were wrong"; exit 1; }
