@@ -120,6 +120,21 @@ impl Topology {
         self.destinations.as_slice()
     }
 
+    /// Whether a node has this number.
+    pub fn has_node(&self, n: Id) -> bool
+        ensures { result ≡ is_node self.now n }
+    {
+        let nodes = self.nodes();
+        has_number(n, nodes.as_slice())
+    }
+
+    /// Whether this is one of the destinations.
+    pub fn has_destination(&self, d: Id) -> bool
+        ensures { result ≡ has_number d self.now.destinations }
+    {
+        has_number(d, &self.destinations)
+    }
+
     /// The nodes, in ascending order.
     pub(crate) fn nodes(&self) -> ArrayVec<Id, MOST_NODES>
         ensures items { result.items ≡ nodes_in self.now.links }
