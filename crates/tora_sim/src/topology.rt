@@ -89,8 +89,7 @@ impl Topology {
         ensures ok { OnOk result ((is_node self.old n ≡ true) × (self.new ≡ with_olds self.old (with_old n self.old.olds))) }
         ensures err { IfErr result (λ e. (e ≡ SimError.NoNode) × (is_node self.old n ≡ false) × (self.new ≡ self.old)) }
     {
-        let nodes = self.nodes();
-        if !has_number(n, nodes.as_slice()) {
+        if !self.has_node(n) {
             return Err(SimError::NoNode);
         }
         if !has_number(n, self.olds.as_slice()) {
