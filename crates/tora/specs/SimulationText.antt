@@ -14,7 +14,8 @@ use Rattle.tora.specs.LineText.{Rules, numbered, whole_text, fault_of, IsFirstFa
 use Rattle.tora.specs.Engine.{IsWholeText, IsFrontOfText}
 use Rattle.tora.specs.SimulationLines.{dests_of, link_of, simulation_line_of}
 use Rattle.tora.specs.Rounds.{is_same_pair, is_parted, rounds}
-use Rattle.tora_sim.specs.Readers.{ends_in, height_at, hop_at}
+use Rattle.tora_sim.specs.Readers.{ends_in}
+use Rattle.tora_world.specs.Walks.{height_at, hop_at}
 use Rattle.tora.specs.Simulator.{started, nodes_of}
 use Rattle.tora.specs.declared.ended.Ended.{Ended}
 use Rattle.tora.specs.declared.simulation_line.SimulationLine.{SimulationLine}

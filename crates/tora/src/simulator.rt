@@ -2,7 +2,8 @@
 ghost use Rattle.std.specs.Prelude.{◌≡◌, true, false, is_some, length, option_map, IfOk};
 ghost use Rattle.tora_world.specs.World.{World, refusal_of, world_after, datagram, sent_packets, taken_packets};
 ghost use Rattle.tora.specs.Simulator.{ArePairs, AreIds, Starts, nodes_of};
-ghost use Rattle.tora_sim.specs.Readers.{ends_in, height_at, hop_at};
+ghost use Rattle.tora_sim.specs.Readers.{ends_in};
+ghost use Rattle.tora_world.specs.Walks.{height_at, hop_at};
 
 use std::alloc::{AllocError, Global};
 use tora_arq::Life;

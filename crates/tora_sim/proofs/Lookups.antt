@@ -5,7 +5,7 @@ use Rattle.std.proofs.lemmas.List.{at_drop_more, append_assoc, append-nil}
 use Rattle.std.proofs.lemmas.Option.{slice_get-get_or}
 use Rattle.tora_packet.specs.declared.Packet.{Packet}
 use Rattle.tora_arq.specs.declared.Life.{Life}
-use Rattle.tora_core.specs.CoreRun.{height_of, hop_of}
+use Rattle.tora_core.specs.CoreRun.{height_of, entry_of, hop_of}
 use Rattle.tora_seat.specs.declared.Cargo.{Cargo}
 use Rattle.tora_seat.specs.declared.Cargo.TheVariants as Gives
 use Rattle.tora_world.specs.Topology.{is_node}
@@ -15,7 +15,7 @@ use Rattle.tora_sim.specs.Keyed.{IsFirst}
 use Rattle.tora_sim.specs.Nodes.{NodeView, is_of}
 use Rattle.tora_sim.specs.Links.{LinkView, is_at, parcel_in}
 use Rattle.tora_sim.specs.Store.{SimState, IsStore, node_at, link_at, seat_in, put_in, steps_in, world_of}
-use Rattle.tora_sim.specs.Readers.{height_at, hop_at}
+use Rattle.tora_world.specs.Walks.{height_at, hop_at, entry_at}
 use Rattle.tora_sim.proofs.Keys.{found}
 
 -- ---- one node
@@ -30,6 +30,10 @@ module _ (s : SimState) (h : IsStore s) (n i : ℕ) (x : NodeView) (first : IsFi
   pub height_found : (d : ℕ) → height_of x.seat.core d ≡ height_at (world_of s) n d
   height_found d =
       sym (ap (λ b. if b then height_of (seat_in s.topology n (node_at s.nodes n)).core d else None) named ∙ ap (λ o. height_of (seat_in s.topology n o).core d) node_found)
+
+  pub entry_found : (d k : ℕ) → entry_of x.seat.core d k ≡ entry_at (world_of s) n k d
+  entry_found d k =
+      sym (ap (λ b. if b then entry_of (seat_in s.topology n (node_at s.nodes n)).core d k else None) named ∙ ap (λ o. entry_of (seat_in s.topology n o).core d k) node_found)
 
   pub hop_found : (d : ℕ) → hop_of x.seat.core d ≡ hop_at (world_of s) n d
   hop_found d =

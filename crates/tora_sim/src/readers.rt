@@ -3,10 +3,11 @@ ghost use Rattle.std.specs.Prelude.{◌≡◌, IfOk, length, map, option_map, op
 ghost use Rattle.tora_core.specs.CoreRun.{height_of, hop_of};
 ghost use Rattle.tora_world.specs.Topology.{nodes_in};
 ghost use Rattle.tora_world.specs.World.{sent_packets, taken_packets, datagram};
+ghost use Rattle.tora_world.specs.Walks.{height_at, hop_at};
 ghost use Rattle.tora_world.specs.Lists.{packets_of, parcels_in};
 ghost use Rattle.tora_sim.specs.Store.{world_of, numbered};
 ghost use Rattle.tora_sim.specs.Links.{parcel_in};
-ghost use Rattle.tora_sim.specs.Readers.{ends_in, height_at, hop_at, way_of};
+ghost use Rattle.tora_sim.specs.Readers.{ends_in, way_of};
 
 use crate::datagrams::Datagrams;
 use crate::links::{LinkSlot, place};

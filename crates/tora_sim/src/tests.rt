@@ -1,4 +1,4 @@
-//! Topologies that are made and refused, and a simulator at its start.
+//! Topologies that are made and refused, a simulator at its start, and walks.
 ghost use Rattle.std.specs.Prelude.{◌≡◌, ◌<◌, true};
 ghost use Rattle.std.specs.List.{All};
 ghost use Rattle.tora_world.specs.Topology.{Link};
@@ -383,5 +383,61 @@ fn old_node_is_met(rt: HostRuntime) -> Result<(), Fail> {
         sim.step(&Event::Transmit(1, 2)),
         Err(SimError::NotPossible)
     );
+    Ok(())
+}
+
+/// The link ends of nodes 1 to 4 in a row.
+const ENDS: [(Id, Id); 6] = [(1, 2), (2, 1), (2, 3), (3, 2), (3, 4), (4, 3)];
+
+/// Lets happen once, at each end, what is possible there, and hands over each datagram at once.
+fn pass(sim: &mut Sim) {
+    for end in ENDS.iter() {
+        let (n, k) = *end;
+        let _ = sim.step(&Event::Open(n, k));
+        let _ = sim.step(&Event::Pull(n, k));
+        if sim.step(&Event::Transmit(n, k)).is_ok() {
+            let sent = sim.datagrams();
+            let _ = sim.step(&Event::Deliver(sent));
+        }
+        let _ = sim.step(&Event::Pump(n, k));
+        let _ = sim.step(&Event::CoreTurn(n));
+    }
+}
+
+/// Sees whether the entries for the destination 4 are exact.
+fn sees_exact(rt: &impl Abort, sim: &Sim, is_exact: bool) {
+    let known = sim.topology().has_destination(4);
+    assert!(rt; known);
+    assert_eq!(rt; sim.exact(4), is_exact);
+}
+
+/// Sees the walk of a node to the destination 4, none for no walk.
+fn sees_walk(rt: &impl Abort, alloc: Global, sim: &Sim, n: Id, nodes: &[Id]) {
+    let walk = sim.walk(alloc, n, 4).expect(rt, "an answer");
+    match walk {
+        Some(walk) => assert_eq!(rt; walk.as_slice(), nodes),
+        None => assert_eq!(rt; nodes.len(), 0),
+    }
+}
+
+#[test]
+fn exact_entries_give_a_walk(rt: HostRuntime) -> Result<(), Fail> {
+    let alloc = rt.alloc();
+    let topology = made(&rt, alloc, &[(1, 2), (2, 3), (3, 4)], &[4]).expect(&rt, "a topology");
+    let mut sim = Sim::new(alloc, &topology).expect(&rt, "a simulator");
+    run(&rt, &mut sim, &[Event::Need(1, 4)]);
+    for _ in 0..40 {
+        pass(&mut sim);
+    }
+    sees_exact(&rt, &sim, true);
+    sees_walk(&rt, alloc, &sim, 1, &[1, 2, 3, 4]);
+    sees_walk(&rt, alloc, &sim, 3, &[3, 4]);
+    sees_walk(&rt, alloc, &sim, 4, &[4]);
+    run(&rt, &mut sim, &[Event::Restart(2, None)]);
+    sees_exact(&rt, &sim, false);
+    sees_walk(&rt, alloc, &sim, 1, &[]);
+    sees_walk(&rt, alloc, &sim, 3, &[3, 4]);
+    assert_eq!(&rt; sim.walk(alloc, 5, 4).err(), Some(SimError::NoNode));
+    assert_eq!(&rt; sim.walk(alloc, 1, 3).err(), Some(SimError::NoNode));
     Ok(())
 }

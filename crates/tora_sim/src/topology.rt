@@ -89,8 +89,7 @@ impl Topology {
         ensures ok { OnOk result ((is_node self.old n ≡ true) × (self.new ≡ with_olds self.old (with_old n self.old.olds))) }
         ensures err { IfErr result (λ e. (e ≡ SimError.NoNode) × (is_node self.old n ≡ false) × (self.new ≡ self.old)) }
     {
-        let nodes = self.nodes();
-        if !has_number(n, nodes.as_slice()) {
+        if !self.has_node(n) {
             return Err(SimError::NoNode);
         }
         if !has_number(n, self.olds.as_slice()) {
@@ -118,6 +117,21 @@ impl Topology {
         ensures { result.now ≡ self.now.destinations }
     {
         self.destinations.as_slice()
+    }
+
+    /// Whether a node has this number.
+    pub fn has_node(&self, n: Id) -> bool
+        ensures { result ≡ is_node self.now n }
+    {
+        let nodes = self.nodes();
+        has_number(n, nodes.as_slice())
+    }
+
+    /// Whether this is one of the destinations.
+    pub fn has_destination(&self, d: Id) -> bool
+        ensures { result ≡ has_number d self.now.destinations }
+    {
+        has_number(d, &self.destinations)
     }
 
     /// The nodes, in ascending order.

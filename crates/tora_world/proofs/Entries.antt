@@ -1,6 +1,6 @@
 -- What a node of a run knows of its neighbours: its core's view of a destination, the entries, and the next hop.
 use Rattle.std.proofs.Common.{◌≡◌, ℕ, ◌<◌, ◌==◌, ◌||◌, Bool, true, false, inl, inr, List, [], ◌∷◌, Option, None, Some, is_some, if◌then◌else◌, refl, sym, ap, ◌∙◌, subst, arith, eq-eqb, eqb-true}
-use Rattle.std.specs.Prelude.{IfSome, cond, find, fold, option_map}
+use Rattle.std.specs.Prelude.{IfSome, cond, find, option_map}
 use Rattle.std.specs.List.{AllByRecursion}
 use Rattle.std.proofs.lemmas.Bool.{cond_both}
 use Rattle.std.proofs.lemmas.Bool.Decides.{nat_tests}
@@ -10,12 +10,11 @@ use Rattle.tora_packet.specs.PacketParts.{IsId}
 use Rattle.tora_core.specs.declared.Input.{Input}
 use Rattle.tora_core.specs.declared.rows.Row.{Row}
 use Rattle.tora_core.specs.Numbers.{has_number}
-use Rattle.tora_core.specs.View.{View, neighbours_of as numbers_of, is_downstream, downstream_rows, has_downstream, lower_row_of, next_hop_of}
+use Rattle.tora_core.specs.View.{View, neighbours_of as numbers_of, has_downstream, next_hop_of}
 use Rattle.tora_core.specs.CoreRun.{CoreView, is_of, refusal_of, core_taking, core_after, core_after_all, view_of, entry_in}
 use Rattle.tora_core.specs.Kept.{AreAscending, IsKept, IsViewOf, IsCore}
-use Rattle.tora_core.specs.Reacts.{IsEntry, HasDownstream}
-use Rattle.tora_core.proofs.ReactsWords.{IsAmong, all-among, among-Contains, lower-down}
-use Rattle.tora_core.proofs.ReactsHop.{is_down, filter-among, lowest-none}
+use Rattle.tora_core.specs.Reacts.{IsEntry}
+use Rattle.tora_core.proofs.ReactsWords.{IsAmong, all-among, among-Contains}
 use Rattle.tora_world.specs.Topology.{Topology, neighbours_of, is_node, new_core}
 use Rattle.tora_world.specs.World.{World}
 use Rattle.tora_world.specs.Layers.{CoreLaws, RuleLaws}
@@ -118,16 +117,6 @@ pub record HasHop (v : View) : Type 0 where
 pub has_hop : RuleLaws → (v : View) → IsKept v → has_downstream v ≡ true → HasHop v
 has_hop rules v kept down = go (next_hop_of v) refl
   where
-    no_row : (o : Option Row) → option_map (λ (row : Row). row.neighbour) o ≡ None → o ≡ None
-    no_row None f = refl
-    no_row (Some row) f = absurd cc
-
-    none : HasDownstream v → next_hop_of v ≡ None → ⊥
-    none (k, (h, i, lower)) e =
-        let row : Row = i.0 in
-        let is : is_down v row ≡ true = ap (λ (o : Option Quintuple). is_downstream v.height o) i.3 ∙ lower-down v.height h lower in
-        lowest-none (downstream_rows v) row (no_row (fold lower_row_of None (downstream_rows v)) e) (filter-among (is_down v) v.rows row (among-Contains v.rows row i.1) is)
-
     go : (o : Option ℕ) → next_hop_of v ≡ o → HasHop v
-    go None e = absurd (none ((rules.downstream v).0 down) e)
+    go None e = let some = (rules.downstream v).0 down in absurd ((rules.no_hop v).0 e some.0 some.1)
     go (Some k) e = let x = (rules.next_hop v k kept).0 e in record { hop = k; entry = x.entry; next = e; known = x.known; lower = x.downstream }

@@ -24,8 +24,9 @@ use tora_arq::{
     packets_are_submitted_in_the_bound_life,
 };
 use tora_core::{
-    inputs_are_accepted, links_follow_inputs, numbers_are_put_in_order, numbers_come_and_go,
-    runs_are_kept, tables_stay, up_links_are_of_neighbours, words_are_computed,
+    inputs_are_accepted, links_follow_inputs, nothing_is_found, numbers_are_put_in_order,
+    numbers_come_and_go, runs_are_kept, tables_stay, up_links_are_of_neighbours,
+    words_are_computed,
 };
 use tora_height::heights_are_totally_ordered;
 use tora_life::drawn_life_numbers_rise;
@@ -56,6 +57,7 @@ fn layers_keep_their_laws()
     accepted_inputs_make_the_core();
     cut_links_go_down();
     heights_are_totally_ordered();
+    nothing_is_found();
     runs_are_kept();
     up_links_are_of_neighbours();
     words_are_computed();

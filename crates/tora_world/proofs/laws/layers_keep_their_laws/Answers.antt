@@ -62,4 +62,5 @@ returns-clause-rules c = record {
   up = c.up_links_are_of_neighbours.ensures.neighbours;
   downstream = c.words_are_computed.ensures.downstream;
   next_hop = c.words_are_computed.ensures.next_hop;
+  no_hop = c.nothing_is_found.ensures.next_hop;
 }

@@ -1,6 +1,6 @@
 use Rattle.std.proofs.Common.{◌∙◌, ap}
 use Rattle.tora_sim.specs.Store.{SimState, state_of, world_of}
-use Rattle.tora_sim.specs.Readers.{height_at}
+use Rattle.tora_world.specs.Walks.{height_at}
 use Rattle.tora_sim.proofs.Lookups.{height_found}
 use Rattle.tora_sim.proofs.sim.Sim.height.Goals as goal
 

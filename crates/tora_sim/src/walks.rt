@@ -1,0 +1,120 @@
+//! Whether entries are exact, and the walk that follows next hops.
+ghost use Rattle.std.specs.Prelude.{◌≡◌, ◌&&◌, true, option_map, MatchBool, IfOk, IfErr, Err};
+ghost use Rattle.tora_core.specs.Numbers.{has_number};
+ghost use Rattle.tora_core.specs.CoreRun.{entry_of};
+ghost use Rattle.tora_world.specs.Topology.{is_node};
+ghost use Rattle.tora_world.specs.Walks.{entry_at, height_at, is_exact_entry, is_exact_node, exact_in, walk_within, walk_of};
+ghost use Rattle.tora_sim.specs.Store.{world_of};
+
+use crate::SimError;
+use crate::nodes::{NodeSlot, place as node_place};
+use crate::sim::Sim;
+use std::alloc::{AllocError, Global};
+use std::cmp::Ordering;
+use tora_height::{Entry, Id};
+
+impl Sim {
+    /// Whether entries are exact: each entry for destination `d` that is not NULL, of any node and any of its neighbours
+    /// whose link is up, is the height of that neighbour.
+    ///
+    /// It asks a destination of the topology, as `Topology::has_destination` tells. Where entries are exact, the hops from
+    /// any node with a height reach `d` within as many hops as there are nodes, and `walk` gives them, as
+    /// `tora_world::exact_entries_give_walks` has it. Nothing says that entries ever become exact.
+    pub fn exact(&self, d: Id) -> bool
+        requires { has_number d self.now.topology.destinations ≡ true }
+        ensures { result ≡ exact_in (world_of self.now) d }
+    {
+        let nodes = self.topology.nodes();
+        nodes.as_slice().iter().all(|n| self.is_exact_node(*n, d))
+    }
+
+    /// The nodes that are met from node `n` to destination `d` by next hops, both of them included; `n` alone where it is
+    /// `d`.
+    ///
+    /// `None` where a node before `d` has no next hop, or where `d` is not met within as many hops as there are nodes.
+    ///
+    /// # Errors
+    /// In this order: `NoNode` where `n` is no node, or `d` no destination of the topology; `Memory`.
+    pub fn walk(&self, alloc: Global, n: Id, d: Id) -> Result<Option<Vec<Id>>, SimError>
+        ensures refused { MatchBool (is_node self.now.topology n && has_number d self.now.topology.destinations)
+            (IfErr result (λ e. e ≡ SimError.Memory)) (result ≡ Err SimError.NoNode) }
+        ensures walk { IfOk result (λ nodes. option_map (λ v. v.items) nodes ≡ walk_of (world_of self.now) n d) }
+    {
+        if !self.topology.has_node(n) || !self.topology.has_destination(d) {
+            return Err(SimError::NoNode);
+        }
+        let nodes = self.topology.nodes();
+        match self.walk_within(alloc, nodes.len(), n, d) {
+            Ok(walk) => Ok(walk),
+            Err(_) => Err(SimError::Memory),
+        }
+    }
+
+    /// The walk of at most so many hops.
+    fn walk_within(
+        &self,
+        alloc: Global,
+        hops: usize,
+        n: Id,
+        d: Id,
+    ) -> Result<Option<Vec<Id>>, AllocError>
+        ensures { IfOk result (λ nodes. option_map (λ v. v.items) nodes ≡ walk_within hops (world_of self.now) n d) }
+    {
+        let mut nodes = Vec::new(alloc);
+        let mut at = n;
+        for _ in 0..hops {
+            nodes.push(at)?;
+            if at == d {
+                return Ok(Some(nodes));
+            }
+            let Some(next) = self.next_hop(at, d) else {
+                return Ok(None);
+            };
+            at = next;
+        }
+        nodes.push(at)?;
+        if at == d { Ok(Some(nodes)) } else { Ok(None) }
+    }
+
+    /// Whether the entries of one node are exact.
+    fn is_exact_node(&self, n: Id, d: Id) -> bool
+        ensures { result ≡ is_exact_node (world_of self.now) d n }
+    {
+        let neighbours = self.topology.neighbours(n);
+        neighbours
+            .as_slice()
+            .iter()
+            .all(|k| self.is_exact_entry(n, *k, d))
+    }
+
+    /// Whether the entry of neighbour `k` at node `n` is NULL or the height of `k`, or there is none.
+    fn is_exact_entry(&self, n: Id, k: Id, d: Id) -> bool
+        ensures { result ≡ is_exact_entry (entry_at (world_of self.now) n k d) (height_at (world_of self.now) k d) }
+    {
+        match (self.entry(n, k, d), self.height(k, d)) {
+            (Some(Some(entry)), Some(Some(height))) => entry.height_cmp(&height) == Ordering::Equal,
+            (Some(Some(_)), _) => false,
+            _ => true,
+        }
+    }
+
+    /// The entry of neighbour `k` at node `n` for a destination; `None` where there is no such node, neighbour or
+    /// destination, or the link is not up.
+    fn entry(&self, n: Id, k: Id, d: Id) -> Option<Entry>
+        ensures { result ≡ entry_at (world_of self.now) n k d }
+    {
+        match node_place(&self.nodes, &self.hints, n) {
+            Some(at) => self.nodes[at].entry(k, d),
+            None => None,
+        }
+    }
+}
+
+impl NodeSlot {
+    /// Its entry of neighbour `k` for a destination.
+    fn entry(&self, k: Id, d: Id) -> Option<Entry>
+        ensures { result ≡ entry_of self.now.seat.core d k }
+    {
+        self.seat.core().entry(d, k)
+    }
+}
