@@ -1,16 +1,57 @@
 //! Two link ends in one thread.
 use std::alloc::Global;
 use tora_arq::{Life, LinkEnd, Times, WINDOW};
-use tora_packet::Packet;
+use tora_frame::{BorrowedFrame, LONGEST_FRAME, Packets, Version, decode_into, encode_into};
+use tora_height::Height;
+use tora_packet::{Packet, Update};
+
+use arrayvec::ArrayVec;
+
+/// How a frame goes from one end to the other.
+#[derive(Clone, Copy, PartialEq, Eq)]
+pub enum Passed {
+    /// As it is.
+    Frame,
+    /// As its bytes, which are read again.
+    Bytes,
+}
+
+/// What is kept from one frame to the next.
+#[derive(Drop)]
+struct Kept {
+    bytes: ArrayVec<u8, LONGEST_FRAME>,
+    packets: Packets,
+}
+
+impl Kept {
+    fn new() -> Kept {
+        Kept {
+            bytes: ArrayVec::new(),
+            packets: Packets::new(),
+        }
+    }
+
+    /// Hands a frame to an end.
+    fn pass(&mut self, frame: &BorrowedFrame<'_>, to: &mut LinkEnd, passed: Passed) {
+        if passed == Passed::Frame {
+            let _verdict = to.on_borrowed_frame(frame, 0);
+            return;
+        }
+        encode_into(frame, &mut self.bytes);
+        if let Ok(read) = decode_into(self.bytes.as_slice(), &mut self.packets) {
+            let _verdict = to.on_borrowed_frame(&read, 0);
+        }
+    }
+}
 
 /// Hands the frames due at one end to the other.
-fn exchange(from: &mut LinkEnd, to: &mut LinkEnd) -> u64 {
+fn exchange(from: &mut LinkEnd, to: &mut LinkEnd, packets: &mut Packets) -> u64 {
     let mut count = 0u64;
     for _ in 0..4 {
-        let Some(frame) = from.poll_transmit(0) else {
+        let Some(frame) = from.poll_transmit_into(0, packets) else {
             break;
         };
-        let _verdict = to.on_frame(&frame, 0);
+        let _verdict = to.on_borrowed_frame(&frame, 0);
         count = count.wrapping_add(1);
     }
     count
@@ -29,13 +70,14 @@ fn count_events(end: &mut LinkEnd) -> u64 {
 }
 
 /// Hands the frames due at one end to the other, which tells its events after each, as in the turns of a node.
-fn exchange_all(from: &mut LinkEnd, to: &mut LinkEnd) -> u64 {
+fn exchange_all(from: &mut LinkEnd, to: &mut LinkEnd, kept: &mut Kept, passed: Passed) -> u64 {
+    let mut packets = Packets::new();
     let mut count = 0u64;
-    for _ in 0..WINDOW + 2 {
-        let Some(frame) = from.poll_transmit(0) else {
+    for _ in 0..WINDOW + 3 {
+        let Some(frame) = from.poll_transmit_into(0, &mut packets) else {
             break;
         };
-        let _verdict = to.on_frame(&frame, 0);
+        kept.pass(&frame, to, passed);
         count = count.wrapping_add(1).wrapping_add(count_events(to));
     }
     count
@@ -48,56 +90,68 @@ struct Link {
     life: Life,
 }
 
-fn bound_link(alloc: Global) -> Option<Link> {
-    let mut one = LinkEnd::new(alloc, 1, 2, Times::STANDARD).ok()?;
-    let mut two = LinkEnd::new(alloc, 2, 1, Times::STANDARD).ok()?;
+fn bound_link(alloc: Global, version: Version) -> Option<Link> {
+    let (mut one, mut two) = match version {
+        Version::One => (
+            LinkEnd::new_v1(alloc, 1, 2, Times::STANDARD).ok()?,
+            LinkEnd::new_v1(alloc, 2, 1, Times::STANDARD).ok()?,
+        ),
+        Version::Two => (
+            LinkEnd::new(alloc, 1, 2, Times::STANDARD).ok()?,
+            LinkEnd::new(alloc, 2, 1, Times::STANDARD).ok()?,
+        ),
+    };
     one.open(5, 0);
     two.open(9, 0);
+    let mut packets = Packets::new();
     for _ in 0..3 {
-        exchange(&mut one, &mut two);
-        exchange(&mut two, &mut one);
+        exchange(&mut one, &mut two, &mut packets);
+        exchange(&mut two, &mut one, &mut packets);
     }
     let life = one.life()?;
     Some(Link { one, two, life })
 }
 
-/// Packets from one end to the other, each delivered and acknowledged before the next; how many events and frames there
+/// Queries from one end to the other, each delivered and acknowledged before the next; how many events and frames there
 /// were.
 pub fn run_link(alloc: Global, packets: u32) -> Option<u64> {
     let Link {
         mut one,
         mut two,
         life,
-    } = bound_link(alloc)?;
+    } = bound_link(alloc, Version::Two)?;
+    let (mut there, mut back) = (Packets::new(), Packets::new());
     let mut sum = 0u64;
     for _ in 0..packets {
         one.submit(life, Packet::qry(4).ok()?).ok()?;
-        sum = sum.wrapping_add(exchange(&mut one, &mut two));
+        sum = sum.wrapping_add(exchange(&mut one, &mut two, &mut there));
         for _ in 0..4 {
             if two.poll_event().is_some() {
                 sum = sum.wrapping_add(1);
             }
         }
-        sum = sum.wrapping_add(exchange(&mut two, &mut one));
+        sum = sum.wrapping_add(exchange(&mut two, &mut one, &mut back));
     }
     Some(sum)
 }
 
-/// Packets from one end to the other, a window at a time: as many frames, and one ACK; how many events and frames there
-/// were.
-pub fn run_window(alloc: Global, packets: u32) -> Option<u64> {
+/// Updates of 32 bytes from one end to the other, a window at a time: in version 1 as many frames, in version 2 two of
+/// sixteen, and one ACK; how many events and frames there were.
+pub fn run_window(alloc: Global, packets: u32, version: Version, passed: Passed) -> Option<u64> {
     let Link {
         mut one,
         mut two,
         life,
-    } = bound_link(alloc)?;
+    } = bound_link(alloc, version)?;
+    let update = Packet::Upd(Update::new(4, Height::new(0, 0, 0, 1, 1).ok()?).ok()?);
+    let mut kept = Kept::new();
     let mut sum = 0u64;
     for _ in 0..u64::from(packets) / WINDOW {
         for _ in 0..WINDOW {
-            one.submit(life, Packet::qry(4).ok()?).ok()?;
+            one.submit(life, update).ok()?;
         }
-        sum = sum.wrapping_add(exchange_all(&mut one, &mut two));
-        sum = sum.wrapping_add(exchange_all(&mut two, &mut one));
+        sum = sum.wrapping_add(exchange_all(&mut one, &mut two, &mut kept, passed));
+        sum = sum.wrapping_add(exchange_all(&mut two, &mut one, &mut kept, passed));
     }
     Some(sum)
 }

@@ -2,7 +2,8 @@
 //!
 //! `tora_bench hold-least N`, `hold-small N` and `hold-large N` hold N cores at once. `tora_bench core N` times N steps of a
 //! core on mixes of inputs, four with 8 neighbours and 16 destinations, three with 32 and 64, `tora_bench link N` N packets
-//! that go from one link end to another and are acknowledged, one at a time and a window at a time. Each line is a name,
+//! that go from one link end to another and are acknowledged, one at a time and a window at a time: in frames of one and in
+//! batches, and each of them as frames and as bytes. Each line is a name,
 //! nanoseconds an operation (the best of seven runs), and a number that depends on every result.
 #![tactic(auto)]
 
@@ -12,11 +13,12 @@ mod links;
 use inputs::{
     Size, fresh_core, mixed_inputs, quiet_update, reacting_update, routed_core, small_core,
 };
-use links::{run_link, run_window};
+use links::{Passed, run_link, run_window};
 use std::alloc::Global;
 use std::io;
 use std::time::{Duration, Instant};
 use tora_core::{Core, Input, Sends};
+use tora_frame::Version;
 use tora_packet::Packet;
 
 /// How often each mix is run; the best run counts.
@@ -106,8 +108,10 @@ enum Mix {
     Quiet(Size),
     Reacting,
     Links(Size),
+    /// One packet at a time between two link ends.
     Link,
-    Window,
+    /// A window of packets between two link ends of a version.
+    Window(Version, Passed),
 }
 
 impl Mix {
@@ -118,7 +122,10 @@ impl Mix {
             Mix::Reacting => "core-reacting",
             Mix::Links(size) => size.name("core-links", "core-large-links"),
             Mix::Link => "link-packet",
-            Mix::Window => "link-window",
+            Mix::Window(Version::One, Passed::Frame) => "link-window",
+            Mix::Window(Version::One, Passed::Bytes) => "link-window-bytes",
+            Mix::Window(Version::Two, Passed::Frame) => "link-batch",
+            Mix::Window(Version::Two, Passed::Bytes) => "link-batch-bytes",
         }
     }
 
@@ -128,7 +135,7 @@ impl Mix {
             Mix::Mixed(size) => fresh_core(alloc, size),
             Mix::Reacting => small_core(alloc),
             Mix::Quiet(size) | Mix::Links(size) => routed_core(alloc, size),
-            Mix::Link | Mix::Window => fresh_core(alloc, Size::Least),
+            Mix::Link | Mix::Window(_, _) => fresh_core(alloc, Size::Least),
         }
     }
 
@@ -139,7 +146,7 @@ impl Mix {
             Mix::Reacting => run_reacting(core, steps),
             Mix::Links(_) => run_links(core, steps),
             Mix::Link => run_link(alloc, steps).unwrap_or(0),
-            Mix::Window => run_window(alloc, steps).unwrap_or(0),
+            Mix::Window(version, passed) => run_window(alloc, steps, version, passed).unwrap_or(0),
         }
     }
 
@@ -147,7 +154,7 @@ impl Mix {
     fn count(self, inputs: &[(u64, Input)], steps: u32) -> u64 {
         match self {
             Mix::Mixed(_) => inputs.len() as u64,
-            Mix::Quiet(_) | Mix::Reacting | Mix::Links(_) | Mix::Link | Mix::Window => {
+            Mix::Quiet(_) | Mix::Reacting | Mix::Links(_) | Mix::Link | Mix::Window(_, _) => {
                 u64::from(steps)
             }
         }
@@ -218,7 +225,14 @@ fn main(rt: HostRuntime) -> io::Result<()> {
             }
         }
     }
-    for mix in [Mix::Reacting, Mix::Link, Mix::Window] {
+    for mix in [
+        Mix::Reacting,
+        Mix::Link,
+        Mix::Window(Version::One, Passed::Frame),
+        Mix::Window(Version::One, Passed::Bytes),
+        Mix::Window(Version::Two, Passed::Frame),
+        Mix::Window(Version::Two, Passed::Bytes),
+    ] {
         if mix.name().starts_with(word.as_str()) {
             time(&rt, mix, &[], steps)?;
         }
