@@ -29,7 +29,7 @@ mod topology;
 mod turns;
 
 pub use sim::Sim;
-pub use topology::{MOST_NODES, Topology};
+pub use topology::{MOST_NODES, Topology, topology_fault};
 pub use tora_world::{Call, Event, SimError};
 
 #[cfg(test)]
