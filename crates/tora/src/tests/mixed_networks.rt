@@ -2,6 +2,7 @@
 use super::simulations::{FOUND, FOUND_AND_LOST, FOUR, expect_world};
 use super::*;
 use crate::times_word::asked_times;
+use std::alloc::AllocError;
 use tora_arq::Times;
 
 /// What finds and loses the route of a line of four nodes, behind its links.
