@@ -8,7 +8,9 @@ use std::process::Abort;
 use std::test::*;
 use tora_core::CoreError;
 
+mod mixed_networks;
 mod simulation_causes;
+mod simulation_streams;
 mod simulations;
 
 /// A reader that gives a few bytes at a time, and fails at one of its calls, counted from 1.
