@@ -18,8 +18,8 @@ use Rattle.tora.specs.declared.simulation_line.SimulationLine.TheVariants.{Happe
 use Rattle.tora.specs.Words.{cut, number_of, id_of, list_of, is_dash}
 use Rattle.tora.specs.Lines.{after, or_else, ◌>>=◌}
 use Rattle.tora.specs.LineGrammar.{SpellsId}
-use Rattle.tora.specs.SimulationLines.{is_word, pair_of, life_number_from, life_number_of, life_of, lane_of, call_of, torn_of, rounds_from, rounds_of, for_pair, for_lane, for_id, deliver_of, arm_of, restart_of, end_event_of, node_event_of, order_line_of, first_of_two, simulation_line_of, dests_of, link_of}
-use Rattle.tora.specs.SimulationGrammar.{SpellsPair, IsLifeNumber, SpellsLane, call_text, SpellsTorn, SpellsEvent, SpellsSimulationLine, SpellsDests, SpellsLink}
+use Rattle.tora.specs.SimulationLines.{is_word, pair_of, life_number_from, life_number_of, life_of, lane_of, call_of, torn_of, rounds_from, rounds_of, for_pair, for_lane, for_id, deliver_of, arm_of, restart_of, end_event_of, node_event_of, order_line_of, first_of_two, simulation_line_of, dests_of, link_of, old_of}
+use Rattle.tora.specs.SimulationGrammar.{SpellsPair, IsLifeNumber, SpellsLane, call_text, SpellsTorn, SpellsEvent, SpellsSimulationLine, SpellsDests, SpellsLink, SpellsOld}
 use Rattle.tora.proofs.Grammar.{number_prints}
 use Rattle.tora.proofs.LineLaws.{some_is, bind_some, id_found, after_found, cut_found, dash_found, or_else_some}
 use Rattle.tora.proofs.HeaderLaws.{list_found}
@@ -391,3 +391,10 @@ link_found text p h =
     let rest = bind_some (after (codes "link ") text) pair_of p h in
     let q = pair_found rest.0 p rest.2 in
     record { first = q.1; second = q.2; text_is = after_found (codes "link ") text rest.0 rest.1 ∙ ap (λ (x : List ℕ). codes "link " ++ x) q.0 }
+
+pub old_found : (text : List ℕ) (n : ℕ) → old_of text ≡ Some n → SpellsOld text n
+unfolding old_of
+old_found text n h =
+    let rest = bind_some (after (codes "old ") text) id_of n h in
+    let q = id_found rest.0 n rest.2 in
+    record { id = q.1; text_is = after_found (codes "old ") text rest.0 rest.1 ∙ ap (λ (x : List ℕ). codes "old " ++ x) q.0 }

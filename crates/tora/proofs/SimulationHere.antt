@@ -12,8 +12,8 @@ use Rattle.tora_world.specs.declared.Call.TheVariants as Fails
 use Rattle.tora.specs.declared.simulation_line.SimulationLine.{SimulationLine}
 use Rattle.tora.specs.declared.simulation_line.SimulationLine.TheVariants.{Happens, Rounds, Part, Mend, Heights, Sent, Taken}
 use Rattle.tora.specs.Lines.{after}
-use Rattle.tora.specs.SimulationLines.{is_word, pair_of, life_number_of, life_of, lane_of, call_of, torn_of, rounds_of, for_pair, for_lane, for_id, deliver_of, arm_of, restart_of, end_event_of, node_event_of, order_line_of, simulation_line_of, dests_of, link_of}
-use Rattle.tora.specs.SimulationGrammar.{IsLifeNumber, call_text, SpellsTorn, SpellsEvent, SpellsSimulationLine, SpellsDests, SpellsLink}
+use Rattle.tora.specs.SimulationLines.{is_word, pair_of, life_number_of, life_of, lane_of, call_of, torn_of, rounds_of, for_pair, for_lane, for_id, deliver_of, arm_of, restart_of, end_event_of, node_event_of, order_line_of, simulation_line_of, dests_of, link_of, old_of}
+use Rattle.tora.specs.SimulationGrammar.{IsLifeNumber, call_text, SpellsTorn, SpellsEvent, SpellsSimulationLine, SpellsDests, SpellsLink, SpellsOld}
 use Rattle.tora.proofs.Grammar.{number_again}
 use Rattle.tora.proofs.LineLaws.{id_here, after_here, no_blank, cut_here}
 use Rattle.tora.proofs.HeaderLaws.{list_here}
@@ -215,3 +215,7 @@ dests_here text dests s = ap dests_of s.text_is ∙ rw (after_here (codes "dests
 pub link_here : (text : List ℕ) (p : ℕ × ℕ) → SpellsLink text p → link_of text ≡ Some p
 unfolding link_of
 link_here text p s = ap link_of s.text_is ∙ rw (after_here (codes "link ") _) (pair_here p.0 p.1 s.first s.second)
+
+pub old_here : (text : List ℕ) (n : ℕ) → SpellsOld text n → old_of text ≡ Some n
+unfolding old_of
+old_here text n s = ap old_of s.text_is ∙ rw (after_here (codes "old ") _) (id_here n s.id)

@@ -1,17 +1,17 @@
 -- A line's reply in a simulation, as the text that goes on.
-use Rattle.std.proofs.Common.{ℕ, ◌≤◌, List, length, Result, Ok, Err}
+use Rattle.std.proofs.Common.{◌≡◌, ℕ, ◌≤◌, List, length, Result, Ok, Err}
 use Rattle.tora_world.specs.World.{World}
 use Rattle.tora.specs.declared.words.LineError.{LineError}
 use Rattle.tora.specs.declared.words.LineError.TheVariants.{Memory, Fault}
-use Rattle.tora.specs.declared.simulating.Simulation.{Simulation}
+use Rattle.tora.specs.declared.simulation.Simulation.{Simulation}
 use Rattle.tora.specs.Gives.{Gives}
 use Rattle.tora.specs.Session.{TakesLine}
 use Rattle.tora.specs.SimulationText.{simulation_reply, simulation_rules}
 use Rattle.tora.specs.SimulationView.{progress_of, simulation_kind}
 use Rattle.tora.proofs.KindLaws.{goes_on, is_fault}
 
-pub takes : {S : Type 0} (world : S → World) (old new : Simulation S) (line out : List ℕ) (r : Result (Unit {0}) LineError) → length line ≤ 4096
-    → Gives (λ x. (progress_of world new, out)) r (simulation_reply (progress_of world old) line) → TakesLine (simulation_kind world) old line new out r
-takes world old new line out (Ok x) short h = goes_on simulation_rules (progress_of world old) line (progress_of world new) out short h
-takes world old new line out (Err Memory) short h = tt
-takes world old new line out (Err Fault) short h = is_fault simulation_rules (progress_of world old) line short h
+pub takes : {S : Type 0} (world : S → World) (old new : Simulation S) (line out : List ℕ) (r : Result (Unit {0}) LineError) → length line ≤ 4096 → new.times ≡ old.times
+    → Gives (λ x. (progress_of world new.stage, out)) r (simulation_reply old.times (progress_of world old.stage) line) → TakesLine (simulation_kind world) old line new out r
+takes world old new line out (Ok x) short same h = rw same (goes_on (simulation_rules old.times) (progress_of world old.stage) line (progress_of world new.stage) out short h)
+takes world old new line out (Err Memory) short same h = tt
+takes world old new line out (Err Fault) short same h = is_fault (simulation_rules old.times) (progress_of world old.stage) line short h

@@ -18,3 +18,4 @@ pub mod Statuses
 pub mod Endings
 pub mod SimulationGrammar
 pub mod ToldView
+pub mod TimesWord

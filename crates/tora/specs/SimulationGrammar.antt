@@ -88,3 +88,7 @@ pub record SpellsDests (text dests : List ℕ) : Type 0 where
 -- `link A B`
 abbrev pub SpellsLink : List ℕ → ℕ × ℕ → Type 0
 SpellsLink text p = SpellsPair (codes "link ") text p.0 p.1
+
+-- `old N`
+abbrev pub SpellsOld : List ℕ → ℕ → Type 0
+SpellsOld text n = SpellsId (codes "old ") text n

@@ -157,3 +157,7 @@ dests_of text = after (codes "dests ") text >>= list_of
 -- `link A B`
 unfoldable pub link_of : List ℕ → Option (ℕ × ℕ)
 link_of text = after (codes "link ") text >>= pair_of
+
+-- `old N`
+unfoldable pub old_of : List ℕ → Option ℕ
+old_of text = after (codes "old ") text >>= id_of

@@ -1,9 +1,10 @@
 -- What a simulation of an input prints, and how it ends.
-use Rattle.std.specs.Prelude.{ℕ, ◌-◌, ◌==◌, ◌&&◌, Bool, not, if◌then◌else◌, codes, List, [], ◌∷◌, ◌++◌, length, filter, Option, Some, None, option_map}
+use Rattle.std.specs.Prelude.{ℕ, ◌-◌, ◌==◌, ◌&&◌, ◌||◌, Bool, not, if◌then◌else◌, codes, List, [], ◌∷◌, ◌++◌, length, filter, Option, Some, None, option_map}
 use Rattle.std.specs.List.{flat_map, list_any}
 use Rattle.std.specs.Option.{option_and_then}
 use Rattle.std.specs.Fmt.{decimal}
 use Rattle.tora_height.specs.Height.{Quintuple}
+use Rattle.tora_arq.specs.declared.Times.{Times}
 use Rattle.tora_core.specs.Numbers.{has_number}
 use Rattle.tora_core.specs.ShowText.{height_text, hop_text}
 use Rattle.tora_world.specs.declared.Event.{Event}
@@ -12,11 +13,12 @@ use Rattle.tora_world.specs.Errors.{sim_error_number}
 use Rattle.tora_world.specs.World.{World, refusal_of, world_after, world_after_all, sent_packets, taken_packets}
 use Rattle.tora.specs.LineText.{Rules, numbered, whole_text, fault_of, IsFirstFaultBy}
 use Rattle.tora.specs.Engine.{IsWholeText, IsFrontOfText}
-use Rattle.tora.specs.SimulationLines.{dests_of, link_of, simulation_line_of}
+use Rattle.tora.specs.SimulationLines.{dests_of, link_of, old_of, simulation_line_of}
 use Rattle.tora.specs.Rounds.{is_same_pair, is_parted, rounds}
-use Rattle.tora_sim.specs.Readers.{ends_in}
 use Rattle.tora_world.specs.Walks.{height_at, hop_at}
-use Rattle.tora.specs.Simulator.{started, nodes_of}
+use Rattle.tora_sim.specs.Readers.{ends_in}
+use Rattle.tora_sim.specs.Topologies.{with_old}
+use Rattle.tora.specs.Simulator.{has_topology, started, nodes_of}
 use Rattle.tora.specs.declared.ended.Ended.{Ended}
 use Rattle.tora.specs.declared.simulation_line.SimulationLine.{SimulationLine}
 use Rattle.tora.specs.declared.simulation_line.SimulationLine.TheVariants.{Happens, Rounds, Part, Mend, Heights, Sent, Taken}
@@ -33,7 +35,7 @@ pub record RunningView : Type 0 where
 
 pub data Progress : Type 0 where
   First : Progress  -- before the first line
-  Links : (dests : List ℕ) (links : List (ℕ × ℕ)) → Progress  -- the destinations, and the links so far
+  Links : (dests : List ℕ) (links : List (ℕ × ℕ)) (olds : List ℕ) → Progress  -- the destinations, the links so far, and behind these the old nodes so far
   Runs : RunningView → Progress
 
 -- a simulation of these destinations that begins in a world
@@ -103,76 +105,94 @@ running_reply s (Taken b a life) = where_linked s b a (s, count_text (length (ta
 abbrev pub line_reply : RunningView → List ℕ → Option Reply
 line_reply s line = option_and_then (running_reply s) (simulation_line_of line)
 
+-- ---- a line of the links
+
+-- one link more, unless a node is old already
+abbrev pub with_link : List ℕ → List (ℕ × ℕ) → List ℕ → ℕ × ℕ → Option Progress
+with_link dests links [] link = Some (Links dests (links ++ link ∷ []) [])
+with_link dests links (n ∷ olds) link = None
+
+-- a link names the node
+abbrev pub is_linked : ℕ → List (ℕ × ℕ) → Bool
+is_linked n links = list_any (λ p. (p.0 == n) || (p.1 == n)) links
+
+-- one old node more, where a link names it, and there is a topology of the links
+abbrev pub with_old_line : List ℕ → List (ℕ × ℕ) → List ℕ → ℕ → Option Progress
+with_old_line dests links olds n = if is_linked n links && has_topology links dests then Some (Links dests links (with_old n olds)) else None
+
 -- ---- any line
 
 abbrev pub left_by : Reply → Progress × List ℕ
 left_by r = (Runs r.0, r.1)
 
--- behind the links: the topology is made, and the line is one of its simulation
-abbrev pub first_run : List ℕ → List (ℕ × ℕ) → List ℕ → Option Reply
-first_run dests links line = option_and_then (λ w. line_reply (begun_in dests w) line) (started links dests)
+-- nothing is printed
+abbrev pub silent : Progress → Progress × List ℕ
+silent progress = (progress, [])
 
--- the line behind the last link: at least one link is required
-abbrev pub behind_links : List ℕ → List (ℕ × ℕ) → List ℕ → Option (Progress × List ℕ)
-behind_links dests [] line = None
-behind_links dests (link ∷ links) line = option_map left_by (first_run dests (link ∷ links) line)
+-- behind the links: the world is made, and the line is one of its simulation
+abbrev pub first_run : Times → List ℕ → List (ℕ × ℕ) → List ℕ → List ℕ → Option Reply
+first_run times dests links olds line = option_and_then (λ w. line_reply (begun_in dests w) line) (started links dests olds times)
 
-abbrev pub link_reply : List ℕ → List (ℕ × ℕ) → List ℕ → Option (ℕ × ℕ) → Option (Progress × List ℕ)
-link_reply dests links line (Some link) = Some (Links dests (links ++ link ∷ []), [])
-link_reply dests links line None = behind_links dests links line
+-- the line behind the last link and the last old node: at least one link is required
+abbrev pub behind_links : Times → List ℕ → List (ℕ × ℕ) → List ℕ → List ℕ → Option (Progress × List ℕ)
+behind_links times dests [] olds line = None
+behind_links times dests (link ∷ links) olds line = option_map left_by (first_run times dests (link ∷ links) olds line)
+
+-- a line behind the first, which may say a link or an old node
+abbrev pub link_reply : Times → List ℕ → List (ℕ × ℕ) → List ℕ → List ℕ → Option (ℕ × ℕ) → Option ℕ → Option (Progress × List ℕ)
+link_reply times dests links olds line (Some link) old = option_map silent (with_link dests links olds link)
+link_reply times dests links olds line None (Some n) = option_map silent (with_old_line dests links olds n)
+link_reply times dests links olds line None None = behind_links times dests links olds line
 
 -- behind the first line
 abbrev pub first_progress : List ℕ → Option Progress
-first_progress line = option_map (λ dests. Links dests []) (dests_of line)
+first_progress line = option_map (λ dests. Links dests [] []) (dests_of line)
 
-unfoldable pub simulation_reply : Progress → List ℕ → Option (Progress × List ℕ)
-simulation_reply First line = option_map (λ progress. (progress, [])) (first_progress line)
-simulation_reply (Links dests links) line = link_reply dests links line (link_of line)
-simulation_reply (Runs s) line = option_map left_by (line_reply s line)
+unfoldable pub simulation_reply : Times → Progress → List ℕ → Option (Progress × List ℕ)
+simulation_reply times First line = option_map silent (first_progress line)
+simulation_reply times (Links dests links olds) line = link_reply times dests links olds line (link_of line) (old_of line)
+simulation_reply times (Runs s) line = option_map left_by (line_reply s line)
 
 -- ---- the end
 
 -- the first line or a link is still required: a fault of the line that would come next; where there is no such topology, of the last link's line
 abbrev pub end_of_links : ℕ → List ℕ → List (ℕ × ℕ) → Option ℕ
 end_of_links n dests [] = Some n
-end_of_links n dests (link ∷ links) = unless_started (n - 1) (started (link ∷ links) dests)
-  where
-    unless_started : ℕ → Option World → Option ℕ
-    unless_started m None = Some m
-    unless_started m (Some w) = None
+end_of_links n dests (link ∷ links) = if has_topology (link ∷ links) dests then None else Some (n - 1)
 
 unfoldable pub simulation_at_end : Progress → ℕ → Option ℕ
 simulation_at_end First n = Some n
-simulation_at_end (Links dests links) n = end_of_links n dests links
+simulation_at_end (Links dests links olds) n = end_of_links n dests links
 simulation_at_end (Runs s) n = None
 
-abbrev pub simulation_rules : Rules Progress
-simulation_rules = record { start = First; reply = simulation_reply; at_end = simulation_at_end }
+-- the rules of a simulation whose link ends have these times
+abbrev pub simulation_rules : Times → Rules Progress
+simulation_rules times = record { start = First; reply = simulation_reply times; at_end = simulation_at_end }
 
 -- ---- all lines
 
 -- what is printed for an input
-abbrev pub simulation_text : List ℕ → List ℕ
-simulation_text bytes = (whole_text simulation_rules bytes).0
+abbrev pub simulation_text : Times → List ℕ → List ℕ
+simulation_text times bytes = (whole_text (simulation_rules times) bytes).0
 
 -- how an input ends
-abbrev pub simulation_end : List ℕ → Ended
-simulation_end bytes = (whole_text simulation_rules bytes).1
+abbrev pub simulation_end : Times → List ℕ → Ended
+simulation_end times bytes = (whole_text (simulation_rules times) bytes).1
 
 -- the number of the first line that is a fault, if one is
-abbrev pub first_simulation_fault : List ℕ → Option ℕ
-first_simulation_fault bytes = fault_of (simulation_end bytes)
+abbrev pub first_simulation_fault : Times → List ℕ → Option ℕ
+first_simulation_fault times bytes = fault_of (simulation_end times bytes)
 
 -- of lines from line n on, line m is a fault, and all before it are taken
-abbrev pub IsFirstSimulationFault : Progress → ℕ → List (List ℕ) → ℕ → Type 0
-IsFirstSimulationFault progress n lines m = IsFirstFaultBy simulation_rules progress n lines m
+abbrev pub IsFirstSimulationFault : Times → Progress → ℕ → List (List ℕ) → ℕ → Type 0
+IsFirstSimulationFault times progress n lines m = IsFirstFaultBy (simulation_rules times) progress n lines m
 
 -- ---- what simulate promises
 
 -- Known bytes grew by what is printed for the input, and the input ends so.
-abbrev pub Simulates : List ℕ → Option (List ℕ) → Option (List ℕ) → Ended → Type 0
-Simulates input old new ended = IsWholeText (whole_text simulation_rules) input old new ended
+abbrev pub Simulates : Times → List ℕ → Option (List ℕ) → Option (List ℕ) → Ended → Type 0
+Simulates times input old new ended = IsWholeText (whole_text (simulation_rules times)) input old new ended
 
 -- The reader gave some bytes, and the writer got a front of what is printed for them.
-abbrev pub IsSimulationBegun : Option (List ℕ) → Option (List ℕ) → Option (List ℕ) → Option (List ℕ) → Type 0
-IsSimulationBegun old_reader new_reader old_writer new_writer = IsFrontOfText (whole_text simulation_rules) old_reader new_reader old_writer new_writer
+abbrev pub IsSimulationBegun : Times → Option (List ℕ) → Option (List ℕ) → Option (List ℕ) → Option (List ℕ) → Type 0
+IsSimulationBegun times old_reader new_reader old_writer new_writer = IsFrontOfText (whole_text (simulation_rules times)) old_reader new_reader old_writer new_writer

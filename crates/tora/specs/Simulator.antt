@@ -1,16 +1,28 @@
 -- What a simulator does.
-use Rattle.std.specs.Prelude.{◌≡◌, ℕ, ◌<◌, is_some, if◌then◌else◌, List, Option, Some, None, Result, Ok, Err}
+use Rattle.std.specs.Prelude.{◌≡◌, ℕ, ◌<◌, Bool, not, is_some, if◌then◌else◌, fold, List, Option, Some, None, Result, Ok, Err}
 use Rattle.std.specs.List.{All}
-use Rattle.tora_arq.specs.declared.TheConstants.Times.{STANDARD}
+use Rattle.tora_arq.specs.declared.Times.{Times}
 use Rattle.tora_core.specs.declared.errors.CoreError.{CoreError}
 use Rattle.tora_core.specs.declared.errors.CoreError.TheVariants.{Memory, TooMany, Repeated, OwnId}
-use Rattle.tora_world.specs.Topology.{nodes_in, topology_fault}
+use Rattle.tora_world.specs.Topology.{Topology, nodes_in, is_node, topology_fault}
 use Rattle.tora_world.specs.World.{World, first_world}
-use Rattle.tora_sim.specs.Topologies.{topology_of}
+use Rattle.tora_sim.specs.Topologies.{topology_of, with_olds, with_old}
 
--- the first world of a topology, unless it is refused
-unfoldable pub started : List (ℕ × ℕ) → List ℕ → Option World
-started links dests = if is_some (topology_fault (topology_of links dests)) then None else Some (first_world (topology_of links dests) STANDARD)
+-- there is a topology of these links and destinations
+abbrev pub has_topology : List (ℕ × ℕ) → List ℕ → Bool
+has_topology links dests = not (is_some (topology_fault (topology_of links dests)))
+
+-- the same topology, but for the link ends of a node, which speak version 1 of frames alone; where there is no such node, nothing is changed
+abbrev pub with_old_node : Topology → ℕ → Topology
+with_old_node t n = if is_node t n then with_olds t (with_old n t.olds) else t
+
+-- the topology of these links and destinations, in which these nodes are old
+abbrev pub mixed_topology : List (ℕ × ℕ) → List ℕ → List ℕ → Topology
+mixed_topology links dests olds = fold with_old_node (topology_of links dests) olds
+
+-- the first world of links, destinations and old nodes, with these times of each link end, unless there is no such topology
+unfoldable pub started : List (ℕ × ℕ) → List ℕ → List ℕ → Times → Option World
+started links dests olds times = if is_some (topology_fault (topology_of links dests)) then None else Some (first_world (mixed_topology links dests olds) times)
 
 -- no number of a link is 0
 abbrev pub ArePairs : List (ℕ × ℕ) → Type 0
@@ -21,12 +33,12 @@ abbrev pub AreIds : List ℕ → Type 0
 AreIds numbers = All (λ n. 0 < n) numbers
 
 -- The first world of the topology was made, or it is refused for this cause, or memory was refused.
-abbrev pub Starts : {S : Type 0} → (S → World) → List (ℕ × ℕ) → List ℕ → Result S CoreError → Type 0
-Starts world links dests (Ok sim) = started links dests ≡ Some (world sim)
-Starts world links dests (Err Memory) = Unit {0}
-Starts world links dests (Err TooMany) = topology_fault (topology_of links dests) ≡ Some TooMany
-Starts world links dests (Err Repeated) = topology_fault (topology_of links dests) ≡ Some Repeated
-Starts world links dests (Err OwnId) = topology_fault (topology_of links dests) ≡ Some OwnId
+abbrev pub Starts : {S : Type 0} → (S → World) → List (ℕ × ℕ) → List ℕ → List ℕ → Times → Result S CoreError → Type 0
+Starts world links dests olds times (Ok sim) = started links dests olds times ≡ Some (world sim)
+Starts world links dests olds times (Err Memory) = Unit {0}
+Starts world links dests olds times (Err TooMany) = topology_fault (topology_of links dests) ≡ Some TooMany
+Starts world links dests olds times (Err Repeated) = topology_fault (topology_of links dests) ≡ Some Repeated
+Starts world links dests olds times (Err OwnId) = topology_fault (topology_of links dests) ≡ Some OwnId
 
 -- the nodes, ascending
 abbrev pub nodes_of : World → List ℕ

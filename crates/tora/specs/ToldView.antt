@@ -9,6 +9,6 @@ use Rattle.tora.specs.SimulationText.{simulation_rules}
 
 abbrev pub told_kind : {S T : Type 0} → (S → World) → Kind (Told S T)
 told_kind world = record {
-  text = λ s. text_from simulation_rules (progress_of world s.state);
-  long = λ s line h. long_lines_are_faults simulation_rules (progress_of world s.state) line h;
+  text = λ s. text_from (simulation_rules s.state.times) (progress_of world s.state.stage);
+  long = λ s line h. long_lines_are_faults (simulation_rules s.state.times) (progress_of world s.state.stage) line h;
 }

@@ -37,6 +37,8 @@ const SIMULATION: &str = "\
 Lines of a simulation file, each ended by LF, of at most 4096 bytes:
   dests LIST         the first line: the destinations of every node's table
   link A B           one line or more: a link; the nodes are those of the links
+  old N              any number of lines right behind the links: the link ends
+                     of N speak version 1 of frames alone
 behind these, in any order, events:
   need N D           N needs a route to destination D
   tick               the clock goes on by one tick of 100 ms
@@ -126,9 +128,16 @@ pub fn command<'a>(alloc: Global) -> Result<Command<'a>, AllocError> {
     let file = Arg::new(alloc, "FILE")
         .required(true)
         .help("The lines of the simulation, a text file");
+    let times = Arg::new(alloc, "times")
+        .long("times")
+        .value_name("HELLO,SILENCE,RETRY,TRIES")
+        .help(
+            "The times of each link end, in ticks of 100 ms, each at least 1: between HELLOs, of silence until a life ends, between tries of a packet, and how many tries; 10,50,5,8 without it",
+        );
     let sim = Command::new(alloc, "sim")
         .about("Simulates a world of nodes, links and datagrams, to standard output")
         .after_help(SIMULATION)
+        .arg(times)?
         .arg(file)?;
     let check = Arg::new(alloc, "check")
         .long("check")

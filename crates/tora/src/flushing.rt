@@ -1,6 +1,7 @@
 //! The engines, with all that was written handed on.
 ghost use Rattle.std.specs.Prelude.{◌≡◌, ◌≢◌, Ok, IfOk, IfErr, IfSome};
 ghost use Rattle.std.specs.Io.KnownBytes.{IsAtEnd};
+ghost use Rattle.tora_arq.specs.Settings.{IsTimes};
 ghost use Rattle.tora.specs.LineText.{fault_of};
 ghost use Rattle.tora.specs.ReplayText.{first_fault, Replays, IsBegun};
 ghost use Rattle.tora.specs.SimulationText.{first_simulation_fault, Simulates, IsSimulationBegun};
@@ -12,6 +13,7 @@ use crate::simulator::Simulator;
 use crate::told::simulate_told;
 use std::alloc::Global;
 use std::io::{Read, Write};
+use tora_arq::Times;
 
 /// Replays, and flushes the writer: `Write` where that alone fails.
 pub fn replay_and_flush<R: Read, W: Write>(
@@ -34,20 +36,22 @@ pub fn replay_and_flush<R: Read, W: Write>(
     }
 }
 
-/// Simulates, and flushes the writer: `Write` where that alone fails.
+/// Simulates with these times of each link end, and flushes the writer: `Write` where that alone fails.
 pub fn simulate_and_flush<S: Simulator, R: Read, W: Write>(
     alloc: Global,
+    times: Times,
     reader: &mut R,
     writer: &mut W,
 ) -> Result<Ended, ReplayError>
+    requires { IsTimes times }
     ensures whole { IfOk result (λ ended. IfSome (R.remaining reader.old) (λ input.
-        Simulates input (W.contents writer.old) (W.contents writer.new) ended)) }
+        Simulates times input (W.contents writer.old) (W.contents writer.new) ended)) }
     ensures at_end { result ≡ Ok Ended.Whole → IsAtEnd (R.remaining reader.new) }
-    ensures fault { IfOk result (λ ended. IfSome (R.remaining reader.old) (λ input. fault_of ended ≡ first_simulation_fault input)) }
+    ensures fault { IfOk result (λ ended. IfSome (R.remaining reader.old) (λ input. fault_of ended ≡ first_simulation_fault times input)) }
     ensures begun { IfErr result (λ e. e ≢ ReplayError.Write →
-        IsSimulationBegun (R.remaining reader.old) (R.remaining reader.new) (W.contents writer.old) (W.contents writer.new)) }
+        IsSimulationBegun times (R.remaining reader.old) (R.remaining reader.new) (W.contents writer.old) (W.contents writer.new)) }
 {
-    let result = simulate_in::<S, R, W>(alloc, reader, writer);
+    let result = simulate_in::<S, R, W>(alloc, times, reader, writer);
     match writer.flush() {
         Ok(()) => result,
         Err(_) if result.is_ok() => Err(ReplayError::Write),
@@ -55,21 +59,23 @@ pub fn simulate_and_flush<S: Simulator, R: Read, W: Write>(
     }
 }
 
-/// Simulates, tells on standard error what is refused, and flushes the writer: `Write` where that alone fails.
+/// Simulates with these times of each link end, tells on standard error what is refused, and flushes the writer: `Write` where that alone fails.
 pub fn simulate_told_and_flush<S: Simulator, T: Eprint, R: Read, W: Write>(
     rt: &T,
     alloc: Global,
+    times: Times,
     reader: &mut R,
     writer: &mut W,
 ) -> Result<Ended, ReplayError>
+    requires { IsTimes times }
     ensures whole { IfOk result (λ ended. IfSome (R.remaining reader.old) (λ input.
-        Simulates input (W.contents writer.old) (W.contents writer.new) ended)) }
+        Simulates times input (W.contents writer.old) (W.contents writer.new) ended)) }
     ensures at_end { result ≡ Ok Ended.Whole → IsAtEnd (R.remaining reader.new) }
-    ensures fault { IfOk result (λ ended. IfSome (R.remaining reader.old) (λ input. fault_of ended ≡ first_simulation_fault input)) }
+    ensures fault { IfOk result (λ ended. IfSome (R.remaining reader.old) (λ input. fault_of ended ≡ first_simulation_fault times input)) }
     ensures begun { IfErr result (λ e. e ≢ ReplayError.Write →
-        IsSimulationBegun (R.remaining reader.old) (R.remaining reader.new) (W.contents writer.old) (W.contents writer.new)) }
+        IsSimulationBegun times (R.remaining reader.old) (R.remaining reader.new) (W.contents writer.old) (W.contents writer.new)) }
 {
-    let result = simulate_told::<S, T, R, W>(rt, alloc, reader, writer);
+    let result = simulate_told::<S, T, R, W>(rt, alloc, times, reader, writer);
     match writer.flush() {
         Ok(()) => result,
         Err(_) if result.is_ok() => Err(ReplayError::Write),

@@ -27,10 +27,12 @@ mod session;
 mod sim_command;
 mod simulated;
 mod simulating;
+mod simulation;
 mod simulation_cause;
 mod simulation_line;
 mod simulation_parse;
 mod simulator;
+mod times_word;
 mod told;
 mod words;
 
@@ -39,13 +41,14 @@ use command::command;
 pub use ended::{Ended, ReplayError};
 pub use parse::{first_lines_are_read_as_written, lines_are_read_as_written};
 pub use replaying::{fault_is_the_first, replay};
-pub use simulated::simulate;
+pub use simulated::{simulate, simulate_with};
 pub use simulating::{simulate_in, simulation_fault_is_the_first};
 pub use simulation_parse::simulation_lines_are_read_as_written;
 pub use simulator::Simulator;
 use std::io;
 use std::io::BufWriter;
 use std::process::ExitCode;
+use times_word::asked_times;
 use tora_sim::Sim;
 pub use words::numbers_are_read_as_printed;
 
@@ -59,6 +62,9 @@ const SOCKET: u8 = 3;
 const LIFE: u8 = 4;
 
 const MEMORY: u8 = 5;
+
+/// What is said of a word behind `--times` that gives no times.
+const TIMES: &str = "behind `--times` stand four numbers from 1 on between commas, as in 10,50,5,8";
 
 /// Says on standard error why the program stops.
 fn stop(rt: &impl Eprint, status: u8, cause: &str) -> ExitCode
@@ -89,12 +95,15 @@ fn replay_input(rt: &HostRuntime, is_verbose: bool) -> ExitCode {
     replay_command::run(rt, rt.stdin(), is_verbose, &mut writer)
 }
 
-/// Simulates the lines of a file.
-fn simulate_file(rt: &HostRuntime, path: &str, is_verbose: bool) -> ExitCode {
+/// Simulates the lines of a file, with the times of link ends that a word asks for.
+fn simulate_file(rt: &HostRuntime, times: Option<&str>, path: &str, is_verbose: bool) -> ExitCode {
+    let Some(times) = asked_times(times) else {
+        return stop(rt, USAGE, TIMES);
+    };
     let Ok(mut writer) = BufWriter::new(rt.alloc(), io::writer(rt)) else {
         return stop(rt, MEMORY, "memory");
     };
-    sim_command::run::<Sim, HostRuntime, _>(rt, path, is_verbose, &mut writer)
+    sim_command::run::<Sim, HostRuntime, _>(rt, times, path, is_verbose, &mut writer)
 }
 
 /// Prints help, a version or a fault of usage.
@@ -139,7 +148,7 @@ fn main(rt: HostRuntime) -> ExitCode {
                 }
                 Some(("sim", sim)) => {
                     let path = sim.get_str("FILE").unwrap_or("");
-                    simulate_file(&rt, path, is_verbose)
+                    simulate_file(&rt, sim.get_str("times"), path, is_verbose)
                 }
                 _ => replay_input(&rt, is_verbose),
             }

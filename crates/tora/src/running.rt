@@ -1,6 +1,7 @@
 //! A simulation behind its links.
 ghost use Rattle.std.specs.Prelude.{◌≡◌, ◌++◌, [], OnOk, Some, None, if◌then◌else◌, length, string_bytes, option_map};
 ghost use Rattle.tora_core.specs.Numbers.{has_number};
+ghost use Rattle.tora_arq.specs.Settings.{IsTimes};
 ghost use Rattle.tora.specs.Gives.{Gives};
 ghost use Rattle.tora.specs.LineText.{numbered, TakesReply};
 ghost use Rattle.tora_world.specs.World.{sent_packets, taken_packets};
@@ -16,7 +17,7 @@ use crate::simulation_parse::simulation_line;
 use crate::simulator::Simulator;
 use crate::words::LineError;
 use std::alloc::{AllocError, Global};
-use tora_arq::Life;
+use tora_arq::{Life, Times};
 use tora_core::CoreError;
 use tora_height::{Entry, Id};
 use tora_world::{Event, SimError};
@@ -33,7 +34,8 @@ pub struct Running<S> {
     pub sim: S,
 }
 
-fn has_number(n: Id, numbers: &[Id]) -> bool
+/// Whether a number is among others.
+pub fn has_number(n: Id, numbers: &[Id]) -> bool
     ensures { result ≡ has_number n numbers.now }
 {
     numbers.iter().any(|m| *m == n)
@@ -99,12 +101,19 @@ fn write_heights<S: Simulator>(
 
 /// The first world; a fault where there is no such topology.
 #[tactic(auto, unfolding(crate::specs::Simulator::started))]
-pub fn start<S: Simulator>(alloc: Global, links: &[(Id, Id)], dests: &[Id]) -> Result<S, LineError>
+fn start<S: Simulator>(
+    alloc: Global,
+    links: &[(Id, Id)],
+    dests: &[Id],
+    olds: &[Id],
+    times: Times,
+) -> Result<S, LineError>
     requires links { ArePairs links.now }
     requires dests { AreIds dests.now }
-    ensures { Gives (λ sim. S.world sim) result (started links.now dests.now) }
+    requires times { IsTimes times }
+    ensures { Gives (λ sim. S.world sim) result (started links.now dests.now olds.now times) }
 {
-    match S::start(alloc, links, dests) {
+    match S::start(alloc, links, dests, olds, times) {
         Ok(sim) => Ok(sim),
         Err(CoreError::Memory) => Err(LineError::Memory),
         Err(_) => Err(LineError::Fault),
@@ -113,12 +122,19 @@ pub fn start<S: Simulator>(alloc: Global, links: &[(Id, Id)], dests: &[Id]) -> R
 
 impl<S: Simulator> Running<S> {
     /// Begins in the first world; a fault where there is no such topology.
-    pub fn new(alloc: Global, dests: &[Id], links: &[(Id, Id)]) -> Result<Running<S>, LineError>
+    pub fn new(
+        alloc: Global,
+        dests: &[Id],
+        links: &[(Id, Id)],
+        olds: &[Id],
+        times: Times,
+    ) -> Result<Running<S>, LineError>
         requires links { ArePairs links.now }
         requires dests { AreIds dests.now }
-        ensures { Gives (running_view S.world) result (option_map (begun_in dests.now) (started links.now dests.now)) }
+        requires times { IsTimes times }
+        ensures { Gives (running_view S.world) result (option_map (begun_in dests.now) (started links.now dests.now olds.now times)) }
     {
-        let sim: S = start(alloc, links, dests)?;
+        let sim: S = start(alloc, links, dests, olds, times)?;
         let nodes = sim.nodes(alloc)?;
         let ends = sim.ends(alloc)?;
         let mut own = Vec::new(alloc);

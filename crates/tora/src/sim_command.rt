@@ -1,7 +1,8 @@
-//! `tora sim FILE`: a simulation of a file of lines.
+//! `tora sim [--times HELLO,SILENCE,RETRY,TRIES] FILE`: a simulation of a file of lines.
 ghost use Rattle.std.specs.Prelude.{◌≡◌, ◌⊎◌};
 ghost use Rattle.std.specs.Process.{exit_status};
 ghost use Rattle.tora.specs.Endings.{EndsBy, EndsFile};
+ghost use Rattle.tora_arq.specs.Settings.{IsTimes};
 ghost use Rattle.tora.specs.SimulationText.{simulation_rules};
 
 use crate::ended::{Ended, ReplayError};
@@ -16,6 +17,7 @@ use std::io::{ErrorKind, Read, Write};
 use std::process::ExitCode;
 use std::rt::Files;
 use std::{fs, io};
+use tora_arq::Times;
 
 /// Says why there is no file, and ends with the status of the cause.
 fn refuse<R: Eprint>(rt: &R, path: &str, error: &io::Error, is_verbose: bool) -> ExitCode
@@ -47,63 +49,77 @@ fn tell<T: Eprint, R: Read>(rt: &T, reader: &Recent<R>, ended: Result<Ended, Rep
     }
 }
 
-/// Simulates, and says why events are refused, why a line is a fault, and what failed.
+/// Simulates with these times of each link end, and says why events are refused, why a line is a fault, and what failed.
 fn simulate_verbosely<S: Simulator, T: AllocGlobal + Eprint, R: Read + Drop, W: Write>(
     rt: &T,
+    times: Times,
     reader: R,
     writer: &mut W,
 ) -> ExitCode
-    ensures { EndsBy simulation_rules (R.remaining reader) (W.contents writer.old) (W.contents writer.new) (exit_status result) }
+    requires { IsTimes times }
+    ensures { EndsBy (simulation_rules times) (R.remaining reader) (W.contents writer.old) (W.contents writer.new) (exit_status result) }
 {
     let alloc = rt.alloc();
     let mut reader = Recent::new(alloc, reader);
-    let result = simulate_told_and_flush::<S, T, Recent<R>, W>(rt, alloc, &mut reader, writer);
+    let result = simulate_told_and_flush::<S, T, Recent<R>, W>(
+        rt,
+        alloc,
+        times,
+        &mut reader,
+        writer,
+    );
     tell(rt, &reader, result);
     status(rt, result)
 }
 
-/// Simulates, and says no more than the cause of a status.
+/// Simulates with these times of each link end, and says no more than the cause of a status.
 fn simulate_quietly<S: Simulator, T: AllocGlobal + Eprint, R: Read + Drop, W: Write>(
     rt: &T,
+    times: Times,
     reader: R,
     writer: &mut W,
 ) -> ExitCode
-    ensures { EndsBy simulation_rules (R.remaining reader) (W.contents writer.old) (W.contents writer.new) (exit_status result) }
+    requires { IsTimes times }
+    ensures { EndsBy (simulation_rules times) (R.remaining reader) (W.contents writer.old) (W.contents writer.new) (exit_status result) }
 {
     let mut reader = reader;
-    let result = simulate_and_flush::<S, R, W>(rt.alloc(), &mut reader, writer);
+    let result = simulate_and_flush::<S, R, W>(rt.alloc(), times, &mut reader, writer);
     status(rt, result)
 }
 
-/// Simulates the lines that a reader gives, and ends with a status: 0 at its end, 1 where a line is a fault or reading or
+/// Simulates the lines that a reader gives, with these times of each link end, and ends with a status: 0 at its end, 1 where a line is a fault or reading or
 /// writing failed, 5 where memory was refused.
 pub fn run_over<S: Simulator, T: AllocGlobal + Eprint, R: Read + Drop, W: Write>(
     rt: &T,
+    times: Times,
     reader: R,
     is_verbose: bool,
     writer: &mut W,
 ) -> ExitCode
-    ensures { EndsBy simulation_rules (R.remaining reader) (W.contents writer.old) (W.contents writer.new) (exit_status result) }
+    requires { IsTimes times }
+    ensures { EndsBy (simulation_rules times) (R.remaining reader) (W.contents writer.old) (W.contents writer.new) (exit_status result) }
 {
     if is_verbose {
-        simulate_verbosely::<S, T, R, W>(rt, reader, writer)
+        simulate_verbosely::<S, T, R, W>(rt, times, reader, writer)
     } else {
-        simulate_quietly::<S, T, R, W>(rt, reader, writer)
+        simulate_quietly::<S, T, R, W>(rt, times, reader, writer)
     }
 }
 
-/// Simulates the lines of the file at a path, and ends with a status: that of `run_over` over the file, 1 where it can't be
+/// Simulates the lines of the file at a path, with these times of each link end, and ends with a status: that of `run_over` over the file, 1 where it can't be
 /// opened, and 5 where memory was refused for that. Nothing is written where it is not opened.
 pub fn run<S: Simulator, T: Files + AllocGlobal + Eprint, W: Write>(
     rt: &T,
+    times: Times,
     path: &str,
     is_verbose: bool,
     writer: &mut W,
 ) -> ExitCode
-    ensures { EndsFile T.File.remaining simulation_rules (W.contents writer.old) (W.contents writer.new) (exit_status result) }
+    requires { IsTimes times }
+    ensures { EndsFile T.File.remaining (simulation_rules times) (W.contents writer.old) (W.contents writer.new) (exit_status result) }
 {
     match fs::open(rt, path) {
-        Ok(file) => run_over::<S, T, T::File, W>(rt, file, is_verbose, writer),
+        Ok(file) => run_over::<S, T, T::File, W>(rt, times, file, is_verbose, writer),
         Err(error) => refuse(rt, path, &error, is_verbose),
     }
 }

@@ -1,165 +1,203 @@
 //! The simulation of a file of lines.
-ghost use Rattle.std.specs.Prelude.{◌≡◌, ◌≢◌, ℕ, List, [], string_bytes, Some, Ok, IfOk, IfErr, IfSome};
+ghost use Rattle.std.specs.Prelude.{◌≡◌, ◌≢◌, ◌<◌, ℕ, List, [], string_bytes, Some, Ok, IfOk, IfErr, IfSome};
 ghost use Rattle.std.specs.Io.KnownBytes.{IsAtEnd};
+ghost use Rattle.tora_arq.specs.declared.Times.{Times as AnyTimes};
+ghost use Rattle.tora_arq.specs.Settings.{IsTimes};
 ghost use Rattle.tora.specs.Gives.{Gives};
 ghost use Rattle.tora.specs.LineText.{fault_of};
 ghost use Rattle.tora.specs.Lines.{pieces_of};
 ghost use Rattle.tora.specs.RunningView.{running_view};
 ghost use Rattle.tora.specs.SimulationView.{progress_of, simulation_kind};
-ghost use Rattle.tora.specs.SimulationText.{Progress, first_progress, first_run, behind_links, end_of_links, simulation_reply, first_simulation_fault, IsFirstSimulationFault, Simulates, IsSimulationBegun};
+ghost use Rattle.tora.specs.SimulationText.{Progress, first_progress, with_link, is_linked, with_old_line, first_run, behind_links, end_of_links, simulation_reply, first_simulation_fault, IsFirstSimulationFault, Simulates, IsSimulationBegun};
 
 use crate::ended::{Ended, ReplayError};
 use crate::engine::read_lines;
 use crate::link_lines::LinkLines;
-use crate::running::{Running, start};
+use crate::running::Running;
 use crate::session::FileKind;
+use crate::simulation::{Simulation, Stage};
 use crate::simulation_parse;
 use crate::simulator::Simulator;
 use crate::words::LineError;
 use std::alloc::{AllocError, Global};
 use std::io::{Read, Write};
-
-/// A simulation file, by what is kept between two of its lines.
-#[derive(Drop)]
-pub enum Simulation<S> {
-    /// Before the first line.
-    First,
-    /// Behind the first line.
-    Links(LinkLines),
-    /// Behind the links.
-    Runs(Running<S>),
-}
+use tora_arq::Times;
+use tora_height::Id;
+use tora_sim::topology_fault;
 
 /// The first line.
 fn first(alloc: Global, line: &[u8]) -> Result<LinkLines, LineError>
-    ensures { Gives (λ lines. Progress.Links lines.dests.items lines.links.items) result (first_progress line.now) }
+    ensures { Gives (λ lines. Progress.Links lines.dests.items lines.links.items lines.olds.items) result (first_progress line.now) }
 {
     let dests = simulation_parse::dests(alloc, line)?;
     Ok(LinkLines {
         dests,
         links: Vec::new(alloc),
+        olds: Vec::new(alloc),
     })
 }
 
-/// Takes a line behind the links, which makes the simulation run.
+/// Takes a link; it is a fault behind an old node.
+fn take_link(lines: &mut LinkLines, link: (Id, Id)) -> Result<(), LineError>
+    requires { (0 < link.0) × (0 < link.1) }
+    ensures { Gives (λ _. Progress.Links lines.new.dests.items lines.new.links.items lines.new.olds.items) result
+        (with_link lines.old.dests.items lines.old.links.items lines.old.olds.items link) }
+{
+    if !lines.olds.is_empty() {
+        return Err(LineError::Fault);
+    }
+    lines.push(link)?;
+    Ok(())
+}
+
+/// Whether a link names the node.
+pub fn is_linked(n: Id, links: &[(Id, Id)]) -> bool
+    ensures { result ≡ is_linked n links.now }
+{
+    links.iter().any(|link| link.0 == n || link.1 == n)
+}
+
+/// Takes an old node; it is a fault where no link names the node, or there is no topology of the links.
+fn take_old(lines: &mut LinkLines, n: Id) -> Result<(), LineError>
+    ensures { Gives (λ _. Progress.Links lines.new.dests.items lines.new.links.items lines.new.olds.items) result
+        (with_old_line lines.old.dests.items lines.old.links.items lines.old.olds.items n) }
+{
+    if !is_linked(n, &lines.links) {
+        return Err(LineError::Fault);
+    }
+    if topology_fault(&lines.links, &lines.dests).is_some() {
+        return Err(LineError::Fault);
+    }
+    lines.push_old(n)?;
+    Ok(())
+}
+
+/// Takes a line behind the links and the old nodes, which makes the simulation run.
 fn first_run<S: Simulator>(
     alloc: Global,
+    times: Times,
     lines: &LinkLines,
     line: &[u8],
     text: &mut String,
 ) -> Result<Running<S>, LineError>
-    requires { string_bytes text.old ≡ [] }
-    ensures { Gives (λ s. (running_view S.world s, string_bytes text.new)) result (first_run lines.now.dests.items lines.now.links.items line.now) }
+    requires times { IsTimes times }
+    requires empty { string_bytes text.old ≡ [] }
+    ensures { Gives (λ s. (running_view S.world s, string_bytes text.new)) result (first_run times lines.now.dests.items lines.now.links.items lines.now.olds.items line.now) }
 {
-    let mut running = Running::new(alloc, lines.dests.as_slice(), lines.links.as_slice())?;
+    let mut running = Running::new(alloc, &lines.dests, &lines.links, &lines.olds, times)?;
     running.take(line, text)?;
     Ok(running)
 }
 
-/// Takes a line behind the last link; at least one link is required.
+/// Takes a line behind the last link and the last old node; at least one link is required.
 fn behind_links<S: Simulator>(
     alloc: Global,
+    times: Times,
     lines: &LinkLines,
     line: &[u8],
     text: &mut String,
 ) -> Result<Running<S>, LineError>
-    requires { string_bytes text.old ≡ [] }
-    ensures { Gives (λ s. (Progress.Runs (running_view S.world s), string_bytes text.new)) result (behind_links lines.now.dests.items lines.now.links.items line.now) }
+    requires times { IsTimes times }
+    requires empty { string_bytes text.old ≡ [] }
+    ensures { Gives (λ s. (Progress.Runs (running_view S.world s), string_bytes text.new)) result (behind_links times lines.now.dests.items lines.now.links.items lines.now.olds.items line.now) }
 {
     if lines.links.is_empty() {
         return Err(LineError::Fault);
     }
-    first_run(alloc, lines, line, text)
+    first_run(alloc, times, lines, line, text)
 }
 
 /// The number of the line that is a fault where the input ends behind links, if one is.
-fn end_of_links<S: Simulator>(
-    alloc: Global,
-    lines: &LinkLines,
-    number: u64,
-) -> Result<Option<u64>, AllocError>
-    ensures { IfOk result (λ fault. fault ≡ end_of_links number lines.now.dests.items lines.now.links.items) }
+fn end_of_links(lines: &LinkLines, number: u64) -> Option<u64>
+    ensures { result ≡ end_of_links number lines.now.dests.items lines.now.links.items }
 {
     if lines.links.is_empty() {
-        return Ok(Some(number));
+        return Some(number);
     }
-    let sim: Result<S, LineError> = start(alloc, lines.links.as_slice(), lines.dests.as_slice());
-    match sim {
-        Ok(_) => Ok(None),
-        Err(LineError::Fault) => Ok(Some(number.saturating_sub(1))),
-        Err(LineError::Memory) => Err(AllocError),
+    match topology_fault(&lines.links, &lines.dests) {
+        None => None,
+        Some(_) => Some(number.saturating_sub(1)),
     }
 }
 
 /// Takes a line, and puts what is printed for it behind an empty text.
 #[tactic(auto, unfolding(crate::specs::SimulationText::simulation_reply))]
 fn take_line<S: Simulator>(
-    state: &mut Simulation<S>,
+    stage: &mut Stage<S>,
+    times: Times,
     alloc: Global,
     line: &[u8],
     text: &mut String,
 ) -> Result<(), LineError>
-    requires { string_bytes text.old ≡ [] }
-    ensures { Gives (λ _. (progress_of S.world state.new, string_bytes text.new)) result (simulation_reply (progress_of S.world state.old) line.now) }
+    requires times { IsTimes times }
+    requires empty { string_bytes text.old ≡ [] }
+    ensures { Gives (λ _. (progress_of S.world stage.new, string_bytes text.new)) result (simulation_reply times (progress_of S.world stage.old) line.now) }
 {
-    match state {
-        Simulation::First => {
-            *state = Simulation::Links(first(alloc, line)?);
+    match stage {
+        Stage::First => {
+            *stage = Stage::Links(first(alloc, line)?);
             Ok(())
         }
-        Simulation::Links(lines) => {
+        Stage::Links(lines) => {
             if let Some(link) = simulation_parse::link(line) {
-                lines.push(link)?;
-                return Ok(());
+                return take_link(lines, link);
             }
-            *state = Simulation::Runs(behind_links(alloc, lines, line, text)?);
+            if let Some(n) = simulation_parse::old(line) {
+                return take_old(lines, n);
+            }
+            *stage = Stage::Runs(behind_links(alloc, times, lines, line, text)?);
             Ok(())
         }
-        Simulation::Runs(running) => running.take(line, text),
+        Stage::Runs(running) => running.take(line, text),
     }
 }
 
 impl<S: Simulator> FileKind for Simulation<S> {
     ghost kind = { simulation_kind S.world };
 
+    #[tactic(auto, using(crate::proofs::SimulationLaws::takes))]
     fn take(&mut self, alloc: Global, line: &[u8], text: &mut String) -> Result<(), LineError> {
-        take_line(self, alloc, line, text)
+        let times = self.times;
+        take_line(&mut self.stage, times, alloc, line, text)
     }
 
     #[tactic(auto, unfolding(crate::specs::LineText::text_from, crate::specs::SimulationText::simulation_at_end))]
-    fn end(&self, alloc: Global, number: u64) -> Result<Option<u64>, AllocError> {
-        match self {
-            Simulation::First => Ok(Some(number)),
-            Simulation::Links(lines) => end_of_links::<S>(alloc, lines, number),
-            Simulation::Runs(_) => Ok(None),
+    fn end(&self, _alloc: Global, number: u64) -> Result<Option<u64>, AllocError> {
+        match &self.stage {
+            Stage::First => Ok(Some(number)),
+            Stage::Links(lines) => Ok(end_of_links(lines, number)),
+            Stage::Runs(_) => Ok(None),
         }
     }
 }
 
 /// Reads the lines of a simulation file to the end of the input or to the first line that is a fault, and writes what is
-/// printed for each, in a simulator of this kind. `simulate` says what a file is.
+/// printed for each, in a simulator of this kind whose link ends have these times, none of which is 0. `simulate` says what
+/// a file is.
 #[tactic(auto, unfolding(crate::specs::Engine::text_of))]
 pub fn simulate_in<S: Simulator, R: Read, W: Write>(
     alloc: Global,
+    times: Times,
     reader: &mut R,
     writer: &mut W,
 ) -> Result<Ended, ReplayError>
+    requires { IsTimes times }
     // What was written is the text of the whole input, and the input ends so.
     ensures whole { IfOk result (λ ended. IfSome (R.remaining reader.old) (λ input.
-        Simulates input (W.contents writer.old) (W.contents writer.new) ended)) }
+        Simulates times input (W.contents writer.old) (W.contents writer.new) ended)) }
     ensures at_end { result ≡ Ok Ended.Whole → IsAtEnd (R.remaining reader.new) }
-    ensures fault { IfOk result (λ ended. IfSome (R.remaining reader.old) (λ input. fault_of ended ≡ first_simulation_fault input)) }
+    ensures fault { IfOk result (λ ended. IfSome (R.remaining reader.old) (λ input. fault_of ended ≡ first_simulation_fault times input)) }
     // What was written begins the text of what was read.
     ensures begun { IfErr result (λ e. e ≢ ReplayError.Write →
-        IsSimulationBegun (R.remaining reader.old) (R.remaining reader.new) (W.contents writer.old) (W.contents writer.new)) }
+        IsSimulationBegun times (R.remaining reader.old) (R.remaining reader.new) (W.contents writer.old) (W.contents writer.new)) }
 {
-    let state: Simulation<S> = Simulation::First;
+    let state: Simulation<S> = Simulation::new(times);
     read_lines(alloc, state, reader, writer)
 }
 
 /// The line whose number a fault of a simulation gives is the first that is none: all lines before it are taken, and it
 /// is not.
 pub fn simulation_fault_is_the_first()
-    ensures found { (bytes : List ℕ) (n : ℕ) → first_simulation_fault bytes ≡ Some n → IsFirstSimulationFault Progress.First 1 (pieces_of bytes) n }
-    ensures only { (bytes : List ℕ) (n : ℕ) → IsFirstSimulationFault Progress.First 1 (pieces_of bytes) n → first_simulation_fault bytes ≡ Some n }
+    ensures found { (times : AnyTimes) (bytes : List ℕ) (n : ℕ) → first_simulation_fault times bytes ≡ Some n → IsFirstSimulationFault times Progress.First 1 (pieces_of bytes) n }
+    ensures only { (times : AnyTimes) (bytes : List ℕ) (n : ℕ) → IsFirstSimulationFault times Progress.First 1 (pieces_of bytes) n → first_simulation_fault times bytes ≡ Some n }
 {}

@@ -1,13 +1,13 @@
 //! Why a line of a simulation file is a fault, in plain words.
 use crate::link_lines::LinkLines;
-use crate::simulating::Simulation;
+use crate::simulating::is_linked;
+use crate::simulation::Stage;
 use crate::simulation_line::SimulationLine;
-use crate::simulation_parse::simulation_line;
-use crate::simulator::Simulator;
+use crate::simulation_parse::{old, simulation_line};
 use crate::words;
-use std::alloc::Global;
 use thiserror::Error;
 use tora_core::CoreError;
+use tora_sim::topology_fault;
 
 /// Why a line of a simulation file is a fault.
 #[derive(Clone, Copy, Debug, PartialEq, Eq, Error)]
@@ -32,8 +32,12 @@ pub enum SimulationCause {
     Repeated,
     #[error("the links and destinations are refused: a link leads from a node to itself")]
     OwnLink,
-    #[error("there is no memory for the links and destinations")]
-    Memory,
+    #[error("behind `old` stands one node's number, from 1 to 4294967295, without leading zeros")]
+    Old,
+    #[error("no link names this node")]
+    NoSuchNode,
+    #[error("a node is old right behind the links, before any other line")]
+    LateOld,
     #[error("its first word is none of `need`, `tick`, `open`, `pull`, `transmit`, `deliver`, `pump`, `turn`, `arm`, `restart`, `rounds`, `part`, `mend`, `heights`, `sent` and `taken`")]
     Word,
     #[error("behind this word stand two nodes' numbers, from 1 to 4294967295, without leading zeros")]
@@ -100,6 +104,7 @@ fn word_cause(line: &[u8]) -> SimulationCause {
         b"sent" | b"taken" => SimulationCause::Life,
         b"dests" => SimulationCause::LateDests,
         b"link" => SimulationCause::LateLink,
+        b"old" => SimulationCause::LateOld,
         _ => SimulationCause::Word,
     }
 }
@@ -123,19 +128,29 @@ fn line_cause(line: &[u8]) -> SimulationCause {
 }
 
 /// Why there is no topology of the links and destinations, if there is none.
-fn topology_cause<S: Simulator>(alloc: Global, lines: &LinkLines) -> Option<SimulationCause> {
-    let started: Result<S, CoreError> = S::start(alloc, &lines.links, &lines.dests);
-    match started {
-        Ok(_) => None,
-        Err(CoreError::Memory) => Some(SimulationCause::Memory),
-        Err(CoreError::TooMany) => Some(SimulationCause::TooMany),
-        Err(CoreError::Repeated) => Some(SimulationCause::Repeated),
-        Err(CoreError::OwnId) => Some(SimulationCause::OwnLink),
+fn topology_cause(lines: &LinkLines) -> Option<SimulationCause> {
+    match topology_fault(&lines.links, &lines.dests) {
+        None => None,
+        Some(CoreError::TooMany) => Some(SimulationCause::TooMany),
+        Some(CoreError::Repeated) => Some(SimulationCause::Repeated),
+        Some(CoreError::OwnId) => Some(SimulationCause::OwnLink),
+        Some(CoreError::Memory) => Some(SimulationCause::Other),
+    }
+}
+
+/// Why a line behind a topology's links, which is no link, is a fault.
+fn old_cause(lines: &LinkLines, line: &[u8]) -> SimulationCause {
+    match line_cause(line) {
+        SimulationCause::LateOld => match old(line) {
+            Some(n) if !is_linked(n, &lines.links) => SimulationCause::NoSuchNode,
+            _ => SimulationCause::Old,
+        },
+        cause => cause,
     }
 }
 
 /// Why a line behind the first line or a link, which is no link, is a fault.
-fn link_cause<S: Simulator>(alloc: Global, lines: &LinkLines, line: &[u8]) -> SimulationCause {
+fn link_cause(lines: &LinkLines, line: &[u8]) -> SimulationCause {
     let is_link = line.starts_with(b"link ");
     if lines.links.is_empty() {
         return match shape_cause(line) {
@@ -144,35 +159,31 @@ fn link_cause<S: Simulator>(alloc: Global, lines: &LinkLines, line: &[u8]) -> Si
             None => SimulationCause::NoLink,
         };
     }
-    match topology_cause::<S>(alloc, lines) {
+    match topology_cause(lines) {
         Some(cause) => cause,
-        None if is_link => SimulationCause::Pair,
-        None => line_cause(line),
+        None if is_link && lines.olds.is_empty() => SimulationCause::Pair,
+        None => old_cause(lines, line),
     }
 }
 
 /// Why a line, that is a fault, is one.
-pub fn simulation_cause<S: Simulator>(
-    alloc: Global,
-    state: &Simulation<S>,
-    line: &[u8],
-) -> SimulationCause {
-    match state {
-        Simulation::First => first_cause(line),
-        Simulation::Links(lines) => link_cause::<S>(alloc, lines, line),
-        Simulation::Runs(_) => line_cause(line),
+pub fn simulation_cause<S>(stage: &Stage<S>, line: &[u8]) -> SimulationCause {
+    match stage {
+        Stage::First => first_cause(line),
+        Stage::Links(lines) => link_cause(lines, line),
+        Stage::Runs(_) => line_cause(line),
     }
 }
 
 /// Why an input, that ends where it may not, is a fault.
-pub fn end_cause<S: Simulator>(alloc: Global, state: &Simulation<S>) -> SimulationCause {
-    match state {
-        Simulation::First => SimulationCause::Missing,
-        Simulation::Links(lines) if lines.links.is_empty() => SimulationCause::NoLink,
-        Simulation::Links(lines) => match topology_cause::<S>(alloc, lines) {
+pub fn end_cause<S>(stage: &Stage<S>) -> SimulationCause {
+    match stage {
+        Stage::First => SimulationCause::Missing,
+        Stage::Links(lines) if lines.links.is_empty() => SimulationCause::NoLink,
+        Stage::Links(lines) => match topology_cause(lines) {
             Some(cause) => cause,
             None => SimulationCause::Other,
         },
-        Simulation::Runs(_) => SimulationCause::Other,
+        Stage::Runs(_) => SimulationCause::Other,
     }
 }

@@ -1,9 +1,9 @@
 //! Lines of a simulation file to what they say.
 ghost use Rattle.std.specs.Prelude.{◌≡◌, ℕ, ◌<◌, List, Some, IfSome, IfOk, All};
 ghost use Rattle.tora.specs.declared.simulation_line.SimulationLine.{SimulationLine as AnySimulationLine};
-ghost use Rattle.tora.specs.SimulationGrammar.{SpellsSimulationLine, SpellsDests, SpellsLink};
+ghost use Rattle.tora.specs.SimulationGrammar.{SpellsSimulationLine, SpellsDests, SpellsLink, SpellsOld};
 ghost use Rattle.tora.specs.Gives.{Gives};
-ghost use Rattle.tora.specs.SimulationLines.{is_word, pair_of, life_number_of, life_of, lane_of, call_of, torn_of, rounds_of, arm_of, restart_of, end_event_of, node_event_of, order_line_of, simulation_line_of, dests_of, link_of};
+ghost use Rattle.tora.specs.SimulationLines.{is_word, pair_of, life_number_of, life_of, lane_of, call_of, torn_of, rounds_of, arm_of, restart_of, end_event_of, node_event_of, order_line_of, simulation_line_of, dests_of, link_of, old_of};
 
 use crate::parse::{after, behind};
 use crate::simulation_line::SimulationLine;
@@ -259,6 +259,14 @@ pub fn link(text: &[u8]) -> Option<(Id, Id)>
     pair(after(b"link ", text)?)
 }
 
+/// `old N`.
+#[tactic(auto, unfolding(crate::specs::SimulationLines::old_of))]
+pub fn old(text: &[u8]) -> Option<Id>
+    ensures { result ≡ old_of text.now }
+{
+    words::id(after(b"old ", text)?)
+}
+
 /// A line of a simulation file is read exactly where it is written as the formats say.
 pub fn simulation_lines_are_read_as_written()
     ensures found { (text : List ℕ) (line : AnySimulationLine) → simulation_line_of text ≡ Some line → SpellsSimulationLine text line }
@@ -267,4 +275,6 @@ pub fn simulation_lines_are_read_as_written()
     ensures dests_only { (text dests : List ℕ) → SpellsDests text dests → dests_of text ≡ Some dests }
     ensures link_found { (text : List ℕ) (p : ℕ × ℕ) → link_of text ≡ Some p → SpellsLink text p }
     ensures link_only { (text : List ℕ) (p : ℕ × ℕ) → SpellsLink text p → link_of text ≡ Some p }
+    ensures old_found { (text : List ℕ) (n : ℕ) → old_of text ≡ Some n → SpellsOld text n }
+    ensures old_only { (text : List ℕ) (n : ℕ) → SpellsOld text n → old_of text ≡ Some n }
 {}

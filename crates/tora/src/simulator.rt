@@ -1,12 +1,13 @@
 //! What the engine asks of a simulator.
 ghost use Rattle.std.specs.Prelude.{◌≡◌, true, false, is_some, length, option_map, IfOk};
 ghost use Rattle.tora_world.specs.World.{World, refusal_of, world_after, datagram, sent_packets, taken_packets};
+ghost use Rattle.tora_arq.specs.Settings.{IsTimes};
 ghost use Rattle.tora.specs.Simulator.{ArePairs, AreIds, Starts, nodes_of};
 ghost use Rattle.tora_sim.specs.Readers.{ends_in};
 ghost use Rattle.tora_world.specs.Walks.{height_at, hop_at};
 
 use std::alloc::{AllocError, Global};
-use tora_arq::Life;
+use tora_arq::{Life, Times};
 use tora_core::CoreError;
 use tora_height::{Entry, Id};
 use tora_world::{Event, SimError};
@@ -16,10 +17,20 @@ pub trait Simulator: Drop {
     ghost world: { Self → World };
 
     /// The first world of links and destinations, or why there is no such topology.
-    fn start(alloc: Global, links: &[(Id, Id)], dests: &[Id]) -> Result<Self, CoreError>
+    ///
+    /// The link ends of the old nodes speak version 1 of frames alone, and those of all other nodes both versions; an old
+    /// node that no link names changes nothing. Each link end has these times.
+    fn start(
+        alloc: Global,
+        links: &[(Id, Id)],
+        dests: &[Id],
+        olds: &[Id],
+        times: Times,
+    ) -> Result<Self, CoreError>
         requires links { ArePairs links.now }
         requires dests { AreIds dests.now }
-        ensures { Starts world links.now dests.now result };
+        requires times { IsTimes times }
+        ensures { Starts world links.now dests.now olds.now times result };
 
     /// Whether an event may be possible now: where the answer is `false`, `happen` refuses it.
     ///

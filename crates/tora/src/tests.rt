@@ -9,7 +9,9 @@ use std::test::*;
 use tora_core::CoreError;
 
 mod each_call;
+mod mixed_networks;
 mod simulation_causes;
+mod simulation_streams;
 mod simulations;
 
 /// A reader that gives a few bytes at a time, and fails at one of its calls, counted from 1.

@@ -3,7 +3,7 @@ use Rattle.std.proofs.Common.{◌≡◌, refl, sym, ap, ap₂, ◌∙◌, subst,
 use Rattle.std.specs.Prelude.{option_map}
 use Rattle.std.proofs.lemmas.List.{append_assoc, map_push, map_more, flat_map_more, length-append, length-map}
 use Rattle.std.proofs.lemmas.Option.{slice_get-map}
-use Rattle.tora_arq.specs.declared.TheConstants.Times.{STANDARD}
+use Rattle.tora_arq.specs.declared.Times.{Times}
 use Rattle.tora_frame.specs.declared.parts.Version.{Version}
 use Rattle.tora_arq.specs.Settings.{settings_of}
 use Rattle.tora_world.specs.Topology.{version_at, Topology, neighbours_of}
@@ -21,12 +21,12 @@ use Rattle.tora_sim.proofs.Peers.{PutInOrder, neighbours-ascend, place-of}
 
 -- ---- a link end more
 
-pub first-link : PutInOrder → (t : Topology) → IsTopology t → (n i d : ℕ) (x : LinkView) → i < length (neighbours_of t n) → IsFirstEnd (version_at t n) n (get_or (neighbours_of t n) i d) i x → IsFirstLink t x
-first-link order t h n i d x lt f = record {
+pub first-link : PutInOrder → (t : Topology) (times : Times) → IsTopology t → (n i d : ℕ) (x : LinkView) → i < length (neighbours_of t n) → IsFirstEnd (version_at t n) times n (get_or (neighbours_of t n) i d) i x → IsFirstLink t times x
+first-link order t times h n i d x lt f = record {
   node = refl;
   peer = refl;
   seat = f.seat ∙ sym (place-of (neighbours_of t n) i d (neighbours-ascend order t h n) lt) ∙ ap₂ (λ k m. place_of k (neighbours_of t m)) (sym f.peer) (sym f.node);
-  settings = f.settings ∙ ap₂ (λ m k. settings_of (version_at t m) m k STANDARD) (sym f.node) (sym f.peer);
+  settings = f.settings ∙ ap₂ (λ m k. settings_of (version_at t m) m k times) (sym f.node) (sym f.peer);
   state = f.state;
   file = f.file ∙ ap₂ (λ m k. opened (owner_of m k) (fresh_state [])) (sym f.node) (sym f.peer);
   put = f.put;
@@ -34,9 +34,9 @@ first-link order t h n i d x lt f = record {
   steps = f.steps;
 }
 
-pub keys-more : (version : Version) (n : ℕ) (ks : List ℕ) (old links : List LinkView) (i d : ℕ) (x : LinkView) → i < length ks → IsFirstEnd version n (get_or ks i d) i x
+pub keys-more : (version : Version) (times : Times) (n : ℕ) (ks : List ℕ) (old links : List LinkView) (i d : ℕ) (x : LinkView) → i < length ks → IsFirstEnd version times n (get_or ks i d) i x
     → map key_of links ≡ map key_of old ++ map (λ k. (n, k)) (take i ks) → map key_of (links ++ x ∷ []) ≡ map key_of old ++ map (λ k. (n, k)) (take (i + 1) ks)
-keys-more version n ks old links i d x lt f e =
+keys-more version times n ks old links i d x lt f e =
     map_push key_of links x
     ∙ ap₂ (λ (xs : List (ℕ × ℕ)) (y : ℕ × ℕ). xs ++ y ∷ []) e (ap₂ (λ (a b : ℕ). (a, b)) f.node f.peer)
     ∙ append_assoc (map key_of old) (map (λ k. (n, k)) (take i ks)) ((n, get_or ks i d) ∷ [])
@@ -78,9 +78,9 @@ has-own t n keys node is first = record {
       ∙ ap (λ m. Some (m, k)) (sym is);
 }
 
-pub node-more : (t : Topology) (n : ℕ) (nodes : List NodeView) (links new : List LinkView) (node : NodeView) → AreAdded t n links new → IsFirstNode t node → node.node ≡ n → node.first ≡ length links
-    → IsMade t n nodes links (nodes ++ node ∷ []) new
-node-more t n nodes links new node a f is first ns m = record {
+pub node-more : (t : Topology) (times : Times) (n : ℕ) (nodes : List NodeView) (links new : List LinkView) (node : NodeView) → AreAdded t times n links new → IsFirstNode t node → node.node ≡ n → node.first ≡ length links
+    → IsMade t times n nodes links (nodes ++ node ∷ []) new
+node-more t times n nodes links new node a f is first ns m = record {
   names = map_push (λ (x : NodeView). x.node) nodes node ∙ ap₂ (λ (xs : List ℕ) (y : ℕ). xs ++ y ∷ []) m.names is;
   keys = a.keys ∙ ap (λ xs. xs ++ ends_at t n) m.keys ∙ flat_map_more (ends_at t) [] ns n;
   each_node = each_push (IsFirstNode t) nodes node m.each_node f;
@@ -92,8 +92,8 @@ node-more t n nodes links new node a f is first ns m = record {
 }
 
 -- none at all
-pub none-made : (t : Topology) → AreMade t [] [] []
-none-made t = record {
+pub none-made : (t : Topology) (times : Times) → AreMade t times [] [] []
+none-made t times = record {
   names = refl;
   keys = refl;
   each_node = λ i x e. absurd (let z : None ≡ Some x = e in cc);

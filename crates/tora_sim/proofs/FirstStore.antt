@@ -5,7 +5,7 @@ use Rattle.std.proofs.lemmas.Bool.{and_parts}
 use Rattle.std.proofs.lemmas.List.{length-map}
 use Rattle.std.proofs.lemmas.Option.{slice_get-map}
 use mathlib.Core.Path.{fun_ext}
-use Rattle.tora_arq.specs.declared.TheConstants.Times.{STANDARD}
+use Rattle.tora_arq.specs.declared.Times.{Times}
 use Rattle.tora_arq.specs.LinkEnd.{first_end}
 use Rattle.tora_life.specs.State.{fresh_state}
 use Rattle.tora_life.specs.LifeRun.{opened}
@@ -63,9 +63,9 @@ zeros zero i = refl
 zeros (suc n) zero = refl
 zeros (suc n) (suc i) = zeros n i
 
-module _ (order : PutInOrder) (stays : StaysInOrder) (t : Topology) (h : IsTopology t) (nodes : List NodeView) (links : List LinkView) (m : AreMade t (nodes_in t.links) nodes links) where
+module _ (order : PutInOrder) (stays : StaysInOrder) (t : Topology) (times : Times) (h : IsTopology t) (nodes : List NodeView) (links : List LinkView) (m : AreMade t times (nodes_in t.links) nodes links) where
   abbrev start : SimState
-  start = state_of t STANDARD 0 nodes links []
+  start = state_of t times 0 nodes links []
 
   -- ---- what is kept
 
@@ -88,7 +88,7 @@ module _ (order : PutInOrder) (stays : StaysInOrder) (t : Topology) (h : IsTopol
     destinations = ap (λ (s : Rows.SeatView). destinations_of s.core.views) f.seat ∙ same-destinations x.node (ascending t.destinations);
   }
 
-  link-kept : (i : ℕ) (x : LinkView) → slice_get links i ≡ Some x → IsLinkOf t STANDARD x
+  link-kept : (i : ℕ) (x : LinkView) → slice_get links i ≡ Some x → IsLinkOf t times x
   link-kept i x e =
       let f = m.each_link i x e in
       let both = and_parts (has_number x.node (nodes_in t.links)) (is_link t x.node x.peer) (sym (key-is x.node x.peer) ∙ key-there links i x e) in
@@ -136,7 +136,7 @@ module _ (order : PutInOrder) (stays : StaysInOrder) (t : Topology) (h : IsTopol
       go None e = none
       go (Some x) e = let w = found-there (is_of n) nodes x e in some x (m.each_node w.1.0 x w.1.1)
 
-  link-read : {A : Type 0} → (f : Option LinkView → A) (a : A) → f None ≡ a → ((x : LinkView) → IsFirstLink t x → f (Some x) ≡ a) → (n k : ℕ) → f (link_at links n k) ≡ a
+  link-read : {A : Type 0} → (f : Option LinkView → A) (a : A) → f None ≡ a → ((x : LinkView) → IsFirstLink t times x → f (Some x) ≡ a) → (n k : ℕ) → f (link_at links n k) ≡ a
   link-read {A} f a none some n k = go (link_at links n k) refl
     where
       go : (o : Option LinkView) → link_at links n k ≡ o → f o ≡ a
@@ -163,7 +163,7 @@ module _ (order : PutInOrder) (stays : StaysInOrder) (t : Topology) (h : IsTopol
           let f = m.each_node w.1.0 x w.1.1 in
           ap Rows.state_of f.seat ∙ first-state (new_core t x.node) ∙ ap (first_seat t) (eqb-true x.node n w.0)
 
-  pub is-first : world_of start ≡ first_world t STANDARD
+  pub is-first : world_of start ≡ first_world t times
   is-first =
       let s = fun_ext seat-read in
       let e = fun_ext (λ (n : ℕ). fun_ext (link-read end_in first_end refl (λ x f. f.state) n)) in
@@ -177,7 +177,7 @@ module _ (order : PutInOrder) (stays : StaysInOrder) (t : Topology) (h : IsTopol
       let r = fun_ext (λ (n : ℕ). fun_ext (link-read steps_in [] refl (λ x f. f.steps) n)) in
       λ i. record {
         topology = t;
-        times = STANDARD;
+        times = times;
         clock = 0;
         seats = s i;
         ends = e i;

@@ -1,7 +1,7 @@
 -- Nodes and link ends as they are at the start.
 use Rattle.std.specs.Prelude.{◌≡◌, ℕ, ◌+◌, ◌≤◌, false, List, [], ◌∷◌, ◌++◌, map, replicate, length, slice_get, Some}
 use Rattle.std.specs.List.{flat_map}
-use Rattle.tora_arq.specs.declared.TheConstants.Times.{STANDARD}
+use Rattle.tora_arq.specs.declared.Times.{Times}
 use Rattle.tora_frame.specs.declared.parts.Version.{Version}
 use Rattle.tora_arq.specs.Settings.{settings_of}
 use Rattle.tora_arq.specs.LinkEnd.{first_end}
@@ -17,20 +17,20 @@ use Rattle.tora_sim.specs.Nodes.{NodeView}
 use Rattle.tora_sim.specs.Store.{EachOf}
 use Rattle.tora_sim.specs.Readers.{ends_at}
 
--- the end of node n towards k, which speaks versions up to this one, and whose place among the neighbours this is
-pub record IsFirstEnd (version : Version) (n k place : ℕ) (link : LinkView) : Type 0 where
+-- the end of node n towards k, which speaks versions up to this one and has these times, and whose place among the neighbours this is
+pub record IsFirstEnd (version : Version) (times : Times) (n k place : ℕ) (link : LinkView) : Type 0 where
   pub node : link.node ≡ n
   pub peer : link.peer ≡ k
   pub seat : link.seat ≡ place
-  pub settings : link.settings ≡ settings_of version n k STANDARD
+  pub settings : link.settings ≡ settings_of version n k times
   pub state : link.state ≡ first_end
   pub file : link.file ≡ opened (owner_of n k) (fresh_state [])
   pub put : link.put ≡ []
   pub pulled : link.pulled ≡ 0
   pub steps : link.steps ≡ []
 
-abbrev pub IsFirstLink : Topology → LinkView → Type 0
-IsFirstLink t link = IsFirstEnd (version_at t link.node) link.node link.peer (place_of link.peer (neighbours_of t link.node)) link
+abbrev pub IsFirstLink : Topology → Times → LinkView → Type 0
+IsFirstLink t times link = IsFirstEnd (version_at t link.node) times link.node link.peer (place_of link.peer (neighbours_of t link.node)) link
 
 pub record IsFirstNode (t : Topology) (node : NodeView) : Type 0 where
   pub count : node.count ≡ length (neighbours_of t node.node)
@@ -51,18 +51,18 @@ pub record HasEnds (t : Topology) (keys : List (ℕ × ℕ)) (node : NodeView) :
   pub at : (place k : ℕ) → slice_get (neighbours_of t node.node) place ≡ Some k → slice_get keys (node.first + place) ≡ Some (node.node, k)
 
 -- the ends of one node more
-pub record AreAdded (t : Topology) (n : ℕ) (links new : List LinkView) : Type 0 where
+pub record AreAdded (t : Topology) (times : Times) (n : ℕ) (links new : List LinkView) : Type 0 where
   pub keys : map key_of new ≡ map key_of links ++ ends_at t n
-  pub each : EachOf (IsFirstLink t) links → EachOf (IsFirstLink t) new
+  pub each : EachOf (IsFirstLink t times) links → EachOf (IsFirstLink t times) new
 
 -- these nodes with their link ends
-pub record AreMade (t : Topology) (ns : List ℕ) (nodes : List NodeView) (links : List LinkView) : Type 0 where
+pub record AreMade (t : Topology) (times : Times) (ns : List ℕ) (nodes : List NodeView) (links : List LinkView) : Type 0 where
   pub names : map (λ node. node.node) nodes ≡ ns
   pub keys : map key_of links ≡ flat_map (ends_at t) ns
   pub each_node : EachOf (IsFirstNode t) nodes
-  pub each_link : EachOf (IsFirstLink t) links
+  pub each_link : EachOf (IsFirstLink t times) links
   pub ends : EachOf (HasEnds t (map key_of links)) nodes
 
 -- one node more, with its link ends
-abbrev pub IsMade : Topology → ℕ → List NodeView → List LinkView → List NodeView → List LinkView → Type 0
-IsMade t n nodes links more_nodes more_links = (ns : List ℕ) → AreMade t ns nodes links → AreMade t (ns ++ n ∷ []) more_nodes more_links
+abbrev pub IsMade : Topology → Times → ℕ → List NodeView → List LinkView → List NodeView → List LinkView → Type 0
+IsMade t times n nodes links more_nodes more_links = (ns : List ℕ) → AreMade t times ns nodes links → AreMade t times (ns ++ n ∷ []) more_nodes more_links

@@ -1,6 +1,7 @@
 //! A world at its start.
 ghost use Rattle.std.specs.Prelude.{◌≡◌, ◌≢◌, ◌<◌, IfErr, IfOk, MatchResult};
 ghost use Rattle.tora_arq.specs.declared.TheConstants.Times.{STANDARD};
+ghost use Rattle.tora_arq.specs.Settings.{IsTimes};
 ghost use Rattle.tora_seat.specs.Rows.{first_seat};
 ghost use Rattle.tora_world.specs.Topology.{new_core};
 ghost use Rattle.tora_world.specs.World.{first_world};
@@ -37,6 +38,20 @@ impl Sim {
         ensures made { IfOk result (λ sim. world_of sim ≡ first_world topology.now STANDARD) }
         ensures refused { IfErr result (λ e. e ≡ SimError.Memory) }
     {
+        standard_times();
+        Sim::with_times(alloc, topology, Times::STANDARD)
+    }
+
+    /// The world of a topology at its start, as `Sim::new` makes it, but with these times of each link end, none of which
+    /// is 0. Own profile.
+    ///
+    /// # Errors
+    /// `Memory`.
+    pub fn with_times(alloc: Global, topology: &Topology, times: Times) -> Result<Sim, SimError>
+        requires { IsTimes times }
+        ensures made { IfOk result (λ sim. world_of sim ≡ first_world topology.now times) }
+        ensures refused { IfErr result (λ e. e ≡ SimError.Memory) }
+    {
         numbers_are_put_in_order();
         numbers_come_and_go();
         let Ok(own) = topology.copied(alloc) else {
@@ -46,12 +61,12 @@ impl Sim {
         let mut nodes = Vec::new(alloc);
         let mut links = Vec::new(alloc);
         for n in named.as_slice() {
-            add_node(alloc, &own, *n, &mut nodes, &mut links)?;
+            add_node(alloc, &own, times, *n, &mut nodes, &mut links)?;
         }
         let hints = Hints::new(&nodes);
         Ok(Sim {
             topology: own,
-            times: Times::STANDARD,
+            times,
             clock: 0,
             nodes,
             links,
@@ -65,18 +80,20 @@ impl Sim {
 fn add_node(
     alloc: Global,
     topology: &Topology,
+    times: Times,
     n: Id,
     nodes: &mut Vec<NodeSlot>,
     links: &mut Vec<LinkSlot>,
 ) -> Result<(), SimError>
-    requires { 0 < n }
-    ensures { MatchResult result (λ _. IsMade topology.now n nodes.old.items links.old.items nodes.new.items links.new.items) (λ e. e ≡ SimError.Memory) }
+    requires times { IsTimes times }
+    requires me { 0 < n }
+    ensures { MatchResult result (λ _. IsMade topology.now times n nodes.old.items links.old.items nodes.new.items links.new.items) (λ e. e ≡ SimError.Memory) }
 {
     let first = links.len();
     let neighbours = topology.neighbours(n);
     let count = neighbours.len();
     let seat = new_seat(alloc, topology, n)?;
-    add_links(alloc, topology, n, links)?;
+    add_links(alloc, topology, times, n, links)?;
     let node = NodeSlot {
         node: n,
         first,
@@ -113,18 +130,20 @@ fn new_seat(alloc: Global, topology: &Topology, n: Id) -> Result<CoreSeat, SimEr
 fn add_links(
     alloc: Global,
     topology: &Topology,
+    times: Times,
     n: Id,
     links: &mut Vec<LinkSlot>,
 ) -> Result<(), SimError>
-    requires { 0 < n }
-    ensures { MatchResult result (λ _. AreAdded topology.now n links.old.items links.new.items) (λ e. e ≡ SimError.Memory) }
+    requires times { IsTimes times }
+    requires me { 0 < n }
+    ensures { MatchResult result (λ _. AreAdded topology.now times n links.old.items links.new.items) (λ e. e ≡ SimError.Memory) }
 {
     numbers_are_put_in_order();
     let version = topology.version_of(n);
     let neighbours = topology.neighbours(n);
     let peers = neighbours.as_slice();
     for seat in 0..peers.len() {
-        let link = new_link(alloc, version, n, peers[seat], seat)?;
+        let link = new_link(alloc, version, times, n, peers[seat], seat)?;
         match links.push(link) {
             Ok(()) => {}
             Err(_) => return Err(SimError::Memory),
@@ -137,17 +156,18 @@ fn add_links(
 fn new_link(
     alloc: Global,
     version: Version,
+    times: Times,
     n: Id,
     k: Id,
     seat: usize,
 ) -> Result<LinkSlot, SimError>
+    requires times { IsTimes times }
     requires me { 0 < n }
     requires peer { 0 < k }
     requires other { n ≢ k }
-    ensures { MatchResult result (λ link. IsFirstEnd version n k seat link) (λ e. e ≡ SimError.Memory) }
+    ensures { MatchResult result (λ link. IsFirstEnd version times n k seat link) (λ e. e ≡ SimError.Memory) }
 {
-    standard_times();
-    let Ok(end) = end_of(alloc, version, n, k, Times::STANDARD) else {
+    let Ok(end) = end_of(alloc, version, n, k, times) else {
         return Err(SimError::Memory);
     };
     Ok(LinkSlot {

@@ -30,7 +30,7 @@ mod turns;
 mod walks;
 
 pub use sim::Sim;
-pub use topology::{MOST_NODES, Topology};
+pub use topology::{MOST_NODES, Topology, topology_fault};
 pub use tora_world::{Call, Event, SimError};
 
 #[cfg(test)]

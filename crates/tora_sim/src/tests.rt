@@ -8,7 +8,7 @@ use super::*;
 use std::alloc::Global;
 use std::process::Abort;
 use std::test::Fail;
-use tora_arq::Life;
+use tora_arq::{Life, Times};
 use tora_core::CoreError;
 use tora_height::{Entry, Height, Id};
 use tora_packet::{Packet, Update};
@@ -59,6 +59,7 @@ fn sees(
     destinations: &[Id],
     cause: Option<CoreError>,
 ) {
+    assert_eq!(rt; topology_fault(links, destinations), cause);
     assert_eq!(rt; made(rt, alloc, links, destinations).err(), cause);
 }
 
@@ -440,4 +441,29 @@ fn exact_entries_give_a_walk(rt: HostRuntime) -> Result<(), Fail> {
     assert_eq!(&rt; sim.walk(alloc, 5, 4).err(), Some(SimError::NoNode));
     assert_eq!(&rt; sim.walk(alloc, 1, 3).err(), Some(SimError::NoNode));
     Ok(())
+}
+
+#[test]
+fn times_are_those_given(rt: HostRuntime) {
+    let alloc = rt.alloc();
+    let topology = made(&rt, alloc, &[(1, 2)], &[2]).expect(&rt, "a topology");
+    let times = Times {
+        hello: 2,
+        silent: 3,
+        retry: 1,
+        tries: 2,
+    };
+    let mut sim = Sim::with_times(alloc, &topology, times).expect(&rt, "a simulator");
+    let hello = [
+        Event::Open(1, 2),
+        Event::Transmit(1, 2),
+        Event::Transmit(1, 2),
+        Event::Tick,
+    ];
+    run(&rt, &mut sim, &hello);
+    assert_eq!(&rt;
+        sim.step(&Event::Transmit(1, 2)),
+        Err(SimError::NotPossible)
+    );
+    run(&rt, &mut sim, &[Event::Tick, Event::Transmit(1, 2)]);
 }

@@ -65,7 +65,7 @@ impl Topology {
         ensures fault { IfErr result (λ e. ((e ≡ CoreError.Memory) × (topology_fault (topology_of links.now destinations.now) ≡ None))
             ⊎ (topology_fault (topology_of links.now destinations.now) ≡ Some e)) }
     {
-        if let Some(error) = fault_of(links, destinations) {
+        if let Some(error) = topology_fault(links, destinations) {
             return Err(error);
         }
         let Ok(links) = Vec::from_slice(alloc, links) else {
@@ -200,8 +200,9 @@ fn neighbours_of(links: &[(Id, Id)], n: Id) -> ArrayVec<Id, MOST_NEIGHBOURS>
 
 // ---- why there is no such topology
 
-/// The first cause that holds, other than want of memory.
-fn fault_of(links: &[(Id, Id)], destinations: &[Id]) -> Option<CoreError>
+/// Why there is no topology of these links, each between two nodes, and these destinations, if there is none: the cause that
+/// `Topology::new` answers, unless that is `Memory`.
+pub fn topology_fault(links: &[(Id, Id)], destinations: &[Id]) -> Option<CoreError>
     ensures { result ≡ topology_fault (topology_of links.now destinations.now) }
 {
     if has_too_many(links, destinations) {

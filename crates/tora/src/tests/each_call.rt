@@ -3,7 +3,7 @@ use super::*;
 use crate::rounds::make_rounds;
 use crate::simulator::Simulator;
 use std::alloc::AllocError;
-use tora_arq::Life;
+use tora_arq::{Life, Times};
 use tora_height::{Entry, Height, Id};
 use tora_sim::{Sim, Topology};
 use tora_world::{Call, Event, SimError};
@@ -20,8 +20,14 @@ impl Simulator for Recorder {
 
     ghost world = { λ recorder. world_of recorder.sim };
 
-    fn start(alloc: Global, links: &[(Id, Id)], dests: &[Id]) -> Result<Recorder, CoreError> {
-        let sim = <Sim as Simulator>::start(alloc, links, dests)?;
+    fn start(
+        alloc: Global,
+        links: &[(Id, Id)],
+        dests: &[Id],
+        olds: &[Id],
+        times: Times,
+    ) -> Result<Recorder, CoreError> {
+        let sim = <Sim as Simulator>::start(alloc, links, dests, olds, times)?;
         Ok(Recorder {
             sim,
             events: Vec::new(alloc),
@@ -82,7 +88,7 @@ const ENDS: [(Id, Id); 6] = [(1, 2), (2, 1), (2, 3), (3, 2), (3, 4), (4, 3)];
 
 /// The events of a need of node 1 and three rounds, after which the route is found.
 fn recorded(rt: &impl Abort, alloc: Global) -> Vec<Event> {
-    let started = <Recorder as Simulator>::start(alloc, &LINKS, &[4]);
+    let started = <Recorder as Simulator>::start(alloc, &LINKS, &[4], &[], Times::STANDARD);
     let mut recorder = started.expect(rt, "a simulator");
     assert!(rt; matches!(recorder.happen(&Event::Need(1, 4)), Ok(None)));
     assert!(rt; make_rounds(&mut recorder, 3, &NODES, &ENDS, &[]).is_ok());

@@ -1,12 +1,13 @@
 //! Why lines of simulation files are faults, and the words of the command line.
 use super::*;
 use crate::session::{FileKind, LONGEST_LINE};
-use crate::simulating::Simulation;
+use crate::simulation::Simulation;
 use crate::simulation_cause::{SimulationCause, simulation_cause};
+use tora_arq::Times;
 
 /// What is kept behind these lines, or nothing where one is a fault or memory is refused.
 fn state_behind(alloc: Global, lines: &[&str]) -> Option<Simulation<Sim>> {
-    let mut state: Simulation<Sim> = Simulation::First;
+    let mut state: Simulation<Sim> = Simulation::new(Times::STANDARD);
     for line in lines {
         let mut text = String::new(alloc);
         if line.len() > LONGEST_LINE {
@@ -29,7 +30,7 @@ fn expect_cause(
     for _ in 0..2 {
         if found != Some(cause) {
             let state = state_behind(alloc, lines);
-            found = state.map(|state| simulation_cause(alloc, &state, line.as_bytes()));
+            found = state.map(|state| simulation_cause(&state.stage, line.as_bytes()));
         }
     }
     assert_eq!(rt; found, Some(cause), "at {line:?}");
@@ -73,6 +74,43 @@ fn causes_of_faults_before_a_simulation_runs(rt: HostRuntime) {
     let three = ["dests 4", "link 1 2", "link 2 3"];
     expect_cause(&rt, rt.alloc(), &three, "link 3", SimulationCause::Pair);
     expect_cause(&rt, rt.alloc(), &three, "turns", SimulationCause::Word);
+}
+
+/// Why an old node is a fault, as `-v` says it.
+#[test]
+fn causes_of_faults_of_old_nodes(rt: HostRuntime) {
+    let three = ["dests 4", "link 1 2", "link 2 3"];
+    let rows = [
+        ("old 4", SimulationCause::NoSuchNode),
+        ("old 0", SimulationCause::Old),
+        ("old 1 2", SimulationCause::Old),
+        ("old", SimulationCause::Old),
+        ("old 1\r", SimulationCause::CarriageReturn),
+        ("older 1", SimulationCause::Word),
+    ];
+    for (line, cause) in rows {
+        expect_cause(&rt, rt.alloc(), &three, line, cause);
+    }
+    let old = ["dests 4", "link 1 2", "old 2"];
+    let rows = [
+        ("old 3", SimulationCause::NoSuchNode),
+        ("link 2 3", SimulationCause::LateLink),
+        ("dests 4", SimulationCause::LateDests),
+    ];
+    for (line, cause) in rows {
+        expect_cause(&rt, rt.alloc(), &old, line, cause);
+    }
+    let refused = ["dests 4", "link 1 1"];
+    expect_cause(&rt, rt.alloc(), &refused, "old 1", SimulationCause::OwnLink);
+    expect_cause(
+        &rt,
+        rt.alloc(),
+        &["dests 4"],
+        "old 1",
+        SimulationCause::NoLink,
+    );
+    let late = ["dests 4", "link 1 2", "old 2", "tick"];
+    expect_cause(&rt, rt.alloc(), &late, "old 1", SimulationCause::LateOld);
 }
 
 /// Why a line behind the links is a fault, as `-v` says it.

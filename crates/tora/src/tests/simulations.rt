@@ -1,6 +1,5 @@
 //! Simulation files.
 use super::*;
-use crate::flushing::{simulate_and_flush, simulate_told_and_flush};
 
 /// Simulates the front of an input and its end. Where memory was refused it is simulated again, since one refusal is no
 /// reason for a second.
@@ -20,7 +19,7 @@ fn simulated(
 }
 
 /// The front of a simulation and its end print the text, and end so.
-fn expect_world(
+pub fn expect_world(
     rt: &impl Abort,
     alloc: Global,
     (front, end): (&str, &str),
@@ -34,27 +33,20 @@ fn expect_world(
 }
 
 /// A line of four nodes.
-const FOUR: &str = "dests 4\nlink 1 2\nlink 2 3\nlink 3 4\n";
+pub const FOUR: &str = "dests 4\nlink 1 2\nlink 2 3\nlink 3 4\n";
 
-const FOUND: &str = "node 1 (0,0,0,3,1) hop 2\nnode 2 (0,0,0,2,2) hop 3\n\
+/// The heights and next hops of its nodes with a route to 4.
+pub const FOUND: &str = "node 1 (0,0,0,3,1) hop 2\nnode 2 (0,0,0,2,2) hop 3\n\
     node 3 (0,0,0,1,3) hop 4\nnode 4 (0,0,0,0,4) hop -\n";
 
-const FOUR_FOUND_AND_LOST: &str = "dests 4\nlink 1 2\nlink 2 3\nlink 3 4\nneed 1 4\nrounds 3\n\
+/// Its route to 4 is found, and lost.
+pub const FOUR_FOUND_AND_LOST: &str = "dests 4\nlink 1 2\nlink 2 3\nlink 3 4\nneed 1 4\nrounds 3\n\
     heights 4\npart 3 4\nrounds 60\nheights 4\n";
 
-const FOUND_AND_LOST: &str = "node 1 (0,0,0,3,1) hop 2\nnode 2 (0,0,0,2,2) hop 3\n\
+/// What that prints.
+pub const FOUND_AND_LOST: &str = "node 1 (0,0,0,3,1) hop 2\nnode 2 (0,0,0,2,2) hop 3\n\
     node 3 (0,0,0,1,3) hop 4\nnode 4 (0,0,0,0,4) hop -\n\
     node 1 - hop -\nnode 2 - hop -\nnode 3 - hop -\nnode 4 (0,0,0,0,4) hop -\n";
-
-/// The whole of `FOUR_FOUND_AND_LOST`, a few bytes at a time, with a read that fails, counted from 1.
-fn four_in_pieces(size: usize, until_failure: u64, kind: IoErrorKind) -> PieceReader<'static> {
-    PieceReader {
-        bytes: FOUR_FOUND_AND_LOST.as_bytes(),
-        size,
-        until_failure,
-        kind,
-    }
-}
 
 #[test]
 fn route_is_found_and_lost(rt: HostRuntime) {
@@ -675,141 +667,4 @@ fn longest_simulation_line(rt: HostRuntime) {
             assert_eq!(&rt; writer.text(), text.as_bytes(), "at {len} bytes");
         }
     }
-}
-
-#[test]
-fn simulation_in_pieces(rt: HostRuntime) {
-    for size in 1..40 {
-        let mut writer = ArrayWriter::new(0);
-        let mut reader = four_in_pieces(size, 0, IoErrorKind::Other);
-        let mut found = simulate(rt.alloc(), &mut reader, &mut writer);
-        if found == Err(ReplayError::Memory) {
-            writer = ArrayWriter::new(0);
-            let mut reader = four_in_pieces(size, 0, IoErrorKind::Other);
-            found = simulate(rt.alloc(), &mut reader, &mut writer);
-        }
-        assert_eq!(&rt; found, Ok(Ended::Whole), "in pieces of {size}");
-        assert_eq!(&rt;
-            writer.text(),
-            FOUND_AND_LOST.as_bytes(),
-            "in pieces of {size}"
-        );
-    }
-}
-
-#[test]
-fn failed_reads_of_a_simulation(rt: HostRuntime) {
-    for call in 1..20 {
-        let mut writer = ArrayWriter::new(0);
-        let mut reader = four_in_pieces(5, call, IoErrorKind::Other);
-        let found = simulate(rt.alloc(), &mut reader, &mut writer);
-        assert!(&rt;
-            matches!(found, Err(ReplayError::Read | ReplayError::Memory)),
-            "at call {call}"
-        );
-        assert!(&rt;
-            FOUND_AND_LOST.as_bytes().starts_with(writer.text()),
-            "at call {call}"
-        );
-    }
-}
-
-#[test]
-fn interrupted_reads_of_a_simulation(rt: HostRuntime) {
-    for call in 1..20 {
-        let mut writer = ArrayWriter::new(0);
-        let mut reader = four_in_pieces(5, call, IoErrorKind::Interrupted);
-        let found = simulate(rt.alloc(), &mut reader, &mut writer);
-        if found != Err(ReplayError::Memory) {
-            assert_eq!(&rt; found, Ok(Ended::Whole), "at call {call}");
-            assert_eq!(&rt; writer.text(), FOUND_AND_LOST.as_bytes(), "at call {call}");
-        }
-    }
-}
-
-#[test]
-fn failed_writes_of_a_simulation(rt: HostRuntime) {
-    for call in 1..3 {
-        let mut writer = ArrayWriter::new(call);
-        let mut reader = four_in_pieces(1000, 0, IoErrorKind::Other);
-        let found = simulate(rt.alloc(), &mut reader, &mut writer);
-        assert!(&rt;
-            matches!(found, Err(ReplayError::Write | ReplayError::Memory)),
-            "at call {call}"
-        );
-        assert!(&rt;
-            FOUND_AND_LOST.as_bytes().starts_with(writer.text()),
-            "at call {call}"
-        );
-    }
-}
-
-/// What is told on standard error does not change what is printed.
-#[test]
-fn told_simulation_prints_the_same(rt: HostRuntime) {
-    let rows = [
-        (FOUR_FOUND_AND_LOST, FOUND_AND_LOST, Ended::Whole),
-        (
-            "dests 4\nlink 1 2\nturn 1\nheights 5\n",
-            "refused 4\nfault 4\n",
-            Ended::Fault(4),
-        ),
-        ("", "fault 1\n", Ended::Fault(1)),
-        ("dests 4\nlink 1 1\n", "fault 2\n", Ended::Fault(2)),
-    ];
-    for (input, text, ended) in rows {
-        let mut writer = ArrayWriter::new(0);
-        let mut reader = input.as_bytes();
-        let found = simulate_told_and_flush::<Sim, HostRuntime, &[u8], ArrayWriter>(
-            &rt,
-            rt.alloc(),
-            &mut reader,
-            &mut writer,
-        );
-        if found != Err(ReplayError::Memory) {
-            assert_eq!(&rt; found, Ok(ended), "at {input:?}");
-            assert_eq!(&rt; writer.text(), text.as_bytes(), "at {input:?}");
-        }
-    }
-}
-
-/// A flush that fails at the end is a failed write; all was written.
-#[test]
-fn failed_flushes_of_a_simulation(rt: HostRuntime) {
-    for keeps in [false, true] {
-        let mut writer = ArrayWriter::new(0);
-        writer.keeps = keeps;
-        let mut reader = FOUR_FOUND_AND_LOST.as_bytes();
-        let found = simulate_and_flush::<Sim, &[u8], ArrayWriter>(
-            rt.alloc(),
-            &mut reader,
-            &mut writer,
-        );
-        let wanted = if keeps {
-            Err(ReplayError::Write)
-        } else {
-            Ok(Ended::Whole)
-        };
-        if found != Err(ReplayError::Memory) {
-            assert_eq!(&rt; found, wanted);
-            assert_eq!(&rt; writer.text(), FOUND_AND_LOST.as_bytes());
-        }
-    }
-}
-
-/// Where memory is refused, that is answered, and what was written begins the text.
-#[test]
-fn want_of_memory_in_a_simulation(rt: HostRuntime) {
-    let mut writer = ArrayWriter::new(0);
-    let mut reader = four_in_pieces(1000, 0, IoErrorKind::Other);
-    let found = simulate(rt.alloc(), &mut reader, &mut writer);
-    if found == Ok(Ended::Whole) {
-        assert_eq!(&rt; writer.text(), FOUND_AND_LOST.as_bytes());
-    } else {
-        assert_eq!(&rt; found, Err(ReplayError::Memory));
-    }
-    assert!(&rt;
-        FOUND_AND_LOST.as_bytes().starts_with(writer.text()),
-        "what was written begins the text"
-    );
 }

@@ -4,5 +4,5 @@ use Rattle.tora.proofs.sim_command.simulate_verbosely.Goals as goal
 
 pub returns : goal.returns
 returns g c =
-    ends_from simulation_rules (g.R.Read.remaining c.args.reader) (g.R.Read.remaining c.new-reader.result.reader) (g.R.Read.remaining c.simulate_told_and_flush-result.new.reader.reader) (g.W.Write.contents c.args.writer.now)
+    ends_from (simulation_rules c.args.times) (g.R.Read.remaining c.args.reader) (g.R.Read.remaining c.new-reader.result.reader) (g.R.Read.remaining c.simulate_told_and_flush-result.new.reader.reader) (g.W.Write.contents c.args.writer.now)
     (g.W.Write.contents c.simulate_told_and_flush-result.new.writer) c.simulate_told_and_flush-result.result _ c.new-reader.ensures c.simulate_told_and_flush-result.ensures.whole c.simulate_told_and_flush-result.ensures.at_end c.simulate_told_and_flush-result.ensures.begun c.status.ensures

@@ -1,5 +1,5 @@
-use Rattle.tora.proofs.SimulationFound.{simulation_line_found, dests_found, link_found}
-use Rattle.tora.proofs.SimulationHere.{simulation_line_here, dests_here, link_here}
+use Rattle.tora.proofs.SimulationFound.{simulation_line_found, dests_found, link_found, old_found}
+use Rattle.tora.proofs.SimulationHere.{simulation_line_here, dests_here, link_here, old_here}
 use Rattle.tora.proofs.simulation_parse.simulation_lines_are_read_as_written.Goals as goal
 
 pub returns-clause-found : goal.returns-clause-found
@@ -19,3 +19,9 @@ returns-clause-link_found c = link_found
 
 pub returns-clause-link_only : goal.returns-clause-link_only
 returns-clause-link_only c = link_here
+
+pub returns-clause-old_found : goal.returns-clause-old_found
+returns-clause-old_found c = old_found
+
+pub returns-clause-old_only : goal.returns-clause-old_only
+returns-clause-old_only c = old_here

@@ -3,7 +3,7 @@ use Rattle.tora_life.specs.declared.numbers.LifeError.{LifeError}
 use Rattle.tora_life.specs.declared.numbers.Numbers.{Numbers}
 use Rattle.tora_life.specs.declared.state.State.{State}
 use Rattle.tora_life.specs.declared.tags.Owner.{Owner}
-use Rattle.tora_life.specs.LifeRun.{LifeDisk, opened_as}
+use Rattle.tora_life.specs.LifeRun.{opened_as}
 use Rattle.tora_life.proofs.InMemory.{opens_by}
 use Rattle.tora_sim.proofs.files.open.Goals as goal
 

@@ -7,5 +7,5 @@ use Rattle.tora_sim.proofs.first.add_links.Given as goal
 abbrev pub invariant-loop-seat : goal.invariant-loop-seat
 invariant-loop-seat l = record {
   keys : map key_of l.links.items ≡ map key_of l.initial.links.items ++ map (λ k. (l.n, k)) (take l.seat l.peers);
-  each : EachOf (IsFirstLink l.topology) l.initial.links.items → EachOf (IsFirstLink l.topology) l.links.items;
+  each : EachOf (IsFirstLink l.topology l.times) l.initial.links.items → EachOf (IsFirstLink l.topology l.times) l.links.items;
 }

@@ -20,5 +20,5 @@ returns c =
       sending = refl;
       receive = refl;
     } in
-    subst (λ (xs : List NodeView). IsMade c.args.topology.now c.args.n c.args.nodes.now.items c.args.links.now.items xs c.add_links.new.links.items) (sym put)
-    (node-more c.args.topology.now c.args.n c.args.nodes.now.items c.args.links.now.items c.add_links.new.links.items node c.in_ok-add_links.ensures made refl first)
+    subst (λ (xs : List NodeView). IsMade c.args.topology.now c.args.times c.args.n c.args.nodes.now.items c.args.links.now.items xs c.add_links.new.links.items) (sym put)
+    (node-more c.args.topology.now c.args.times c.args.n c.args.nodes.now.items c.args.links.now.items c.add_links.new.links.items node c.in_ok-add_links.ensures made refl first)

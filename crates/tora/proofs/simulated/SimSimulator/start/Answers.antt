@@ -1,7 +1,7 @@
-use Rattle.std.proofs.Common.{◌∙◌, ap}
-use Rattle.tora_arq.specs.declared.TheConstants.Times.{STANDARD}
+use Rattle.std.proofs.Common.{◌∙◌, ap, fold}
 use Rattle.tora_world.specs.World.{first_world}
 use Rattle.tora_sim.specs.Store.{world_of}
+use Rattle.tora.specs.Simulator.{with_old_node}
 use Rattle.tora.proofs.Starting.{numbers_of, started_as}
 use Rattle.tora.proofs.simulated.SimSimulator.start.Goals as goal
 
@@ -9,4 +9,5 @@ pub new-requires : goal.new-requires
 new-requires c = numbers_of c.args.links.now c.args.dests.now c.requires.links c.requires.dests
 
 pub returns-in-Ok : goal.returns-in-Ok
-returns-in-Ok c = started_as c.args.links.now c.args.dests.now (world_of c.in-Ok.sim) c.in_ok-topology.ensures.sound (c.in-Ok.ensures.made ∙ ap (λ t. first_world t STANDARD) c.in_ok-topology.ensures.made)
+returns-in-Ok c = started_as c.args.links.now c.args.dests.now c.args.olds.now c.args.times (world_of c.in-Ok.sim) c.in_ok-topology.ensures.sound
+    (c.in-Ok.ensures.made ∙ ap (λ t. first_world t c.args.times) (c.make_old.ensures ∙ ap (λ t. fold with_old_node t c.args.olds.now) c.in_ok-topology.ensures.made))

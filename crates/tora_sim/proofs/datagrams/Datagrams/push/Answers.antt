@@ -1,5 +1,4 @@
-use Rattle.std.proofs.Common.{List, ◌∷◌, [], ◌++◌, ap, ◌∙◌}
-use Rattle.tora_frame.specs.FrameParts.{FrameParts}
+use Rattle.std.proofs.Common.{◌∷◌, [], ◌++◌, ap, ◌∙◌}
 use Rattle.tora_sim.specs.Datagrams.{DatagramList}
 use Rattle.tora_sim.proofs.KeptFrames.{pushed, pushed_kept}
 use Rattle.tora_sim.proofs.datagrams.Datagrams.push.Goals as goal

@@ -1,4 +1,4 @@
-use Rattle.std.proofs.Common.{◌≡◌, ℕ, suc, ◌+◌, ◌-◌, List, Option, sym, ◌∙◌, arith}
+use Rattle.std.proofs.Common.{◌≡◌, suc, ◌+◌, ◌-◌, sym, ◌∙◌, arith}
 use Rattle.tora_world.specs.World.{World}
 use Rattle.tora_world.specs.Walks.{walk_within}
 use Rattle.tora_sim.specs.Store.{world_of}

@@ -8,7 +8,7 @@ use Rattle.tora_sim.proofs.topology.Topology.new.Goals as goal
 pub invariant_of-result : goal.invariant_of-result
 invariant_of-result c =
     let t = topology_of c.args.links.now c.args.destinations.now in
-    let none : topology_fault t ≡ None = sym c.fault_of.ensures ∙ c.in_default.is in
+    let none : topology_fault t ≡ None = sym c.topology_fault.ensures ∙ c.in_default.is in
     rw (c.in-Ok.ensures.items, c.in-Ok-from_slice.ensures.items, c.new.ensures) (record {
       numbers = c.requires;
       sound = none;
