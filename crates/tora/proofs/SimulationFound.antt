@@ -14,11 +14,11 @@ use Rattle.tora_world.specs.declared.Event.TheVariants.{Need, Tick, Open, Pull, 
 use Rattle.tora_world.specs.declared.Call.{Call}
 use Rattle.tora_world.specs.declared.Call.TheVariants as Fails
 use Rattle.tora.specs.declared.simulation_line.SimulationLine.{SimulationLine}
-use Rattle.tora.specs.declared.simulation_line.SimulationLine.TheVariants.{Happens, Rounds, Part, Mend, Heights, Sent, Taken}
+use Rattle.tora.specs.declared.simulation_line.SimulationLine.TheVariants.{Happens, Rounds, Part, Mend, Heights, Sent, Taken, Exact, Walk}
 use Rattle.tora.specs.Words.{cut, number_of, id_of, list_of, is_dash}
 use Rattle.tora.specs.Lines.{after, or_else, ◌>>=◌}
 use Rattle.tora.specs.LineGrammar.{SpellsId}
-use Rattle.tora.specs.SimulationLines.{is_word, pair_of, life_number_from, life_number_of, life_of, lane_of, call_of, torn_of, rounds_from, rounds_of, for_pair, for_lane, for_id, deliver_of, arm_of, restart_of, end_event_of, node_event_of, order_line_of, first_of_two, simulation_line_of, dests_of, link_of, old_of}
+use Rattle.tora.specs.SimulationLines.{is_word, pair_of, life_number_from, life_number_of, life_of, lane_of, call_of, torn_of, rounds_from, rounds_of, for_pair, for_lane, for_id, deliver_of, arm_of, restart_of, end_event_of, node_event_of, walk_line_of, order_line_of, first_of_two, simulation_line_of, dests_of, link_of, old_of}
 use Rattle.tora.specs.SimulationGrammar.{SpellsPair, IsLifeNumber, SpellsLane, call_text, SpellsTorn, SpellsEvent, SpellsSimulationLine, SpellsDests, SpellsLink, SpellsOld}
 use Rattle.tora.proofs.Grammar.{number_prints}
 use Rattle.tora.proofs.LineLaws.{some_is, bind_some, id_found, after_found, cut_found, dash_found, or_else_some}
@@ -299,7 +299,7 @@ rounds_found text rest o t h =
         ] refl h
 
 abbrev or_taken : List ℕ → Option SimulationLine
-or_taken text = or_else (after (codes "taken ") text) (for_lane Taken) None
+or_taken text = or_else (after (codes "taken ") text) (for_lane Taken) (walk_line_of text)
 
 abbrev or_sent : List ℕ → Option SimulationLine
 or_sent text = or_else (after (codes "sent ") text) (for_lane Sent) (or_taken text)
@@ -313,11 +313,26 @@ or_mend text = or_else (after (codes "mend ") text) (for_pair Mend) (or_heights 
 abbrev or_part : List ℕ → Option SimulationLine
 or_part text = or_else (after (codes "part ") text) (for_pair Part) (or_mend text)
 
+or_walk_found : (text : List ℕ) (o : SimulationLine) → or_else (after (codes "walk ") text) (for_pair Walk) None ≡ Some o → SpellsSimulationLine text o
+or_walk_found text o h =
+    elim (or_else_some (codes "walk ") text (for_pair Walk) None o h) [
+      | inl p ↦ let q = pair_spelled Walk (codes "walk ") text p.0 o p.1 p.2 in rw (← q.2) q.1
+      | inr g ↦ absurd cc
+    ]
+
+walk_line_found : (text : List ℕ) (o : SimulationLine) → walk_line_of text ≡ Some o → SpellsSimulationLine text o
+unfolding walk_line_of
+walk_line_found text o h =
+    elim (or_else_some (codes "exact ") text (for_id Exact) (or_else (after (codes "walk ") text) (for_pair Walk) None) o h) [
+      | inl p ↦ let q = id_spelled Exact (codes "exact ") text p.0 o p.1 p.2 in rw (← q.2) q.1
+      | inr g ↦ or_walk_found text o g
+    ]
+
 or_taken_found : (text : List ℕ) (o : SimulationLine) → or_taken text ≡ Some o → SpellsSimulationLine text o
 or_taken_found text o h =
-    elim (or_else_some (codes "taken ") text (for_lane Taken) None o h) [
+    elim (or_else_some (codes "taken ") text (for_lane Taken) (walk_line_of text) o h) [
       | inl p ↦ let q = lane_spelled Taken (codes "taken ") text p.0 o p.1 p.2 in rw (← q.2) q.1
-      | inr g ↦ absurd cc
+      | inr g ↦ walk_line_found text o g
     ]
 
 or_sent_found : (text : List ℕ) (o : SimulationLine) → or_sent text ≡ Some o → SpellsSimulationLine text o

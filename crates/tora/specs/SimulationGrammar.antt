@@ -9,7 +9,7 @@ use Rattle.tora_world.specs.declared.Event.TheVariants.{Need, Tick, Open, Pull, 
 use Rattle.tora_world.specs.declared.Call.{Call}
 use Rattle.tora_world.specs.declared.Call.TheVariants as Fails
 use Rattle.tora.specs.declared.simulation_line.SimulationLine.{SimulationLine}
-use Rattle.tora.specs.declared.simulation_line.SimulationLine.TheVariants.{Happens, Rounds, Part, Mend, Heights, Sent, Taken}
+use Rattle.tora.specs.declared.simulation_line.SimulationLine.TheVariants.{Happens, Rounds, Part, Mend, Heights, Sent, Taken, Exact, Walk}
 use Rattle.tora.specs.LineGrammar.{SpellsId, list_text}
 
 -- a word and two nodes' numbers
@@ -79,6 +79,8 @@ SpellsSimulationLine text (Mend a b) = SpellsPair (codes "mend ") text a b
 SpellsSimulationLine text (Heights d) = SpellsId (codes "heights ") text d
 SpellsSimulationLine text (Sent a b life) = SpellsLane (codes "sent ") text a b life
 SpellsSimulationLine text (Taken b a life) = SpellsLane (codes "taken ") text b a life
+SpellsSimulationLine text (Exact d) = SpellsId (codes "exact ") text d
+SpellsSimulationLine text (Walk n d) = SpellsPair (codes "walk ") text n d
 
 -- `dests LIST`
 pub record SpellsDests (text dests : List ℕ) : Type 0 where

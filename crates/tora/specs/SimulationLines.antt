@@ -8,7 +8,7 @@ use Rattle.tora_world.specs.declared.Event.TheVariants.{Need, Tick, Open, Pull, 
 use Rattle.tora_world.specs.declared.Call.{Call}
 use Rattle.tora_world.specs.declared.Call.TheVariants as Fails
 use Rattle.tora.specs.declared.simulation_line.SimulationLine.{SimulationLine}
-use Rattle.tora.specs.declared.simulation_line.SimulationLine.TheVariants.{Happens, Rounds, Part, Mend, Heights, Sent, Taken}
+use Rattle.tora.specs.declared.simulation_line.SimulationLine.TheVariants.{Happens, Rounds, Part, Mend, Heights, Sent, Taken, Exact, Walk}
 use Rattle.tora.specs.Words.{cut, number_of, id_of, list_of, is_dash}
 use Rattle.tora.specs.Lines.{after, or_else, ◌>>=◌}
 
@@ -129,7 +129,13 @@ node_event_of text =
 unfoldable pub rounds_of : List ℕ → Option SimulationLine
 rounds_of text = number_of text >>= rounds_from
 
--- `rounds R`, `part A B`, `mend A B`, `heights D`, `sent A B X Y` or `taken B A Y X`
+-- `exact D` or `walk N D`
+unfoldable pub walk_line_of : List ℕ → Option SimulationLine
+walk_line_of text =
+    or_else (after (codes "exact ") text) (for_id Exact)
+    (or_else (after (codes "walk ") text) (for_pair Walk) None)
+
+-- `rounds R`, `part A B`, `mend A B`, `heights D`, `sent A B X Y`, `taken B A Y X`, or one of walks
 unfoldable pub order_line_of : List ℕ → Option SimulationLine
 order_line_of text =
     or_else (after (codes "rounds ") text) rounds_of
@@ -137,7 +143,7 @@ order_line_of text =
     (or_else (after (codes "mend ") text) (for_pair Mend)
     (or_else (after (codes "heights ") text) (for_id Heights)
     (or_else (after (codes "sent ") text) (for_lane Sent)
-    (or_else (after (codes "taken ") text) (for_lane Taken) None)))))
+    (or_else (after (codes "taken ") text) (for_lane Taken) (walk_line_of text))))))
 
 -- the first of two that is there
 abbrev pub first_of_two : {A : Type 0} → Option A → Option A → Option A

@@ -1,5 +1,5 @@
 -- What a simulation of an input prints, and how it ends.
-use Rattle.std.specs.Prelude.{ℕ, ◌-◌, ◌==◌, ◌&&◌, ◌||◌, Bool, not, if◌then◌else◌, codes, List, [], ◌∷◌, ◌++◌, length, filter, Option, Some, None, option_map}
+use Rattle.std.specs.Prelude.{ℕ, ◌-◌, ◌==◌, ◌&&◌, ◌||◌, Bool, not, if◌then◌else◌, codes, List, [], ◌∷◌, ◌++◌, length, filter, Option, Some, None, option_map, unwrap_or}
 use Rattle.std.specs.List.{flat_map, list_any}
 use Rattle.std.specs.Option.{option_and_then}
 use Rattle.std.specs.Fmt.{decimal}
@@ -15,13 +15,13 @@ use Rattle.tora.specs.LineText.{Rules, numbered, whole_text, fault_of, IsFirstFa
 use Rattle.tora.specs.Engine.{IsWholeText, IsFrontOfText}
 use Rattle.tora.specs.SimulationLines.{dests_of, link_of, old_of, simulation_line_of}
 use Rattle.tora.specs.Rounds.{is_same_pair, is_parted, rounds}
-use Rattle.tora_world.specs.Walks.{height_at, hop_at}
+use Rattle.tora_world.specs.Walks.{height_at, hop_at, exact_in, walk_of}
 use Rattle.tora_sim.specs.Readers.{ends_in}
 use Rattle.tora_sim.specs.Topologies.{with_old}
 use Rattle.tora.specs.Simulator.{has_topology, started, nodes_of}
 use Rattle.tora.specs.declared.ended.Ended.{Ended}
 use Rattle.tora.specs.declared.simulation_line.SimulationLine.{SimulationLine}
-use Rattle.tora.specs.declared.simulation_line.SimulationLine.TheVariants.{Happens, Rounds, Part, Mend, Heights, Sent, Taken}
+use Rattle.tora.specs.declared.simulation_line.SimulationLine.TheVariants.{Happens, Rounds, Part, Mend, Heights, Sent, Taken, Exact, Walk}
 
 -- ---- what is kept between two lines
 
@@ -93,6 +93,33 @@ count_text n = numbered (codes "count ") n
 abbrev pub where_linked : RunningView → ℕ → ℕ → Reply → Option Reply
 where_linked s a b reply = if has_end a b s.ends then Some reply else None
 
+-- `exact 1` where the entries for a destination are exact, else `exact 0`; unless it is none of the simulation
+abbrev pub exact_text : Bool → List ℕ
+exact_text is_exact = numbered (codes "exact ") (if is_exact then 1 else 0)
+
+abbrev pub exact_reply : RunningView → ℕ → Option Reply
+exact_reply s d = if has_number d s.dests then Some (s, exact_text (exact_in s.world d)) else None
+
+-- a node behind the first of a walk
+abbrev pub next_text : ℕ → List ℕ
+next_text n = 44 ∷ decimal n
+
+-- the nodes behind the first, each after a comma
+abbrev pub rest_text : List ℕ → List ℕ
+rest_text nodes = flat_map next_text nodes
+
+-- `walk LIST`, and `walk -` where there is no walk
+abbrev pub nodes_text : List ℕ → List ℕ
+nodes_text [] = codes "walk -" ++ 10 ∷ []
+nodes_text (n ∷ nodes) = codes "walk " ++ decimal n ++ rest_text nodes ++ 10 ∷ []
+
+unfoldable pub walk_text : Option (List ℕ) → List ℕ
+walk_text walk = nodes_text (unwrap_or walk [])
+
+-- the walk of a node to a destination, unless there is no such node, or it is no destination of the simulation
+abbrev pub walk_reply : RunningView → ℕ → ℕ → Option Reply
+walk_reply s n d = if has_number n s.nodes && has_number d s.dests then Some (s, walk_text (walk_of s.world n d)) else None
+
 unfoldable pub running_reply : RunningView → SimulationLine → Option Reply
 running_reply s (Happens event) = Some (event_reply s event)
 running_reply s (Rounds r) = Some (record s { world = after_rounds r s }, [])
@@ -101,6 +128,8 @@ running_reply s (Mend a b) = where_linked s a b (record s { parted = without_par
 running_reply s (Heights d) = heights_reply s d
 running_reply s (Sent a b life) = where_linked s a b (s, count_text (length (sent_packets s.world a b life)))
 running_reply s (Taken b a life) = where_linked s b a (s, count_text (length (taken_packets s.world b a life)))
+running_reply s (Exact d) = exact_reply s d
+running_reply s (Walk n d) = walk_reply s n d
 
 abbrev pub line_reply : RunningView → List ℕ → Option Reply
 line_reply s line = option_and_then (running_reply s) (simulation_line_of line)

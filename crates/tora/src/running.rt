@@ -7,7 +7,7 @@ ghost use Rattle.tora.specs.LineText.{numbered, TakesReply};
 ghost use Rattle.tora_world.specs.World.{sent_packets, taken_packets};
 ghost use Rattle.tora.specs.Simulator.{ArePairs, AreIds, started};
 ghost use Rattle.tora.specs.RunningView.{running_view};
-ghost use Rattle.tora.specs.SimulationText.{begun_in, has_end, with_parted, without_parted, node_line, heights_text, heights_reply, count_text, running_reply, line_reply, event_reply, after_rounds, where_linked, known_height};
+ghost use Rattle.tora.specs.SimulationText.{begun_in, has_end, with_parted, without_parted, node_line, heights_text, heights_reply, count_text, exact_reply, rest_text, nodes_text, walk_text, walk_reply, running_reply, line_reply, event_reply, after_rounds, where_linked, known_height};
 
 use crate::answer::numbered;
 use crate::height_text::{HeightText, HopText};
@@ -97,6 +97,41 @@ fn write_heights<S: Simulator>(
         write_node(out, sim, d, *n)?;
     }
     Ok(())
+}
+
+/// Puts the nodes of a walk behind the first, each after a comma, behind a text.
+fn write_rest(out: &mut String, nodes: &[Id]) -> Result<(), AllocError>
+    ensures { OnOk result (string_bytes out.new ≡ string_bytes out.old ++ rest_text nodes.now) }
+{
+    for n in nodes {
+        write!(out, ",{n}")?;
+    }
+    Ok(())
+}
+
+/// Puts `walk LIST` behind a text, `walk -` for no nodes.
+fn write_nodes(out: &mut String, nodes: &[Id]) -> Result<(), AllocError>
+    ensures { OnOk result (string_bytes out.new ≡ string_bytes out.old ++ nodes_text nodes.now) }
+{
+    match nodes.split_first() {
+        None => writeln!(out, "walk -"),
+        Some((first, rest)) => {
+            write!(out, "walk {first}")?;
+            write_rest(out, rest)?;
+            writeln!(out, "")
+        }
+    }
+}
+
+/// Puts a walk behind a text.
+#[tactic(auto, unfolding(crate::specs::SimulationText::walk_text))]
+fn write_walk(out: &mut String, walk: Option<Vec<Id>>) -> Result<(), AllocError>
+    ensures { OnOk result (string_bytes out.new ≡ string_bytes out.old ++ walk_text (option_map (λ v. v.items) walk)) }
+{
+    match walk {
+        None => write_nodes(out, &[]),
+        Some(nodes) => write_nodes(out, &nodes),
+    }
 }
 
 /// The first world; a fault where there is no such topology.
@@ -220,6 +255,30 @@ impl<S: Simulator> Running<S> {
         Ok(())
     }
 
+    fn exact(&self, d: Id, out: &mut String) -> Result<(), LineError>
+        requires { string_bytes out.old ≡ [] }
+        ensures { Gives (λ _. ((running_view S.world self.now), string_bytes out.new)) result (exact_reply (running_view S.world self.now) d) }
+    {
+        if !has_number(d, &self.dests) {
+            return Err(LineError::Fault);
+        }
+        let count = if self.sim.exact(d) { 1 } else { 0 };
+        numbered(out, "exact ", count)?;
+        Ok(())
+    }
+
+    fn walk(&self, n: Id, d: Id, out: &mut String) -> Result<(), LineError>
+        requires { string_bytes out.old ≡ [] }
+        ensures { Gives (λ _. ((running_view S.world self.now), string_bytes out.new)) result (walk_reply (running_view S.world self.now) n d) }
+    {
+        if !has_number(n, &self.nodes) || !has_number(d, &self.dests) {
+            return Err(LineError::Fault);
+        }
+        let walk = self.sim.walk(*self.nodes.allocator(), n, d)?;
+        write_walk(out, walk)?;
+        Ok(())
+    }
+
     /// Does what a line asks for, and puts what is printed for it behind an empty text.
     #[tactic(auto, unfolding(crate::specs::SimulationText::running_reply))]
     fn answer(&mut self, line: SimulationLine, out: &mut String) -> Result<(), LineError>
@@ -240,6 +299,8 @@ impl<S: Simulator> Running<S> {
             SimulationLine::Heights(d) => self.heights(d, out),
             SimulationLine::Sent(a, b, life) => self.sent(a, b, life, out),
             SimulationLine::Taken(b, a, life) => self.taken(b, a, life, out),
+            SimulationLine::Exact(d) => self.exact(d, out),
+            SimulationLine::Walk(n, d) => self.walk(n, d, out),
         }
     }
 

@@ -100,6 +100,17 @@ impl Simulator for Sim {
     fn taken(&self, b: Id, a: Id, life: Life) -> usize {
         self.taken_count(b, a, life)
     }
+
+    fn exact(&self, d: Id) -> bool {
+        Sim::exact(self, d)
+    }
+
+    fn walk(&self, alloc: Global, n: Id, d: Id) -> Result<Option<Vec<Id>>, AllocError> {
+        match Sim::walk(self, alloc, n, d) {
+            Ok(walk) => Ok(walk),
+            Err(_) => Err(AllocError),
+        }
+    }
 }
 
 /// Reads the lines of a simulation file to the end of the input or to the first line that is a fault, and writes what is

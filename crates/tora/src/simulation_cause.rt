@@ -38,7 +38,7 @@ pub enum SimulationCause {
     NoSuchNode,
     #[error("a node is old right behind the links, before any other line")]
     LateOld,
-    #[error("its first word is none of `need`, `tick`, `open`, `pull`, `transmit`, `deliver`, `pump`, `turn`, `arm`, `restart`, `rounds`, `part`, `mend`, `heights`, `sent` and `taken`")]
+    #[error("its first word is none of `need`, `tick`, `open`, `pull`, `transmit`, `deliver`, `pump`, `turn`, `arm`, `restart`, `rounds`, `part`, `mend`, `heights`, `sent`, `taken`, `exact` and `walk`")]
     Word,
     #[error("behind this word stand two nodes' numbers, from 1 to 4294967295, without leading zeros")]
     Pair,
@@ -64,6 +64,8 @@ pub enum SimulationCause {
     NoSuchLink,
     #[error("this destination is not in the list of the first line")]
     NoSuchDestination,
+    #[error("no link names this node, or this destination is not in the list of the first line")]
+    NoSuchWalk,
     #[error("it is no line of a simulation file")]
     Other,
 }
@@ -92,10 +94,10 @@ fn first_cause(line: &[u8]) -> SimulationCause {
 fn word_cause(line: &[u8]) -> SimulationCause {
     let (word, _) = words::cut(b' ', line).unwrap_or((line, b""));
     match word {
-        b"need" | b"open" | b"pull" | b"transmit" | b"pump" | b"part" | b"mend" => {
+        b"need" | b"open" | b"pull" | b"transmit" | b"pump" | b"part" | b"mend" | b"walk" => {
             SimulationCause::Pair
         }
-        b"turn" | b"heights" => SimulationCause::Id,
+        b"turn" | b"heights" | b"exact" => SimulationCause::Id,
         b"tick" => SimulationCause::Tick,
         b"deliver" => SimulationCause::Deliver,
         b"arm" => SimulationCause::Arm,
@@ -122,7 +124,10 @@ fn line_cause(line: &[u8]) -> SimulationCause {
         Some(SimulationLine::Sent(_, _, _) | SimulationLine::Taken(_, _, _)) => {
             SimulationCause::NoSuchLink
         }
-        Some(SimulationLine::Heights(_)) => SimulationCause::NoSuchDestination,
+        Some(SimulationLine::Heights(_) | SimulationLine::Exact(_)) => {
+            SimulationCause::NoSuchDestination
+        }
+        Some(SimulationLine::Walk(_, _)) => SimulationCause::NoSuchWalk,
         Some(SimulationLine::Happens(_) | SimulationLine::Rounds(_)) => SimulationCause::Other,
     }
 }

@@ -22,4 +22,8 @@ pub enum SimulationLine {
     /// The count of packets is to be printed that the first node's core took from the second in a life, as its end
     /// writes the life.
     Taken(Id, Id, Life),
+    /// Whether the entries for a destination are exact is to be printed.
+    Exact(Id),
+    /// The walk from a node to a destination is to be printed.
+    Walk(Id, Id),
 }

@@ -3,7 +3,7 @@ ghost use Rattle.std.specs.Prelude.{◌≡◌, ℕ, ◌<◌, List, Some, IfSome,
 ghost use Rattle.tora.specs.declared.simulation_line.SimulationLine.{SimulationLine as AnySimulationLine};
 ghost use Rattle.tora.specs.SimulationGrammar.{SpellsSimulationLine, SpellsDests, SpellsLink, SpellsOld};
 ghost use Rattle.tora.specs.Gives.{Gives};
-ghost use Rattle.tora.specs.SimulationLines.{is_word, pair_of, life_number_of, life_of, lane_of, call_of, torn_of, rounds_of, arm_of, restart_of, end_event_of, node_event_of, order_line_of, simulation_line_of, dests_of, link_of, old_of};
+ghost use Rattle.tora.specs.SimulationLines.{is_word, pair_of, life_number_of, life_of, lane_of, call_of, torn_of, rounds_of, arm_of, restart_of, end_event_of, node_event_of, walk_line_of, order_line_of, simulation_line_of, dests_of, link_of, old_of};
 
 use crate::parse::{after, behind};
 use crate::simulation_line::SimulationLine;
@@ -200,7 +200,19 @@ fn rounds(text: &[u8]) -> Option<SimulationLine>
     }
 }
 
-/// `rounds R`, `part A B`, `mend A B`, `heights D`, `sent A B X Y` or `taken B A Y X`.
+/// `exact D` or `walk N D`.
+#[tactic(auto, unfolding(crate::specs::SimulationLines::walk_line_of, crate::specs::SimulationLines::for_pair, crate::specs::SimulationLines::for_id))]
+fn walk_line(text: &[u8]) -> Option<SimulationLine>
+    ensures { result ≡ walk_line_of text.now }
+{
+    if let Some(rest) = after(b"exact ", text) {
+        return Some(SimulationLine::Exact(words::id(rest)?));
+    }
+    let (n, d) = pair(after(b"walk ", text)?)?;
+    Some(SimulationLine::Walk(n, d))
+}
+
+/// `rounds R`, `part A B`, `mend A B`, `heights D`, `sent A B X Y`, `taken B A Y X`, or a line of walks.
 #[tactic(auto, unfolding(crate::specs::SimulationLines::order_line_of, crate::specs::SimulationLines::for_pair, crate::specs::SimulationLines::for_id, crate::specs::SimulationLines::for_lane))]
 fn order_line(text: &[u8]) -> Option<SimulationLine>
     ensures { result ≡ order_line_of text.now }
@@ -223,8 +235,11 @@ fn order_line(text: &[u8]) -> Option<SimulationLine>
         let (a, b, life) = lane(rest)?;
         return Some(SimulationLine::Sent(a, b, life));
     }
-    let (b, a, life) = lane(after(b"taken ", text)?)?;
-    Some(SimulationLine::Taken(b, a, life))
+    if let Some(rest) = after(b"taken ", text) {
+        let (b, a, life) = lane(rest)?;
+        return Some(SimulationLine::Taken(b, a, life));
+    }
+    walk_line(text)
 }
 
 /// A line behind the links.

@@ -4,7 +4,7 @@ ghost use Rattle.tora_world.specs.World.{World, refusal_of, world_after, datagra
 ghost use Rattle.tora_arq.specs.Settings.{IsTimes};
 ghost use Rattle.tora.specs.Simulator.{ArePairs, AreIds, Starts, nodes_of};
 ghost use Rattle.tora_sim.specs.Readers.{ends_in};
-ghost use Rattle.tora_world.specs.Walks.{height_at, hop_at};
+ghost use Rattle.tora_world.specs.Walks.{height_at, hop_at, exact_in, walk_of};
 
 use std::alloc::{AllocError, Global};
 use tora_arq::{Life, Times};
@@ -76,4 +76,12 @@ pub trait Simulator: Drop {
     /// How many packets the core of `b` took from `a` in a life.
     fn taken(&self, b: Id, a: Id, life: Life) -> usize
         ensures { result ≡ length (taken_packets (world self.now) b a life) };
+
+    /// Whether the entries for a destination are exact.
+    fn exact(&self, d: Id) -> bool
+        ensures { result ≡ exact_in (world self.now) d };
+
+    /// The walk from a node to a destination, if there is one. It is asked of a node and a destination of the world.
+    fn walk(&self, alloc: Global, n: Id, d: Id) -> Result<Option<Vec<Id>>, AllocError>
+        ensures { IfOk result (λ walk. option_map (λ v. v.items) walk ≡ walk_of (world self.now) n d) };
 }

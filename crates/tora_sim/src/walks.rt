@@ -17,11 +17,17 @@ impl Sim {
     /// Whether entries are exact: each entry for destination `d` that is not NULL, of any node and any of its neighbours
     /// whose link is up, is the height of that neighbour.
     ///
-    /// It asks a destination of the topology, as `Topology::has_destination` tells. Where entries are exact, the hops from
-    /// any node with a height reach `d` within as many hops as there are nodes, and `walk` gives them, as
+    /// It is asked of a destination of the topology; of any other number there are no entries. Where entries are exact, the
+    /// hops from any node with a height reach `d` within as many hops as there are nodes, and `walk` gives them, as
     /// `tora_world::exact_entries_give_walks` has it. Nothing says that entries ever become exact.
+    ///
+    /// ```rust
+    /// let topology = Topology::new(alloc, &[(1, 2)], &[2])?;
+    /// let sim = Sim::new(alloc, &topology)?;
+    /// assert!(rt; sim.exact(2)); // no link is up, so there are no entries
+    /// assert!(rt; sim.walk(alloc, 1, 2)?.is_none()); // node 1 has no next hop
+    /// ```
     pub fn exact(&self, d: Id) -> bool
-        requires { has_number d self.now.topology.destinations ≡ true }
         ensures { result ≡ exact_in (world_of self.now) d }
     {
         let nodes = self.topology.nodes();
