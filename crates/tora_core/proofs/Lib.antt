@@ -17,5 +17,6 @@ pub mod ReactsHop
 pub mod Worked
 pub mod LinkLemmas
 pub mod RowPlaces
+pub mod TableViews
 pub mod RowChanges
 pub mod AfterInputs

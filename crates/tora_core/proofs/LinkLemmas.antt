@@ -23,8 +23,8 @@ use Rattle.tora_core.proofs.ReactsWords.{below-above, lt-not_gt, not-below}
 pub refill-same : {X : Type 0} (n : ℕ) (xs ws : List X) → length ws ≡ n → refill n xs ws ≡ ws
 refill-same n xs ws e = grind (arith, common_steps)
 
-abbrev pub links_of : Option Quintuple → List Row → LinkTable
-links_of own rows = record { own = own; rows = rows }
+abbrev pub links_of : Option Quintuple → List Row → ℕ → LinkTable
+links_of own rows room = record { own = own; rows = rows; room = room }
 
 -- ---- heights
 
@@ -726,8 +726,8 @@ kept-few own rows ds count least kept = let few = few-down own rows in let was =
 pub kept-lengths : (own : Option Quintuple) (rows : List Row) (ds : List Direction) (count : ℕ) (least : Option ℕ) → AreKept own rows ds count least → length ds ≡ length rows
 kept-lengths own rows ds count least kept = ap (λ (xs : List Direction). length xs) kept.directions_are ∙ length-directions own rows
 
-pub table-is : (o p : Option Quintuple) (r s : List Row) → o ≡ p → r ≡ s → links_of o r ≡ links_of p s
-table-is o p r s e f = ap (λ (x : Option Quintuple). links_of x r) e ∙ ap (λ (x : List Row). links_of p x) f
+pub table-is : (o p : Option Quintuple) (r s : List Row) (m n : ℕ) → o ≡ p → r ≡ s → m ≡ n → links_of o r m ≡ links_of p s n
+table-is o p r s m n e f g = ap (λ (x : Option Quintuple). links_of x r m) e ∙ ap (λ (x : List Row). links_of p x m) f ∙ ap (links_of p s) g
 
 pub not-some : {X : Type 0} (o : Option X) → is_some o ≡ false → o ≡ None
 not-some None e = refl

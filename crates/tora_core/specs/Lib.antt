@@ -6,6 +6,7 @@ pub mod Heights
 pub mod Rules
 pub mod CoreRun
 pub mod Kept
+pub mod Table
 pub mod InputText
 pub mod ShowText
 pub mod Reacts

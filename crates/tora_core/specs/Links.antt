@@ -10,10 +10,11 @@ use Rattle.tora_height.specs.HeightOrder.{height_cmp, link_status}
 use Rattle.tora_core.specs.declared.rows.Row.{Row}
 use Rattle.tora_core.specs.View.{is_downstream}
 
--- the own height, and the rows of the up neighbours
+-- the own height, the rows of the up neighbours, and how many there may be
 pub record LinkTable : Type 0 where
   pub own : Option Quintuple
   pub rows : List Row
+  pub room : ℕ
 
 -- ---- directions
 

@@ -1,20 +1,23 @@
 //! TORA's rules for one destination (Park and Corson 1997, section 3).
-ghost use Rattle.std.specs.Prelude.{◌≡◌, ◌==◌, ◌<◌, None, Some, IfSome, MatchBool, nat_lt, option_map, pos};
+ghost use Rattle.std.specs.Prelude.{◌≡◌, ◌==◌, ◌<◌, ◌≤◌, None, Some, IfOk, IfSome, MatchBool, nat_lt, option_map, pos, length};
 ghost use Rattle.tora_height.specs.Height.{IsLevel, quintuple, destination_height};
 ghost use Rattle.tora_packet.specs.PacketParts.{IsId};
 ghost use Rattle.std.specs.List.{position_or_len};
 ghost use Rattle.tora_core.specs.Links.{IsOnlyPlace, directions_of};
-ghost use Rattle.tora_core.specs.View.{downstream_count, up_neighbours, first_view, has_downstream, lacks_downstream, next_hop_of};
+ghost use Rattle.tora_core.specs.Table.{first_in};
+ghost use Rattle.tora_core.specs.View.{downstream_count, up_neighbours, has_downstream, lacks_downstream, next_hop_of};
 ghost use Rattle.tora_core.specs.CoreRun.{entry_in};
 ghost use Rattle.tora_core.specs.declared.Input.{Input};
 ghost use Rattle.tora_core.specs.Heights.{fitted_height, fresh_time};
-ghost use Rattle.tora_core.specs.Kept.{HasRoom, IsKept, MakesPacket, MayCome};
+ghost use Rattle.tora_core.specs.Kept.{IsKept, MakesPacket, MayCome};
 ghost use Rattle.tora_core.specs.Rules.{query_broadcast, update_broadcast, joined_height, after_join, new_level, after_erase, after_link_loss, after_update_loss, propagated_level, reflected_level, link_row, on_need, on_query, on_update, on_clear, on_packet, cleared_level, outcome_of, packet_of, packet_sent, view_after};
 
+use crate::MOST_NEIGHBOURS;
 use crate::links::Links;
 use crate::rows::{
     Row, all_at, entry_of, greatest_level, is_entry_at, least_delta, time_after_all,
 };
+use std::alloc::{AllocError, Global};
 use std::marker::Model;
 use tora_height::{Direction, Entry, Height, Id, Level};
 use tora_packet::{Clear, Packet, Query, Update};
@@ -50,92 +53,106 @@ pub struct Destination {
 impl Model for Destination {
     ghost use Rattle.std.specs.Prelude.{◌≤◌, ◌^◌};
     ghost use Rattle.tora_packet.specs.PacketParts.{IsId};
-    ghost use Rattle.tora_core.specs.View.{View};
+    ghost use Rattle.tora_core.specs.Table.{TableView};
 
-    ghost Value = { View };
+    ghost Value = { TableView };
 
-    ghost view = { λ d. record { me = d.me; destination = d.destination; height = d.links.own; flag = d.flag; rows = d.links.rows; last = d.last } };
+    ghost view = { λ d. record {
+      view = record { me = d.me; destination = d.destination; height = d.links.own; flag = d.flag; rows = d.links.rows; last = d.last };
+      room = d.links.room;
+    } };
 
     ghost invariant = { λ d. IsId d.me × (d.last ≤ 2 ^ 62) };
 }
 
 impl Destination {
-    /// The first view of a destination.
-    pub fn new(me: Id, destination: Id) -> Destination
+    /// The first view of a destination, with room for the rows of so many neighbours.
+    ///
+    /// # Errors
+    /// Want of memory.
+    pub fn new(
+        alloc: Global,
+        me: Id,
+        destination: Id,
+        room: usize,
+    ) -> Result<Destination, AllocError>
         requires me { 0 < me }
         requires destination { 0 < destination }
-        ensures { result ≡ first_view me destination }
+        requires room { room ≤ MOST_NEIGHBOURS }
+        ensures { IfOk result (λ first. first ≡ first_in room me destination) }
     {
-        Destination {
+        let own = if me == destination {
+            Some(Height::zero(destination))
+        } else {
+            None
+        };
+        Ok(Destination {
             me,
             destination,
             flag: false,
-            links: Links::new(if me == destination {
-                Some(Height::zero(destination))
-            } else {
-                None
-            }),
+            links: Links::new(alloc, own, room)?,
             last: 0,
-        }
+        })
     }
 
     pub fn destination(&self) -> Id
-        ensures { result ≡ self.now.destination }
+        ensures { result ≡ self.now.view.destination }
     {
         self.destination
     }
 
     pub fn height(&self) -> Entry
-        ensures { result ≡ self.now.height }
+        ensures { result ≡ self.now.view.height }
     {
         self.links.own()
     }
 
     pub fn flag(&self) -> bool
-        ensures { result ≡ self.now.flag }
+        ensures { result ≡ self.now.view.flag }
     {
         self.flag
     }
 
     pub fn rows(&self) -> &[Row]
-        ensures { result.now ≡ self.now.rows }
+        ensures { result.now ≡ self.now.view.rows }
     {
         self.links.rows()
     }
 
     /// The direction of the link of each row.
     pub fn directions(&self) -> &[Direction]
-        ensures { result.now ≡ directions_of self.now.height self.now.rows }
+        ensures { result.now ≡ directions_of self.now.view.height self.now.view.rows }
     {
         self.links.directions()
     }
 
     /// How many neighbours are downstream.
     pub fn downstream(&self) -> u32
-        ensures { result ≡ downstream_count self.now }
+        ensures { result ≡ downstream_count self.now.view }
     {
         self.links.downstream()
     }
 
     /// The entry of a neighbour whose link is up.
     pub fn entry(&self, k: Id) -> Option<Entry>
-        ensures { result ≡ entry_in k self.now }
+        ensures { result ≡ entry_in k self.now.view }
     {
         entry_of(k, self.links.rows())
     }
 
     /// The downstream neighbour with the lowest entry.
     pub fn next_hop(&self) -> Option<Id>
-        ensures { result ≡ next_hop_of self.now }
+        ensures { result ≡ next_hop_of self.now.view }
     {
         self.links.next_hop()
     }
 
     /// A route to the destination is needed: answers the packet to every up neighbour. The rule for it reads no clock.
     pub fn need(&mut self) -> Option<Packet>
-        requires kept { IsKept self.old }
-        ensures view { self.new ≡ view_after self.old (Input.Need self.old.destination) 0 }
-        ensures packet { result ≡ packet_sent self.old (Input.Need self.old.destination) 0 }
+        requires kept { IsKept self.old.view }
+        ensures view { self.new.view ≡ view_after self.old.view (Input.Need self.old.view.destination) 0 }
+        ensures packet { result ≡ packet_sent self.old.view (Input.Need self.old.view.destination) 0 }
+        ensures room { self.new.room ≡ self.old.room }
     {
         let destination = self.destination;
         let broadcast = self.react_to_need();
@@ -144,11 +161,12 @@ impl Destination {
 
     /// As `need`, for a packet of the neighbour `k`, whose row is at `place`, for the destination.
     pub fn packet(&mut self, k: Id, place: usize, packet: &Packet, now: u64) -> Option<Packet>
-        requires kept { IsKept self.old }
-        requires place { IsOnlyPlace k place (up_neighbours self.old) }
-        requires may { MayCome self.old (Input.Packet k packet.now) }
-        ensures view { self.new ≡ view_after self.old (Input.Packet k packet.now) now }
-        ensures packet { result ≡ packet_sent self.old (Input.Packet k packet.now) now }
+        requires kept { IsKept self.old.view }
+        requires place { IsOnlyPlace k place (up_neighbours self.old.view) }
+        requires may { MayCome self.old.view (Input.Packet k packet.now) }
+        ensures view { self.new.view ≡ view_after self.old.view (Input.Packet k packet.now) now }
+        ensures packet { result ≡ packet_sent self.old.view (Input.Packet k packet.now) now }
+        ensures room { self.new.room ≡ self.old.room }
     {
         let destination = self.destination;
         let broadcast = self.react_to_packet(k, place, packet, now);
@@ -157,12 +175,14 @@ impl Destination {
 
     /// As `need`, for the link to a neighbour that came up, whose row goes to `place`. The rules for it read no clock.
     pub fn link_up(&mut self, k: Id, place: usize) -> Option<Packet>
-        requires kept { IsKept self.old }
-        requires place { place ≡ position_or_len (λ row. nat_lt k row.neighbour) self.old.rows }
-        requires may { MayCome self.old (Input.LinkUp k) }
-        requires room { HasRoom self.old (Input.LinkUp k) }
-        ensures view { self.new ≡ view_after self.old (Input.LinkUp k) 0 }
-        ensures packet { result ≡ packet_sent self.old (Input.LinkUp k) 0 }
+        requires kept { IsKept self.old.view }
+        requires place { place ≡ position_or_len (λ row. nat_lt k row.neighbour) self.old.view.rows }
+        requires may { MayCome self.old.view (Input.LinkUp k) }
+        requires neighbour { IsId k }
+        requires room { length self.old.view.rows < self.old.room }
+        ensures view { self.new.view ≡ view_after self.old.view (Input.LinkUp k) 0 }
+        ensures packet { result ≡ packet_sent self.old.view (Input.LinkUp k) 0 }
+        ensures room { self.new.room ≡ self.old.room }
     {
         let destination = self.destination;
         let broadcast = self.react_to_link_up(k, place);
@@ -171,10 +191,11 @@ impl Destination {
 
     /// As `need`, for the link to neighbour `k`, whose row is at `place`, that went down.
     pub fn link_down(&mut self, k: Id, place: usize, now: u64) -> Option<Packet>
-        requires kept { IsKept self.old }
-        requires place { IsOnlyPlace k place (up_neighbours self.old) }
-        ensures view { self.new ≡ view_after self.old (Input.LinkDown k) now }
-        ensures packet { result ≡ packet_sent self.old (Input.LinkDown k) now }
+        requires kept { IsKept self.old.view }
+        requires place { IsOnlyPlace k place (up_neighbours self.old.view) }
+        ensures view { self.new.view ≡ view_after self.old.view (Input.LinkDown k) now }
+        ensures packet { result ≡ packet_sent self.old.view (Input.LinkDown k) now }
+        ensures room { self.new.room ≡ self.old.room }
     {
         let destination = self.destination;
         let broadcast = self.react_to_link_down(k, place, now);
@@ -182,8 +203,9 @@ impl Destination {
     }
 
     fn react_to_need(&mut self) -> Option<Broadcast>
-        ensures view { self.new ≡ (outcome_of self.old (Input.Need self.old.destination) 0).view }
-        ensures broadcast { result ≡ (outcome_of self.old (Input.Need self.old.destination) 0).broadcast }
+        ensures view { self.new.view ≡ (outcome_of self.old.view (Input.Need self.old.view.destination) 0).view }
+        ensures broadcast { result ≡ (outcome_of self.old.view (Input.Need self.old.view.destination) 0).broadcast }
+        ensures room { self.new.room ≡ self.old.room }
     {
         if self.is_own() { None } else { self.on_need() }
     }
@@ -195,9 +217,10 @@ impl Destination {
         packet: &Packet,
         now: u64,
     ) -> Option<Broadcast>
-        requires { IsOnlyPlace k place (up_neighbours self.old) }
-        ensures view { self.new ≡ (outcome_of self.old (Input.Packet k packet.now) now).view }
-        ensures broadcast { result ≡ (outcome_of self.old (Input.Packet k packet.now) now).broadcast }
+        requires { IsOnlyPlace k place (up_neighbours self.old.view) }
+        ensures view { self.new.view ≡ (outcome_of self.old.view (Input.Packet k packet.now) now).view }
+        ensures broadcast { result ≡ (outcome_of self.old.view (Input.Packet k packet.now) now).broadcast }
+        ensures room { self.new.room ≡ self.old.room }
     {
         if self.is_own() {
             None
@@ -208,16 +231,18 @@ impl Destination {
 
     /// Whether the node is the destination itself, where only the set of neighbours changes.
     fn is_own(&self) -> bool
-        ensures { result ≡ (self.now.me == self.now.destination) }
+        ensures { result ≡ (self.now.view.me == self.now.view.destination) }
     {
         self.me == self.destination
     }
 
     fn react_to_link_up(&mut self, k: Id, place: usize) -> Option<Broadcast>
-        requires place { place ≡ position_or_len (λ row. nat_lt k row.neighbour) self.old.rows }
-        requires room { HasRoom self.old (Input.LinkUp k) }
-        ensures view { self.new ≡ (outcome_of self.old (Input.LinkUp k) 0).view }
-        ensures broadcast { result ≡ (outcome_of self.old (Input.LinkUp k) 0).broadcast }
+        requires place { place ≡ position_or_len (λ row. nat_lt k row.neighbour) self.old.view.rows }
+        requires neighbour { IsId k }
+        requires room { length self.old.view.rows < self.old.room }
+        ensures view { self.new.view ≡ (outcome_of self.old.view (Input.LinkUp k) 0).view }
+        ensures broadcast { result ≡ (outcome_of self.old.view (Input.LinkUp k) 0).broadcast }
+        ensures room { self.new.room ≡ self.old.room }
     {
         self.links
             .insert(place, first_row(self.me, self.destination, k));
@@ -231,9 +256,10 @@ impl Destination {
     }
 
     fn react_to_link_down(&mut self, k: Id, place: usize, now: u64) -> Option<Broadcast>
-        requires { IsOnlyPlace k place (up_neighbours self.old) }
-        ensures view { self.new ≡ (outcome_of self.old (Input.LinkDown k) now).view }
-        ensures broadcast { result ≡ (outcome_of self.old (Input.LinkDown k) now).broadcast }
+        requires { IsOnlyPlace k place (up_neighbours self.old.view) }
+        ensures view { self.new.view ≡ (outcome_of self.old.view (Input.LinkDown k) now).view }
+        ensures broadcast { result ≡ (outcome_of self.old.view (Input.LinkDown k) now).broadcast }
+        ensures room { self.new.room ≡ self.old.room }
     {
         self.links.remove(k, place);
         if self.is_own() || !self.lacks_downstream() {
@@ -244,9 +270,10 @@ impl Destination {
     }
 
     fn on_packet(&mut self, k: Id, place: usize, packet: &Packet, now: u64) -> Option<Broadcast>
-        requires { IsOnlyPlace k place (up_neighbours self.old) }
-        ensures view { self.new ≡ (on_packet self.old k packet.now now).view }
-        ensures broadcast { result ≡ (on_packet self.old k packet.now now).broadcast }
+        requires { IsOnlyPlace k place (up_neighbours self.old.view) }
+        ensures view { self.new.view ≡ (on_packet self.old.view k packet.now now).view }
+        ensures broadcast { result ≡ (on_packet self.old.view k packet.now now).broadcast }
+        ensures room { self.new.room ≡ self.old.room }
     {
         match packet {
             Packet::Qry(_) => self.on_query(k, place),
@@ -256,8 +283,9 @@ impl Destination {
     }
 
     fn on_need(&mut self) -> Option<Broadcast>
-        ensures view { self.new ≡ (on_need self.old).view }
-        ensures broadcast { result ≡ (on_need self.old).broadcast }
+        ensures view { self.new.view ≡ (on_need self.old.view).view }
+        ensures broadcast { result ≡ (on_need self.old.view).broadcast }
+        ensures room { self.new.room ≡ self.old.room }
     {
         if self.links.are_null() && !self.flag {
             self.broadcast_query()
@@ -267,9 +295,10 @@ impl Destination {
     }
 
     fn on_query(&mut self, k: Id, place: usize) -> Option<Broadcast>
-        requires { IsOnlyPlace k place (up_neighbours self.old) }
-        ensures view { self.new ≡ (on_query self.old k).view }
-        ensures broadcast { result ≡ (on_query self.old k).broadcast }
+        requires { IsOnlyPlace k place (up_neighbours self.old.view) }
+        ensures view { self.new.view ≡ (on_query self.old.view k).view }
+        ensures broadcast { result ≡ (on_query self.old.view k).broadcast }
+        ensures room { self.new.room ≡ self.old.room }
     {
         if !self.has_downstream() {
             if !self.flag {
@@ -287,9 +316,10 @@ impl Destination {
     }
 
     fn on_update(&mut self, k: Id, place: usize, height: Height, now: u64) -> Option<Broadcast>
-        requires { IsOnlyPlace k place (up_neighbours self.old) }
-        ensures view { self.new ≡ (on_update self.old k height now).view }
-        ensures broadcast { result ≡ (on_update self.old k height now).broadcast }
+        requires { IsOnlyPlace k place (up_neighbours self.old.view) }
+        ensures view { self.new.view ≡ (on_update self.old.view k height now).view }
+        ensures broadcast { result ≡ (on_update self.old.view k height now).broadcast }
+        ensures room { self.new.room ≡ self.old.room }
     {
         self.links.set_entry(k, place, height);
         if self.flag {
@@ -302,8 +332,9 @@ impl Destination {
     }
 
     fn on_clear(&mut self, level: Level, now: u64) -> Option<Broadcast>
-        ensures view { self.new ≡ (on_clear self.old level now).view }
-        ensures broadcast { result ≡ (on_clear self.old level now).broadcast }
+        ensures view { self.new.view ≡ (on_clear self.old.view level now).view }
+        ensures broadcast { result ≡ (on_clear self.old.view level now).broadcast }
+        ensures room { self.new.room ≡ self.old.room }
     {
         if is_entry_at(level, self.links.own()) {
             return self.erase(level);
@@ -317,21 +348,22 @@ impl Destination {
     }
 
     fn has_downstream(&self) -> bool
-        ensures { result ≡ has_downstream self.now }
+        ensures { result ≡ has_downstream self.now.view }
     {
         self.links.has_downstream()
     }
 
     fn lacks_downstream(&self) -> bool
-        ensures { result ≡ lacks_downstream self.now }
+        ensures { result ≡ lacks_downstream self.now.view }
     {
         self.links.own().is_some() && !self.has_downstream()
     }
 
     /// From now on a route is required.
     fn broadcast_query(&mut self) -> Option<Broadcast>
-        ensures view { self.new ≡ (query_broadcast self.old).view }
-        ensures broadcast { result ≡ (query_broadcast self.old).broadcast }
+        ensures view { self.new.view ≡ (query_broadcast self.old.view).view }
+        ensures broadcast { result ≡ (query_broadcast self.old.view).broadcast }
+        ensures room { self.new.room ≡ self.old.room }
     {
         self.flag = true;
         Some(Broadcast::Query)
@@ -339,8 +371,9 @@ impl Destination {
 
     /// Tells the height to every up neighbour, where there is one.
     fn broadcast_update(&mut self) -> Option<Broadcast>
-        ensures view { self.new ≡ (update_broadcast self.old).view }
-        ensures broadcast { result ≡ (update_broadcast self.old).broadcast }
+        ensures view { self.new.view ≡ (update_broadcast self.old.view).view }
+        ensures broadcast { result ≡ (update_broadcast self.old.view).broadcast }
+        ensures room { self.new.room ≡ self.old.room }
     {
         let height = self.links.own()?;
         self.links.tell_all();
@@ -350,8 +383,9 @@ impl Destination {
     /// Takes the height one above the least entry.
     #[tactic(auto, unfolding(crate::specs::Rules::after_join))]
     fn join(&mut self) -> Option<Broadcast>
-        ensures view { self.new ≡ (after_join self.old).view }
-        ensures broadcast { result ≡ (after_join self.old).broadcast }
+        ensures view { self.new.view ≡ (after_join self.old.view).view }
+        ensures broadcast { result ≡ (after_join self.old.view).broadcast }
+        ensures room { self.new.room ≡ self.old.room }
     {
         let own = self.joined_height();
         self.links.set_own(own);
@@ -360,7 +394,7 @@ impl Destination {
     }
 
     fn joined_height(&self) -> Entry
-        ensures { result ≡ joined_height self.now }
+        ensures { result ≡ joined_height self.now.view }
     {
         match self.links.least() {
             None => None,
@@ -371,8 +405,9 @@ impl Destination {
     /// The last downstream link was lost by a link failure or a clear.
     #[tactic(auto, unfolding(crate::specs::Rules::after_link_loss))]
     fn after_link_loss(&mut self, now: u64) -> Option<Broadcast>
-        ensures view { self.new ≡ (after_link_loss self.old now).view }
-        ensures broadcast { result ≡ (after_link_loss self.old now).broadcast }
+        ensures view { self.new.view ≡ (after_link_loss self.old.view now).view }
+        ensures broadcast { result ≡ (after_link_loss self.old.view now).broadcast }
+        ensures room { self.new.room ≡ self.old.room }
     {
         if self.links.are_null() {
             self.links.set_own(None);
@@ -384,8 +419,9 @@ impl Destination {
     /// The last downstream link was lost by an update.
     #[tactic(auto, unfolding(crate::specs::Rules::after_update_loss))]
     fn after_update_loss(&mut self, now: u64) -> Option<Broadcast>
-        ensures view { self.new ≡ (after_update_loss self.old now).view }
-        ensures broadcast { result ≡ (after_update_loss self.old now).broadcast }
+        ensures view { self.new.view ≡ (after_update_loss self.old.view now).view }
+        ensures broadcast { result ≡ (after_update_loss self.old.view now).broadcast }
+        ensures room { self.new.room ≡ self.old.room }
     {
         let Some(level) = greatest_level(self.links.rows()) else {
             self.links.set_own(None);
@@ -405,7 +441,7 @@ impl Destination {
 
     /// A time tag after all that the node generated and knows.
     fn fresh_time(&self, now: u64) -> u64
-        ensures { result ≡ fresh_time self.now now }
+        ensures { result ≡ fresh_time self.now.view now }
     {
         let own = match self.links.own() {
             None => 0,
@@ -419,8 +455,9 @@ impl Destination {
     /// Defines a new reference level.
     #[tactic(auto, unfolding(crate::specs::Rules::new_level))]
     fn define_level(&mut self, now: u64) -> Option<Broadcast>
-        ensures view { self.new ≡ (new_level self.old now).view }
-        ensures broadcast { result ≡ (new_level self.old now).broadcast }
+        ensures view { self.new.view ≡ (new_level self.old.view now).view }
+        ensures broadcast { result ≡ (new_level self.old.view now).broadcast }
+        ensures room { self.new.room ≡ self.old.room }
     {
         let time = self.fresh_time(now);
         self.links.set_own(fitted(time, self.me, 0, 0, self.me));
@@ -432,8 +469,9 @@ impl Destination {
 
     /// Propagates the greatest level of the entries.
     fn propagate(&mut self, level: Level) -> Option<Broadcast>
-        ensures view { self.new ≡ (propagated_level self.old level).view }
-        ensures broadcast { result ≡ (propagated_level self.old level).broadcast }
+        ensures view { self.new.view ≡ (propagated_level self.old.view level).view }
+        ensures broadcast { result ≡ (propagated_level self.old.view level).broadcast }
+        ensures room { self.new.room ≡ self.old.room }
     {
         let own = match least_delta(level, self.links.rows()) {
             None => None,
@@ -446,8 +484,9 @@ impl Destination {
     /// Reflects the level that all entries are at.
     fn reflect(&mut self, level: Level) -> Option<Broadcast>
         requires { IsLevel level }
-        ensures view { self.new ≡ (reflected_level self.old level).view }
-        ensures broadcast { result ≡ (reflected_level self.old level).broadcast }
+        ensures view { self.new.view ≡ (reflected_level self.old.view level).view }
+        ensures broadcast { result ≡ (reflected_level self.old.view level).broadcast }
+        ensures room { self.new.room ≡ self.old.room }
     {
         self.links.set_own(reflected(level, self.me));
         self.broadcast_update()
@@ -456,8 +495,9 @@ impl Destination {
     /// Gives up the height and every entry but that of the destination.
     #[tactic(auto, unfolding(crate::specs::Rules::after_erase))]
     fn erase(&mut self, level: Level) -> Option<Broadcast>
-        ensures view { self.new ≡ (after_erase self.old level.tau level.oid).view }
-        ensures broadcast { result ≡ (after_erase self.old level.tau level.oid).broadcast }
+        ensures view { self.new.view ≡ (after_erase self.old.view level.tau level.oid).view }
+        ensures broadcast { result ≡ (after_erase self.old.view level.tau level.oid).broadcast }
+        ensures room { self.new.room ≡ self.old.room }
     {
         self.links.set_own(None);
         self.links.erase_all(self.destination);

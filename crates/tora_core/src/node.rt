@@ -1,5 +1,5 @@
 //! The core of a node.
-ghost use Rattle.std.specs.Prelude.{◌≡◌, ◌<◌, ℕ, All, IfErr, IfNone, IfOk, MatchOption, None, OnErr, [], OnOk, option_copied, IsOk, string_bytes};
+ghost use Rattle.std.specs.Prelude.{◌≡◌, ◌==◌, ◌<◌, ℕ, All, find, IfErr, IfNone, IfOk, MatchOption, None, OnErr, [], OnOk, option_copied, option_map, IsOk, string_bytes};
 ghost use Rattle.tora_core.specs.CoreRun.{downstream_of, link_fault, core_after, core_refusal, entry_of, first_core, flag_of, has_destination, height_of, hop_of, refusal_of, sends_of, view_of};
 ghost use Rattle.tora_core.specs.Numbers.{has_number};
 ghost use Rattle.tora_core.specs.Kept.{IsCore, IsInput, destinations_of};
@@ -35,16 +35,17 @@ pub struct Core {
 }
 
 impl Model for Core {
-    ghost use Rattle.std.specs.Prelude.{◌≡◌};
+    ghost use Rattle.std.specs.Prelude.{◌≡◌, length};
     ghost use Rattle.tora_core.specs.CoreRun.{CoreView};
     ghost use Rattle.tora_core.specs.Kept.{IsCore, destinations_of};
+    ghost use Rattle.tora_core.specs.Table.{HaveRoom, views_in};
 
     ghost Value = { CoreView };
 
-    ghost view = { λ c. record { me = c.me; neighbours = c.neighbours.items; up = c.up.items; views = c.views.items } };
+    ghost view = { λ c. record { me = c.me; neighbours = c.neighbours.items; up = c.up.items; views = views_in c.views.items } };
 
-    ghost invariant = { λ c. IsCore (record { me = c.me; neighbours = c.neighbours.items; up = c.up.items; views = c.views.items })
-        × (c.destinations.items ≡ destinations_of c.views.items) };
+    ghost invariant = { λ c. IsCore (record { me = c.me; neighbours = c.neighbours.items; up = c.up.items; views = views_in c.views.items })
+        × (c.destinations.items ≡ destinations_of (views_in c.views.items)) × HaveRoom (length c.neighbours.items) c.views.items };
 }
 
 impl Core {
@@ -75,7 +76,7 @@ impl Core {
             return Err(error);
         }
         let table = ascending::<MOST_DESTINATIONS>(destinations);
-        let Ok(views) = first_views(alloc, me, table.as_slice()) else {
+        let Ok(views) = first_views(alloc, me, table.as_slice(), neighbours.len()) else {
             return Err(CoreError::Memory);
         };
         Ok(Core {
@@ -231,9 +232,9 @@ impl Core {
 
     /// The view of a destination.
     fn view(&self, d: Id) -> Option<&Destination>
-        ensures { option_copied result ≡ view_of self.now d }
+        ensures { option_map (λ t. t.view) (option_copied result) ≡ view_of self.now d }
     {
-        self.views.iter().find(|view| view.destination() == d)
+        view_of(d, self.views.as_slice())
     }
 
     /// The own height for a destination, `None` where the table does not have it.
@@ -282,6 +283,7 @@ impl Core {
     ///
     /// # Errors
     /// `Memory`.
+    #[tactic(auto, using(crate::proofs::TableViews::texts_in))]
     pub fn show(&self, alloc: Global) -> Result<String, CoreError>
         ensures text { IfOk result (λ text. string_bytes text ≡ show_text self.now) }
         ensures memory { IfErr result (λ e. e ≡ CoreError.Memory) }
@@ -291,6 +293,13 @@ impl Core {
             Err(_) => Err(CoreError::Memory),
         }
     }
+}
+
+/// The view of a destination, among these.
+fn view_of(d: Id, views: &[Destination]) -> Option<&Destination>
+    ensures { option_copied result ≡ find (λ t. t.view.destination == d) views.now }
+{
+    views.iter().find(|view| view.destination() == d)
 }
 
 /// Notes a link that came up or went down.

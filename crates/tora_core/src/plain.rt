@@ -6,7 +6,7 @@ use tora_height::{GREATEST_DELTA, GREATEST_TAU, Id};
 use tora_packet::Packet;
 
 /// The parts of a height.
-#[derive(Clone, Copy, Debug, PartialEq, Eq, PartialOrd, Ord, Hash)]
+#[derive(Clone, Copy, Debug, PartialEq, Eq, PartialOrd, Ord)]
 pub struct Parts {
     tau: u64,
     oid: u32,
@@ -16,7 +16,7 @@ pub struct Parts {
 }
 
 /// What is broadcast.
-#[derive(Clone, Copy, Debug, PartialEq, Eq, Hash)]
+#[derive(Clone, Copy, Debug, PartialEq, Eq)]
 pub enum Told {
     Query(Id),
     Update(Id, Parts),
@@ -104,6 +104,11 @@ fn is_down(own: Option<Parts>, entry: Option<Parts>) -> bool {
     }
 }
 
+/// The lower of two heights, the first where they are equal.
+fn lower(best: Option<Parts>, entry: Option<Parts>) -> Option<Parts> {
+    if is_down(best, entry) { entry } else { best }
+}
+
 fn same_level(a: &Parts, b: &Parts) -> bool {
     a.tau == b.tau && a.oid == b.oid && a.r == b.r
 }
@@ -130,9 +135,7 @@ impl PlainView {
     fn least(&self) -> Option<Parts> {
         let mut best: Option<Parts> = None;
         for row in self.rows.iter() {
-            if is_down(best, row.entry) {
-                best = row.entry;
-            }
+            best = lower(best, row.entry);
         }
         best
     }
@@ -520,12 +523,10 @@ fn write_parts(text: &mut String, parts: Option<Parts>) -> Result<(), AllocError
     match parts {
         None => write!(text, "-"),
         Some(parts) => {
-            let tau = parts.tau;
-            let oid = parts.oid;
-            let r = parts.r;
-            let delta = parts.delta;
-            let id = parts.id;
-            write!(text, "({tau},{oid},{r},{delta},{id})")
+            let (tau, oid, r) = (parts.tau, parts.oid, parts.r);
+            write!(text, "({tau},{oid},{r}")?;
+            let (delta, id) = (parts.delta, parts.id);
+            write!(text, ",{delta},{id})")
         }
     }
 }

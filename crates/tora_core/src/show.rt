@@ -63,7 +63,7 @@ fn direction_text(direction: Direction) -> &'static str
 
 #[tactic(auto, unfolding(crate::specs::ShowText::to_line))]
 fn write_to_line(out: &mut String, view: &Destination) -> Result<(), AllocError>
-    ensures { OnOk result (string_bytes out.new ≡ string_bytes out.old ++ to_line view.now) }
+    ensures { OnOk result (string_bytes out.new ≡ string_bytes out.old ++ to_line view.now.view) }
 {
     let destination = view.destination();
     let height = HeightText(view.height());
@@ -77,7 +77,7 @@ fn write_to_line(out: &mut String, view: &Destination) -> Result<(), AllocError>
 
 #[tactic(auto, unfolding(crate::specs::ShowText::via_line))]
 fn write_via_line(out: &mut String, view: &Destination, row: &Row) -> Result<(), AllocError>
-    ensures { OnOk result (string_bytes out.new ≡ string_bytes out.old ++ via_line view.now.height row.now) }
+    ensures { OnOk result (string_bytes out.new ≡ string_bytes out.old ++ via_line view.now.view.height row.now) }
 {
     let neighbour = row.neighbour;
     let entry = HeightText(row.entry);
@@ -86,7 +86,7 @@ fn write_via_line(out: &mut String, view: &Destination, row: &Row) -> Result<(),
 }
 
 fn write_view(out: &mut String, view: &Destination) -> Result<(), AllocError>
-    ensures { OnOk result (string_bytes out.new ≡ string_bytes out.old ++ view_text view.now) }
+    ensures { OnOk result (string_bytes out.new ≡ string_bytes out.old ++ view_text view.now.view) }
 {
     write_to_line(out, view)?;
     for row in view.rows() {
@@ -97,7 +97,7 @@ fn write_view(out: &mut String, view: &Destination) -> Result<(), AllocError>
 
 /// The lines of all views.
 pub fn text_of(alloc: Global, views: &[Destination]) -> Result<String, AllocError>
-    ensures { IfOk result (λ text. string_bytes text ≡ flat_map view_text views.now) }
+    ensures { IfOk result (λ text. string_bytes text ≡ flat_map (λ t. view_text t.view) views.now) }
 {
     let mut text = String::new(alloc);
     for view in views {

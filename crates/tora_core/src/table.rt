@@ -1,34 +1,37 @@
 //! The views of a node's destinations, by ascending destination.
-ghost use Rattle.std.specs.Prelude.{◌≡◌, ◌≤◌, ◌<◌, length, map, filter_map, position, nat_lt, ◌==◌, All, true, Some, IfOk, [], ◌++◌};
+ghost use Rattle.std.specs.Prelude.{◌≡◌, ◌≤◌, ◌<◌, ℕ, length, map, filter_map, position, nat_lt, ◌==◌, All, true, Some, IfOk, [], ◌++◌};
 ghost use Rattle.std.specs.List.{cons_option, position_or_len};
 ghost use Rattle.arrayvec.specs.ArrayVec.{array_vec_len};
 ghost use Rattle.tora_core.specs.Numbers.{IsAscending, has_number};
-ghost use Rattle.tora_core.specs.View.{first_view, up_neighbours};
+ghost use Rattle.tora_core.specs.View.{up_neighbours};
+ghost use Rattle.tora_core.specs.Table.{first_in, next_in, views_in};
 ghost use Rattle.tora_core.specs.Links.{IsOnlyPlace};
-ghost use Rattle.tora_core.specs.CoreRun.{concerns, has_destination, is_of, next_packet, next_view, own_destination};
+ghost use Rattle.tora_core.specs.CoreRun.{concerns, has_destination, is_of, next_packet, own_destination};
 ghost use Rattle.tora_core.specs.Kept.{CanTake, IsLinked, IsOver, destinations_of};
 ghost use Rattle.tora_packet.specs.PacketParts.{IsId};
 
 use crate::destination::Destination;
 use crate::numbers::{place_above, place_of};
-use crate::{Input, MOST_DESTINATIONS, Sends};
+use crate::{Input, MOST_DESTINATIONS, MOST_NEIGHBOURS, Sends};
 use std::alloc::{AllocError, Global};
 use tora_height::Id;
 use tora_packet::Packet;
 
-/// The first views of the destinations.
+/// The first views of the destinations, each with room for the rows of so many neighbours.
 pub fn first_views(
     alloc: Global,
     me: Id,
     destinations: &[Id],
+    room: usize,
 ) -> Result<Vec<Destination>, AllocError>
     requires me { 0 < me }
     requires destinations { All (λ d. 0 < d) destinations.now }
-    ensures { IfOk result (λ views. views.items ≡ map (first_view me) destinations.now) }
+    requires room { room ≤ MOST_NEIGHBOURS }
+    ensures { IfOk result (λ views. views.items ≡ map (first_in room me) destinations.now) }
 {
     let mut views = Vec::with_capacity(alloc, destinations.len())?;
     for destination in destinations {
-        views.push(Destination::new(me, *destination))?;
+        views.push(Destination::new(alloc, me, *destination, room)?)?;
     }
     Ok(views)
 }
@@ -43,16 +46,17 @@ pub fn step(
     now: u64,
     sends: &mut Sends,
 )
-    requires may { All (CanTake input.now) views.old }
+    requires may { All (λ t. CanTake input.now t.view) views.old }
+    requires room { (k : ℕ) → input.now ≡ Input.LinkUp k → All (λ t. length t.view.rows < t.room) views.old }
     requires few { length views.old ≤ MOST_DESTINATIONS }
     requires ascending { IsAscending destinations.now }
-    requires names { destinations.now ≡ destinations_of views.old }
+    requires names { destinations.now ≡ destinations_of (views_in views.old) }
     requires sorted { IsAscending up.now }
-    requires rows { All (IsOver up.now) views.old }
+    requires rows { All (λ t. IsOver up.now t.view) views.old }
     requires linked { IsLinked input.now up.now }
     requires empty { sends.old.items ≡ [] }
-    ensures views { views.new ≡ map (next_view input.now now) views.old }
-    ensures sends { sends.new.items ≡ filter_map (next_packet input.now now) views.old }
+    ensures views { views.new ≡ map (next_in input.now now) views.old }
+    ensures sends { sends.new.items ≡ filter_map (next_packet input.now now) (views_in views.old) }
 {
     match input {
         Input::LinkUp(k) => link_up(views, *k, place_for(*k, up), sends),
@@ -89,12 +93,13 @@ fn place_for(k: Id, up: &[Id]) -> usize
 
 /// A link that came up goes to every view, as a row at `place`.
 fn link_up(views: &mut [Destination], k: Id, place: usize, sends: &mut Sends)
-    requires may { All (CanTake (Input.LinkUp k)) views.old }
+    requires may { All (λ t. CanTake (Input.LinkUp k) t.view) views.old }
+    requires room { All (λ t. length t.view.rows < t.room) views.old }
     requires few { length views.old ≤ MOST_DESTINATIONS }
-    requires rows { All (λ v. place ≡ position_or_len (λ row. nat_lt k row.neighbour) v.rows) views.old }
+    requires rows { All (λ t. place ≡ position_or_len (λ row. nat_lt k row.neighbour) t.view.rows) views.old }
     requires empty { sends.old.items ≡ [] }
-    ensures views { views.new ≡ map (next_view (Input.LinkUp k) 0) views.old }
-    ensures sends { sends.new.items ≡ filter_map (next_packet (Input.LinkUp k) 0) views.old }
+    ensures views { views.new ≡ map (next_in (Input.LinkUp k) 0) views.old }
+    ensures sends { sends.new.items ≡ filter_map (next_packet (Input.LinkUp k) 0) (views_in views.old) }
 {
     for view in views.iter_mut() {
         list(view.link_up(k, place), sends);
@@ -103,12 +108,12 @@ fn link_up(views: &mut [Destination], k: Id, place: usize, sends: &mut Sends)
 
 /// A link that went down goes to every view, where its row is at `place`.
 fn link_down(views: &mut [Destination], k: Id, place: usize, now: u64, sends: &mut Sends)
-    requires may { All (CanTake (Input.LinkDown k)) views.old }
+    requires may { All (λ t. CanTake (Input.LinkDown k) t.view) views.old }
     requires few { length views.old ≤ MOST_DESTINATIONS }
-    requires rows { All (λ v. IsOnlyPlace k place (up_neighbours v)) views.old }
+    requires rows { All (λ t. IsOnlyPlace k place (up_neighbours t.view)) views.old }
     requires empty { sends.old.items ≡ [] }
-    ensures views { views.new ≡ map (next_view (Input.LinkDown k) now) views.old }
-    ensures sends { sends.new.items ≡ filter_map (next_packet (Input.LinkDown k) now) views.old }
+    ensures views { views.new ≡ map (next_in (Input.LinkDown k) now) views.old }
+    ensures sends { sends.new.items ≡ filter_map (next_packet (Input.LinkDown k) now) (views_in views.old) }
 {
     for view in views.iter_mut() {
         list(view.link_down(k, place, now), sends);
@@ -117,12 +122,12 @@ fn link_down(views: &mut [Destination], k: Id, place: usize, now: u64, sends: &m
 
 /// A need goes to the view of its destination alone. The rule for it reads no clock: `now` is any tick.
 fn step_need(d: Id, views: &mut [Destination], destinations: &[Id], now: u64, sends: &mut Sends)
-    requires may { All (CanTake (Input.Need d)) views.old }
+    requires may { All (λ t. CanTake (Input.Need d) t.view) views.old }
     requires ascending { IsAscending destinations.now }
-    requires names { destinations.now ≡ destinations_of views.old }
+    requires names { destinations.now ≡ destinations_of (views_in views.old) }
     requires empty { sends.old.items ≡ [] }
-    ensures views { views.new ≡ map (next_view (Input.Need d) now) views.old }
-    ensures sends { sends.new.items ≡ filter_map (next_packet (Input.Need d) now) views.old }
+    ensures views { views.new ≡ map (next_in (Input.Need d) now) views.old }
+    ensures sends { sends.new.items ≡ filter_map (next_packet (Input.Need d) now) (views_in views.old) }
 {
     let Some(place) = place_of(d, destinations) else {
         return;
@@ -140,13 +145,13 @@ fn step_packet(
     now: u64,
     sends: &mut Sends,
 )
-    requires may { All (CanTake (Input.Packet k packet.now)) views.old }
+    requires may { All (λ t. CanTake (Input.Packet k packet.now) t.view) views.old }
     requires ascending { IsAscending destinations.now }
-    requires names { destinations.now ≡ destinations_of views.old }
-    requires rows { All (λ v. IsOnlyPlace k row (up_neighbours v)) views.old }
+    requires names { destinations.now ≡ destinations_of (views_in views.old) }
+    requires rows { All (λ t. IsOnlyPlace k row (up_neighbours t.view)) views.old }
     requires empty { sends.old.items ≡ [] }
-    ensures views { views.new ≡ map (next_view (Input.Packet k packet.now) now) views.old }
-    ensures sends { sends.new.items ≡ filter_map (next_packet (Input.Packet k packet.now) now) views.old }
+    ensures views { views.new ≡ map (next_in (Input.Packet k packet.now) now) views.old }
+    ensures sends { sends.new.items ≡ filter_map (next_packet (Input.Packet k packet.now) now) (views_in views.old) }
 {
     let Some(place) = place_of(packet.destination(), destinations) else {
         return;

@@ -3,7 +3,7 @@ ghost use Rattle.std.specs.Prelude.{◌<◌, ◌≤◌, ◌≡◌, true, All};
 
 use super::*;
 use crate::plain::{Plain, told_by};
-use std::alloc::Global;
+use std::alloc::{AllocError, Global};
 use std::process::Abort;
 use std::test::Fail;
 use tora_height::Height;
@@ -51,6 +51,12 @@ fn takes(
 fn shows(rt: &impl Abort, core: &Core, alloc: Global, text: &str) {
     let shown = core.show(alloc).expect(rt, "memory");
     assert_eq!(rt; shown.as_str(), text);
+}
+
+/// The height and the next hop of a core for 4.
+fn is_at(rt: &impl Abort, core: &Core, height: Option<Height>, hop: Option<Id>) {
+    assert_eq!(rt; core.height(4), Some(height));
+    assert_eq!(rt; core.next_hop(4), hop);
 }
 
 /// A core for the destination 4, with all its links up.
@@ -180,14 +186,10 @@ fn line_of_four_joins(rt: HostRuntime) -> Result<(), Fail> {
     let mut three = linked(&rt, rt.alloc(), 3, &[2, 4]);
     let mut four = linked(&rt, rt.alloc(), 4, &[3]);
     join_line(&rt, &mut one, &mut two, &mut three, &mut four);
-    assert_eq!(rt; one.height(4), Some(Some(height(&rt, 0, 0, 0, 3, 1))));
-    assert_eq!(rt; two.height(4), Some(Some(height(&rt, 0, 0, 0, 2, 2))));
-    assert_eq!(rt; three.height(4), Some(Some(height(&rt, 0, 0, 0, 1, 3))));
-    assert_eq!(rt; four.height(4), Some(Some(height(&rt, 0, 0, 0, 0, 4))));
-    assert_eq!(rt; one.next_hop(4), Some(2));
-    assert_eq!(rt; two.next_hop(4), Some(3));
-    assert_eq!(rt; three.next_hop(4), Some(4));
-    assert_eq!(rt; four.next_hop(4), None);
+    is_at(&rt, &one, Some(height(&rt, 0, 0, 0, 3, 1)), Some(2));
+    is_at(&rt, &two, Some(height(&rt, 0, 0, 0, 2, 2)), Some(3));
+    is_at(&rt, &three, Some(height(&rt, 0, 0, 0, 1, 3)), Some(4));
+    is_at(&rt, &four, Some(height(&rt, 0, 0, 0, 0, 4)), None);
     Ok(())
 }
 
@@ -200,10 +202,10 @@ fn line_of_four_detects_a_partition(rt: HostRuntime) -> Result<(), Fail> {
     join_line(&rt, &mut one, &mut two, &mut three, &mut four);
     part_line(&rt, &mut one, &mut two, &mut three, &mut four);
     erase_line(&rt, &mut one, &mut two, &mut three);
-    assert_eq!(rt; one.height(4), Some(None));
-    assert_eq!(rt; two.height(4), Some(None));
-    assert_eq!(rt; three.height(4), Some(None));
-    assert_eq!(rt; four.height(4), Some(Some(height(&rt, 0, 0, 0, 0, 4))));
+    is_at(&rt, &one, None, None);
+    is_at(&rt, &two, None, None);
+    is_at(&rt, &three, None, None);
+    is_at(&rt, &four, Some(height(&rt, 0, 0, 0, 0, 4)), None);
     Ok(())
 }
 
@@ -368,7 +370,13 @@ fn want_of_memory_is_answered(rt: HostRuntime) -> Result<(), Fail> {
             Ok(text) => assert_eq!(rt; text.as_str(), "to 4 height - flag 0 hop -\n"),
         },
     }
-    match core_of(&rt, rt.alloc(), &NUMBERS[1..33], &NUMBERS[..64]) {
+    let Ok(neighbours) = numbers(rt.alloc(), 2, 32) else {
+        return Ok(());
+    };
+    let Ok(table) = numbers(rt.alloc(), 1, 64) else {
+        return Ok(());
+    };
+    match core_of(&rt, rt.alloc(), &neighbours, &table) {
         Err(error) => assert_eq!(rt; error, CoreError::Memory),
         Ok(core) => match core.show(rt.alloc()) {
             Err(error) => assert_eq!(rt; error, CoreError::Memory),
@@ -598,12 +606,14 @@ fn refusals_are_printed_with_their_cause(rt: HostRuntime) -> Result<(), Fail> {
     Ok(())
 }
 
-/// The numbers from 1 to 65.
-const NUMBERS: [Id; 65] = [
-    1, 2, 3, 4, 5, 6, 7, 8, 9, 10, 11, 12, 13, 14, 15, 16, 17, 18, 19, 20, 21, 22, 23, 24, 25, 26,
-    27, 28, 29, 30, 31, 32, 33, 34, 35, 36, 37, 38, 39, 40, 41, 42, 43, 44, 45, 46, 47, 48, 49, 50,
-    51, 52, 53, 54, 55, 56, 57, 58, 59, 60, 61, 62, 63, 64, 65,
-];
+/// So many numbers, from `first` on.
+fn numbers(alloc: Global, first: Id, count: u32) -> Result<Vec<Id>, AllocError> {
+    let mut numbers = Vec::new(alloc);
+    for i in 0..count {
+        numbers.push(first.saturating_add(i))?;
+    }
+    Ok(numbers)
+}
 
 /// Whether no number is 0.
 fn are_numbers(numbers: &[Id]) -> bool
@@ -636,25 +646,25 @@ fn core_of(
 fn tables_are_taken_up_to_their_limits(rt: HostRuntime) -> Result<(), Fail> {
     let alloc = rt.alloc();
     let many = Some(CoreError::TooMany);
-    let (most, more) = (&NUMBERS[1..33], &NUMBERS[1..34]);
-    let (table, larger) = (&NUMBERS[..64], &NUMBERS[..]);
-    assert_eq!(&rt; core_of(&rt, alloc, more, &[4]).err(), many);
-    assert_eq!(&rt; core_of(&rt, alloc, &[2], larger).err(), many);
-    assert_eq!(&rt; core_of(&rt, alloc, more, larger).err(), many);
-    assert!(&rt; core_of(&rt, alloc, most, &[4]).is_ok());
-    assert!(&rt; core_of(&rt, alloc, &[2], table).is_ok());
-    let core = core_of(&rt, alloc, most, table)?;
-    assert_eq!(&rt; core.neighbours(), most);
-    assert_eq!(&rt; core.destinations(), table);
+    let (most, more) = (numbers(alloc, 2, 32)?, numbers(alloc, 2, 33)?);
+    let (table, larger) = (numbers(alloc, 1, 64)?, numbers(alloc, 1, 65)?);
+    assert_eq!(&rt; core_of(&rt, alloc, &more, &[4]).err(), many);
+    assert_eq!(&rt; core_of(&rt, alloc, &[2], &larger).err(), many);
+    assert_eq!(&rt; core_of(&rt, alloc, &more, &larger).err(), many);
+    assert!(&rt; core_of(&rt, alloc, &most, &[4]).is_ok());
+    assert!(&rt; core_of(&rt, alloc, &[2], &table).is_ok());
+    let core = core_of(&rt, alloc, &most, &table)?;
+    assert_eq!(&rt; core.neighbours(), most.as_slice());
+    assert_eq!(&rt; core.destinations(), table.as_slice());
     Ok(())
 }
 
 // A link that comes up where a route to each of 64 destinations is required sends a packet for each of them.
 #[test]
 fn a_list_of_packets_holds_one_for_each_destination(rt: HostRuntime) -> Result<(), Fail> {
-    let table = &NUMBERS[1..];
-    let mut core = core_of(&rt, rt.alloc(), &[70, 71], table)?;
-    for d in table {
+    let table = numbers(rt.alloc(), 2, 64)?;
+    let mut core = core_of(&rt, rt.alloc(), &[70, 71], &table)?;
+    for d in &table {
         core.step(Input::Need(*d), 1)?;
     }
     let sends = core.step(Input::LinkUp(70), 2)?;
@@ -669,9 +679,10 @@ fn a_list_of_packets_holds_one_for_each_destination(rt: HostRuntime) -> Result<(
 // for each neighbour.
 #[test]
 fn largest_table_is_shown(rt: HostRuntime) -> Result<(), Fail> {
-    let neighbours = &NUMBERS[1..33];
-    let mut core = core_of(&rt, rt.alloc(), neighbours, &NUMBERS[..64])?;
-    for k in neighbours {
+    let neighbours = numbers(rt.alloc(), 2, 32)?;
+    let table = numbers(rt.alloc(), 1, 64)?;
+    let mut core = core_of(&rt, rt.alloc(), &neighbours, &table)?;
+    for k in &neighbours {
         core.step(Input::LinkUp(*k), 1)?;
     }
     let text = core.show(rt.alloc())?;

@@ -6,4 +6,4 @@ use Rattle.tora_core.proofs.show.write_view.Given as goal
 
 -- the lines of the neighbours so far are written
 abbrev pub invariant-loop-row : goal.invariant-loop-row
-invariant-loop-row l = string_bytes l.out ≡ string_bytes l.fn.out ++ (to_line l.view ++ flat_map (via_line l.view.height) (take l.row-index l.row-items))
+invariant-loop-row l = string_bytes l.out ≡ string_bytes l.fn.out ++ (to_line l.view.view ++ flat_map (via_line l.view.view.height) (take l.row-index l.row-items))

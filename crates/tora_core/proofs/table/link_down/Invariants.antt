@@ -1,13 +1,14 @@
 use Rattle.std.proofs.Common.{◌≡◌, ◌≤◌, ◌++◌, length, map, take, drop}
 use Rattle.std.specs.Prelude.{filter_map}
 use Rattle.tora_core.specs.declared.Input.TheVariants as In
-use Rattle.tora_core.specs.CoreRun.{next_packet, next_view}
+use Rattle.tora_core.specs.Table.{next_in}
+use Rattle.tora_core.proofs.TableViews.{packet_in}
 use Rattle.tora_core.proofs.table.link_down.Given as goal
 
 -- the views so far have taken the input in, and their packets are listed
 abbrev pub invariant-loop-view : goal.invariant-loop-view
 invariant-loop-view l = record {
-  views : l.views ≡ map (next_view (In.LinkDown l.k) l.now) (take l.view-index l.initial.views) ++ drop l.view-index l.initial.views;
-  sends : l.sends.items ≡ filter_map (next_packet (In.LinkDown l.k) l.now) (take l.view-index l.initial.views);
+  views : l.views ≡ map (next_in (In.LinkDown l.k) l.now) (take l.view-index l.initial.views) ++ drop l.view-index l.initial.views;
+  sends : l.sends.items ≡ filter_map (packet_in (In.LinkDown l.k) l.now) (take l.view-index l.initial.views);
   room : length l.sends.items ≤ l.view-index;
 }

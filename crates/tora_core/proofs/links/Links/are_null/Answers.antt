@@ -6,8 +6,8 @@ use Rattle.tora_core.proofs.links.Links.are_null.Goals as goal
 
 pub returns-in-None : goal.returns-in-None
 returns-in-None c =
-    sym (ap (λ (l : Option ℕ). is_none l) c.in-None.is) ∙ nulls c.self.inside.least c.self.inside.rows.items c.self.invariant.least_is ∙ ap (λ (t : LinkTable). are_null t.rows) c.self.view_is
+    sym (ap (λ (l : Option ℕ). is_none l) c.in-None.is) ∙ nulls c.self.inside.least c.self.inside.rows.items c.self.invariant.0.least_is ∙ ap (λ (t : LinkTable). are_null t.rows) c.self.view_is
 
 pub returns-in-Some : goal.returns-in-Some
 returns-in-Some c =
-    sym (ap (λ (l : Option ℕ). is_none l) c.in-Some.is) ∙ nulls c.self.inside.least c.self.inside.rows.items c.self.invariant.least_is ∙ ap (λ (t : LinkTable). are_null t.rows) c.self.view_is
+    sym (ap (λ (l : Option ℕ). is_none l) c.in-Some.is) ∙ nulls c.self.inside.least c.self.inside.rows.items c.self.invariant.0.least_is ∙ ap (λ (t : LinkTable). are_null t.rows) c.self.view_is

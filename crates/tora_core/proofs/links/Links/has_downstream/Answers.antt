@@ -7,5 +7,5 @@ use Rattle.tora_core.proofs.links.Links.has_downstream.Goals as goal
 
 pub returns : goal.returns
 returns c =
-    ap (nat_lt 0) c.self.invariant.downstream_is ∙ any-down c.self.inside.own c.self.inside.rows.items
+    ap (nat_lt 0) c.self.invariant.0.downstream_is ∙ any-down c.self.inside.own c.self.inside.rows.items
     ∙ ap (λ (t : LinkTable). list_any (λ row. is_downstream t.own row.entry) t.rows) c.self.view_is

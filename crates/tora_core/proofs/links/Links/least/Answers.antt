@@ -8,17 +8,17 @@ use Rattle.tora_core.proofs.links.Links.least.Goals as goal
 
 pub row_at-requires : goal.row_at-requires
 row_at-requires c =
-    let is : IsLeastPlace (Some c.in-Some.place) c.self.inside.rows.items = subst (λ (l : Option ℕ). IsLeastPlace l c.self.inside.rows.items) c.in-Some.is c.self.invariant.least_is in
+    let is : IsLeastPlace (Some c.in-Some.place) c.self.inside.rows.items = subst (λ (l : Option ℕ). IsLeastPlace l c.self.inside.rows.items) c.in-Some.is c.self.invariant.0.least_is in
     rw c.as_slice.ensures.value (least-within c.in-Some.place is.0 c.self.inside.rows.items is.1)
 
 pub returns-in-None : goal.returns-in-None
 returns-in-None c =
-    let is : IsLeastPlace None c.self.inside.rows.items = subst (λ (l : Option ℕ). IsLeastPlace l c.self.inside.rows.items) c.in-None.is c.self.invariant.least_is in
+    let is : IsLeastPlace None c.self.inside.rows.items = subst (λ (l : Option ℕ). IsLeastPlace l c.self.inside.rows.items) c.in-None.is c.self.invariant.0.least_is in
     sym (least-none c.self.inside.rows.items is) ∙ ap (λ (t : LinkTable). least_height (heights_of t.rows)) c.self.view_is
 
 pub returns-in-Some : goal.returns-in-Some
 returns-in-Some c =
-    let is : IsLeastPlace (Some c.in-Some.place) c.self.inside.rows.items = subst (λ (l : Option ℕ). IsLeastPlace l c.self.inside.rows.items) c.in-Some.is c.self.invariant.least_is in
+    let is : IsLeastPlace (Some c.in-Some.place) c.self.inside.rows.items = subst (λ (l : Option ℕ). IsLeastPlace l c.self.inside.rows.items) c.in-Some.is c.self.invariant.0.least_is in
     let row = c.row_at.result.now in
     let P : List Row → Type 0 = λ rows. row ≡ slice_index_or rows c.in-Some.place row in
     let read = subst P c.as_slice.ensures.value c.row_at.ensures in

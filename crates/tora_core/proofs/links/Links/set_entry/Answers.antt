@@ -40,7 +40,7 @@ put_direction-before-requires c =
     let only : IsOnlyPlace c.args.k c.args.place (neighbours_of c.self.inside.rows.items) = subst (λ (t : LinkTable). IsOnlyPlace c.args.k c.args.place (neighbours_of t.rows)) (sym c.self.view_is) c.requires in
     let rows = c.self.inside.rows.items in
     let lt : c.args.place < length rows = only-within c.args.k c.args.place rows only in
-    let same = kept-lengths c.self.inside.own rows c.self.inside.directions.items c.self.inside.downstream c.self.inside.least c.self.invariant in
+    let same = kept-lengths c.self.inside.own rows c.self.inside.directions.items c.self.inside.downstream c.self.inside.least c.self.invariant.0 in
     rw (c.as_mut_slice.ensures.value, same) lt
 
 pub recounted-self-inside-requires-clause-some : goal.recounted-self-inside-requires-clause-some
@@ -51,13 +51,14 @@ recounted-self-inside-requires-clause-some c =
     let before = c.put_direction-before.result in
     let P : List Direction → Type 0 = λ xs. before ≡ slice_index_or xs c.args.place before in
     let read = subst P c.as_mut_slice.ensures.value c.put_direction-before.ensures.before in
-    before-counted c.self.inside.own rows c.self.inside.directions.items c.self.inside.downstream c.self.inside.least c.args.place before c.self.invariant lt read
+    before-counted c.self.inside.own rows c.self.inside.directions.items c.self.inside.downstream c.self.inside.least c.args.place before c.self.invariant.0 lt read
 
 pub recounted-self-inside-requires-clause-few : goal.recounted-self-inside-requires-clause-few
 recounted-self-inside-requires-clause-few c =
-    let few = kept-few c.self.inside.own c.self.inside.rows.items c.self.inside.directions.items c.self.inside.downstream c.self.inside.least c.self.invariant in
-    let fits = c.as_slice.ensures.fits in
-    let same = ap (λ xs. length xs) c.as_slice.ensures.value in
+    let few = kept-few c.self.inside.own c.self.inside.rows.items c.self.inside.directions.items c.self.inside.downstream c.self.inside.least c.self.invariant.0 in
+    let len = c.self.inside.rows.ok.0 in
+    let fits = c.self.inside.rows.ok.1 in
+    let most = c.self.invariant.2 in
     omega arith
 
 pub put_entry-requires : goal.put_entry-requires
@@ -72,8 +73,8 @@ invariant_of-self c =
     let only : IsOnlyPlace c.args.k c.args.place (neighbours_of c.self.inside.rows.items) = subst (λ (t : LinkTable). IsOnlyPlace c.args.k c.args.place (neighbours_of t.rows)) (sym c.self.view_is) c.requires in
     let rows = c.self.inside.rows.items in
     let lt : c.args.place < length rows = only-within c.args.k c.args.place rows only in
-    let written = refill-same (length c.self.inside.directions.items) c.self.inside.directions.items c.put_direction-before.new.directions (c.put_direction-before.auto.directions ∙ ap (λ xs. length xs) c.as_mut_slice.ensures.value) in
-    let told = refill-same (length rows) rows c.put_entry.new.rows (c.put_entry.auto.rows ∙ ap (λ xs. length xs) c.as_mut_slice-2.ensures.value) in
+    let written = refill-same c.self.inside.directions.len c.self.inside.directions.items c.put_direction-before.new.directions (omega (arith, c.put_direction-before.auto.directions, c.as_mut_slice.ensures.len)) in
+    let told = refill-same c.self.inside.rows.len rows c.put_entry.new.rows (omega (arith, c.put_entry.auto.rows, c.as_mut_slice-2.ensures.len)) in
     let entries : c.put_entry.new.rows ≡ with_entry_at c.args.place c.args.height rows = c.put_entry.ensures ∙ ap (with_entry_at c.args.place c.args.height) c.as_mut_slice-2.ensures.value in
     let before = c.put_direction-before.result in
     let P : List Direction → Type 0 = λ xs. before ≡ slice_index_or xs c.args.place before in
@@ -92,18 +93,21 @@ invariant_of-self c =
           subst (λ (l : Option ℕ). IfSome l (λ i. IsLeastPlace (Some i) (with_entry_at c.args.place c.args.height rows))) w.in-Some.is known in
           subst (λ (l : Option ℕ). IsLeastPlace l (with_entry_at c.args.place c.args.height rows)) (sym w.self-is) found)
     ] in
-    rw (told, written, entries, directed)
-    (kept-set c.self.inside.own rows c.self.inside.directions.items c.self.inside.downstream c.self.inside.least c.args.place c.args.height before c.recounted-self-inside.result c.match-least.self
-    c.self.invariant lt read (c.recounted-self-inside.ensures ∙ ap (λ (d : Direction). c.self.inside.downstream + (if is_down d then 1 else 0)) c.status-direction.ensures) least)
+    rw (told, written, entries, directed) (
+      kept-set c.self.inside.own rows c.self.inside.directions.items c.self.inside.downstream c.self.inside.least c.args.place c.args.height before c.recounted-self-inside.result c.match-least.self
+          c.self.invariant.0 lt read (c.recounted-self-inside.ensures ∙ ap (λ (d : Direction). c.self.inside.downstream + (if is_down d then 1 else 0)) c.status-direction.ensures) least,
+      c.self.invariant.1,
+      c.self.invariant.2,
+    )
 
 pub returns : goal.returns
 returns c =
     let only : IsOnlyPlace c.args.k c.args.place (neighbours_of c.self.inside.rows.items) = subst (λ (t : LinkTable). IsOnlyPlace c.args.k c.args.place (neighbours_of t.rows)) (sym c.self.view_is) c.requires in
     let rows = c.self.inside.rows.items in
     let lt : c.args.place < length rows = only-within c.args.k c.args.place rows only in
-    let written = refill-same (length c.self.inside.directions.items) c.self.inside.directions.items c.put_direction-before.new.directions (c.put_direction-before.auto.directions ∙ ap (λ xs. length xs) c.as_mut_slice.ensures.value) in
-    let told = refill-same (length rows) rows c.put_entry.new.rows (c.put_entry.auto.rows ∙ ap (λ xs. length xs) c.as_mut_slice-2.ensures.value) in
+    let written = refill-same c.self.inside.directions.len c.self.inside.directions.items c.put_direction-before.new.directions (omega (arith, c.put_direction-before.auto.directions, c.as_mut_slice.ensures.len)) in
+    let told = refill-same c.self.inside.rows.len rows c.put_entry.new.rows (omega (arith, c.put_entry.auto.rows, c.as_mut_slice-2.ensures.len)) in
     let entries : c.put_entry.new.rows ≡ with_entry_at c.args.place c.args.height rows = c.put_entry.ensures ∙ ap (with_entry_at c.args.place c.args.height) c.as_mut_slice-2.ensures.value in
-    let new : refill (length rows) rows c.put_entry.new.rows ≡ with_entry c.args.k c.args.height c.args.self.now.rows =
+    let new : refill c.self.inside.rows.len rows c.put_entry.new.rows ≡ with_entry c.args.k c.args.height c.args.self.now.rows =
     told ∙ entries ∙ sym (only-set c.args.k c.args.place c.args.height rows only) ∙ ap (λ (t : LinkTable). with_entry c.args.k c.args.height t.rows) c.self.view_is in
-    table-is c.self.inside.own c.args.self.now.own (refill (length rows) rows c.put_entry.new.rows) (with_entry c.args.k c.args.height c.args.self.now.rows) (ap (λ (t : LinkTable). t.own) c.self.view_is) new
+    table-is c.self.inside.own c.args.self.now.own (refill c.self.inside.rows.len rows c.put_entry.new.rows) (with_entry c.args.k c.args.height c.args.self.now.rows) c.self.inside.rows.cap c.args.self.now.room (ap (λ (t : LinkTable). t.own) c.self.view_is) new (ap (λ (t : LinkTable). t.room) c.self.view_is)

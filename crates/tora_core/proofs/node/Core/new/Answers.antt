@@ -1,10 +1,12 @@
-use Rattle.std.proofs.Common.{◌∙◌, sym, ℕ, ◌<◌}
+use Rattle.std.proofs.Common.{◌∙◌, refl, sym, subst, arith, map, length, ℕ, ◌<◌}
 use Rattle.std.specs.List.{AllByRecursion}
 use Rattle.std.proofs.lemmas.List.Elements.{All-from_recursion, All-from_get_or, recursion_from_All}
 use Rattle.tora_packet.specs.PacketParts.{IsId}
 use Rattle.tora_core.specs.Numbers.{ascending}
-use Rattle.tora_core.proofs.NumberLemmas.{all-ascending}
-use Rattle.tora_core.proofs.CoreLemmas.{destinations_of-first, first_core-kept}
+use Rattle.tora_core.proofs.NumberLemmas.{all-ascending, length-ascending}
+use Rattle.tora_core.specs.Table.{HaveRoom, first_in}
+use Rattle.tora_core.proofs.TableViews.{room-first, views_first}
+use Rattle.tora_core.proofs.CoreLemmas.{destinations_of-first, few-neighbours, first_core-kept}
 use Rattle.tora_core.proofs.node.Core.new.Goals as goal
 
 pub first_views-requires-clause-destinations : goal.first_views-requires-clause-destinations
@@ -20,5 +22,18 @@ invariant_of-result c =
     let tos : AllByRecursion IsId c.args.destinations.now =
     recursion_from_All IsId c.args.destinations.now (All-from_get_or IsId c.args.destinations.now 0 (λ k lt. (c.requires.destinations k 0 lt, (c.type_inv.destinations k).fits))) in
     let kept = first_core-kept c.args.me c.args.neighbours.now c.args.destinations.now (c.requires.me, c.ranges.me.fits) ids tos (sym c.core_refusal.ensures ∙ c.in_default.is) in
-    rw (c.ascending.ensures, c.new.ensures, c.in-Ok.ensures, c.as_slice.ensures.value, c.ascending-table.ensures)
-    (kept, sym (destinations_of-first c.args.me (ascending c.args.destinations.now)))
+    let room : ℕ → Type 0 = λ n. HaveRoom n (map (first_in (length c.args.neighbours.now) c.args.me) (ascending c.args.destinations.now)) in
+    rw (c.ascending.ensures, c.new.ensures, c.in-Ok.ensures, c.as_slice.ensures.value, c.ascending-table.ensures, views_first (length c.args.neighbours.now) c.args.me (ascending c.args.destinations.now)) (
+      kept,
+      sym (destinations_of-first c.args.me (ascending c.args.destinations.now)),
+      subst room (sym (length-ascending c.args.neighbours.now)) (room-first (length c.args.neighbours.now) c.args.me (ascending c.args.destinations.now)),
+    )
+
+pub first_views-requires-clause-room : goal.first_views-requires-clause-room
+first_views-requires-clause-room c =
+    let few = few-neighbours c.args.me c.args.neighbours.now c.args.destinations.now (sym c.core_refusal.ensures ∙ c.in_default.is) in
+    omega arith
+
+pub returns-clause-value : goal.returns-clause-value
+returns-clause-value c =
+    rw (c.ascending.ensures, c.new.ensures, c.in-Ok.ensures, c.as_slice.ensures.value, c.ascending-table.ensures, views_first (length c.args.neighbours.now) c.args.me (ascending c.args.destinations.now)) refl
