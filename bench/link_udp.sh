@@ -1,7 +1,8 @@
 #!/usr/bin/env bash
-# Packets from one neighbour's thread to another over two UDP sockets of the loopback, at most 32 under way, beside
-# yardsticks in C with frames of the same sizes between two processes (`sw`: one under way; `w32`: 32 under way), in one
-# run. Each line is a best of ROUNDS. The yardsticks are a C file outside this repository, and need ENet's header files.
+# Packets of 32 bytes from one neighbour's thread to another over two UDP sockets of the loopback, at most 32 under way, in
+# batches of up to sixteen, beside yardsticks in C between two processes, in one run: ENet's batches (`enet`), TCP with a
+# write for each packet (`tcp`), and frames of one packet of the sizes of version 1 (`sw`: one under way; `w32`: 32 under way).
+# Each line is a best of ROUNDS. The yardsticks are a C file outside this repository, and need ENet's header files.
 # usage: bench/link_udp.sh YARDSTICK [COUNT] [ROUNDS]     YARDSTICK: the folder of `link_bench.c`
 set -eu
 top=$(cd "$(dirname "$0")/.." && pwd)
@@ -14,7 +15,9 @@ gcc -O2 -o "$work/link_bench" "$yardstick/link_bench.c" -lenet
 (cd "$top/crates/tora_bench_link" && rt run >/dev/null 2>&1)
 for _ in $(seq "$rounds"); do
   "$top/crates/tora_bench_link/out/tora_bench_link" "$count" >>"$work/ours"
-  timeout 60 "$work/link_bench" w32 "$count" 1000 >>"$work/w32"
+  for mode in enet tcp w32; do
+    timeout 60 "$work/link_bench" "$mode" "$count" 1000 >>"$work/$mode"
+  done
   timeout 60 "$work/link_bench" sw "$((count / 4))" 1000 >>"$work/sw"
 done
 python3 - "$work" <<'P'
@@ -24,7 +27,7 @@ import sys
 folder = sys.argv[1]
 ours = min(int(line.split()[1]) for line in open(folder + "/ours") if "ns/packet" in line)
 print(f"run_neighbour, window 32  {ours:8d} ns a packet")
-for mode in ("w32", "sw"):
+for mode in ("enet", "tcp", "w32", "sw"):
     rates = [float(m.group(1)) for m in re.finditer(r"packets/s +([0-9.]+) us/packet", open(f"{folder}/{mode}").read())]
     if rates:
         theirs = min(rates) * 1000

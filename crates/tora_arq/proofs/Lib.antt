@@ -10,3 +10,4 @@ pub mod FactRuns
 pub mod PollLemmas
 pub mod RefusalLemmas
 pub mod PeerLemmas
+pub mod FloodLemmas

@@ -37,7 +37,7 @@ count_ready_most times now (suc window) [] = omega arith
 count_ready_most times now (suc window) (q ∷ queue) = omega (arith, one_where_most (is_ready times now q), count_ready_most times now window queue)
 
 -- a packet that is transmitted now is not due again now
-not_again : (times : Times) (now : ℕ) (q : QueuedPacket) → 0 < times.retry → is_ready times now (retried q now) ≡ false
+pub not_again : (times : Times) (now : ℕ) (q : QueuedPacket) → 0 < times.retry → is_ready times now (retried q now) ≡ false
 not_again times now q h =
     let tried : (suc q.tries == 0) ≡ false = grind (arith, nat_tests) in
     or_from _ _ tried (and_right _ _ (lt-leb times.retry (now - now) (omega (arith, h))))

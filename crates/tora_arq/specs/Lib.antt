@@ -10,3 +10,4 @@ pub mod LinkRuns
 pub mod PeerUpdates
 pub mod Polls
 pub mod Texts
+pub mod Floods

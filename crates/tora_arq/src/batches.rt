@@ -5,7 +5,7 @@ use super::*;
 use std::alloc::Global;
 use std::process::Abort;
 use std::test::Fail;
-use tora_frame::{Body, Frame, Packets, Version};
+use tora_frame::{Body, Frame, Packets, Version, decode_into, encode};
 use tora_height::Id;
 use tora_packet::Packet;
 
@@ -135,6 +135,28 @@ fn batches_of_sixteen_and_four(rt: HostRuntime) -> Result<(), Fail> {
     assert_eq!(&rt; two.poll_event(), None);
     assert_eq!(&rt; one.on_frame(&ack, 0), Verdict::Accepted);
     assert_eq!(&rt; one.waiting(), 0);
+    Ok(())
+}
+
+#[test]
+fn flood_of_sixteen_queries_is_one_datagram(rt: HostRuntime) -> Result<(), Fail> {
+    let Link { mut one, mut two } = new_link(&rt, rt.alloc());
+    for number in 1..=16 {
+        assert_eq!(&rt; one.submit(LIFE, query(&rt, number)), Ok(()));
+    }
+    let (mut there, mut here) = (Packets::new(), Packets::new());
+    let frame = one.poll_transmit_into(0, &mut there).expect(&rt, "a frame");
+    assert_eq!(&rt; *frame.to_frame().body(), batch(&rt, 1, 16));
+    let datagram = encode(&frame.to_frame());
+    assert_eq!(&rt; datagram.len(), 48 + 16 * 8);
+    assert!(&rt; one.poll_transmit_into(0, &mut there).is_none());
+    let read = decode_into(datagram.as_slice(), &mut here).expect(&rt, "a frame");
+    assert_eq!(&rt; two.on_borrowed_frame(&read, 0), Verdict::Accepted);
+    for number in 1..=16 {
+        let event = LinkEvent::Deliver(LIFE.reversed(), query(&rt, number));
+        assert_eq!(&rt; two.poll_event(), Some(event));
+    }
+    assert_eq!(&rt; two.poll_event(), None);
     Ok(())
 }
 

@@ -2,7 +2,7 @@
 //!
 //! Each is said of one call, at any state, and of whole runs of calls from a new end on. They hold for a window of any
 //! size.
-ghost use Rattle.std.specs.Prelude.{◌≡◌, ◌≢◌, ℕ, ◌+◌, ◌<◌, ◌≤◌, ◌⊎◌, false, List, [], ◌∷◌, ◌++◌, map, length, Contains};
+ghost use Rattle.std.specs.Prelude.{◌≡◌, ◌≢◌, ℕ, ◌+◌, ◌^◌, ◌<◌, ◌≤◌, ◌⊎◌, false, List, [], ◌∷◌, ◌++◌, map, length, Contains, Some};
 ghost use Rattle.std.specs.List.{AllByRecursion};
 ghost use Rattle.tora_packet.specs.declared.Packet.{Packet};
 ghost use Rattle.tora_frame.specs.FrameParts.{FrameParts};
@@ -20,6 +20,7 @@ ghost use Rattle.tora_arq.specs.LinkFacts.{LinkCall, EveryCall, frame_sent_by, e
 ghost use Rattle.tora_arq.specs.LinkRuns.{EveryRun, EveryBoundRun, CameAt, CountCame, AreAllTold, times_bound, AreFromFirst, IsFrameOfRun, IsSameAtEachTry};
 ghost use Rattle.tora_arq.specs.PeerUpdates.{AreEventsOfPeer, IsOfPeer};
 ghost use Rattle.tora_arq.specs.Polls.{after_polls, frames_polled};
+ghost use Rattle.tora_arq.specs.Floods.{after_submits, IsIdle, flood_frame};
 
 /// Every call keeps of an end that what was transmitted was submitted, that no more is held than the window, and that
 /// nothing is left of a life that is over. Own profile.
@@ -148,6 +149,18 @@ pub fn polls_of_a_tick_end()
         → frame_due s (after_polls s e now polls) now ≡ None }
     // Once none is due, none is due at that tick.
     ensures settled { (s : Settings) (e : EndState) (now polls : ℕ) → frame_due s e now ≡ None → after_polls s e now polls ≡ e }
+{}
+
+/// Packets that are submitted at one tick, sixteen at most, go in one frame to a peer that is known to speak version 2, where
+/// none waited before and no HELLO is due, and no frame is due behind it at that tick. So a query for each of sixteen
+/// destinations is one datagram for each neighbour. Own profile.
+pub fn flood_is_one_frame()
+    ensures one { (s : Settings) (e : EndState) (life : Life) (packets : List Packet) (now : ℕ) → IsIdle s e life now
+        → 0 < length packets → length packets ≤ 16 → length packets ≤ s.window → e.acknowledged + length packets ≤ 2 ^ 62
+        → frame_due s (after_submits e life packets) now ≡ Some (flood_frame s e life packets) }
+    ensures only { (s : Settings) (e : EndState) (life : Life) (packets : List Packet) (now : ℕ) → IsTimes s.times → IsIdle s e life now
+        → 0 < length packets → length packets ≤ 16 → length packets ≤ s.window → e.acknowledged + length packets ≤ 2 ^ 62
+        → frame_due s (after_transmit s (after_submits e life packets) now) now ≡ None }
 {}
 
 /// The times that the program uses: 10 ticks between HELLOs, 50 of silence, 5 between tries, and 8 tries. Own profile.

@@ -185,14 +185,7 @@ impl SendQueue {
     }
 
     /// Appends the packets from a place up to another, as far as each is due; they count as transmitted now.
-    fn take_run(
-        &mut self,
-        times: &Times,
-        now: u64,
-        place: usize,
-        end: usize,
-        packets: &mut Packets,
-    )
+    fn take_run(&mut self, times: &Times, now: u64, place: usize, end: usize, packets: &mut Packets)
         requires within { end ≤ length self.old }
         requires most { end ≤ place + MOST_PACKETS }
         requires empty { packets.old.items ≡ [] }

@@ -1,11 +1,10 @@
 //! Two link ends in one thread.
+use arrayvec::ArrayVec;
 use std::alloc::Global;
 use tora_arq::{Life, LinkEnd, Times, WINDOW};
 use tora_frame::{BorrowedFrame, LONGEST_FRAME, Packets, Version, decode_into, encode_into};
 use tora_height::Height;
 use tora_packet::{Packet, Update};
-
-use arrayvec::ArrayVec;
 
 /// How a frame goes from one end to the other.
 #[derive(Clone, Copy, PartialEq, Eq)]

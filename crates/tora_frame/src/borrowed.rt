@@ -58,12 +58,7 @@ impl<'a> BorrowedFrame<'a> {
 
     /// A DATA frame: `number` is that of the first packet, the last one's is at most 2^62, and `count` is the count of
     /// packets accepted, 0 to 2^62. There is one packet in version 1, and one to sixteen in version 2.
-    pub fn data(
-        header: Header,
-        number: u64,
-        count: u64,
-        packets: &'a [Packet],
-    ) -> BorrowedFrame<'a>
+    pub fn data(header: Header, number: u64, count: u64, packets: &'a [Packet]) -> BorrowedFrame<'a>
         requires header { IsHeader header }
         requires heard { 0 < header.heard }
         requires first { 0 < number }

@@ -197,10 +197,7 @@ fn read_body<'a>(
     }
 }
 
-fn read_frame<'a>(
-    bytes: &[u8],
-    packets: &'a mut Packets,
-) -> Result<BorrowedFrame<'a>, FrameError>
+fn read_frame<'a>(bytes: &[u8], packets: &'a mut Packets) -> Result<BorrowedFrame<'a>, FrameError>
     ensures exact { MatchOption (frame_fault bytes.now) (result ≡ Ok (frame_at bytes.now)) (λ e. result ≡ Err e) }
     ensures valid { IfOk result IsFrame }
 {

@@ -53,6 +53,7 @@ fn packets_length(packets: &[Packet]) -> u16
 }
 
 /// Begins a frame with the header of a kind whose payload has this many bytes.
+#[inline(always)]
 fn put_header(kind: u8, len: u16, header: &Header, out: &mut Bytes)
     requires { out.old.items ≡ [] }
     ensures items { out.new.items ≡ header_spelling kind len header.now }

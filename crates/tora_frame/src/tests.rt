@@ -141,6 +141,43 @@ fn frame_vectors(rt: HostRuntime) -> Result<(), Fail> {
 }
 
 #[test]
+fn kept_buffers_hold_one_frame_after_another(rt: HostRuntime) -> Result<(), Fail> {
+    let frames = frames().ok_or("frames")?;
+    let mut packets = Packets::new();
+    let mut out = encode(&Frame::hello(FIRST));
+    for (frame, text) in frames.iter().zip(&VECTORS) {
+        let bytes = hex::decode(rt.alloc(), *text)?;
+        encode_into(&frame.borrowed(), &mut out);
+        assert_eq!(rt; out.as_slice(), bytes.as_slice(), "at {text}");
+        match decode_into(&bytes, &mut packets) {
+            Ok(read) => {
+                assert_eq!(rt; read.header(), frame.header(), "at {text}");
+                assert_eq!(rt; read.to_frame(), *frame, "at {text}");
+            }
+            Err(error) => assert_eq!(rt; error.number(), 0, "at {text}"),
+        }
+    }
+    Ok(())
+}
+
+#[test]
+fn borrowed_frames_are_the_frames_of_the_same_parts(rt: HostRuntime) -> Result<(), Fail> {
+    let packets = query_and_clear().ok_or("packets")?;
+    let data = BorrowedFrame::data(NEW_FROM_ONE, 1, 0, packets.as_slice());
+    match data.body() {
+        BorrowedBody::Data(1, 0, borrowed) => assert_eq!(rt; borrowed, packets.as_slice()),
+        other => assert!(rt; false, "{other:?}"),
+    }
+    let list = query_and_clear().ok_or("packets")?;
+    assert_eq!(rt; data.to_frame(), Frame::data(NEW_FROM_ONE, 1, 0, list));
+    let hello = BorrowedFrame::hello(NEW_FIRST);
+    assert_eq!(rt; hello.to_frame(), Frame::hello(NEW_FIRST));
+    let ack = BorrowedFrame::ack(NEW_FROM_TWO, 1);
+    assert_eq!(rt; ack.to_frame(), Frame::ack(NEW_FROM_TWO, 1));
+    Ok(())
+}
+
+#[test]
 fn refused_frames(rt: HostRuntime) -> Result<(), Fail> {
     let rows = [
         ("", FrameError::Short, 1),
