@@ -57,6 +57,10 @@ orders:
   part A B           rounds deliver nothing between A and B any more
   mend A B           rounds deliver it again
   heights D          prints `node N height hop K` for each node
+  exact D            prints `exact 1` where each node's known heights of its
+                     neighbours are theirs, else `exact 0`
+  walk N D           prints `walk LIST`, the nodes from N to D by next hops,
+                     or `walk -` where they don't lead there
   sent A B X Y       prints `count C`: packets that A's core sent to B in the
                      life that A's end writes {X, Y}
   taken B A Y X      prints `count C`: packets that B's core took from A in the

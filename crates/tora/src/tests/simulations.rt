@@ -105,6 +105,44 @@ fn route_is_found_whatever_call_fails(rt: HostRuntime) {
     );
 }
 
+/// Behind a route that was found entries are exact, and the walk is the route; a node that begins anew ends both.
+#[test]
+fn exact_entries_give_a_walk(rt: HostRuntime) {
+    expect_world(
+        &rt,
+        rt.alloc(),
+        (
+            FOUR,
+            "need 1 4\nrounds 3\nheights 4\nexact 4\nwalk 1 4\nrestart 2 -\nexact 4\nwalk 1 4\n",
+        ),
+        "node 1 (0,0,0,3,1) hop 2\nnode 2 (0,0,0,2,2) hop 3\nnode 3 (0,0,0,1,3) hop 4\n\
+        node 4 (0,0,0,0,4) hop -\nexact 1\nwalk 1,2,3,4\nexact 0\nwalk -\n",
+        Ended::Whole,
+    );
+}
+
+/// A line of walks is a fault where it names no node or no destination.
+#[test]
+fn walks_of_others_are_faults(rt: HostRuntime) {
+    let faults = [
+        "exact 3\n",
+        "walk 5 4\n",
+        "walk 1 3\n",
+        "exact\n",
+        "walk 4\n",
+    ];
+    for end in faults {
+        expect_world(&rt, rt.alloc(), (FOUR, end), "fault 5\n", Ended::Fault(5));
+    }
+    expect_world(
+        &rt,
+        rt.alloc(),
+        (FOUR, "walk 4 4\nwalk 1 4\n"),
+        "walk 4\nwalk -\n",
+        Ended::Whole,
+    );
+}
+
 /// What a core sent and another took, counted by the life that each end writes.
 #[test]
 fn packets_are_counted_by_life(rt: HostRuntime) {
