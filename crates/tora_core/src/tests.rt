@@ -2,7 +2,7 @@
 ghost use Rattle.std.specs.Prelude.{◌<◌, ◌≤◌, ◌≡◌, true, All};
 
 use super::*;
-use crate::plain::{Plain, told_by};
+use crate::plain::{Plain, Told, told_by};
 use std::alloc::{AllocError, Global};
 use std::process::Abort;
 use std::test::Fail;
@@ -471,6 +471,14 @@ fn any_input(random: &mut Random, now: u64) -> Option<Input> {
     }
 }
 
+/// The packets of both bodies are the same.
+fn same_sends(rt: &impl Abort, sends: &Sends, told: &[Told]) {
+    assert_eq!(rt; sends.len(), told.len());
+    for (packet, told) in sends.iter().zip(told.iter()) {
+        assert_eq!(rt; told_by(packet), *told);
+    }
+}
+
 /// Both bodies take an input, and answer the same.
 fn same_step(
     rt: &impl Abort,
@@ -482,18 +490,14 @@ fn same_step(
     sends: &mut Sends,
 ) {
     let answer = core.step_into(input, now, sends);
-    let other = plain.step(alloc, input, now).expect(rt, "memory");
-    match other {
+    match plain.step(alloc, input, now).expect(rt, "memory") {
         Err(error) => {
             assert_eq!(rt; answer.err(), Some(error));
-            assert!(rt; sends.is_empty());
+            same_sends(rt, sends, &[]);
         }
         Ok(told) => {
             assert!(rt; answer.is_ok());
-            assert_eq!(rt; sends.len(), told.len());
-            for (packet, told) in sends.iter().zip(told.iter()) {
-                assert_eq!(rt; told_by(packet), *told);
-            }
+            same_sends(rt, sends, told.as_slice());
         }
     }
 }
@@ -533,14 +537,11 @@ fn plain_body_answers_alike(rt: HostRuntime) -> Result<(), Fail> {
 
 #[test]
 fn example_of_the_documentation(rt: HostRuntime) -> Result<(), Fail> {
-    let mut core = Core::new(rt.alloc(), 3, &[2, 4], &[4]).expect(&rt, "a core");
-    core.step(Input::LinkUp(2), 1).expect(&rt, "it is taken");
-    core.step(Input::LinkUp(4), 1).expect(&rt, "it is taken");
-    let sends = core
-        .step(Input::Packet(2, query(&rt)), 2)
-        .expect(&rt, "it is taken");
+    let mut core = Core::new(rt.alloc(), 3, &[2, 4], &[4])?;
+    sends(&rt, &mut core, 1, Input::LinkUp(2), None);
+    sends(&rt, &mut core, 1, Input::LinkUp(4), None);
     let answer = update(&rt, 0, 0, 0, 1, 3);
-    assert_eq!(&rt; sends.as_slice(), [answer].as_slice());
+    takes(&rt, &mut core, 2, 2, query(&rt), Some(answer));
     assert_eq!(&rt; core.next_hop(4), Some(4));
     Ok(())
 }

@@ -4,7 +4,7 @@ use Rattle.std.specs.List.{insert, position_or_len}
 use Rattle.tora_height.specs.declared.Direction.{Direction}
 use Rattle.tora_core.specs.Links.{IsLeastPlace, LinkTable}
 use Rattle.tora_core.specs.View.{with_row}
-use Rattle.tora_core.proofs.LinkLemmas.{kept-few, kept-insert, kept-lengths, least-in, least-insert, in-longer, place-within, not-some, table-is, with_row-insert}
+use Rattle.tora_core.proofs.LinkLemmas.{kept-few, kept-insert, least-in, least-insert, in-longer, place-within, not-some, table-is, with_row-insert}
 use Rattle.tora_core.specs.Links.{IsNull, is_down}
 use Rattle.tora_core.proofs.links.Links.insert.Goals.{then-is_some, else-is_some}
 use Rattle.tora_core.proofs.links.Links.insert.Goals as goal

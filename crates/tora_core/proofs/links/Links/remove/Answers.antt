@@ -34,16 +34,16 @@ recounted-self-inside-requires-clause-few c =
     let most = c.self.invariant.2 in
     omega arith
 
-pub remove-requires : goal.remove-requires
-remove-requires c =
+pub remove_within-requires : goal.remove_within-requires
+remove_within-requires c =
     let only : IsOnlyPlace c.args.k c.args.place (neighbours_of c.self.inside.rows.items) = subst (λ (t : LinkTable). IsOnlyPlace c.args.k c.args.place (neighbours_of t.rows)) (sym c.self.view_is) c.requires in
     let rows = c.self.inside.rows.items in
     let lt : c.args.place < length rows = only-within c.args.k c.args.place rows only in
     let len = c.self.inside.rows.ok.0 in
     omega arith
 
-pub remove-before-requires : goal.remove-before-requires
-remove-before-requires c =
+pub remove_within-before-requires : goal.remove_within-before-requires
+remove_within-before-requires c =
     let only : IsOnlyPlace c.args.k c.args.place (neighbours_of c.self.inside.rows.items) = subst (λ (t : LinkTable). IsOnlyPlace c.args.k c.args.place (neighbours_of t.rows)) (sym c.self.view_is) c.requires in
     let rows = c.self.inside.rows.items in
     let lt : c.args.place < length rows = only-within c.args.k c.args.place rows only in
@@ -56,7 +56,7 @@ recounted-self-inside-requires-clause-some c =
     let only : IsOnlyPlace c.args.k c.args.place (neighbours_of c.self.inside.rows.items) = subst (λ (t : LinkTable). IsOnlyPlace c.args.k c.args.place (neighbours_of t.rows)) (sym c.self.view_is) c.requires in
     let rows = c.self.inside.rows.items in
     let lt : c.args.place < length rows = only-within c.args.k c.args.place rows only in
-    before-counted c.self.inside.own rows c.self.inside.directions.items c.self.inside.downstream c.self.inside.least c.args.place c.remove-before.result c.self.invariant.0 lt c.remove-before.ensures.value
+    before-counted c.self.inside.own rows c.self.inside.directions.items c.self.inside.downstream c.self.inside.least c.args.place c.remove_within-before.result c.self.invariant.0 lt c.remove_within-before.ensures.value
 
 pub invariant_of-self : goal.invariant_of-self
 invariant_of-self c =
@@ -67,18 +67,18 @@ invariant_of-self c =
     elim c.match-self.branch [
       | in-None w ↦ subst (λ (l : Option ℕ). IsLeastPlace l (remove rows c.args.place)) (sym w.self-is) (null-remove c.args.place rows lt (subst (λ (l : Option ℕ). IsLeastPlace l rows) w.in-None.is c.self.invariant.0.least_is))
       | in-Some+then-least-place w ↦ subst (λ (l : Option ℕ). IsLeastPlace l (remove rows c.args.place)) (sym w.self-is)
-          (subst (IsLeastPlace w.place_of_least.result) (w.as_slice-then-least-place.ensures.value ∙ c.remove.ensures.items) w.place_of_least.ensures)
+          (subst (IsLeastPlace w.place_of_least.result) (w.as_slice-then-least-place.ensures.value ∙ c.remove_within.ensures.items) w.place_of_least.ensures)
       | in-Some+else-least-place w ↦
           (let is : IsLeastPlace (Some w.in-Some.least) rows = subst (λ (l : Option ℕ). IsLeastPlace l rows) w.in-Some.is c.self.invariant.0.least_is in
           let found = least-remove c.args.place w.in-Some.least is.0 rows w.if-least-place.false lt is.1 in
           subst (λ (l : Option ℕ). IsLeastPlace l (remove rows c.args.place)) (sym w.self-is)
           (is.0, subst (λ (n : ℕ). IsLeastAt n is.0 (remove rows c.args.place)) (sym w.moved_down.ensures) found))
     ] in
-    rw (c.remove.ensures.items, c.remove-before.ensures.items) (
-      kept-remove c.self.inside.own rows c.self.inside.directions.items c.self.inside.downstream c.self.inside.least c.args.place c.remove-before.result c.recounted-self-inside.result c.match-self.self
-          c.self.invariant.0 lt c.remove-before.ensures.value c.recounted-self-inside.ensures least,
-      (let a = c.remove.ensures.capacity in let b = c.remove-before.ensures.capacity in let wide = c.self.invariant.1 in omega arith),
-      (let a = c.remove.ensures.capacity in let most = c.self.invariant.2 in omega arith),
+    rw (c.remove_within.ensures.items, c.remove_within-before.ensures.items) (
+      kept-remove c.self.inside.own rows c.self.inside.directions.items c.self.inside.downstream c.self.inside.least c.args.place c.remove_within-before.result c.recounted-self-inside.result c.match-self.self
+          c.self.invariant.0 lt c.remove_within-before.ensures.value c.recounted-self-inside.ensures least,
+      (let a = c.remove_within.ensures.capacity in let b = c.remove_within-before.ensures.capacity in let wide = c.self.invariant.1 in omega arith),
+      (let a = c.remove_within.ensures.capacity in let most = c.self.invariant.2 in omega arith),
     )
 
 pub returns : goal.returns
@@ -86,6 +86,6 @@ returns c =
     let only : IsOnlyPlace c.args.k c.args.place (neighbours_of c.self.inside.rows.items) = subst (λ (t : LinkTable). IsOnlyPlace c.args.k c.args.place (neighbours_of t.rows)) (sym c.self.view_is) c.requires in
     let rows = c.self.inside.rows.items in
     let lt : c.args.place < length rows = only-within c.args.k c.args.place rows only in
-    let gone : c.remove.new.self.items ≡ without_row c.args.k c.args.self.now.rows =
-    c.remove.ensures.items ∙ sym (only-remove c.args.k c.args.place rows only) ∙ ap (λ (t : LinkTable). without_row c.args.k t.rows) c.self.view_is in
-    table-is c.self.inside.own c.args.self.now.own c.remove.new.self.items (without_row c.args.k c.args.self.now.rows) c.remove.new.self.cap c.args.self.now.room (ap (λ (t : LinkTable). t.own) c.self.view_is) gone (c.remove.ensures.capacity ∙ ap (λ (t : LinkTable). t.room) c.self.view_is)
+    let gone : c.remove_within.new.list.items ≡ without_row c.args.k c.args.self.now.rows =
+    c.remove_within.ensures.items ∙ sym (only-remove c.args.k c.args.place rows only) ∙ ap (λ (t : LinkTable). without_row c.args.k t.rows) c.self.view_is in
+    table-is c.self.inside.own c.args.self.now.own c.remove_within.new.list.items (without_row c.args.k c.args.self.now.rows) c.remove_within.new.list.cap c.args.self.now.room (ap (λ (t : LinkTable). t.own) c.self.view_is) gone (c.remove_within.ensures.capacity ∙ ap (λ (t : LinkTable). t.room) c.self.view_is)

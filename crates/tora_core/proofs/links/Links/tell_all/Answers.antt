@@ -1,4 +1,4 @@
-use Rattle.std.proofs.Common.{◌≡◌, ◌∙◌, ap, arith, length}
+use Rattle.std.proofs.Common.{◌≡◌, ◌∙◌, ap, arith}
 use Rattle.tora_core.specs.View.{all_told}
 use Rattle.tora_core.proofs.LinkLemmas.{directions-told, downstream-told, least-told, refill-same}
 use Rattle.tora_core.proofs.links.Links.tell_all.Goals as goal
