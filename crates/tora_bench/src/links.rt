@@ -134,6 +134,18 @@ pub fn run_link(alloc: Global, packets: u32) -> Option<u64> {
     Some(sum)
 }
 
+/// As many updates of node 1 as a window holds, in memory, as packets come out of a lane.
+fn window_of_updates(alloc: Global) -> Option<Vec<Packet>> {
+    let height = Height::new(0, 0, 0, 1, 1).ok()?;
+    let mut updates = Vec::new(alloc);
+    for i in 0..WINDOW as u32 {
+        updates
+            .push(Packet::Upd(Update::new(2 + i, height).ok()?))
+            .ok()?;
+    }
+    Some(updates)
+}
+
 /// Updates of 32 bytes from one end to the other, a window at a time: in version 1 as many frames, in version 2 two of
 /// sixteen, and one ACK; how many events and frames there were.
 pub fn run_window(alloc: Global, packets: u32, version: Version, passed: Passed) -> Option<u64> {
@@ -142,12 +154,12 @@ pub fn run_window(alloc: Global, packets: u32, version: Version, passed: Passed)
         mut two,
         life,
     } = bound_link(alloc, version)?;
-    let update = Packet::Upd(Update::new(4, Height::new(0, 0, 0, 1, 1).ok()?).ok()?);
+    let updates = window_of_updates(alloc)?;
     let mut kept = Kept::new();
     let mut sum = 0u64;
     for _ in 0..u64::from(packets) / WINDOW {
-        for _ in 0..WINDOW {
-            one.submit(life, update).ok()?;
+        for update in updates.iter() {
+            one.submit(life, *update).ok()?;
         }
         sum = sum.wrapping_add(exchange_all(&mut one, &mut two, &mut kept, passed));
         sum = sum.wrapping_add(exchange_all(&mut two, &mut one, &mut kept, passed));
