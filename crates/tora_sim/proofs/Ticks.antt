@@ -53,7 +53,7 @@ module _ (t : Topology) (times : Times) (clock : ℕ) (nodes : List NodeView) (l
       let puts = stays put_in (clock + 1) (λ x. refl) in
       let steps = stays steps_in (clock + 1) (λ x. refl) in
       links_same (world_of (state_of t times (clock + 1) nodes links ds)) ends files lanes puts steps
-      ∙ ap (λ (now : ℕ). record (world_of (state_of t times clock nodes links ds)) { clock = now; ends = λ n k. after_tick (settings_of n k times) (end_in (link_at links n k)) (suc clock) }) plus
+      ∙ ap (λ (now : ℕ). record (world_of (state_of t times clock nodes links ds)) { clock = now; ends = λ n k. after_tick (settings_of (version_at t n) n k times) (end_in (link_at links n k)) (suc clock) }) plus
 
   tick_store_at : IsStore (state_of t times (clock + 1) nodes (map (ticked (clock + 1)) links) ds)
   tick_store_at = record {
