@@ -42,6 +42,10 @@ packet_record t n count (Clr c) = decimal t ++ codes " clr " ++ decimal n ++ cod
 unfoldable pub route_record : ℕ → ℕ → ℕ → Option Quintuple → Option ℕ → List ℕ
 route_record t n d height hop = decimal t ++ codes " route " ++ decimal n ++ codes " " ++ decimal d ++ codes " " ++ height_text height ++ codes " " ++ hop_text hop ++ line_end
 
+-- two counts
+abbrev pub counts_text : ℕ → ℕ → List ℕ
+counts_text a b = codes " " ++ decimal a ++ codes " " ++ decimal b
+
 -- `T frames H D A L`
 unfoldable pub frames_record : ℕ → FrameCounts → List ℕ
-frames_record t c = decimal t ++ codes " frames " ++ decimal c.hellos ++ codes " " ++ decimal c.datas ++ codes " " ++ decimal c.acks ++ codes " " ++ decimal c.losts ++ line_end
+frames_record t c = decimal t ++ codes " frames" ++ counts_text c.hellos c.datas ++ counts_text c.acks c.losts ++ line_end

@@ -1,5 +1,6 @@
 //! A copy of a node's core, which tells of each input that the core accepted.
-ghost use Rattle.std.specs.Prelude.{◌≡◌, ◌==◌, ◌<◌, All, true, IfOk, OnOk, string_bytes};
+ghost use Rattle.std.specs.Prelude.{◌≡◌, ◌==◌, ◌<◌, All, true, nat_lt, IfOk, OnOk, string_bytes};
+ghost use Rattle.std.specs.List.{list_all};
 ghost use Rattle.tora_trace.specs.Copies.{TakesInput, TakesInputs, Restarts, first_copy, copy_after, input_records, after_input, after_inputs, copy_restarted, restart_records};
 
 use crate::lives::{note_lives, write_link};
@@ -27,11 +28,18 @@ impl Model for CoreCopy {
     ghost view = { λ c. record { core = c.core; lives = c.lives.items; routes = c.routes.items } };
 }
 
+/// Whether no number is 0, as it is computed.
+fn has_no_zero(numbers: &[Id]) -> bool
+    ensures { result ≡ list_all (λ n. nat_lt 0 n) numbers.now }
+{
+    numbers.iter().all(|n| *n > 0)
+}
+
 /// Whether no number is 0.
 fn are_ids(numbers: &[Id]) -> bool
     ensures { result ≡ true → All (λ n. 0 < n) numbers.now }
 {
-    numbers.iter().all(|n| *n > 0)
+    has_no_zero(numbers)
 }
 
 impl CoreCopy {

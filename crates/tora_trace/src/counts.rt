@@ -1,6 +1,6 @@
 //! How many datagrams were sent, by kind.
 ghost use Rattle.std.specs.Prelude.{◌≡◌, ◌++◌, OnOk, IfOk, string_bytes};
-ghost use Rattle.tora_trace.specs.Records.{frames_record};
+ghost use Rattle.tora_trace.specs.Records.{counts_text, frames_record};
 ghost use Rattle.tora_trace.specs.Trace.{no_frames, one_more, with_body, with_frame, has_none};
 
 use std::alloc::AllocError;
@@ -84,12 +84,20 @@ impl FrameCounts {
     }
 }
 
+/// Puts two counts behind a text.
+fn write_counts(out: &mut String, a: u64, b: u64) -> Result<(), AllocError>
+    ensures { OnOk result (string_bytes out.new ≡ string_bytes out.old ++ counts_text a b) }
+{
+    write!(out, " {a} {b}")
+}
+
 /// Puts the record of datagrams behind a text.
 #[tactic(auto, unfolding(crate::specs::Records::frames_record))]
 pub fn write_frames(out: &mut String, now: u64, counts: &FrameCounts) -> Result<(), AllocError>
     ensures { OnOk result (string_bytes out.new ≡ string_bytes out.old ++ frames_record now counts.now) }
 {
-    let (hellos, datas) = (counts.hellos, counts.datas);
-    let (acks, losts) = (counts.acks, counts.losts);
-    writeln!(out, "{now} frames {hellos} {datas} {acks} {losts}")
+    write!(out, "{now} frames")?;
+    write_counts(out, counts.hellos, counts.datas)?;
+    write_counts(out, counts.acks, counts.losts)?;
+    writeln!(out, "")
 }
