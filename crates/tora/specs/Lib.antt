@@ -18,3 +18,5 @@ pub mod Statuses
 pub mod Endings
 pub mod SimulationGrammar
 pub mod ToldView
+pub mod Tracing
+pub mod TracingView

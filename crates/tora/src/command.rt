@@ -126,9 +126,14 @@ pub fn command<'a>(alloc: Global) -> Result<Command<'a>, AllocError> {
     let file = Arg::new(alloc, "FILE")
         .required(true)
         .help("The lines of the simulation, a text file");
+    let trace = Arg::new(alloc, "trace")
+        .long("trace")
+        .value_name("PATH")
+        .help("Writes to this file what happens: a record a line, as docs/formats.md says");
     let sim = Command::new(alloc, "sim")
         .about("Simulates a world of nodes, links and datagrams, to standard output")
         .after_help(SIMULATION)
+        .arg(trace)?
         .arg(file)?;
     let check = Arg::new(alloc, "check")
         .long("check")

@@ -13,7 +13,6 @@ mod command;
 mod ended;
 mod engine;
 mod flushing;
-mod height_text;
 mod line;
 mod link_lines;
 mod node_command;
@@ -32,6 +31,11 @@ mod simulation_line;
 mod simulation_parse;
 mod simulator;
 mod told;
+mod trace_out;
+mod traced;
+mod traced_command;
+mod tracing;
+mod watched;
 mod words;
 
 use clap::error::ErrorKind;
@@ -89,12 +93,17 @@ fn replay_input(rt: &HostRuntime, is_verbose: bool) -> ExitCode {
     replay_command::run(rt, rt.stdin(), is_verbose, &mut writer)
 }
 
-/// Simulates the lines of a file.
-fn simulate_file(rt: &HostRuntime, path: &str, is_verbose: bool) -> ExitCode {
+/// Simulates the lines of a file, and writes the trace where a path is given for it.
+fn simulate_file(rt: &HostRuntime, path: &str, trace: Option<&str>, is_verbose: bool) -> ExitCode {
     let Ok(mut writer) = BufWriter::new(rt.alloc(), io::writer(rt)) else {
         return stop(rt, MEMORY, "memory");
     };
-    sim_command::run::<Sim, HostRuntime, _>(rt, path, is_verbose, &mut writer)
+    match trace {
+        Some(trace) => {
+            traced_command::run::<Sim, HostRuntime, _>(rt, path, trace, is_verbose, &mut writer)
+        }
+        None => sim_command::run::<Sim, HostRuntime, _>(rt, path, is_verbose, &mut writer),
+    }
 }
 
 /// Prints help, a version or a fault of usage.
@@ -139,7 +148,7 @@ fn main(rt: HostRuntime) -> ExitCode {
                 }
                 Some(("sim", sim)) => {
                     let path = sim.get_str("FILE").unwrap_or("");
-                    simulate_file(&rt, path, is_verbose)
+                    simulate_file(&rt, path, sim.get_str("trace"), is_verbose)
                 }
                 _ => replay_input(&rt, is_verbose),
             }

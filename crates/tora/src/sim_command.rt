@@ -18,7 +18,7 @@ use std::rt::Files;
 use std::{fs, io};
 
 /// Says why there is no file, and ends with the status of the cause.
-fn refuse<R: Eprint>(rt: &R, path: &str, error: &io::Error, is_verbose: bool) -> ExitCode
+pub fn refuse<R: Eprint>(rt: &R, path: &str, error: &io::Error, is_verbose: bool) -> ExitCode
     ensures { (exit_status result ≡ 1) ⊎ (exit_status result ≡ 5) }
 {
     if error.kind() == ErrorKind::OutOfMemory {
@@ -32,7 +32,7 @@ fn refuse<R: Eprint>(rt: &R, path: &str, error: &io::Error, is_verbose: bool) ->
 }
 
 /// Says why a line is too long, or what failed: what else is a fault was told as it came.
-fn tell<T: Eprint, R: Read>(rt: &T, reader: &Recent<R>, ended: Result<Ended, ReplayError>) {
+pub fn tell<T: Eprint, R: Read>(rt: &T, reader: &Recent<R>, ended: Result<Ended, ReplayError>) {
     match ended {
         Ok(Ended::Whole) => {}
         Ok(Ended::Fault(number)) => {

@@ -29,3 +29,4 @@ pub mod Possibles
 pub mod NodeEnds
 pub mod Olds
 pub mod KeptFrames
+pub mod NodeReads

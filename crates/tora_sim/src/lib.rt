@@ -27,6 +27,7 @@ mod restarts;
 mod sim;
 mod topology;
 mod turns;
+mod watching;
 
 pub use sim::Sim;
 pub use topology::{MOST_NODES, Topology};

@@ -178,9 +178,10 @@ impl Trace {
     ///
     /// # Errors
     /// Want of memory.
-    pub fn restart(&mut self, alloc: Global, now: u64, n: Id) -> Result<(), AllocError>
+    pub fn restart(&mut self, now: u64, n: Id) -> Result<(), AllocError>
         ensures { OnOk result (Tells n self.old (after_restart now) self.new) }
     {
+        let alloc = *self.text.allocator();
         match place(self.copies.as_slice(), n) {
             None => Ok(()),
             Some(at) => self.copies[at].restart(alloc, now, &mut self.text),

@@ -1,0 +1,112 @@
+//! `tora sim --trace PATH FILE`: a simulation of a file of lines, and its trace.
+use crate::ended::{Ended, ReplayError};
+use crate::recent::Recent;
+use crate::sim_command::{refuse, tell};
+use crate::trace_out::TraceOut;
+use crate::tracing::simulate_traced;
+use crate::watched::Watched;
+use crate::{INPUT, MEMORY, status, stop};
+use std::fs;
+use std::io;
+use std::io::{BufWriter, Read, Write};
+use std::process::ExitCode;
+use std::rt::Files;
+
+/// Says which path can't be the trace's, and why, and ends with the status of the cause.
+fn refuse_trace<T: Eprint>(rt: &T, path: &str, error: &io::Error) -> ExitCode {
+    refuse(rt, path, error, true)
+}
+
+/// Flushes the writer: `Write` where that alone fails.
+fn flushed<W: Write>(
+    writer: &mut W,
+    ended: Result<Ended, ReplayError>,
+) -> Result<Ended, ReplayError> {
+    match writer.flush() {
+        Ok(()) => ended,
+        Err(_) if ended.is_ok() => Err(ReplayError::Write),
+        Err(_) => ended,
+    }
+}
+
+/// Ends with the status of the simulation, or with 1 where that is 0 and the trace could not be written.
+fn traced_status<T: Eprint, V: Write>(
+    rt: &T,
+    ended: Result<Ended, ReplayError>,
+    out: &TraceOut<V>,
+    path: &str,
+    is_verbose: bool,
+) -> ExitCode {
+    let Some(error) = out.failure() else {
+        return status(rt, ended);
+    };
+    let code = match ended {
+        Ok(Ended::Whole) => stop(rt, INPUT, "input"),
+        _ => status(rt, ended),
+    };
+    if is_verbose {
+        let _ = rt.eprintln(format_args!("tora: {path}: {error}"));
+    }
+    code
+}
+
+/// Simulates the lines that a reader gives, and writes the trace.
+pub fn run_over<S: Watched, T: AllocGlobal + Eprint, R: Read + Drop, W: Write, V: Write + Drop>(
+    rt: &T,
+    reader: R,
+    is_verbose: bool,
+    writer: &mut W,
+    path: &str,
+    trace: V,
+) -> ExitCode {
+    let alloc = rt.alloc();
+    let mut reader = Recent::new(alloc, reader);
+    let mut out = TraceOut::new(trace);
+    let result = simulate_traced::<S, T, Recent<R>, W, V>(
+        rt,
+        alloc,
+        &mut reader,
+        writer,
+        &mut out,
+        is_verbose,
+    );
+    let result = flushed(writer, result);
+    out.flush();
+    if is_verbose {
+        tell(rt, &reader, result);
+    }
+    traced_status(rt, result, &out, path, is_verbose)
+}
+
+/// Simulates the lines of the file at a path, and writes the trace to the file at another one, which is made anew.
+///
+/// It ends with the status of the simulation, or with 1 where that is 0 and the trace could not be written; with 1, before
+/// anything is simulated, where the file can't be opened, where that of the trace can't be made, or where both paths are
+/// one; and with 5 where memory was refused.
+pub fn run<S: Watched, T: Files + AllocGlobal + Eprint, W: Write>(
+    rt: &T,
+    path: &str,
+    trace: &str,
+    is_verbose: bool,
+    writer: &mut W,
+) -> ExitCode {
+    if path == trace {
+        let code = stop(rt, INPUT, "input");
+        let _ = rt.eprintln(format_args!("tora: {path}: the trace would take the place of the file"));
+        return code;
+    }
+    let file = match fs::open(rt, path) {
+        Ok(file) => file,
+        Err(error) => return refuse(rt, path, &error, is_verbose),
+    };
+    let made = match fs::create(rt, trace) {
+        Ok(made) => made,
+        Err(error) => return refuse_trace(rt, trace, &error),
+    };
+    let Ok(records) = BufWriter::new(rt.alloc(), made) else {
+        return stop(rt, MEMORY, "memory");
+    };
+    run_over::<S, T, T::File, W, BufWriter<T::File>>(
+        rt, file, is_verbose, writer, trace, records,
+    )
+}
