@@ -18,3 +18,4 @@ pub mod SimulationFound
 pub mod SimulationHere
 pub mod LinkPairs
 pub mod Starting
+pub mod TracingLaws

@@ -10,6 +10,7 @@ use tora_core::CoreError;
 
 mod simulation_causes;
 mod simulations;
+mod traces;
 
 /// A reader that gives a few bytes at a time, and fails at one of its calls, counted from 1.
 #[derive(Drop)]

@@ -1,14 +1,11 @@
 //! Where a trace goes.
-ghost use Rattle.std.specs.Prelude.{◌≡◌, None};
-ghost use Rattle.std.specs.Io.KnownBytes.{Appends};
-
 use std::io;
 use std::io::Write;
 
 /// A writer that is given up once it fails, and why it failed.
 #[derive(Drop)]
 pub struct TraceOut<W> {
-    writer: W,
+    pub writer: W,
     failure: Option<io::Error>,
 }
 

@@ -1,7 +1,7 @@
 //! A simulator whose events are traced.
-ghost use Rattle.std.specs.Prelude.{◌≡◌, ◌+◌, length, drop, slice_get, IfOk, OnOk};
+ghost use Rattle.std.specs.Prelude.{◌≡◌, drop, IfOk, OnOk};
 ghost use Rattle.tora_world.specs.World.{refusal_of, world_after};
-ghost use Rattle.tora.specs.Tracing.{life_of_what, life_told, HasRecords, Records, with_sent, after_sent};
+ghost use Rattle.tora.specs.Tracing.{life_of_what, life_told, before_of, HasRecords, Records, with_sent, after_sent};
 
 use crate::rounds::is_parted;
 use crate::simulator::Simulator;
@@ -73,28 +73,30 @@ fn behind(inputs: &[(Input, u64)], count: usize) -> &[(Input, u64)]
 impl<S: Watched> Traced<S> {
     /// Reads what the records of an event need of the world before it.
     fn before(&self, event: &Event) -> Before
-        ensures clock { result.clock ≡ (S.world self.now.sim).clock }
-        ensures datagrams { result.datagrams ≡ length (S.world self.now.sim).datagrams }
-        ensures inputs { (n : ℕ) → event.now ≡ Event.CoreTurn n → result.inputs ≡ length ((S.world self.now.sim).inputs n) }
-        ensures life { (n : ℕ) → event.now ≡ Event.CoreTurn n → result.life ≡ life_told (slice_get ((S.world self.now.sim).items n) 0) }
+        ensures { result ≡ before_of (S.world self.now.sim) event.now }
     {
-        let (inputs, life) = match event {
-            Event::CoreTurn(n) => (
-                self.sim.inputs(*n).len(),
-                life_told(self.sim.first_item(*n)),
-            ),
-            _ => (0, None),
-        };
-        Before {
-            clock: self.sim.clock(),
-            datagrams: self.sim.datagrams(),
-            inputs,
-            life,
+        let (clock, datagrams) = (self.sim.clock(), self.sim.datagrams());
+        match event {
+            Event::CoreTurn(n) => Before {
+                clock,
+                datagrams,
+                inputs: self.sim.inputs(*n).len(),
+                life: life_told(self.sim.first_item(*n)),
+            },
+            _ => Before {
+                clock,
+                datagrams,
+                inputs: 0,
+                life: None,
+            },
         }
     }
 
     /// Tells of a datagram that was sent, if one was since there were so many.
-    fn tell_sent(&mut self, count: u64) -> Result<(), AllocError> {
+    fn tell_sent(&mut self, count: u64) -> Result<(), AllocError>
+        ensures kept { self.new ≡ record self.old { trace = self.new.trace } }
+        ensures told { OnOk result (self.new.trace ≡ after_sent self.old.parted.items count (S.world self.old.sim) self.old.trace) }
+    {
         let last = self.sim.datagrams();
         if last == count {
             return Ok(());
@@ -110,7 +112,10 @@ impl<S: Watched> Traced<S> {
     }
 
     /// Tells what an event did that was not refused.
-    fn tell(&mut self, event: &Event, before: Before) -> Result<(), AllocError> {
+    fn tell(&mut self, event: &Event, before: Before) -> Result<(), AllocError>
+        ensures kept { self.new ≡ record self.old { trace = self.new.trace } }
+        ensures told { OnOk result (HasRecords self.old.parted.items before event.now (S.world self.old.sim) self.old.trace self.new.trace) }
+    {
         match event {
             Event::Need(n, d) => self.trace.need(before.clock, *n, *d),
             Event::Tick => self.trace.frames(before.clock),
@@ -132,6 +137,8 @@ impl<S: Watched> Traced<S> {
     fn step(&mut self, event: &Event) -> Result<Option<SimError>, AllocError>
         ensures refused { IfOk result (λ refused. refused ≡ refusal_of (S.world self.old.sim) event.now) }
         ensures after { IfOk result (λ _. S.world self.new.sim ≡ world_after (S.world self.old.sim) event.now) }
+        ensures told { IfOk result (λ refused. Records self.old.parted.items (S.world self.old.sim) event.now (S.world self.new.sim) self.old.trace self.new.trace refused) }
+        ensures kept { self.new.parted ≡ self.old.parted }
     {
         let before = self.before(event);
         let refused = self.sim.happen(event)?;

@@ -1,8 +1,11 @@
 //! A simulation whose trace is written.
-ghost use Rattle.std.specs.Prelude.{◌≡◌, ◌≢◌, Ok, IfOk, IfErr, IfSome};
+ghost use Rattle.std.specs.Prelude.{◌≡◌, ◌≢◌, ◌≤◌, [], length, string_bytes, Ok, OnOk, IfOk, IfErr, IfSome};
 ghost use Rattle.std.specs.Io.KnownBytes.{IsAtEnd};
 ghost use Rattle.tora.specs.LineText.{fault_of};
+ghost use Rattle.tora.specs.Session.{TakesLine};
 ghost use Rattle.tora.specs.SimulationView.{progress_of};
+ghost use Rattle.tora.specs.SimulationLines.{simulation_line_of};
+ghost use Rattle.tora.specs.Tracing.{after_line, parted_after};
 ghost use Rattle.tora.specs.RunningView.{running_view};
 ghost use Rattle.tora.specs.TracingView.{traced_world, tracing_kind};
 ghost use Rattle.tora.specs.SimulationText.{first_simulation_fault, Simulates, IsSimulationBegun};
@@ -33,7 +36,9 @@ pub struct Tracing<'a, S, T, W> {
 
 /// Notes what a line did that is no event: a part, a mend, and the datagrams of rounds.
 fn note<S: Watched>(running: &mut Running<Traced<S>>, line: &[u8]) -> Result<(), AllocError>
-    ensures { running_view (traced_world S.world) running.new ≡ running_view (traced_world S.world) running.old }
+    ensures view { running_view (traced_world S.world) running.new ≡ running_view (traced_world S.world) running.old }
+    ensures trace { OnOk result (running.new.sim.trace ≡ after_line (S.world running.old.sim.sim).clock (simulation_line_of line.now) running.old.sim.trace) }
+    ensures parted { OnOk result (running.new.sim.parted.items ≡ parted_after (simulation_line_of line.now) running.old.sim.parted.items) }
 {
     let now = running.sim.sim.clock();
     match simulation_line(line) {
@@ -81,6 +86,9 @@ fn tell<S: Watched, W: Write>(
 impl<S: Watched, T: Eprint, W: Write> Tracing<'_, S, T, W> {
     /// Takes a line.
     fn take_line(&mut self, alloc: Global, line: &[u8], text: &mut String) -> Result<(), LineError>
+        requires short { length line.now ≤ 4096 }
+        requires empty { string_bytes text.old ≡ [] }
+        ensures { TakesLine (tracing_kind S.world) self.old line.now self.new (string_bytes text.new) result }
     {
         if self.is_verbose {
             self.told.take(alloc, line, text)
