@@ -18,4 +18,3 @@ pub mod SimulationFound
 pub mod SimulationHere
 pub mod LinkPairs
 pub mod Starting
-pub mod TracingLaws

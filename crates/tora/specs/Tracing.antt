@@ -1,6 +1,5 @@
 -- What a trace has of each event.
-use Rattle.std.specs.Prelude.{◌≡◌, ◌⊎◌, ℕ, ◌==◌, Bool, true, false, if◌then◌else◌, List, [], length, drop, slice_get, Option, Some, None, Result, Ok, Err, IfOk, IfErr, IfSome, ◌≢◌}
-use Rattle.std.specs.Io.KnownBytes.{IsAtEnd}
+use Rattle.std.specs.Prelude.{◌≡◌, ℕ, ◌==◌, Bool, true, false, if◌then◌else◌, List, [], length, drop, slice_get, Option, Some, None, Result, Ok, Err}
 use Rattle.tora_arq.specs.declared.Life.{Life}
 use Rattle.tora_frame.specs.FrameParts.{FrameParts}
 use Rattle.tora_seat.specs.declared.Item.{Item}
@@ -14,10 +13,8 @@ use Rattle.tora_trace.specs.Records.{need_record, part_record, mend_record}
 use Rattle.tora_trace.specs.Copies.{after_inputs}
 use Rattle.tora_trace.specs.Trace.{TraceState, Tells as TellsOf, with_text, with_frame, after_frames, after_restart}
 use Rattle.tora.specs.Rounds.{is_parted}
-use Rattle.tora.specs.Engine.{IsWholeText, IsFrontOfText}
-use Rattle.tora.specs.LineText.{whole_text}
 use Rattle.tora.specs.Statuses.{status_of}
-use Rattle.tora.specs.SimulationText.{simulation_rules, with_parted, without_parted}
+use Rattle.tora.specs.SimulationText.{with_parted, without_parted}
 use Rattle.tora.specs.declared.ended.Ended.{Ended}
 use Rattle.tora.specs.declared.ended.Ended.TheVariants.{Whole, Fault}
 use Rattle.tora.specs.declared.ended.ReplayError.{ReplayError}
@@ -131,13 +128,3 @@ traced_status true (Err Memory) = 5
 traced_status true (Err Read) = 1
 traced_status true (Err Write) = 1
 traced_status false ended = status_of ended
-
--- As `EndsBy`, but for the status, which also tells that the trace could not be written.
-pub record EndsTraced (input old new : Option (List ℕ)) (status : ℕ) : Type 0 where
-  pub ended : Result Ended ReplayError
-  pub failed : Bool  -- to write the trace
-  pub rest : Option (List ℕ)  -- of the input
-  pub whole : IfOk ended (λ e. IfSome input (λ bytes. IsWholeText (whole_text simulation_rules) bytes old new e))
-  pub at_end : ended ≡ Ok Whole → IsAtEnd rest
-  pub begun : IfErr ended (λ e. e ≢ Write → IsFrontOfText (whole_text simulation_rules) input rest old new)
-  pub status_is : status ≡ traced_status failed ended

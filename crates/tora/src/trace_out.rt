@@ -1,4 +1,7 @@
 //! Where a trace goes.
+ghost use Rattle.std.specs.Prelude.{◌≡◌, false, is_some};
+ghost use Rattle.std.specs.Io.KnownBytes.{Appends};
+
 use std::io;
 use std::io::Write;
 
@@ -19,8 +22,10 @@ impl<W: Write> TraceOut<W> {
     }
 
     /// Writes bytes, unless the writer has failed.
-    pub fn put(&mut self, bytes: &[u8]) {
-        if self.failure.is_some() || bytes.is_empty() {
+    pub fn put(&mut self, bytes: &[u8])
+        ensures { is_some self.new.failure ≡ false → Appends (W.contents self.old.writer) (W.contents self.new.writer) bytes.now }
+    {
+        if self.failure.is_some() {
             return;
         }
         if let Err(error) = self.writer.write_all(bytes) {
@@ -39,7 +44,9 @@ impl<W: Write> TraceOut<W> {
     }
 
     /// Why the writer failed, if it did.
-    pub fn failure(&self) -> Option<&io::Error> {
+    pub fn failure(&self) -> Option<&io::Error>
+        ensures { is_some result ≡ is_some self.now.failure }
+    {
         self.failure.as_ref()
     }
 }

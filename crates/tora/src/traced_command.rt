@@ -1,4 +1,8 @@
 //! `tora sim --trace PATH FILE`: a simulation of a file of lines, and its trace.
+ghost use Rattle.std.specs.Prelude.{◌≡◌, is_some};
+ghost use Rattle.std.specs.Process.{exit_status};
+ghost use Rattle.tora.specs.Tracing.{traced_status};
+
 use crate::ended::{Ended, ReplayError};
 use crate::recent::Recent;
 use crate::sim_command::{refuse, tell};
@@ -6,11 +10,10 @@ use crate::trace_out::TraceOut;
 use crate::tracing::simulate_traced;
 use crate::watched::Watched;
 use crate::{INPUT, MEMORY, status, stop};
-use std::fs;
-use std::io;
 use std::io::{BufWriter, Read, Write};
 use std::process::ExitCode;
 use std::rt::Files;
+use std::{fs, io};
 
 /// Says which path can't be the trace's, and why, and ends with the status of the cause.
 fn refuse_trace<T: Eprint>(rt: &T, path: &str, error: &io::Error) -> ExitCode {
@@ -36,13 +39,18 @@ fn traced_status<T: Eprint, V: Write>(
     out: &TraceOut<V>,
     path: &str,
     is_verbose: bool,
-) -> ExitCode {
+) -> ExitCode
+    ensures { exit_status result ≡ traced_status (is_some out.now.failure) ended }
+{
     let Some(error) = out.failure() else {
         return status(rt, ended);
     };
     let code = match ended {
         Ok(Ended::Whole) => stop(rt, INPUT, "input"),
-        _ => status(rt, ended),
+        Ok(Ended::Fault(_)) => stop(rt, INPUT, "input"),
+        Err(ReplayError::Memory) => stop(rt, MEMORY, "memory"),
+        Err(ReplayError::Read) => stop(rt, INPUT, "input"),
+        Err(ReplayError::Write) => stop(rt, INPUT, "input"),
     };
     if is_verbose {
         let _ = rt.eprintln(format_args!("tora: {path}: {error}"));
@@ -92,7 +100,9 @@ pub fn run<S: Watched, T: Files + AllocGlobal + Eprint, W: Write>(
 ) -> ExitCode {
     if path == trace {
         let code = stop(rt, INPUT, "input");
-        let _ = rt.eprintln(format_args!("tora: {path}: the trace would take the place of the file"));
+        let _ = rt.eprintln(format_args!(
+            "tora: {path}: the trace would take the place of the file"
+        ));
         return code;
     }
     let file = match fs::open(rt, path) {
@@ -106,7 +116,5 @@ pub fn run<S: Watched, T: Files + AllocGlobal + Eprint, W: Write>(
     let Ok(records) = BufWriter::new(rt.alloc(), made) else {
         return stop(rt, MEMORY, "memory");
     };
-    run_over::<S, T, T::File, W, BufWriter<T::File>>(
-        rt, file, is_verbose, writer, trace, records,
-    )
+    run_over::<S, T, T::File, W, BufWriter<T::File>>(rt, file, is_verbose, writer, trace, records)
 }
