@@ -19,3 +19,5 @@ pub mod Endings
 pub mod SimulationGrammar
 pub mod ToldView
 pub mod TimesWord
+pub mod Tracing
+pub mod TracingView

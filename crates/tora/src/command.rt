@@ -84,9 +84,16 @@ prints
   node 2 (0,0,0,1,2) hop 3
   node 3 (0,0,0,0,3) hop -
 
+With --trace PATH what happens is written to PATH, a record a line behind the
+clock T: need, part, mend, up and down of a core's link, qry, upd and clr that
+a core broadcasts, route for a height or next hop that changed, and frames for
+the datagrams of a round. What is printed stays the same. docs/formats.md,
+\"Traces\", has their words.
+
 Exit statuses:
   0  the file ended
-  1  a line is a fault, the file can't be read, or output failed
+  1  a line is a fault, the file can't be read, output failed, or the trace
+     can't be written
   2  usage
   5  memory was refused";
 
@@ -138,10 +145,15 @@ pub fn command<'a>(alloc: Global) -> Result<Command<'a>, AllocError> {
         .help(
             "The times of each link end, in ticks of 100 ms, each at least 1: between HELLOs, of silence until a life ends, between tries of a packet, and how many tries; 10,50,5,8 without it",
         );
+    let trace = Arg::new(alloc, "trace")
+        .long("trace")
+        .value_name("PATH")
+        .help("Writes to this file what happens, a record a line");
     let sim = Command::new(alloc, "sim")
         .about("Simulates a world of nodes, links and datagrams, to standard output")
         .after_help(SIMULATION)
         .arg(times)?
+        .arg(trace)?
         .arg(file)?;
     let check = Arg::new(alloc, "check")
         .long("check")

@@ -13,7 +13,6 @@ mod command;
 mod ended;
 mod engine;
 mod flushing;
-mod height_text;
 mod line;
 mod link_lines;
 mod node_command;
@@ -34,6 +33,11 @@ mod simulation_parse;
 mod simulator;
 mod times_word;
 mod told;
+mod trace_out;
+mod traced;
+mod traced_command;
+mod tracing;
+mod watched;
 mod words;
 
 use clap::error::ErrorKind;
@@ -95,15 +99,29 @@ fn replay_input(rt: &HostRuntime, is_verbose: bool) -> ExitCode {
     replay_command::run(rt, rt.stdin(), is_verbose, &mut writer)
 }
 
-/// Simulates the lines of a file, with the times of link ends that a word asks for.
-fn simulate_file(rt: &HostRuntime, times: Option<&str>, path: &str, is_verbose: bool) -> ExitCode {
+/// Simulates the lines of a file, with the times of link ends that a word asks for, and writes the trace where a path is
+/// given for it.
+fn simulate_file(
+    rt: &HostRuntime,
+    times: Option<&str>,
+    path: &str,
+    trace: Option<&str>,
+    is_verbose: bool,
+) -> ExitCode {
     let Some(times) = asked_times(times) else {
         return stop(rt, USAGE, TIMES);
     };
     let Ok(mut writer) = BufWriter::new(rt.alloc(), io::writer(rt)) else {
         return stop(rt, MEMORY, "memory");
     };
-    sim_command::run::<Sim, HostRuntime, _>(rt, times, path, is_verbose, &mut writer)
+    let writer = &mut writer;
+    match trace {
+        Some(trace) => {
+            let paths = (path, trace);
+            traced_command::run::<Sim, HostRuntime, _>(rt, times, paths, is_verbose, writer)
+        }
+        None => sim_command::run::<Sim, HostRuntime, _>(rt, times, path, is_verbose, writer),
+    }
 }
 
 /// Prints help, a version or a fault of usage.
@@ -148,7 +166,8 @@ fn main(rt: HostRuntime) -> ExitCode {
                 }
                 Some(("sim", sim)) => {
                     let path = sim.get_str("FILE").unwrap_or("");
-                    simulate_file(&rt, sim.get_str("times"), path, is_verbose)
+                    let (times, trace) = (sim.get_str("times"), sim.get_str("trace"));
+                    simulate_file(&rt, times, path, trace, is_verbose)
                 }
                 _ => replay_input(&rt, is_verbose),
             }

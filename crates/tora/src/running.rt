@@ -10,7 +10,6 @@ ghost use Rattle.tora.specs.RunningView.{running_view};
 ghost use Rattle.tora.specs.SimulationText.{begun_in, has_end, with_parted, without_parted, node_line, heights_text, heights_reply, count_text, exact_reply, rest_text, nodes_text, walk_text, walk_reply, running_reply, line_reply, event_reply, after_rounds, where_linked, known_height};
 
 use crate::answer::numbered;
-use crate::height_text::{HeightText, HopText};
 use crate::rounds::{is_parted, is_same_pair, make_rounds};
 use crate::simulation_line::SimulationLine;
 use crate::simulation_parse::simulation_line;
@@ -20,6 +19,7 @@ use std::alloc::{AllocError, Global};
 use tora_arq::{Life, Times};
 use tora_core::CoreError;
 use tora_height::{Entry, Id};
+use tora_trace::{HeightText, HopText};
 use tora_world::{Event, SimError};
 
 /// A simulation behind its links: what the links fix, the pairs of nodes that are parted, and the world.
@@ -49,7 +49,7 @@ fn has_end(a: Id, b: Id, ends: &[(Id, Id)]) -> bool
 }
 
 /// Parts two nodes.
-fn part(parted: &mut Vec<(Id, Id)>, a: Id, b: Id) -> Result<(), AllocError>
+pub fn part(parted: &mut Vec<(Id, Id)>, a: Id, b: Id) -> Result<(), AllocError>
     ensures { OnOk result (parted.new.items ≡ with_parted a b parted.old.items) }
 {
     if is_parted(parted.as_slice(), a, b) {
@@ -60,7 +60,7 @@ fn part(parted: &mut Vec<(Id, Id)>, a: Id, b: Id) -> Result<(), AllocError>
 }
 
 /// Mends two nodes.
-fn mend(parted: &mut Vec<(Id, Id)>, a: Id, b: Id)
+pub fn mend(parted: &mut Vec<(Id, Id)>, a: Id, b: Id)
     ensures { parted.new.items ≡ without_parted a b parted.old.items }
 {
     parted.retain(|p| !is_same_pair((a, b), *p));

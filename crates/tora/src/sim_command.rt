@@ -20,7 +20,7 @@ use std::{fs, io};
 use tora_arq::Times;
 
 /// Says why there is no file, and ends with the status of the cause.
-fn refuse<R: Eprint>(rt: &R, path: &str, error: &io::Error, is_verbose: bool) -> ExitCode
+pub fn refuse<R: Eprint>(rt: &R, path: &str, error: &io::Error, is_verbose: bool) -> ExitCode
     ensures { (exit_status result ≡ 1) ⊎ (exit_status result ≡ 5) }
 {
     if error.kind() == ErrorKind::OutOfMemory {
@@ -34,7 +34,7 @@ fn refuse<R: Eprint>(rt: &R, path: &str, error: &io::Error, is_verbose: bool) ->
 }
 
 /// Says why a line is too long, or what failed: what else is a fault was told as it came.
-fn tell<T: Eprint, R: Read>(rt: &T, reader: &Recent<R>, ended: Result<Ended, ReplayError>) {
+pub fn tell<T: Eprint, R: Read>(rt: &T, reader: &Recent<R>, ended: Result<Ended, ReplayError>) {
     match ended {
         Ok(Ended::Whole) => {}
         Ok(Ended::Fault(number)) => {

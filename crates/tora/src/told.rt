@@ -20,10 +20,10 @@ use tora_arq::Times;
 /// A simulation file, and where is told why an event is refused and why a line is a fault.
 #[derive(Drop)]
 pub struct Told<'a, S, T> {
-    rt: &'a T,
+    pub rt: &'a T,
     /// The number of the last line.
-    number: u64,
-    state: Simulation<S>,
+    pub number: u64,
+    pub state: Simulation<S>,
 }
 
 /// Tells why a line is a fault.

@@ -30,3 +30,4 @@ pub mod NodeEnds
 pub mod Olds
 pub mod KeptFrames
 pub mod Walking
+pub mod NodeReads

@@ -28,6 +28,7 @@ mod sim;
 mod topology;
 mod turns;
 mod walks;
+mod watching;
 
 pub use sim::Sim;
 pub use topology::{MOST_NODES, Topology, topology_fault};

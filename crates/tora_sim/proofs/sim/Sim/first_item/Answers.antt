@@ -1,0 +1,12 @@
+use Rattle.std.proofs.Common.{◌∙◌, ap}
+use Rattle.std.specs.Prelude.{slice_get}
+use Rattle.tora_sim.specs.Store.{SimState, state_of, world_of}
+use Rattle.tora_sim.proofs.NodeReads.{item_found}
+use Rattle.tora_sim.proofs.sim.Sim.first_item.Goals as goal
+
+pub returns-in-Some : goal.returns-in-Some
+returns-in-Some c =
+    let s = c.self.inside in
+    let state : SimState = state_of s.topology s.times s.clock s.nodes.items s.links.items s.datagrams.items in
+    c.first_item.ensures ∙ item_found state c.args.n c.in-Some.at c.index.result.now c.in-Some.ensures.first c.index.ensures
+    ∙ ap (λ (w : SimState). slice_get ((world_of w).items c.args.n) 0) c.self.view_is

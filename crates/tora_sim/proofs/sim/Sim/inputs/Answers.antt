@@ -1,0 +1,11 @@
+use Rattle.std.proofs.Common.{◌∙◌, ap}
+use Rattle.tora_sim.specs.Store.{SimState, state_of, world_of}
+use Rattle.tora_sim.proofs.NodeReads.{inputs_found}
+use Rattle.tora_sim.proofs.sim.Sim.inputs.Goals as goal
+
+pub returns-in-Some : goal.returns-in-Some
+returns-in-Some c =
+    let s = c.self.inside in
+    let state : SimState = state_of s.topology s.times s.clock s.nodes.items s.links.items s.datagrams.items in
+    c.inputs.ensures ∙ inputs_found state c.args.n c.in-Some.at c.index.result.now c.in-Some.ensures.first c.index.ensures
+    ∙ ap (λ (w : SimState). (world_of w).inputs c.args.n) c.self.view_is

@@ -1,0 +1,82 @@
+-- What a trace keeps between two events, and what each event makes of it.
+use Rattle.std.specs.Prelude.{◌≡◌, ℕ, ◌+◌, ◌==◌, ◌&&◌, Bool, true, false, if◌then◌else◌, List, [], ◌∷◌, ◌++◌, map, filter_map, slice_get, slice_set, Option, Some, None}
+use Rattle.std.specs.List.{position}
+use Rattle.tora_frame.specs.declared.parts.Body.{Body}
+use Rattle.tora_frame.specs.declared.parts.Body.TheVariants.{Hello, Data, Ack}
+use Rattle.tora_trace.specs.declared.counts.FrameCounts.{FrameCounts}
+use Rattle.tora_trace.specs.Records.{need_record, part_record, mend_record, frames_record}
+use Rattle.tora_trace.specs.Copies.{CopyState, Told, first_copy, copy_restarted, restart_records}
+
+pub record TraceState : Type 0 where
+  pub copies : List CopyState  -- of each node's core
+  pub counts : FrameCounts  -- of the datagrams since the last record of them
+  pub text : List ℕ  -- the records that were not handed on yet
+
+-- ---- datagrams
+
+abbrev pub no_frames : FrameCounts
+no_frames = record { hellos = 0; datas = 0; acks = 0; losts = 0 }
+
+-- one more where it is so
+abbrev pub one_more : Bool → ℕ → ℕ
+one_more true n = n + 1
+one_more false n = n
+
+abbrev pub with_body : Body → FrameCounts → FrameCounts
+with_body Hello c = record c { hellos = c.hellos + 1 }
+with_body (Data n a packets) c = record c { datas = c.datas + 1 }
+with_body (Ack a) c = record c { acks = c.acks + 1 }
+
+-- a datagram more, which is not delivered where its link is parted
+abbrev pub with_frame : Bool → Body → FrameCounts → FrameCounts
+with_frame is_parted body c = record (with_body body c) { losts = one_more is_parted (with_body body c).losts }
+
+-- no datagram was sent
+abbrev pub has_none : FrameCounts → Bool
+has_none c = (c.hellos == 0) && (c.datas == 0) && (c.acks == 0)
+
+-- ---- what each event makes of a trace
+
+abbrev pub with_text : TraceState → List ℕ → TraceState
+with_text s more = record s { text = s.text ++ more }
+
+abbrev pub frames_told : TraceState → ℕ → TraceState
+frames_told s t = record s { counts = no_frames; text = s.text ++ frames_record t s.counts }
+
+-- the datagrams since the last record of them get one, unless there are none
+abbrev pub after_frames : TraceState → ℕ → TraceState
+after_frames s t = if has_none s.counts then s else frames_told s t
+
+-- ---- cores
+
+-- the neighbours of a node, of link ends each as its node and its neighbour
+abbrev pub peer_of : ℕ → ℕ × ℕ → Option ℕ
+peer_of n e = if e.0 == n then Some e.1 else None
+
+abbrev pub neighbours_in : List (ℕ × ℕ) → ℕ → List ℕ
+neighbours_in ends n = filter_map (peer_of n) ends
+
+abbrev pub first_copy_of : List (ℕ × ℕ) → List ℕ → ℕ → CopyState
+first_copy_of ends destinations n = first_copy n (neighbours_in ends n) destinations
+
+-- a trace of these nodes and link ends that has no record yet
+abbrev pub first_trace : List ℕ → List (ℕ × ℕ) → List ℕ → TraceState
+first_trace nodes ends destinations = record { copies = map (first_copy_of ends destinations) nodes; counts = no_frames; text = [] }
+
+abbrev pub is_copy_of : ℕ → CopyState → Bool
+is_copy_of n c = c.core.me == n
+
+-- the copy at a place, and the text, are others
+abbrev pub with_told : TraceState → ℕ → Told → TraceState
+with_told s at told = record s { copies = slice_set s.copies at told.0; text = told.1 }
+
+-- The first copy of the core of n, if there is one, and the text became what a change makes of them.
+abbrev pub TellsAt : ℕ → TraceState → (Told → Told) → TraceState → Option ℕ → Type 0
+TellsAt n old change new None = new ≡ old
+TellsAt n old change new (Some at) = (copy : CopyState) × (slice_get old.copies at ≡ Some copy) × (new ≡ with_told old at (change (copy, old.text)))
+
+abbrev pub Tells : ℕ → TraceState → (Told → Told) → TraceState → Type 0
+Tells n old change new = TellsAt n old change new (position (is_copy_of n) old.copies)
+
+abbrev pub after_restart : ℕ → Told → Told
+after_restart t told = (copy_restarted told.0, told.1 ++ restart_records t told.0)

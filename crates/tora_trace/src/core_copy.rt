@@ -1,0 +1,134 @@
+//! A copy of a node's core, which tells of each input that the core accepted.
+ghost use Rattle.std.specs.Prelude.{◌≡◌, ◌==◌, ◌<◌, All, true, nat_lt, IfOk, OnOk, string_bytes};
+ghost use Rattle.std.specs.List.{list_all};
+ghost use Rattle.tora_trace.specs.Copies.{TakesInput, TakesInputs, Restarts, first_copy, copy_after, input_records, after_input, after_inputs, copy_restarted, restart_records};
+
+use crate::lives::{note_lives, write_link};
+use crate::packets::write_packets;
+use crate::route::{Route, note_routes, routes_to, write_routes};
+use std::alloc::{AllocError, Global};
+use std::marker::Model;
+use tora_arq::Life;
+use tora_core::{Core, CoreError, Input, Sends};
+use tora_height::Id;
+
+/// A copy of a node's core, the life in which each of its links came up last, and what was told last of each destination.
+#[derive(Drop)]
+pub struct CoreCopy {
+    core: Core,
+    lives: Vec<(Id, Life)>,
+    routes: Vec<Route>,
+}
+
+impl Model for CoreCopy {
+    ghost use Rattle.tora_trace.specs.Copies.{CopyState};
+
+    ghost Value = { CopyState };
+
+    ghost view = { λ c. record { core = c.core; lives = c.lives.items; routes = c.routes.items } };
+}
+
+/// Whether no number is 0, as it is computed.
+fn has_no_zero(numbers: &[Id]) -> bool
+    ensures { result ≡ list_all (λ n. nat_lt 0 n) numbers.now }
+{
+    numbers.iter().all(|n| *n > 0)
+}
+
+/// Whether no number is 0.
+fn are_ids(numbers: &[Id]) -> bool
+    ensures { result ≡ true → All (λ n. 0 < n) numbers.now }
+{
+    has_no_zero(numbers)
+}
+
+impl CoreCopy {
+    /// The copy of a new core; of each destination its first route counts as told.
+    ///
+    /// # Errors
+    /// `OwnId` where a number is 0, and those of a new core.
+    pub fn new(
+        alloc: Global,
+        me: Id,
+        neighbours: &[Id],
+        destinations: &[Id],
+    ) -> Result<CoreCopy, CoreError>
+        ensures { IfOk result (λ copy. copy ≡ first_copy me neighbours.now destinations.now) }
+    {
+        if me == 0 || !are_ids(neighbours) || !are_ids(destinations) {
+            return Err(CoreError::OwnId);
+        }
+        let core = Core::new(alloc, me, neighbours, destinations)?;
+        let Ok(routes) = routes_to(alloc, &core, core.destinations()) else {
+            return Err(CoreError::Memory);
+        };
+        Ok(CoreCopy {
+            core,
+            lives: Vec::new(alloc),
+            routes,
+        })
+    }
+
+    /// Whether it is that of node `n`.
+    pub fn is_of(&self, n: Id) -> bool
+        ensures { result ≡ (self.now.core.me == n) }
+    {
+        self.core.me() == n
+    }
+
+    /// Steps an input that the core accepted, and puts its records behind a text.
+    #[tactic(auto, unfolding(crate::specs::Copies::copy_after, crate::specs::Copies::input_records))]
+    fn step(
+        &mut self,
+        input: &Input,
+        now: u64,
+        life: Option<Life>,
+        sends: &mut Sends,
+        out: &mut String,
+    ) -> Result<(), AllocError>
+        ensures { OnOk result (TakesInput life self.old input.now now self.new (string_bytes out.old) (string_bytes out.new)) }
+    {
+        note_lives(&mut self.lives, input, life)?;
+        // The copy accepts what its core accepted.
+        let _ = self.core.step_into(input, now, sends);
+        let (n, count) = (self.core.me(), self.core.up().len());
+        write_link(out, now, n, self.lives.as_slice(), input)?;
+        write_packets(out, now, n, count, sends.as_slice())?;
+        write_routes(out, now, &self.core, self.routes.as_slice())?;
+        note_routes(&self.core, self.routes.as_mut_slice());
+        Ok(())
+    }
+
+    /// Steps the inputs that the core accepted in an item, each at its tick, and puts their records behind a text. The life
+    /// is that which the item told to be up, if it told one.
+    pub fn step_all(
+        &mut self,
+        inputs: &[(Input, u64)],
+        life: Option<Life>,
+        sends: &mut Sends,
+        out: &mut String,
+    ) -> Result<(), AllocError>
+        ensures { OnOk result (TakesInputs life self.old inputs.now self.new (string_bytes out.old) (string_bytes out.new)) }
+    {
+        for (input, now) in inputs {
+            self.step(input, *now, life, sends, out)?;
+        }
+        Ok(())
+    }
+
+    /// Takes a new core in place of its own, and puts the records of the routes that changed so behind a text.
+    #[tactic(auto, unfolding(crate::specs::Copies::copy_restarted, crate::specs::Copies::restart_records))]
+    pub fn restart(&mut self, alloc: Global, now: u64, out: &mut String) -> Result<(), AllocError>
+        ensures { OnOk result (Restarts now self.old self.new (string_bytes out.old) (string_bytes out.new)) }
+    {
+        let core = &self.core;
+        let Ok(core) = Core::new(alloc, core.me(), core.neighbours(), core.destinations()) else {
+            return Err(AllocError);
+        };
+        self.core = core;
+        self.lives.clear();
+        write_routes(out, now, &self.core, self.routes.as_slice())?;
+        note_routes(&self.core, self.routes.as_mut_slice());
+        Ok(())
+    }
+}

@@ -1,0 +1,17 @@
+//! The trace of a simulation: a record for each need, part and mend, for each link that a core steps up or down, for each
+//! packet that it broadcasts, for each route that changes, and for the datagrams of each round.
+//!
+//! A trace is told what happens and keeps the text of its records, which a caller hands on. It does no input and no output.
+//! Own profile.
+#![tactic(auto)]
+
+mod core_copy;
+mod counts;
+mod lives;
+mod packets;
+mod route;
+mod text;
+mod trace;
+
+pub use text::{HeightText, HopText};
+pub use trace::Trace;

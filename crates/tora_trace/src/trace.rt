@@ -1,0 +1,223 @@
+//! What a trace keeps between two events, and what it is told.
+ghost use Rattle.std.specs.Prelude.{◌≡◌, ◌++◌, IfOk, OnOk, [], map, filter_map};
+ghost use Rattle.std.specs.List.{position};
+ghost use Rattle.tora_trace.specs.Records.{need_record, part_record, mend_record};
+ghost use Rattle.tora_trace.specs.Copies.{after_inputs};
+ghost use Rattle.tora_trace.specs.Trace.{Tells, first_trace, first_copy_of, peer_of, neighbours_in, is_copy_of, with_text, with_frame, after_frames, frames_told, after_restart};
+
+use crate::core_copy::CoreCopy;
+use crate::counts::{FrameCounts, write_frames};
+use std::alloc::{AllocError, Global};
+use std::marker::Model;
+use tora_arq::Life;
+use tora_core::{CoreError, Input, Sends};
+use tora_frame::Frame;
+use tora_height::Id;
+
+/// The trace of a simulation: a copy of each node's core, the counts of datagrams since their last record, and the text of
+/// the records that were not handed on yet.
+///
+/// It is told what happened behind each event, in order. A method that answers `AllocError` may have put a part of its
+/// records; the trace is then of no more use but for its text. Own profile.
+#[derive(Drop)]
+pub struct Trace {
+    copies: Vec<CoreCopy>,
+    counts: FrameCounts,
+    /// A list for the packets of a step.
+    sends: Sends,
+    text: String,
+}
+
+impl Model for Trace {
+    ghost use Rattle.std.specs.Prelude.{string_bytes};
+    ghost use Rattle.tora_trace.specs.Trace.{TraceState};
+
+    ghost Value = { TraceState };
+
+    ghost view = { λ t. record { copies = t.copies.items; counts = t.counts; text = string_bytes t.text } };
+}
+
+/// The neighbour of a link end, where it is one of this node.
+fn peer_of(n: Id, end: (Id, Id)) -> Option<Id>
+    ensures { result ≡ peer_of n end }
+{
+    if end.0 == n { Some(end.1) } else { None }
+}
+
+/// The neighbours of a node.
+fn neighbours_in(alloc: Global, ends: &[(Id, Id)], n: Id) -> Result<Vec<Id>, AllocError>
+    ensures { IfOk result (λ v. v.items ≡ neighbours_in ends.now n) }
+{
+    ends.iter()
+        .filter_map(|end| peer_of(n, *end))
+        .collect::<Vec<Id>>(alloc)
+}
+
+/// The copy of a node's first core.
+fn first_copy(
+    alloc: Global,
+    ends: &[(Id, Id)],
+    destinations: &[Id],
+    n: Id,
+) -> Result<CoreCopy, CoreError>
+    ensures { IfOk result (λ copy. copy ≡ first_copy_of ends.now destinations.now n) }
+{
+    let Ok(neighbours) = neighbours_in(alloc, ends, n) else {
+        return Err(CoreError::Memory);
+    };
+    CoreCopy::new(alloc, n, neighbours.as_slice(), destinations)
+}
+
+/// The place of the copy of a node's core.
+fn place(copies: &[CoreCopy], n: Id) -> Option<usize>
+    ensures { result ≡ position (is_copy_of n) copies.now }
+{
+    copies.iter().position(|copy| copy.is_of(n))
+}
+
+impl Trace {
+    /// The trace of nodes that begin anew, without a record: `ends` are the link ends, each as its node and its neighbour,
+    /// and `destinations` those of every node's table.
+    ///
+    /// # Errors
+    /// `OwnId` where a number is 0, those of a new core, and `Memory`.
+    pub fn new(
+        alloc: Global,
+        nodes: &[Id],
+        ends: &[(Id, Id)],
+        destinations: &[Id],
+    ) -> Result<Trace, CoreError>
+        ensures { IfOk result (λ trace. trace ≡ first_trace nodes.now ends.now destinations.now) }
+    {
+        let Ok(mut copies) = Vec::with_capacity(alloc, nodes.len()) else {
+            return Err(CoreError::Memory);
+        };
+        for n in nodes {
+            let copy = first_copy(alloc, ends, destinations, *n)?;
+            if copies.push(copy).is_err() {
+                return Err(CoreError::Memory);
+            }
+        }
+        Ok(Trace {
+            copies,
+            counts: FrameCounts::none(),
+            sends: Sends::new(),
+            text: String::new(alloc),
+        })
+    }
+
+    /// The records that were not handed on yet, each a line with its line feed.
+    pub fn text(&self) -> &str
+        ensures { result.now ≡ self.now.text }
+    {
+        self.text.as_str()
+    }
+
+    /// The records were handed on.
+    pub fn clear(&mut self)
+        ensures { self.new ≡ record self.old { text = [] } }
+    {
+        self.text.clear();
+    }
+
+    /// The need of a destination went into a node's lane at a tick.
+    ///
+    /// # Errors
+    /// Want of memory.
+    #[tactic(auto, unfolding(crate::specs::Records::need_record))]
+    pub fn need(&mut self, now: u64, n: Id, d: Id) -> Result<(), AllocError>
+        ensures { OnOk result (self.new ≡ with_text self.old (need_record now n d)) }
+    {
+        writeln!(&mut self.text, "{now} need {n} {d}")
+    }
+
+    /// A link was parted at a tick.
+    ///
+    /// # Errors
+    /// Want of memory.
+    #[tactic(auto, unfolding(crate::specs::Records::part_record))]
+    pub fn part(&mut self, now: u64, a: Id, b: Id) -> Result<(), AllocError>
+        ensures { OnOk result (self.new ≡ with_text self.old (part_record now a b)) }
+    {
+        writeln!(&mut self.text, "{now} part {a} {b}")
+    }
+
+    /// A link was mended at a tick.
+    ///
+    /// # Errors
+    /// Want of memory.
+    #[tactic(auto, unfolding(crate::specs::Records::mend_record))]
+    pub fn mend(&mut self, now: u64, a: Id, b: Id) -> Result<(), AllocError>
+        ensures { OnOk result (self.new ≡ with_text self.old (mend_record now a b)) }
+    {
+        writeln!(&mut self.text, "{now} mend {a} {b}")
+    }
+
+    /// The core of a node accepted these inputs in an item, each at its tick. `life` is that which the item told to be up,
+    /// if it told one.
+    ///
+    /// # Errors
+    /// Want of memory.
+    pub fn turn(
+        &mut self,
+        n: Id,
+        inputs: &[(Input, u64)],
+        life: Option<Life>,
+    ) -> Result<(), AllocError>
+        ensures { OnOk result (Tells n self.old (after_inputs life inputs.now) self.new) }
+    {
+        match place(self.copies.as_slice(), n) {
+            None => Ok(()),
+            Some(at) => {
+                self.copies[at].step_all(inputs, life, &mut self.sends, &mut self.text)
+            }
+        }
+    }
+
+    /// A node began anew at a tick.
+    ///
+    /// # Errors
+    /// Want of memory.
+    pub fn restart(&mut self, now: u64, n: Id) -> Result<(), AllocError>
+        ensures { OnOk result (Tells n self.old (after_restart now) self.new) }
+    {
+        let alloc = *self.text.allocator();
+        match place(self.copies.as_slice(), n) {
+            None => Ok(()),
+            Some(at) => self.copies[at].restart(alloc, now, &mut self.text),
+        }
+    }
+
+    /// A datagram was sent, over a link that is parted or not.
+    ///
+    /// # Errors
+    /// Want of memory: for 2^64 datagrams without a record there is none.
+    pub fn sent(&mut self, frame: &Frame, is_parted: bool) -> Result<(), AllocError>
+        ensures { OnOk result (self.new ≡ record self.old { counts = with_frame is_parted frame.now.body self.old.counts }) }
+    {
+        self.counts = self.counts.and(frame.body(), is_parted)?;
+        Ok(())
+    }
+
+    /// The datagrams since the last record of them get one at a tick, if there are any.
+    ///
+    /// # Errors
+    /// Want of memory.
+    pub fn frames(&mut self, now: u64) -> Result<(), AllocError>
+        ensures { OnOk result (self.new ≡ after_frames self.old now) }
+    {
+        if self.counts.is_none() {
+            return Ok(());
+        }
+        self.write_frames(now)
+    }
+
+    /// The datagrams since the last record of them get one.
+    fn write_frames(&mut self, now: u64) -> Result<(), AllocError>
+        ensures { OnOk result (self.new ≡ frames_told self.old now) }
+    {
+        write_frames(&mut self.text, now, &self.counts)?;
+        self.counts = FrameCounts::none();
+        Ok(())
+    }
+}
