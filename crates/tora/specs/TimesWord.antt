@@ -1,9 +1,7 @@
 -- The times of a world's link ends, as a word of the command line.
-use Rattle.std.specs.Prelude.{◌≡◌, ℕ, ◌<◌, ◌^◌, nat_lt, if◌then◌else◌, List, ◌∷◌, ◌++◌, Option, Some, None}
-use Rattle.std.specs.Fmt.{decimal}
+use Rattle.std.specs.Prelude.{ℕ, nat_lt, if◌then◌else◌, List, Option, Some, None}
 use Rattle.tora_arq.specs.declared.Times.{Times}
 use Rattle.tora_arq.specs.declared.TheConstants.Times.{STANDARD}
-use Rattle.tora_arq.specs.Settings.{IsTimes}
 use Rattle.tora.specs.Words.{cut, number_of}
 use Rattle.tora.specs.Lines.{◌>>=◌}
 
