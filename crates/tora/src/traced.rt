@@ -220,6 +220,7 @@ impl<S: Watched> Simulator for Traced<S> {
     fn taken(&self, b: Id, a: Id, life: Life) -> usize {
         self.sim.taken(b, a, life)
     }
+
     fn exact(&self, d: Id) -> bool {
         self.sim.exact(d)
     }

@@ -52,13 +52,7 @@ pub fn note_lives(
 }
 
 #[tactic(auto, unfolding(crate::specs::Records::up_record))]
-fn write_up(
-    out: &mut String,
-    now: u64,
-    n: Id,
-    k: Id,
-    life: Option<Life>,
-) -> Result<(), AllocError>
+fn write_up(out: &mut String, now: u64, n: Id, k: Id, life: Option<Life>) -> Result<(), AllocError>
     ensures { OnOk result (string_bytes out.new ≡ string_bytes out.old ++ up_of now n k life) }
 {
     match life {

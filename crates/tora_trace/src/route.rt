@@ -67,11 +67,7 @@ fn route_of(core: &Core, d: Id) -> Route
 }
 
 /// The routes of a core to destinations.
-pub fn routes_to(
-    alloc: Global,
-    core: &Core,
-    destinations: &[Id],
-) -> Result<Vec<Route>, AllocError>
+pub fn routes_to(alloc: Global, core: &Core, destinations: &[Id]) -> Result<Vec<Route>, AllocError>
     ensures { IfOk result (λ routes. routes.items ≡ map (route_of core.now) destinations.now) }
 {
     destinations
@@ -85,17 +81,13 @@ fn is_changed(core: &Core, told: &Route) -> bool
     ensures { result ≡ is_changed core.now told.now }
 {
     let d = told.destination;
-    !(is_same_height(told.height, known_height(core.height(d))) && is_same_hop(told.hop, core.next_hop(d)))
+    !(is_same_height(told.height, known_height(core.height(d)))
+        && is_same_hop(told.hop, core.next_hop(d)))
 }
 
 /// Puts the record of a route behind a text.
 #[tactic(auto, unfolding(crate::specs::Records::route_record))]
-fn write_route(
-    out: &mut String,
-    now: u64,
-    n: Id,
-    route: &Route,
-) -> Result<(), AllocError>
+fn write_route(out: &mut String, now: u64, n: Id, route: &Route) -> Result<(), AllocError>
     ensures { OnOk result (string_bytes out.new ≡ string_bytes out.old ++ route_record now n route.now.destination route.now.height route.now.hop) }
 {
     let d = route.destination;

@@ -168,9 +168,7 @@ impl Trace {
     {
         match place(self.copies.as_slice(), n) {
             None => Ok(()),
-            Some(at) => {
-                self.copies[at].step_all(inputs, life, &mut self.sends, &mut self.text)
-            }
+            Some(at) => { self.copies[at].step_all(inputs, life, &mut self.sends, &mut self.text) }
         }
     }
 

@@ -134,7 +134,10 @@ fn each_call(rt: HostRuntime) {
             for call in [Call::SendLost, Call::SendGone, Call::Receive] {
                 let arm = Event::Arm(n, call);
                 let sim = run_armed(&rt, rt.alloc(), events.as_slice(), place, &arm);
-                assert!(&rt; has_routes(&sim), "a call of node {n} armed before event {place}");
+                assert!(&rt;
+                    has_routes(&sim),
+                    "a call of node {n} armed before event {place}"
+                );
             }
         }
     }
