@@ -8,7 +8,7 @@
 
 It writes OUT-ROUND.dot for each round, and by Graphviz OUT-ROUND.png or, with --format, other kinds. A break of a route
 is a round behind which a next hop is over a link that was parted in it. `Before` is the round before it, `during` the
-break's round, and `after` the first round from there on in which no next hop is over a parted link.
+break's round, and `after` the first round from there on in which none of the break's nodes has a stale hop.
 
 Black arrows are next hops; red and dashed ones are stale: over a parted link. Grey arrows lead from the higher to the
 lower height of two linked nodes, dotted lines to a node without a height. The colour of a node is its reference level,
@@ -33,16 +33,16 @@ def stale_hops(world, destination):
 
 
 def breaks(scenario, path, destination):
-    """Yields (round of the break, its stale hops, the first round without a stale hop or None) for each break of a route."""
+    """For each break of a route its round, its stale hops, and the first round in which none of its nodes has one, or None."""
     before, parted, open_breaks, found = set(), set(), [], []
     for clock, world in moments(scenario, path, records(path)):
         stale = stale_hops(world, destination)
         gone = world.declared - world.links
         fresh = {hop for hop in stale - before if ordered(*hop) in gone - parted}
-        if not stale:
-            for broken in open_breaks:
-                broken[2] = clock
-            open_breaks = []
+        nodes = {node for node, _ in stale}
+        for broken in open_breaks:
+            broken[2] = None if nodes & {node for node, _ in broken[1]} else clock
+        open_breaks = [broken for broken in open_breaks if broken[2] is None]
         if fresh:
             found.append([clock, fresh, None])
             open_breaks.append(found[-1])

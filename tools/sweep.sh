@@ -69,7 +69,8 @@ parallel=(parallel --will-cite --quote --joblog "$dir/joblog" --resume-failed --
 [ -z "$jobs" ] || parallel+=(--jobs "$jobs")
 if [ -n "$hosts" ]; then
   need rsync rsync
-  parallel+=(--sshlogin "$hosts" --workdir tora-study --cleanup --basefile ./bundle/)
+  parallel+=(--sshlogin "$hosts" --workdir tora-study --cleanup)
+  for name in study-one.sh scenario.py measure.py study.py simulator; do parallel+=(--basefile "./bundle/$name"); done
   for end in csv ${keep:+sim json trace}; do parallel+=(--return "rows/{1}-{2}.$end"); done
 fi
 command=(env "TORA_SIM=${words[*]}" "KEEP=$keep" bash ./bundle/study-one.sh rows "{1}" "{2}" "$@")
