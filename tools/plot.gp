@@ -18,6 +18,7 @@ plot data using by:'connected':'connected_deviation' with yerrorlines lw 2 title
      data using by:'available':'available_deviation' with yerrorlines lw 2 title 'of these: the route works', \
      data using by:'stale':'stale_deviation' with yerrorlines lw 2 title 'of these: it is stale', \
      data using by:'contact_kept':'contact_kept_deviation' with yerrorlines lw 2 dt 2 title 'contact time within the limit'
+set key default
 set key top left
 set yrange [0:*]
 set ylabel 'rounds (100 ms)'

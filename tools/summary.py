@@ -52,13 +52,13 @@ def groups(path, names, rows, key, columns):
 
 def table_lines(key, cells, columns):
     """A table for readers: median, least and greatest."""
-    yield f"{key:22}" + "".join(f"{value:<32g}" for value in cells)
+    yield f"{key:22}" + "".join(f"{value:<36g}" for value in cells)
     for name in columns:
         texts = []
         for group in cells.values():
             values = group[name]
             texts.append(f"{statistics.median(values):.4g} [{min(values):.4g} .. {max(values):.4g}]" if values else "-")
-        yield (f"{name:22}" + "".join(f"{text:32}" for text in texts)).rstrip()
+        yield (f"{name:22}" + "".join(f"{text:36}" for text in texts)).rstrip()
 
 
 def data_lines(key, cells, columns):
