@@ -48,20 +48,13 @@ refuses() {
   fi
 }
 
-# The command that simulates with a trace, or nothing.
-simulator() {
-  local program=$here/../crates/tora/out/tora
-  if [ -n "${TORA_SIM:-}" ]; then
-    echo "$TORA_SIM"
-  elif [ -x "$program" ] && "$program" sim --help 2>/dev/null | grep -q -- --trace; then
-    echo "$program sim"
-  fi
-}
-
 check_simulator() {
-  local command run
-  read -r -a command <<<"$(simulator)"
-  if [ ${#command[@]} = 0 ]; then
+  local program=$here/../crates/tora/out/tora command run
+  if [ -n "${TORA_SIM:-}" ]; then
+    read -r -a command <<<"$TORA_SIM"
+  elif [ -x "$program" ] && "$program" sim --help 2>/dev/null | grep -q -- --trace; then
+    command=("$program" sim)
+  else
     echo "check: no simulator with --trace; the stored traces stand for it"
     return
   fi
@@ -104,7 +97,7 @@ check_motion() {
   same three.json "$work/three.json"
   python3 ../scenario.py "$work/packed" --bonnmotion three.movements.gz "${all[@]}"
   same three.sim "$work/packed.sim"
-  python3 ../scenario.py "$work/space" --bonnmotion three3d.movements --dims 3 "${all[@]}"
+  python3 ../scenario.py "$work/space" --bonnmotion three3d.movements --coordinates 3 "${all[@]}"
   same three.sim "$work/space.sim"
   python3 ../scenario.py "$work/ns2" --ns2 three.ns2 "${all[@]}"
   same three.sim "$work/ns2.sim"

@@ -3,7 +3,7 @@
 
   scenario.py PREFIX [--nodes N --seed S ..]      random waypoint motion
   scenario.py PREFIX --ns2 FILE                   a movement file of ns-2 (setdest)
-  scenario.py PREFIX --bonnmotion FILE [--dims 3] a movement file of BonnMotion
+  scenario.py PREFIX --bonnmotion FILE [--coordinates 3] a movement file of BonnMotion
 
 PREFIX.sim goes to `tora sim`; PREFIX.json has the positions, links and flows for measure.py and dag.py. A movement file
 may be compressed (.gz). Two nodes are linked while they are within --range of each other; a round is 100 ms.
@@ -89,6 +89,8 @@ def parse_ns2(path):
             moves.append((float(found[1]), number, int(found[2]), *(float(found[i]) for i in (3, 4, 5))))
         else:
             raise refused(path, number, f"no line of a setdest file: {line}")
+        if not all(math.isfinite(float(word)) for word in found.groups() if word not in "XYZ"):
+            raise refused(path, number, "a number is too large")
     if sorted(start) != list(range(len(start))) or not all({"X", "Y"} <= set(place) for place in start.values()):
         raise refused(path, None, "nodes have to be 0, 1, 2 .. without a gap, each with X_ and Y_")
     return start, moves
@@ -111,9 +113,9 @@ def read_ns2(path):
     return ways
 
 
-def read_bonnmotion(path, dims):
+def read_bonnmotion(path, coordinates):
     """Way points of a BonnMotion file, one line a node: time and coordinates again and again; z is left out."""
-    ways, width = [], dims + 1
+    ways, width = [], coordinates + 1
     for number, line in read_lines(path):
         try:
             values = [float(word) for word in line.split()]
@@ -195,7 +197,7 @@ def motion(options, source):
     if options.ns2:
         return read_ns2(options.ns2)
     if options.bonnmotion:
-        return read_bonnmotion(options.bonnmotion, options.dims)
+        return read_bonnmotion(options.bonnmotion, options.coordinates)
     side = options.range * math.sqrt(math.pi * options.nodes / options.degree)
     width, height = pair_of(options.area, "x", "--area") if options.area else (side, side)
     speeds = pair_of(options.speed, "-", "--speed")
@@ -271,7 +273,7 @@ def options_of(words):
     files = parser.add_mutually_exclusive_group()
     files.add_argument("--ns2", metavar="FILE", help="read a setdest file; its node 0 becomes node 1")
     files.add_argument("--bonnmotion", metavar="FILE", help="read a BonnMotion file; its first line becomes node 1")
-    add("--dims", type=int, choices=(2, 3), default=2, help="coordinates of a BonnMotion file (2)")
+    add("--coordinates", type=int, choices=(2, 3), default=2, help="of a BonnMotion file (2)")
     add("--nodes", type=at_least(2, MOST_NODES), default=20, help="nodes of random waypoint (20)")
     add("--seed", type=at_least(0), default=1, help="seed of motion, destinations and flows (1)")
     add("--area", default="", metavar="WxH", help="metres; else a square with about --degree neighbours a node")
@@ -289,8 +291,10 @@ def options_of(words):
     add("--flows", type=at_least(0), default=0, help="flows, drawn by the seed; 0: as many as nodes (0)")
     add("--times", default="10,50,5,8", metavar="HELLO,SILENT,RETRY,TRIES", help="times of a link end (10,50,5,8)")
     options = parser.parse_args(words)
-    if not (options.range > 0 and options.degree > 0 and options.pause >= 0 and options.settle >= 0):
-        parser.error("--range and --degree have to be above 0, --pause and --settle not below 0")
+    if not (0 < options.range < math.inf and 0 < options.degree < math.inf):
+        parser.error("--range and --degree have to be above 0")
+    if not (0 <= options.pause < math.inf and 0 <= options.settle < math.inf):
+        parser.error("--pause and --settle have to be 0 or more")
     return options
 
 

@@ -10,7 +10,8 @@ case ${1:---help} in -h | --help) sed -n '2,5s/^# //p' "$0"; exit 0 ;; esac
 dir=$1 nodes=$2 seed=$3
 shift 3
 command -v python3 >/dev/null || { echo "study-one: python3 is missing (package python3)" >&2; exit 2; }
-read -r -a simulate <<<"${TORA_SIM:-$here/../tora sim}"
+simulate=("$here/../tora" sim)
+if [ -n "${TORA_SIM:-}" ]; then read -r -a simulate <<<"$TORA_SIM"; fi
 work=$(mktemp -d)
 trap 'rm -rf "$work"' EXIT
 run=$work/$nodes-$seed

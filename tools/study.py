@@ -92,18 +92,39 @@ def load_scenario(path):
             scenario = json.load(source)
     except json.JSONDecodeError as cause:
         raise refused(path, cause.lineno, cause.msg) from None
+    except UnicodeDecodeError:
+        raise refused(path, None, "no text") from None
     if not isinstance(scenario, dict):
         raise refused(path, None, "no scenario")
     for key, kind in KEYS.items():
         if not isinstance(scenario.get(key), kind):
             raise refused(path, None, f"no scenario: the key `{key}` is missing or of another type")
+    check_shape(path, scenario)
     for key in ("links", "flows"):
-        if not scenario[key] or not all(isinstance(pair, list) and len(pair) == 2 for pair in scenario[key]):
-            raise refused(path, None, f"no scenario: `{key}` are no pairs")
         scenario[key] = [tuple(pair) for pair in scenario[key]]
+    return scenario
+
+
+def check_shape(path, scenario):
+    """Refuses a scenario whose links, flows, times or positions don't fit its nodes and rounds."""
+    nodes = range(1, scenario["nodes"] + 1)
+
+    def all_pairs(pairs, second):
+        return pairs and all(isinstance(p, list) and len(p) == 2 and p[0] in nodes and p[1] in second for p in pairs)
+
+    if not all_pairs(scenario["links"], nodes) or not all(a < b for a, b in scenario["links"]):
+        raise refused(path, None, "no scenario: `links` are no pairs of its nodes, the lower first")
+    linked = {node for link in scenario["links"] for node in link}
+    if not scenario["destinations"] or not all(node in linked for node in scenario["destinations"]):
+        raise refused(path, None, "no scenario: `destinations` are no nodes with links")
+    if not all_pairs(scenario["flows"], scenario["destinations"]) or not all(a != d and a in linked for a, d in scenario["flows"]):
+        raise refused(path, None, "no scenario: `flows` are no pairs of a node and another, a destination")
+    if len(scenario["times"]) != 4:
+        raise refused(path, None, "no scenario: `times` are not four")
     if scenario["sample"] < 1 or len(scenario["positions"]) * scenario["sample"] < scenario["rounds"]:
         raise refused(path, None, "no scenario: too few positions for its rounds")
-    return scenario
+    if not all(isinstance(places, list) and len(places) == scenario["nodes"] for places in scenario["positions"]):
+        raise refused(path, None, "no scenario: `positions` are not those of its nodes")
 
 
 def ordered(a, b):

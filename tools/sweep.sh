@@ -43,10 +43,11 @@ need parallel parallel
 parallel --version 2>/dev/null | grep -q '^GNU parallel' || fail 2 "parallel is not GNU parallel (package parallel)"
 
 # The program itself: the launcher builds it first, where it is what is asked for.
-read -r -a simulate <<<"${TORA_SIM:-$here/../tora sim}"
-if [ -z "${TORA_SIM:-}" ]; then
-  "${simulate[0]}" --version >/dev/null
-  simulate[0]=$here/../crates/tora/out/tora
+if [ -n "${TORA_SIM:-}" ]; then
+  read -r -a simulate <<<"$TORA_SIM"
+else
+  "$here/../tora" --version >/dev/null
+  simulate=("$here/../crates/tora/out/tora" sim)
 fi
 program=$(command -v "${simulate[0]}") || fail 2 "there is no program ${simulate[0]}"
 
