@@ -34,16 +34,16 @@ same() {
   fi
 }
 
-# A command that has to be refused with status 1 and these words.
+# A command that has to be refused with this status and these words.
 refuses() {
-  local words=$1 status=0
-  shift
+  local wanted=$1 words=$2 status=0
+  shift 2
   "$@" >"$work/out" 2>"$work/err" || status=$?
-  if [ "$status" = 1 ] && grep -qF -- "$words" "$work/err"; then
+  if [ "$status" = "$wanted" ] && grep -qF -- "$words" "$work/err"; then
     passed=$((passed + 1))
   else
     failed=$((failed + 1))
-    echo "check: status $status, not a refusal with \"$words\": $*" >&2
+    echo "check: status $status, not $wanted with \"$words\": $*" >&2
     head -3 "$work/err" >&2
   fi
 }
@@ -107,26 +107,26 @@ check_motion() {
 
 check_refusals() {
   printf '0.0 1.0 2.0\n0.0 1.0\n' >"$work/m"
-  refuses "$work/m:2: 2 numbers" python3 ../scenario.py "$work/x" --bonnmotion "$work/m"
+  refuses 1 "$work/m:2: 2 numbers" python3 ../scenario.py "$work/x" --bonnmotion "$work/m"
   printf '$node_(0) set X_ 1.0\nnothing\n' >"$work/m"
-  refuses "$work/m:2: no line of a setdest file" python3 ../scenario.py "$work/x" --ns2 "$work/m"
-  refuses "--speed: \`3\` is not of the form" python3 ../scenario.py "$work/x" --speed 3
-  refuses "--times: \`1,2,3\` is not four numbers" python3 ../scenario.py "$work/x" --times 1,2,3
-  refuses "$work/none" python3 ../scenario.py "$work/x" --ns2 "$work/none"
+  refuses 1 "$work/m:2: no line of a setdest file" python3 ../scenario.py "$work/x" --ns2 "$work/m"
+  refuses 2 "--speed: \`3\` is not of the form" python3 ../scenario.py "$work/x" --speed 3
+  refuses 2 "--times: \`1,2,3\` is not four numbers" python3 ../scenario.py "$work/x" --times 1,2,3
+  refuses 1 "$work/none" python3 ../scenario.py "$work/x" --ns2 "$work/none"
   printf '1 part 1 2\n1 qry 1\n' >"$work/t"
-  refuses "$work/t:2: \`qry\` has 3 fields, not 1" python3 ../measure.py 6-1.json "$work/t"
+  refuses 1 "$work/t:2: \`qry\` has 3 fields, not 1" python3 ../measure.py 6-1.json "$work/t"
   printf '5 need 1 2\n4 need 1 2\n' >"$work/t"
-  refuses "$work/t:2: the clock goes back" python3 ../measure.py 6-1.json "$work/t"
+  refuses 1 "$work/t:2: the clock goes back" python3 ../measure.py 6-1.json "$work/t"
   printf '5 part 1 99\n' >"$work/t"
-  refuses "$work/t:1: no link of the scenario" python3 ../measure.py 6-1.json "$work/t"
+  refuses 1 "$work/t:1: no link of the scenario" python3 ../measure.py 6-1.json "$work/t"
   printf '5 upd 1 2 1 (0,0,0,1)\n' >"$work/t"
-  refuses "$work/t:1: \`(0,0,0,1)\` is no height" python3 ../dag.py 6-1.json "$work/t" 3 "$work/x" --format dot
+  refuses 1 "$work/t:1: \`(0,0,0,1)\` is no height" python3 ../dag.py 6-1.json "$work/t" 3 "$work/x" --format dot
   printf '{\n"seed": }\n' >"$work/j"
-  refuses "$work/j:2: " python3 ../measure.py "$work/j" 6-1.trace
-  refuses '99 is no destination of' python3 ../dag.py 6-1.json 6-1.trace 99 "$work/x"
+  refuses 1 "$work/j:2: " python3 ../measure.py "$work/j" 6-1.trace
+  refuses 2 '99 is no destination of' python3 ../dag.py 6-1.json 6-1.trace 99 "$work/x"
   printf 'nodes,seed\n1\n' >"$work/c"
-  refuses "$work/c:2: 1 cells, not 2" python3 ../summary.py "$work/c"
-  refuses 'no column colour' python3 ../summary.py study.csv colour
+  refuses 1 "$work/c:2: 1 cells, not 2" python3 ../summary.py "$work/c"
+  refuses 2 'no column colour' python3 ../summary.py study.csv colour
 }
 
 check_simulator

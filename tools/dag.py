@@ -19,7 +19,7 @@ import shutil
 import subprocess
 import sys
 
-from study import Refused, load_scenario, moments, ordered, records, run
+from study import Refused, Usage, load_scenario, moments, ordered, records, run
 
 SIDE = 14 * 72  # points
 COLOURS = ["#ffffff", "#cfe8ff", "#d9f2d0", "#fff2b3", "#ffd9b3", "#e6d5f5", "#c9f0ee", "#f5d5e0"]
@@ -149,11 +149,11 @@ def chosen_rounds(options, scenario):
     if options.rounds:
         words = options.rounds.split(",")
         if not all(word.isascii() and word.isdecimal() and 1 <= int(word) <= scenario["rounds"] for word in words):
-            raise Refused(f"--rounds: `{options.rounds}` are no rounds from 1 to {scenario['rounds']}")
+            raise Usage(f"--rounds: `{options.rounds}` are no rounds from 1 to {scenario['rounds']}")
         return sorted({int(word) for word in words})
     found = breaks(scenario, options.trace, options.destination)
     if not 1 <= options.number <= len(found):
-        raise Refused(f"--break: destination {options.destination} has {len(found)} breaks of a route")
+        raise Usage(f"--break: destination {options.destination} has {len(found)} breaks of a route")
     clock, _, after = found[options.number - 1]
     return [max(clock - 1, 1), clock] + ([after] if after else [])
 
@@ -187,16 +187,16 @@ def main():
     def body():
         scenario = load_scenario(options.scenario)
         if options.destination not in scenario["destinations"]:
-            raise Refused(f"{options.destination} is no destination of {options.scenario}; these are: {scenario['destinations']}")
+            raise Usage(f"{options.destination} is no destination of {options.scenario}; these are: {scenario['destinations']}")
         if options.list:
             for line in break_lines(breaks(scenario, options.trace, options.destination)):
                 print(line)
             return
         if options.out is None:
-            raise Refused("OUT is needed (--help)")
+            raise Usage("OUT is needed (--help)")
         kinds = [kind for kind in options.format.split(",") if kind != "dot"]
         if kinds and not shutil.which("neato"):
-            raise Refused("neato is missing (package graphviz); --format dot does without it")
+            raise Usage("neato is missing (package graphviz); --format dot does without it")
         wanted, colours = chosen_rounds(options, scenario), {}
         for clock, world in moments(scenario, options.trace, records(options.trace)):
             if clock in wanted:

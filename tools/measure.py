@@ -15,7 +15,7 @@ import collections
 import statistics
 import sys
 
-from study import Refused, adjacency, distances, load_scenario, moments, ordered, records, run
+from study import Usage, adjacency, distances, load_scenario, moments, ordered, records, run
 
 COLUMNS = (
     "nodes seed rounds hello_ticks silence_ticks retry_ticks tries destinations flows links_met links_declared most_met "
@@ -248,7 +248,7 @@ def main():
             print(",".join(COLUMNS))
             return
         if options.trace is None:
-            raise Refused("a scenario and a trace are needed (--help)")
+            raise Usage("a scenario and a trace are needed (--help)")
         routes, row = measure(load_scenario(options.scenario), options.trace)
         for line in loop_lines(routes) if options.loops else [",".join(str(row[name]) for name in COLUMNS)]:
             print(line)

@@ -20,7 +20,7 @@ import random
 import re
 import sys
 
-from study import Refused, refused, run
+from study import Refused, Usage, refused, run
 
 TICK = 0.1  # seconds of a round
 MOST_NODES = 64
@@ -181,14 +181,14 @@ def pair_of(text, mark, name):
     """The two numbers of `AxB` or `A-B`."""
     found = re.fullmatch(rf"(\d+(?:\.\d+)?){mark}(\d+(?:\.\d+)?)", text)
     if not found:
-        raise Refused(f"{name}: `{text}` is not of the form A{mark}B")
+        raise Usage(f"{name}: `{text}` is not of the form A{mark}B")
     return float(found[1]), float(found[2])
 
 
 def times_of(text):
     """The times of a link end: HELLO,SILENT,RETRY,TRIES."""
     if not re.fullmatch(r"[1-9]\d*(,[1-9]\d*){3}", text):
-        raise Refused(f"--times: `{text}` is not four numbers from 1, as in 10,50,5,8")
+        raise Usage(f"--times: `{text}` is not four numbers from 1, as in 10,50,5,8")
     return [int(word) for word in text.split(",")]
 
 
@@ -202,7 +202,7 @@ def motion(options, source):
     width, height = pair_of(options.area, "x", "--area") if options.area else (side, side)
     speeds = pair_of(options.speed, "-", "--speed")
     if not 0 < speeds[0] <= speeds[1]:
-        raise Refused("--speed: the least speed has to be above 0, or nodes grow slower for ever, and not above the most")
+        raise Usage("--speed: the least speed has to be above 0, or nodes grow slower for ever, and not above the most")
     return random_waypoint(options.nodes, width, height, speeds, options.pause, options.rounds * TICK, options.settle, source)
 
 

@@ -30,6 +30,14 @@ KEYS = {
 class Refused(Exception):
     """Bad input; the text says in which file and line."""
 
+    status = 1
+
+
+class Usage(Refused):
+    """A command line that asks for what can't be, or a package that is missing."""
+
+    status = 2
+
 
 def refused(path, line, cause):
     """The refusal of a line of a file; line None where the whole file is meant."""
@@ -37,13 +45,13 @@ def refused(path, line, cause):
 
 
 def run(tool, body):
-    """Runs a tool's body; answers its exit status: 0, or 1 after a refusal, which is told on standard error."""
+    """Runs a tool's body; answers its exit status: 0, or that of a refusal, which is told on standard error."""
     try:
         body()
         sys.stdout.flush()
     except Refused as cause:
         print(f"{tool}: {cause}", file=sys.stderr)
-        return 1
+        return cause.status
     except BrokenPipeError:
         sys.stderr.close()
         return 1

@@ -12,7 +12,7 @@ import csv
 import statistics
 import sys
 
-from study import refused, run
+from study import Usage, refused, run
 
 
 def read(path):
@@ -39,7 +39,7 @@ def groups(path, names, rows, key, columns):
     """For each value of the key its rows' cells by column."""
     for name in [key, *columns]:
         if name not in names:
-            raise refused(path, 1, f"no column {name}")
+            raise Usage(f"{path} has no column {name}")
     found = {}
     for number, row in enumerate(rows, 2):
         if row[key] is None:
