@@ -71,6 +71,10 @@ parallel=(parallel --will-cite --quote --joblog "$dir/joblog" --resume-failed --
 if [ -n "$hosts" ]; then
   need rsync rsync
   parallel+=(--sshlogin "$hosts" --workdir tora-study --cleanup)
+  # Runs on this machine (`:`) stand in a folder of that name, too: it leads to the same bundle and rows.
+  mkdir -p "$dir/tora-study" "$dir/rows"
+  ln -sfn ../bundle "$dir/tora-study/bundle"
+  ln -sfn ../rows "$dir/tora-study/rows"
   for name in study-one.sh scenario.py measure.py study.py simulator; do parallel+=(--basefile "./bundle/$name"); done
   for end in csv ${keep:+sim json trace}; do parallel+=(--return "rows/{1}-{2}.$end"); done
 fi
