@@ -1,0 +1,96 @@
+#!/usr/bin/env bash
+# A study: one run for each size and seed, by GNU parallel. It writes DIR/study.csv, and begins again where it was broken off.
+# usage: tools/sweep.sh [--jobs N] [--sshlogin HOSTS] [--keep] DIR "SIZES" SEEDS [OPTION OF scenario.py]..
+#   DIR               holds the rows, the job log (joblog) and what the study is (study.txt)
+#   SIZES             numbers of nodes, as "10 20 40"
+#   SEEDS             how many seeds: 1 to SEEDS
+#   --jobs N          runs at a time on each machine; as many as processors without it
+#   --sshlogin HOSTS  machines as GNU parallel names them, as 4/first,8/second; `:` is this one. Each needs ssh, rsync and
+#                     python3; the tools and the program are copied there for the time of the study
+#   --keep            keep each run's simulation file, scenario and trace in DIR/rows
+# TORA_SIM is the command that simulates, in place of the repository's `./tora sim`.
+# It ends with status 1 where a run failed; the CSV then has the rows that there are.
+set -eu
+here=$(cd "$(dirname "$0")" && pwd)
+
+fail() {
+  echo "sweep: $2" >&2
+  exit "$1"
+}
+
+need() {
+  command -v "$1" >/dev/null || fail 2 "$1 is missing (package $2)"
+}
+
+jobs='' hosts='' keep=''
+while [ $# -gt 0 ]; do
+  case $1 in
+    -h | --help) sed -n '2,/^set -eu/{/^# /s/^# //p}' "$0"; exit 0 ;;
+    --jobs) jobs=${2:?}; shift 2 ;;
+    --sshlogin) hosts=${2:?}; shift 2 ;;
+    --keep) keep=1; shift ;;
+    -*) fail 2 "no option $1 (--help)" ;;
+    *) break ;;
+  esac
+done
+[ $# -ge 3 ] || fail 2 'DIR, "SIZES" and SEEDS are needed (--help)'
+dir=$1 sizes=$2 seeds=$3
+shift 3
+[[ $sizes =~ ^[1-9][0-9]*(\ [1-9][0-9]*)*$ ]] || fail 2 "\"$sizes\" are no sizes, as \"10 20 40\""
+[[ $seeds =~ ^[1-9][0-9]*$ ]] || fail 2 "\"$seeds\" is no number of seeds"
+need python3 python3
+need parallel parallel
+parallel --version 2>/dev/null | grep -q '^GNU parallel' || fail 2 "parallel is not GNU parallel (package parallel)"
+
+# The program itself: the launcher builds it first, where it is what is asked for.
+if [ -n "${TORA_SIM:-}" ]; then
+  read -r -a simulate <<<"$TORA_SIM"
+else
+  "$here/../tora" --version >/dev/null
+  simulate=("$here/../crates/tora/out/tora" sim)
+fi
+program=$(command -v "${simulate[0]}") || fail 2 "there is no program ${simulate[0]}"
+
+mkdir -p "$dir"
+dir=$(cd "$dir" && pwd)
+want="sizes $sizes seeds $seeds options $*"
+if [ -e "$dir/study.txt" ] && [ "$(cat "$dir/study.txt")" != "$want" ]; then
+  fail 1 "$dir holds another study: $(cat "$dir/study.txt")"
+fi
+echo "$want" >"$dir/study.txt" # --resume counts runs and does not compare what they are
+
+# What a run needs stands in one folder, so that it can be copied to other machines as it is.
+bundle=$dir/bundle
+mkdir -p "$bundle"
+cp "$here/study-one.sh" "$here/scenario.py" "$here/measure.py" "$here/study.py" "$bundle/"
+cp "$program" "$bundle/simulator"
+words=(./bundle/simulator "${simulate[@]:1}")
+
+parallel=(parallel --will-cite --quote --joblog "$dir/joblog" --resume-failed --retries 2 --halt "soon,fail=20%")
+[ -z "$jobs" ] || parallel+=(--jobs "$jobs")
+if [ -n "$hosts" ]; then
+  need rsync rsync
+  parallel+=(--sshlogin "$hosts" --workdir tora-study --cleanup)
+  # Runs on this machine (`:`) stand in a folder of that name, too: it leads to the same bundle and rows.
+  mkdir -p "$dir/tora-study" "$dir/rows"
+  ln -sfn ../bundle "$dir/tora-study/bundle"
+  ln -sfn ../rows "$dir/tora-study/rows"
+  for name in study-one.sh scenario.py measure.py study.py simulator; do parallel+=(--basefile "./bundle/$name"); done
+  for end in csv ${keep:+sim json trace}; do parallel+=(--return "rows/{1}-{2}.$end"); done
+fi
+command=(env "TORA_SIM=${words[*]}" "KEEP=$keep" bash ./bundle/study-one.sh rows "{1}" "{2}" "$@")
+status=0
+# shellcheck disable=SC2086
+(cd "$dir" && "${parallel[@]}" "${command[@]}" ::: $sizes ::: $(seq "$seeds")) || status=1
+
+{
+  python3 "$here/measure.py" --header
+  for nodes in $sizes; do
+    for seed in $(seq "$seeds"); do
+      row=$dir/rows/$nodes-$seed.csv
+      if [ -e "$row" ]; then cat "$row"; else status=1; echo "sweep: no row of $nodes nodes and seed $seed" >&2; fi
+    done
+  done
+} >"$dir/.study.csv"
+mv "$dir/.study.csv" "$dir/study.csv"
+exit "$status"
