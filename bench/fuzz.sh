@@ -5,6 +5,7 @@
 # with it the same inputs come in the same order. What fails is kept under KEPT, and the status is then 1.
 # usage: bench/fuzz.sh SECONDS [SEED] [KEPT]
 set -eu
+case ${1-} in -h | --help) sed -n '2,/^set -eu/{/^# /s/^# //p}' "$0"; exit 0 ;; esac
 top=$(cd "$(dirname "$0")/.." && pwd)
 seconds=${1:?seconds}
 seed=${2:-$(od -An -N4 -tu4 /dev/urandom | tr -d ' ')}

@@ -7,6 +7,7 @@
 # repair, and each node's memory soon after the start and at the end.
 # usage: bench/soak.sh MINUTES [SEED]
 set -eu
+case ${1-} in -h | --help) sed -n '2,/^set -eu/{/^# /s/^# //p}' "$0"; exit 0 ;; esac
 top=$(cd "$(dirname "$0")/.." && pwd)
 minutes=${1:?minutes}
 seed=${2:-$(od -An -N4 -tu4 /dev/urandom | tr -d ' ')}

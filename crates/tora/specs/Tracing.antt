@@ -20,7 +20,7 @@ use Rattle.tora.specs.declared.ended.Ended.TheVariants.{Whole, Fault}
 use Rattle.tora.specs.declared.ended.ReplayError.{ReplayError}
 use Rattle.tora.specs.declared.ended.ReplayError.TheVariants.{Memory, Read, Write}
 use Rattle.tora.specs.declared.simulation_line.SimulationLine.{SimulationLine}
-use Rattle.tora.specs.declared.simulation_line.SimulationLine.TheVariants.{Happens, Rounds, Part, Mend, Heights, Sent, Taken}
+use Rattle.tora.specs.declared.simulation_line.SimulationLine.TheVariants.{Happens, Rounds, Part, Mend, Heights, Sent, Taken, Exact, Walk}
 use Rattle.tora.specs.declared.traced.Before.{Before}
 
 -- the life that an item tells to be up
@@ -106,6 +106,8 @@ after_line t (Some (Happens event)) trace = trace
 after_line t (Some (Heights d)) trace = trace
 after_line t (Some (Sent a b life)) trace = trace
 after_line t (Some (Taken b a life)) trace = trace
+after_line t (Some (Exact d)) trace = trace
+after_line t (Some (Walk n d)) trace = trace
 
 -- and the pairs of nodes whose link is parted
 abbrev pub parted_after : Option SimulationLine → List (ℕ × ℕ) → List (ℕ × ℕ)
@@ -117,6 +119,8 @@ parted_after (Some (Happens event)) parted = parted
 parted_after (Some (Heights d)) parted = parted
 parted_after (Some (Sent a b life)) parted = parted
 parted_after (Some (Taken b a life)) parted = parted
+parted_after (Some (Exact d)) parted = parted
+parted_after (Some (Walk n d)) parted = parted
 
 -- ---- how a run ends whose trace is written
 
