@@ -3,8 +3,10 @@
 # stored ones, the reading of movement files, and the refusals of bad input.
 # usage: tools/check.sh [--store]
 #   --store   write what comes out to tools/stored in place of comparing; for a change that is meant to change it
-# Where a simulator with --trace is there, the stored simulations are run, too: what is printed and the trace have to be
-# the stored ones. It is TORA_SIM where that is set, else the program that stands in crates/tora/out; nothing is built.
+# Where a simulator with --trace is there, the stored simulations are run, too. The stored traces are those of a second,
+# unverified simulator, which knows version 1 of frames alone: with a line `old N` for every node the trace has to be the
+# stored one byte for byte, and without these lines in all but its records of datagrams. The simulator is TORA_SIM where
+# that is set, else the program that stands in crates/tora/out; nothing is built.
 # Needs python3 alone.
 set -eu
 here=$(cd "$(dirname "$0")" && pwd)
@@ -32,6 +34,24 @@ same() {
     echo "check: stored/$1 is not what comes out:" >&2
     diff "$1" "$2" | head -10 >&2 || true
   fi
+}
+
+# Compares two files.
+agrees() {
+  if cmp -s "$1" "$2"; then
+    passed=$((passed + 1))
+  else
+    failed=$((failed + 1))
+    echo "check: $3 is not what comes out:" >&2
+    diff "$1" "$2" | head -10 >&2 || true
+  fi
+}
+
+# A simulation file with a line `old N` for every node.
+all_old() {
+  awk '/^link / { print; node[$2]; node[$3]; next }
+    NR > 1 && !told { for (n in node) print "old " n; told = 1 }
+    { print }' "$1"
 }
 
 # A command that has to be refused with this status and these words.
@@ -62,8 +82,16 @@ check_simulator() {
     "${command[@]}" "$run.sim" >"$work/plain"
     "${command[@]}" --trace "$work/trace" "$run.sim" >"$work/printed"
     cmp -s "$work/plain" "$work/printed" || { failed=$((failed + 1)); echo "check: $run prints something else with a trace" >&2; }
-    same "$run.trace" "$work/trace"
     python3 ../agree.py "$run.sim" "$work/printed" "$work/trace" >/dev/null || failed=$((failed + 1))
+    # With every node old the trace is the stored one, and otherwise all but the records of datagrams.
+    if all_old "$run.sim" >"$work/old.sim" && "${command[@]}" --trace "$work/old" "$work/old.sim" >/dev/null; then
+      same "$run.trace" "$work/old"
+    else
+      failed=$((failed + 1))
+    fi
+    grep -v ' frames ' "$run.trace" >"$work/wanted"
+    grep -v ' frames ' "$work/trace" >"$work/found"
+    agrees "$work/wanted" "$work/found" "$run.trace without its records of frames"
   done
 }
 

@@ -186,7 +186,7 @@ def pair_of(text, mark, name):
 
 
 def times_of(text):
-    """The times of a link end: HELLO,SILENT,RETRY,TRIES."""
+    """The times of a link end: HELLO,SILENCE,RETRY,TRIES."""
     if not re.fullmatch(r"[1-9]\d*(,[1-9]\d*){3}", text):
         raise Usage(f"--times: `{text}` is not four numbers from 1, as in 10,50,5,8")
     return [int(word) for word in text.split(",")]
@@ -289,7 +289,7 @@ def options_of(words):
     add("--limit", type=at_least(1, MOST_NEIGHBOURS), default=MOST_NEIGHBOURS, help="links of a node (32)")
     add("--destinations", type=at_least(1, MOST_NODES), default=4, help="destinations, drawn by the seed (4)")
     add("--flows", type=at_least(0), default=0, help="flows, drawn by the seed; 0: as many as nodes (0)")
-    add("--times", default="10,50,5,8", metavar="HELLO,SILENT,RETRY,TRIES", help="times of a link end (10,50,5,8)")
+    add("--times", default="10,50,5,8", metavar="HELLO,SILENCE,RETRY,TRIES", help="times of a link end (10,50,5,8)")
     options = parser.parse_args(words)
     if not (0 < options.range < math.inf and 0 < options.degree < math.inf):
         parser.error("--range and --degree have to be above 0")

@@ -77,6 +77,14 @@ impl Simulator for Recorder {
     fn taken(&self, b: Id, a: Id, life: Life) -> usize {
         <Sim as Simulator>::taken(&self.sim, b, a, life)
     }
+
+    fn exact(&self, d: Id) -> bool {
+        self.sim.exact(d)
+    }
+
+    fn walk(&self, alloc: Global, n: Id, d: Id) -> Result<Option<Vec<Id>>, AllocError> {
+        <Sim as Simulator>::walk(&self.sim, alloc, n, d)
+    }
 }
 
 /// A line of four nodes.
