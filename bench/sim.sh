@@ -1,7 +1,8 @@
 #!/usr/bin/env bash
 # Time and peak memory of `tora sim`, beside an unverified baseline, in one run: a line of 64 nodes, a grid of 8 x 8, a star
 # of 9, and the grid with 16 destinations. Links are parted and mended; what stands behind the links comes REPEATS times.
-# The outputs are compared.
+# Each runs twice: with a line `old N` for every node, where the outputs have to be the same, and without them. The baseline
+# knows version 1 of frames alone, and batches bring packets in another order, so without them heights may differ.
 # usage: bench/sim.sh BASE [REPEATS] [ROUNDS]     BASE: the folder of the baseline's sources (a Cargo crate `base`)
 set -eu
 top=$(cd "$(dirname "$0")/.." && pwd)
@@ -19,10 +20,20 @@ repeated() {
   done
 }
 
+# The same with a line `old N` for every node.
+all_old() {
+  awk '/^link / { print; node[$2]; node[$3]; next }
+    NR > 1 && !told { for (n in node) print "old " n; told = 1 }
+    { print }' "$1"
+}
+
 for case in 'line 64' 'grid 8' 'star 9' 'grid 8 16'; do
   # shellcheck disable=SC2086
   "$bin" gen-sim $case >"$work/once.sim"
   repeated "$work/once.sim" >"$work/case.sim"
-  echo "$case: $(wc -l <"$work/case.sim") lines, $repeats times what stands behind the links"
-  python3 "$top/bench/measure.py" "$rounds" /dev/null "$work/a" "$work/b" -- "$top/crates/tora/out/tora" sim "$work/case.sim" -- "$bin" sim "$work/case.sim"
+  all_old "$work/case.sim" >"$work/old.sim"
+  for nodes in old case; do
+    echo "$case: $(wc -l <"$work/case.sim") lines, $repeats times what stands behind the links$([ "$nodes" = case ] || echo ', every node old')"
+    python3 "$top/bench/measure.py" "$rounds" /dev/null "$work/a" "$work/b" -- "$top/crates/tora/out/tora" sim "$work/$nodes.sim" -- "$bin" sim "$work/case.sim"
+  done
 done
