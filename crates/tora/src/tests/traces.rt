@@ -117,11 +117,15 @@ fn expect_trace<T: AllocGlobal + Eprint + Abort>(
 /// The words of a line; those behind the last are empty.
 fn words(line: &[u8]) -> [&[u8]; 6] {
     let none: &[u8] = b"";
-    let mut words = [none; 6];
-    for (to, from) in words.iter_mut().zip(line.split(|byte| *byte == b' ')) {
-        *to = from;
-    }
-    words
+    let mut words = line.split(|byte| *byte == b' ');
+    [
+        words.next().unwrap_or(none),
+        words.next().unwrap_or(none),
+        words.next().unwrap_or(none),
+        words.next().unwrap_or(none),
+        words.next().unwrap_or(none),
+        words.next().unwrap_or(none),
+    ]
 }
 
 /// Height and next hop that a trace tells last of a node, as it writes them.
