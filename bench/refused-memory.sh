@@ -22,7 +22,7 @@ cc -O1 -shared -fPIC -o "$work/refuse.so" "$top/bench/refuse.c" || exit 2
 run() {
   local status=0
   rm -f "$work/came"
-  (cd "$work" && LD_PRELOAD="$work/refuse.so" REFUSE_AT=$3 REFUSE_LOG="$work/came" timeout 120 "$1" "$2" >"$work/log" 2>&1) || status=$?
+  (cd "$work" && timeout 120 env LD_PRELOAD="$work/refuse.so" REFUSE_AT="$3" REFUSE_LOG="$work/came" "$1" "$2" >"$work/log" 2>&1) || status=$?
   if [ "$status" -eq 134 ] && grep -q '^test stopped at ' "$work/log"; then status=101; fi
   return "$status"
 }
