@@ -99,11 +99,10 @@ def walk(tables, n):
 
 
 def is_exact(tables):
-    """Each node's entries are its neighbours' heights. The destination's may be missing: it never asks, so that after a restart
-    it hears of a height only once that changes."""
+    """All links are up, and each entry that is known is the neighbour's height. An entry may be missing: after a restart a node
+    hears of a neighbour's height only once that changes or the node asks."""
     for n, (_, _, entries) in tables.items():
-        known = {k: it for k, it in entries.items() if n != DESTINATION or it != "-"}
-        if sorted(entries) != neighbours(n) or any(it != tables[k][0] for k, it in known.items()):
+        if sorted(entries) != neighbours(n) or any(it not in ("-", tables[k][0]) for k, it in entries.items()):
             return False
     return True
 
@@ -157,8 +156,8 @@ def main():
             if last is None:
                 for n, it in nodes.items():
                     print(n, it.table())
-                sys.exit("at the end an entry is not the neighbour's height, or a walk does not reach the destination")
-            print("at the end each entry is the neighbour's height (the destination's may be missing), and every walk reaches the destination")
+                sys.exit("at the end a link is down, a known entry is not the neighbour's height, or a walk does not reach the destination")
+            print("at the end each known entry is the neighbour's height, and every walk reaches the destination")
         finally:
             for it in nodes.values():
                 it.kill()

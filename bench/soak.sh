@@ -1,10 +1,9 @@
 #!/usr/bin/env bash
 # A ring of five nodes, as processes over UDP on the loopback, for MINUTES: every few seconds one of them is killed with -9 and
 # started again on the same life files, each third time with a life file torn (the slot that the next draw writes is overwritten
-# by half). After each kill a route from every node has to come back. At the end each node's entries have to be its neighbours'
-# heights (the destination's may be missing, since it never asks), and the walk by next hops from every node has to reach the
-# destination. Prints the kills, the repairs, the slowest
-# repair, and each node's memory soon after the start and at the end.
+# by half). After each kill a route from every node has to come back. At the end all links have to be up, each entry that a node
+# knows has to be its neighbour's height, and the walk by next hops from every node has to reach the destination. Prints the
+# kills, the repairs, the slowest repair, and each node's memory soon after the start and at the end.
 # usage: bench/soak.sh MINUTES [SEED]
 set -eu
 case ${1-} in -h | --help) sed -n '2,/^set -eu/{/^# /s/^# //p}' "$0"; exit 0 ;; esac
