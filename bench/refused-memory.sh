@@ -1,7 +1,8 @@
 #!/usr/bin/env bash
 # Refuses memory to every test of every crate: the Nth call for it, N from 1 on until none is refused any more, each in a run
 # of its own. A test named `want_of_memory..` must pass in every run. Any other test may fail where it wants memory, but none
-# may fault or hang.
+# may fault or hang. (Tests that run threads may wait for one that was not started: those of a crate that has `tests_may=Threads..`
+# in crates.txt. They are ended after 20 seconds and counted.)
 # usage: bench/refused-memory.sh [-m MOST] [CRATE ..]     all crates where none is named; MOST is 2000 without -m
 # Behind the MOSTth call N goes on in steps of a twentieth. The crates' tests are built by `rt test`, which proves them, where
 # they are not built. It needs a C compiler.
@@ -9,7 +10,7 @@ set -u
 top=$(cd "$(dirname "$0")/.." && pwd)
 most=2000
 case ${1-} in
-  -h | --help) sed -n '2,7s/^# //p' "$0"; exit 0 ;;
+  -h | --help) sed -n '2,/^set -u/s/^# //p' "$0"; exit 0 ;;
   -m) most=${2:?a number}; shift 2 ;;
 esac
 [[ $most =~ ^[1-9][0-9]*$ ]] || { echo "refused-memory.sh: -m takes a number from 1 on, not '$most'" >&2; exit 2; }
@@ -22,7 +23,7 @@ cc -O1 -shared -fPIC -o "$work/refuse.so" "$top/bench/refuse.c" || exit 2
 run() {
   local status=0
   rm -f "$work/came"
-  (cd "$work" && timeout 120 env LD_PRELOAD="$work/refuse.so" REFUSE_AT="$3" REFUSE_LOG="$work/came" "$1" "$2" >"$work/log" 2>&1) || status=$?
+  (cd "$work" && timeout 20 env LD_PRELOAD="$work/refuse.so" REFUSE_AT="$3" REFUSE_LOG="$work/came" "$1" "$2" >"$work/log" 2>&1) || status=$?
   if [ "$status" -eq 134 ] && grep -q '^test stopped at ' "$work/log"; then status=101; fi
   return "$status"
 }
@@ -33,6 +34,10 @@ sweep() {
   while :; do
     run "$tests" "$name" "$n" 2>/dev/null
     status=$?
+    if [ "$status" -eq 124 ] && [ -n "$threads" ]; then
+      waited=$((waited + 1))
+      status=101
+    fi
     if [ "$status" -ne 0 ] && [ "$status" -ne 101 ] || { [ "$status" -ne 0 ] && [[ $name == *want_of_memory* ]]; }; then
       tail -n 5 "$work/log"
       echo "$name: status $status where call $n is refused"
@@ -54,11 +59,12 @@ for crate in "$@"; do
   [ -e "$crate/src/tests.rt" ] || { echo "refused-memory.sh: no crate with tests is named $crate" >&2; exit 2; }
   tests=$top/crates/$crate/out/${crate}_tests
   [ -x "$tests" ] || (cd "$crate" && rt test) >"$work/built" 2>&1 || { tail -n 5 "$work/built"; exit 2; }
-  calls=0 all_runs=0 all_failed=0 thinned= count=0
+  calls=0 all_runs=0 all_failed=0 thinned= count=0 waited=0
+  threads=$(grep "^$crate " "$top/crates.txt" | grep -o 'tests_may=Threads')
   for name in $("$tests" --list | sed -n 's/: test$//p'); do
     count=$((count + 1))
     sweep "$tests" "$name" || wrong=$((wrong + 1))
   done
-  echo "$crate: $count tests, which call for memory $calls times; $all_runs runs with one call refused, of which $all_failed ended a test${thinned:+; in steps:$thinned}"
+  echo "$crate: $count tests, which call for memory $calls times; $all_runs runs with one call refused, of which $all_failed ended a test$([ "$waited" = 0 ] || echo " ($waited waited for a thread)")${thinned:+; in steps:$thinned}"
 done
 [ "$wrong" -eq 0 ] && echo "no run was wrong" || { echo "$wrong tests were wrong"; exit 1; }
