@@ -39,7 +39,7 @@ impl Read for PieceReader<'_> {
     }
 }
 
-const ROOM: usize = 1024;
+const ROOM: usize = 0x2000;
 
 /// A writer without memory of its own, that fails at one of its calls, counted from 1.
 #[derive(Drop)]

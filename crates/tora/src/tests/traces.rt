@@ -4,56 +4,11 @@ use crate::trace_out::TraceOut;
 use crate::tracing::simulate_traced;
 use tora_arq::Times;
 
-const RECORDS: usize = 0x2000;
-
-/// A writer of records without memory of its own, that fails at one of its calls, counted from 1.
-#[derive(Drop)]
-struct RecordWriter {
-    bytes: [u8; RECORDS],
-    len: usize,
-    until_failure: u64,
-    /// Whether it fails to hand on what was written.
-    keeps: bool,
-}
-
-impl RecordWriter {
-    fn new(until_failure: u64, keeps: bool) -> RecordWriter {
-        RecordWriter {
-            bytes: [0; RECORDS],
-            len: 0,
-            until_failure,
-            keeps,
-        }
-    }
-
-    fn text(&self) -> &[u8] {
-        self.bytes.get(..self.len).unwrap_or(&[])
-    }
-}
-
-impl Write for RecordWriter {
-    fn write(&mut self, buf: &[u8]) -> io::Result<usize> {
-        if self.until_failure == 1 {
-            return Err(Error::from(IoErrorKind::Other));
-        }
-        self.until_failure = self.until_failure.saturating_sub(1);
-        let Some(room) = self.bytes.get_mut(self.len..) else {
-            return Err(Error::from(IoErrorKind::Other));
-        };
-        let n = room.len().min(buf.len());
-        for (to, from) in room.iter_mut().zip(buf) {
-            *to = *from;
-        }
-        self.len = self.len.saturating_add(n);
-        Ok(n)
-    }
-
-    fn flush(&mut self) -> io::Result<()> {
-        if self.keeps {
-            return Err(Error::from(IoErrorKind::Other));
-        }
-        Ok(())
-    }
+/// A writer of records.
+fn records(until_failure: u64, keeps: bool) -> ArrayWriter {
+    let mut writer = ArrayWriter::new(until_failure);
+    writer.keeps = keeps;
+    writer
 }
 
 /// Simulates the front of an input and its end, and hands the trace on. Where memory was refused it is simulated again,
@@ -64,9 +19,9 @@ fn traced<T: AllocGlobal + Eprint>(
     writer: &mut ArrayWriter,
     (until_failure, keeps): (u64, bool),
     is_verbose: bool,
-) -> (Result<Ended, ReplayError>, TraceOut<RecordWriter>) {
+) -> (Result<Ended, ReplayError>, TraceOut<ArrayWriter>) {
     let alloc = rt.alloc();
-    let mut out = TraceOut::new(RecordWriter::new(until_failure, keeps));
+    let mut out = TraceOut::new(records(until_failure, keeps));
     let mut input = front.as_bytes().chain(end.as_bytes());
     let mut found = simulate_traced::<Sim, T, _, _, _>(
         rt,
@@ -79,7 +34,7 @@ fn traced<T: AllocGlobal + Eprint>(
     );
     if found == Err(ReplayError::Memory) {
         *writer = ArrayWriter::new(0);
-        out = TraceOut::new(RecordWriter::new(until_failure, keeps));
+        out = TraceOut::new(records(until_failure, keeps));
         let mut input = front.as_bytes().chain(end.as_bytes());
         found = simulate_traced::<Sim, T, _, _, _>(
             rt,
