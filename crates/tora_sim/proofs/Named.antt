@@ -1,9 +1,9 @@
 -- The nodes and the neighbours that links name, taken from the last link to the first.
-use Rattle.std.proofs.Common.{◌≡◌, refl, sym, ap, ◌∙◌, subst, ℕ, zero, suc, ◌+◌, ◌-◌, ◌<◌, ◌≤◌, ◌==◌, Bool, true, false, not, ◌||◌, nat_lt, List, [], ◌∷◌, length, drop, get_or, cond, arith, if◌then◌else◌}
+use Rattle.std.proofs.Common.{◌≡◌, refl, sym, ap, ◌∙◌, subst, ℕ, zero, suc, ◌+◌, ◌-◌, ◌<◌, ◌≤◌, ◌==◌, Bool, true, false, not, nat_lt, List, [], ◌∷◌, length, drop, get_or, cond, arith, if◌then◌else◌}
 use Rattle.std.proofs.lemmas.Bool.{cond_both}
 use Rattle.std.proofs.lemmas.Bool.Decides.{nat_tests}
 use Rattle.std.proofs.lemmas.List.{drop_more}
-use Rattle.tora_core.specs.Numbers.{has_number, with_number, without_number}
+use Rattle.tora_core.specs.Numbers.{has_number, with_number}
 use Rattle.tora_world.specs.Topology.{Link, nodes_in, with_node, different, different_neighbours, other_ends}
 use Rattle.tora_world.proofs.SoundTopology.{length-with_number, one_if, IsSplit, split-different}
 use Rattle.tora_sim.specs.Topologies.{link_in, links_in, with_end}

@@ -1,12 +1,12 @@
 //! All datagrams that were ever sent.
-ghost use Rattle.std.specs.Prelude.{◌≡◌, ◌<◌, ◌≤◌, ◌+◌, ◌∷◌, ◌++◌, [], length, slice_get, slice_range, vec_len, vec_capacity, OnOk};
+ghost use Rattle.std.specs.Prelude.{◌≡◌, ◌<◌, ◌≤◌, ◌+◌, ◌∷◌, ◌++◌, [], length, slice_get, vec_len, vec_capacity, OnOk};
 ghost use Rattle.std.specs.List.{AllByRecursion};
 ghost use Rattle.tora_frame.specs.FrameParts.{IsFrame};
 ghost use Rattle.tora_sim.specs.Datagrams.{DatagramList, HasRoom, IsKept, frame_in, kept_frame, packets_carried};
 
 use std::alloc::{AllocError, Global};
 use std::marker::Model;
-use tora_frame::{Body, Frame, Header, MOST_PACKETS, Packets};
+use tora_frame::{BorrowedBody, BorrowedFrame, Header, MOST_PACKETS};
 use tora_packet::Packet;
 
 /// What a datagram carries, but for the packets of a DATA frame.
@@ -79,15 +79,15 @@ impl Datagrams {
     }
 
     /// Appends a datagram. There must be room for it.
-    pub fn push(&mut self, frame: &Frame)
+    pub fn push(&mut self, frame: &BorrowedFrame<'_>)
         requires { HasRoom self.old }
         ensures { self.new.items ≡ self.old.items ++ frame.now ∷ [] }
     {
         keep(&mut self.frames, &mut self.packets, frame);
     }
 
-    /// The datagram that stands behind so many others.
-    pub fn get(&self, place: usize) -> Option<Frame>
+    /// The datagram that stands behind so many others, with its packets where they stand.
+    pub fn get(&self, place: usize) -> Option<BorrowedFrame<'_>>
         ensures { result ≡ slice_get self.now.items place }
     {
         let Some(kept) = self.frames.get(place) else {
@@ -98,7 +98,7 @@ impl Datagrams {
 }
 
 /// Keeps a frame, and its packets behind all others.
-fn keep(frames: &mut Vec<KeptFrame>, packets: &mut Vec<Packet>, frame: &Frame)
+fn keep(frames: &mut Vec<KeptFrame>, packets: &mut Vec<Packet>, frame: &BorrowedFrame<'_>)
     requires place { vec_len frames.old < vec_capacity frames.old }
     requires packet_places { vec_len packets.old + 16 ≤ vec_capacity packets.old }
     ensures frames { frames.new.items ≡ frames.old.items ++ kept_frame (length packets.old.items) frame.now ∷ [] }
@@ -106,13 +106,13 @@ fn keep(frames: &mut Vec<KeptFrame>, packets: &mut Vec<Packet>, frame: &Frame)
     ensures valid { IsFrame frame.now }
 {
     let body = match frame.body() {
-        Body::Hello => KeptBody::Hello,
-        Body::Data(number, count, carried) => {
+        BorrowedBody::Hello => KeptBody::Hello,
+        BorrowedBody::Data(number, count, carried) => {
             let from = packets.len();
-            keep_packets(packets, carried.as_slice());
-            KeptBody::Data(*number, *count, from, carried.len())
+            keep_packets(packets, carried);
+            KeptBody::Data(number, count, from, carried.len())
         }
-        Body::Ack(count) => KeptBody::Ack(*count),
+        BorrowedBody::Ack(count) => KeptBody::Ack(count),
     };
     let header = *frame.header();
     frames.push_reserved(KeptFrame { header, body });
@@ -128,29 +128,16 @@ fn keep_packets(packets: &mut Vec<Packet>, carried: &[Packet])
 }
 
 /// The frame that is kept so.
-fn frame_of(packets: &[Packet], kept: &KeptFrame) -> Frame
+fn frame_of<'a>(packets: &'a [Packet], kept: &KeptFrame) -> BorrowedFrame<'a>
     requires { IsKept packets.now kept.now }
     ensures { result ≡ frame_in packets.now kept.now }
 {
     let header = kept.header;
     match kept.body {
-        KeptBody::Hello => Frame::hello(header),
+        KeptBody::Hello => BorrowedFrame::hello(header),
         KeptBody::Data(number, count, from, many) => {
-            Frame::data(header, number, count, packets_from(packets, from, many))
+            BorrowedFrame::data(header, number, count, &packets[from..from + many])
         }
-        KeptBody::Ack(count) => Frame::ack(header, count),
+        KeptBody::Ack(count) => BorrowedFrame::ack(header, count),
     }
-}
-
-/// So many packets from a place on.
-fn packets_from(packets: &[Packet], from: usize, many: usize) -> Packets
-    requires within { from + many ≤ length packets.now }
-    requires most { many ≤ 16 }
-    ensures { result.items ≡ slice_range packets.now from (from + many) }
-{
-    let mut carried = Packets::new();
-    let Ok(()) = carried.try_extend_from_slice(&packets[from..from + many]) else {
-        unreachable!()
-    };
-    carried
 }

@@ -18,7 +18,7 @@ use std::marker::Model;
 use std::mem;
 use tora_arq::{ArqError, Life, LinkEnd, LinkEvent, Times, lives_are_bound_once};
 use tora_core::MOST_NEIGHBOURS;
-use tora_frame::{Frame, Version};
+use tora_frame::{BorrowedFrame, Packets, Version};
 use tora_height::Id;
 use tora_life::{DiskCall, MemDisk, Owner};
 use tora_packet::Packet;
@@ -109,21 +109,21 @@ impl LinkSlot {
         self.end.on_tick(now);
     }
 
-    /// Takes the first frame due.
-    pub fn send(&mut self, now: u64) -> Option<Frame>
+    /// Takes the first frame due, whose packets are put into `packets`.
+    pub fn send<'a>(&mut self, now: u64, packets: &'a mut Packets) -> Option<BorrowedFrame<'a>>
         ensures frame { result ≡ frame_due self.old.settings self.old.state now }
         ensures state { self.new ≡ with_state self.old (after_transmit self.old.settings self.old.state now) }
     {
         lives_are_bound_once();
-        self.end.poll_transmit(now)
+        self.end.poll_transmit_into(now, packets)
     }
 
     /// Takes a frame in.
-    pub fn receive(&mut self, frame: &Frame, now: u64)
+    pub fn receive(&mut self, frame: &BorrowedFrame<'_>, now: u64)
         ensures { self.new ≡ with_state self.old (after_frame self.old.settings self.old.state frame.now now) }
     {
         lives_are_bound_once();
-        self.end.on_frame(frame, now);
+        self.end.on_borrowed_frame(frame, now);
     }
 
     /// Takes the first event.

@@ -16,7 +16,7 @@ use crate::sim::{Sim, numbered};
 use crate::topology::Topology;
 use std::alloc::{AllocError, Global};
 use tora_arq::Life;
-use tora_frame::Frame;
+use tora_frame::BorrowedFrame;
 use tora_height::{Entry, Id};
 use tora_packet::Packet;
 use tora_seat::Cargo;
@@ -217,7 +217,7 @@ fn way_of_numbered(datagrams: &Datagrams, i: u64) -> Option<(Id, Id)>
     }
 }
 
-fn way_of(frame: &Frame) -> (Id, Id)
+fn way_of(frame: &BorrowedFrame<'_>) -> (Id, Id)
     ensures { result ≡ way_of frame.now }
 {
     (frame.header().sender, frame.header().receiver)

@@ -19,7 +19,7 @@ use crate::turns::turn;
 use crate::{Call, Event, SimError};
 use std::marker::Model;
 use tora_arq::{LinkEvent, Times, data_frames_are_what_was_submitted};
-use tora_frame::Frame;
+use tora_frame::{BorrowedFrame, Packets};
 use tora_height::Id;
 use tora_life::DiskCall;
 use tora_seat::What;
@@ -122,7 +122,8 @@ impl Sim {
             return Err(SimError::Memory);
         }
         data_frames_are_what_was_submitted();
-        let Some(frame) = self.links[at].send(self.clock) else {
+        let mut packets = Packets::new();
+        let Some(frame) = self.links[at].send(self.clock, &mut packets) else {
             return Err(SimError::NotPossible);
         };
         note_sent(&mut self.nodes[home], &mut self.datagrams, &frame);
@@ -301,7 +302,7 @@ fn what_of(event: LinkEvent) -> What
 }
 
 /// The datagram of a number from 1 on.
-pub fn numbered(datagrams: &Datagrams, i: u64) -> Option<Frame>
+pub fn numbered(datagrams: &Datagrams, i: u64) -> Option<BorrowedFrame<'_>>
     ensures { result ≡ numbered i datagrams.now.items }
 {
     let place = usize::try_from(i).ok()?.checked_sub(1)?;
@@ -309,7 +310,7 @@ pub fn numbered(datagrams: &Datagrams, i: u64) -> Option<Frame>
 }
 
 /// Notes a datagram that a node sent, unless the send is armed to lose it; the arm is used.
-fn note_sent(node: &mut NodeSlot, datagrams: &mut Datagrams, frame: &Frame)
+fn note_sent(node: &mut NodeSlot, datagrams: &mut Datagrams, frame: &BorrowedFrame<'_>)
     requires { HasRoom datagrams.old }
     ensures node { node.new ≡ record node.old { sending = Sending.Goes } }
     ensures datagrams { datagrams.new.items ≡ with_datagram (sending_of node.old.sending) datagrams.old.items frame.now }

@@ -36,7 +36,8 @@ impl Sim {
     pub fn frame(&self, i: u64) -> Option<Frame>
         ensures { result ≡ datagram (world_of self.now) i }
     {
-        numbered(&self.datagrams, i)
+        let frame = numbered(&self.datagrams, i)?;
+        Some(frame.to_frame())
     }
 }
 
