@@ -2,7 +2,7 @@
 # Refuses memory to every test of every crate: the Nth call for it, N from 1 on until none is refused any more, each in a run
 # of its own. A test named `want_of_memory..` must pass in every run. Any other test may fail where it wants memory, but none
 # may fault or hang. (Tests that run threads may wait for one that was not started: those of a crate that has `tests_may=Threads..`
-# in crates.txt. They are ended after 20 seconds and counted.)
+# in crates.txt. They are ended after 20 seconds and counted; any other test has 60.)
 # usage: bench/refused-memory.sh [-m MOST] [CRATE ..]     all crates where none is named; MOST is 2000 without -m
 # Behind the MOSTth call N goes on in steps of a twentieth. The crates' tests are built by `rt test`, which proves them, where
 # they are not built. It needs a C compiler.
@@ -23,7 +23,7 @@ cc -O1 -shared -fPIC -o "$work/refuse.so" "$top/bench/refuse.c" || exit 2
 run() {
   local status=0
   rm -f "$work/came"
-  (cd "$work" && timeout 20 env LD_PRELOAD="$work/refuse.so" REFUSE_AT="$3" REFUSE_LOG="$work/came" "$1" "$2" >"$work/log" 2>&1) || status=$?
+  (cd "$work" && timeout "$limit" env LD_PRELOAD="$work/refuse.so" REFUSE_AT="$3" REFUSE_LOG="$work/came" "$1" "$2" >"$work/log" 2>&1) || status=$?
   if [ "$status" -eq 134 ] && grep -q '^test stopped at ' "$work/log"; then status=101; fi
   return "$status"
 }
@@ -61,6 +61,7 @@ for crate in "$@"; do
   [ -x "$tests" ] || (cd "$crate" && rt test) >"$work/built" 2>&1 || { tail -n 5 "$work/built"; exit 2; }
   calls=0 all_runs=0 all_failed=0 thinned= count=0 waited=0
   threads=$(grep "^$crate " "$top/crates.txt" | grep -o 'tests_may=Threads')
+  limit=$([ -n "$threads" ] && echo 20 || echo 60)
   for name in $("$tests" --list | sed -n 's/: test$//p'); do
     count=$((count + 1))
     sweep "$tests" "$name" || wrong=$((wrong + 1))
