@@ -2,23 +2,39 @@
 ghost use Rattle.std.specs.Prelude.{◌≡◌};
 ghost use Rattle.tora_core.specs.Errors.{core_error_number, step_error_number};
 
+use std::fmt;
 use thiserror::Error;
 
 /// Why there is no core, or no text of one. Own profile.
 #[derive(Clone, Copy, Debug, PartialEq, Eq, Hash, Error)]
 pub enum CoreError {
     /// There is not enough memory.
-    #[error("there is not enough memory")]
     Memory,
     /// There are more than `MOST_NEIGHBOURS` neighbours or more than `MOST_DESTINATIONS` destinations.
-    #[error("there are too many neighbours or too many destinations")]
     TooMany,
     /// A neighbour or a destination is named twice.
-    #[error("a neighbour or a destination is named twice")]
     Repeated,
     /// The node itself is among its neighbours.
-    #[error("the node itself is among its neighbours")]
     OwnId,
+}
+
+/// The cause in words.
+impl fmt::Display for CoreError {
+    ghost use Rattle.std.specs.Prelude.{Some};
+    ghost use Rattle.tora_core.specs.Errors.{written_core_error};
+
+    ghost output = { λ e. Some (written_core_error e) };
+
+    fn fmt<W: fmt::Write>(&self, f: &mut fmt::Formatter<W>) -> fmt::Result {
+        match self {
+            CoreError::Memory => f.write_str("there is not enough memory"),
+            CoreError::TooMany => {
+                f.write_str("there are too many neighbours or too many destinations")
+            }
+            CoreError::Repeated => f.write_str("a neighbour or a destination is named twice"),
+            CoreError::OwnId => f.write_str("the node itself is among its neighbours"),
+        }
+    }
 }
 
 impl CoreError {
@@ -39,20 +55,35 @@ impl CoreError {
 #[derive(Clone, Copy, Debug, PartialEq, Eq, Hash, Error)]
 pub enum StepError {
     /// The neighbour is not one of the configured ones.
-    #[error("the neighbour is not configured")]
     UnknownNeighbour,
     /// The link that comes up is up already.
-    #[error("the link is up already")]
     AlreadyUp,
     /// The link that goes down, or over which a packet came, is not up.
-    #[error("the link is not up")]
     NotUp,
     /// The height of an update is not that of the neighbour from which it came.
-    #[error("the update is not of the neighbour that sent it")]
     WrongSender,
     /// The needed destination is not in the table.
-    #[error("the destination is not in the table")]
     UnknownDestination,
+}
+
+/// The cause in words.
+impl fmt::Display for StepError {
+    ghost use Rattle.std.specs.Prelude.{Some};
+    ghost use Rattle.tora_core.specs.Errors.{written_step_error};
+
+    ghost output = { λ e. Some (written_step_error e) };
+
+    fn fmt<W: fmt::Write>(&self, f: &mut fmt::Formatter<W>) -> fmt::Result {
+        match self {
+            StepError::UnknownNeighbour => f.write_str("the neighbour is not configured"),
+            StepError::AlreadyUp => f.write_str("the link is up already"),
+            StepError::NotUp => f.write_str("the link is not up"),
+            StepError::WrongSender => {
+                f.write_str("the update is not of the neighbour that sent it")
+            }
+            StepError::UnknownDestination => f.write_str("the destination is not in the table"),
+        }
+    }
 }
 
 impl StepError {
