@@ -1,4 +1,4 @@
--- Lives, verdicts and reasons as text.
+-- Lives, verdicts, reasons and errors as text.
 use Rattle.std.specs.Prelude.{ℕ, codes, List, ◌++◌}
 use Rattle.std.specs.Fmt.{decimal}
 use Rattle.tora_arq.specs.declared.Life.{Life}
@@ -6,6 +6,8 @@ use Rattle.tora_arq.specs.declared.Verdict.{Verdict}
 use Rattle.tora_arq.specs.declared.Verdict.TheVariants as Judged
 use Rattle.tora_arq.specs.declared.Reason.{Reason}
 use Rattle.tora_arq.specs.declared.Reason.TheVariants as Because
+use Rattle.tora_arq.specs.declared.SubmitError.{SubmitError}
+use Rattle.tora_arq.specs.declared.SubmitError.TheVariants as Refusal
 
 -- a life as OWN/PEER
 abbrev pub written_life : Life → List ℕ
@@ -27,3 +29,9 @@ written_reason Because.NewPeer = codes "new peer"
 written_reason Because.Full = codes "full"
 written_reason Because.Cut = codes "cut"
 written_reason Because.Spent = codes "spent"
+
+-- why a packet is not submitted, in words
+abbrev pub written_submit_error : SubmitError → List ℕ
+written_submit_error (Refusal.WrongLife packet) = codes "the life is not the bound one"
+written_submit_error Refusal.Full = codes "the send queue is full"
+written_submit_error Refusal.Spent = codes "the numbers of packets are used up"

@@ -240,14 +240,27 @@ impl LinkEvent {
 #[derive(Clone, Copy, Debug, PartialEq, Eq, Hash, Error)]
 pub enum SubmitError {
     /// The life is not the bound one. The packet is handed back.
-    #[error("the life is not the bound one")]
     WrongLife(Packet),
     /// The send queue is full: the life ended.
-    #[error("the send queue is full")]
     Full,
     /// The numbers of packets are used up: the life ended.
-    #[error("the numbers of packets are used up")]
     Spent,
+}
+
+/// The cause in words.
+impl fmt::Display for SubmitError {
+    ghost use Rattle.std.specs.Prelude.{Some};
+    ghost use Rattle.tora_arq.specs.Texts.{written_submit_error};
+
+    ghost output = { λ e. Some (written_submit_error e) };
+
+    fn fmt<W: fmt::Write>(&self, f: &mut fmt::Formatter<W>) -> fmt::Result {
+        match self {
+            SubmitError::WrongLife(_) => f.write_str("the life is not the bound one"),
+            SubmitError::Full => f.write_str("the send queue is full"),
+            SubmitError::Spent => f.write_str("the numbers of packets are used up"),
+        }
+    }
 }
 
 impl SubmitError {
@@ -267,8 +280,20 @@ impl SubmitError {
 #[derive(Clone, Copy, Debug, PartialEq, Eq, Hash, Error)]
 pub enum ArqError {
     /// There is no memory for its rings.
-    #[error("out of memory")]
     Memory,
+}
+
+/// The cause in words.
+impl fmt::Display for ArqError {
+    ghost use Rattle.std.specs.Prelude.{Some, codes};
+
+    ghost output = { λ _. Some (codes "out of memory") };
+
+    fn fmt<W: fmt::Write>(&self, f: &mut fmt::Formatter<W>) -> fmt::Result {
+        match self {
+            ArqError::Memory => f.write_str("out of memory"),
+        }
+    }
 }
 
 #[cfg(test)]
