@@ -463,6 +463,39 @@ fn example_of_the_documentation(rt: HostRuntime) -> Result<(), Fail> {
     Ok(())
 }
 
+/// An end that was made takes no memory any more: a life is opened and bound, packets wait until the queue is full, and the
+/// life ends.
+fn lives(rt: &impl Abort, mut end: LinkEnd) {
+    assert_eq!(rt; (end.me(), end.peer(), end.waiting()), (1, 2, 0));
+    opened(rt, &mut end, 5);
+    takes(rt, &mut end, &[(9, 5, Sent::Hello, Verdict::Accepted)]);
+    tells(rt, &mut end, &[LinkEvent::Up(LIFE)]);
+    for number in 1..257 {
+        assert_eq!(rt; end.submit(LIFE, query(rt, number)), Ok(()));
+    }
+    takes(rt, &mut end, &[(9, 5, Sent::Data(32), Verdict::Ahead)]);
+    assert_eq!(rt; end.waiting(), 256);
+    let one_more = end.submit(LIFE, query(rt, 257));
+    assert_eq!(rt; one_more, Err(SubmitError::Full));
+    tells(rt, &mut end, &[LinkEvent::Down(LIFE, Reason::Full)]);
+}
+
+// With each request for memory refused in turn: a refusal is answered by Memory, and leaves nothing that stops the next end
+// from being made; an end that is made lives without memory.
+#[test]
+fn want_of_memory_is_answered(rt: HostRuntime) {
+    for _ in 0..2 {
+        match LinkEnd::new(rt.alloc(), 1, 2, Times::STANDARD) {
+            Err(error) => assert_eq!(&rt; error, ArqError::Memory),
+            Ok(end) => lives(&rt, end),
+        }
+        match LinkEnd::new_v1(rt.alloc(), 1, 2, Times::STANDARD) {
+            Err(error) => assert_eq!(&rt; error, ArqError::Memory),
+            Ok(end) => lives(&rt, end),
+        }
+    }
+}
+
 #[test]
 fn errors_are_printed_with_their_cause(rt: HostRuntime) -> Result<(), Fail> {
     let rows = [
@@ -477,5 +510,7 @@ fn errors_are_printed_with_their_cause(rt: HostRuntime) -> Result<(), Fail> {
         let printed = format!(in rt.alloc(); "{error}")?;
         assert_eq!(&rt; printed.as_str(), text);
     }
+    let printed = format!(in rt.alloc(); "{}", ArqError::Memory)?;
+    assert_eq!(&rt; printed.as_str(), "out of memory");
     Ok(())
 }

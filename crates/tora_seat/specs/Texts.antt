@@ -1,13 +1,16 @@
--- Items, cargoes and what they tell, as text.
+-- Items, cargoes, what they tell and answers, as text.
 use Rattle.std.specs.Prelude.{ℕ, codes, List, ◌++◌}
 use Rattle.std.specs.Fmt.{decimal}
 use Rattle.tora_packet.specs.PacketText.{written_packet}
 use Rattle.tora_arq.specs.Texts.{written_life, written_reason}
+use Rattle.tora_core.specs.Errors.{written_step_error}
 use Rattle.tora_seat.specs.declared.What.{What}
 use Rattle.tora_seat.specs.declared.What.TheVariants as Tells
 use Rattle.tora_seat.specs.declared.Item.{Item}
 use Rattle.tora_seat.specs.declared.Cargo.{Cargo}
 use Rattle.tora_seat.specs.declared.Cargo.TheVariants as Gives
+use Rattle.tora_seat.specs.declared.Answer.{Answer}
+use Rattle.tora_seat.specs.declared.Answer.TheVariants as Says
 
 -- a word, and behind it the life, the packet, the reason or the destination
 abbrev pub written_what : What → List ℕ
@@ -26,3 +29,10 @@ written_item item = decimal item.seat ++ codes " " ++ decimal item.number ++ cod
 abbrev pub written_cargo : Cargo → List ℕ
 written_cargo (Gives.Packet life packet) = codes "packet " ++ written_life life ++ codes " " ++ written_packet packet
 written_cargo (Gives.Cut life) = codes "cut " ++ written_life life
+
+-- a word, and behind it the cause of a refusal
+abbrev pub written_answer : Answer → List ℕ
+written_answer Says.Nothing = codes "nothing"
+written_answer (Says.Refused error) = codes "refused: " ++ written_step_error error
+written_answer Says.Show = codes "show"
+written_answer Says.Quit = codes "quit"

@@ -56,7 +56,13 @@ impl fmt::Display for Cargo {
     }
 }
 
+/// A word, and behind it the cause of a refusal.
 impl fmt::Display for Answer {
+    ghost use Rattle.std.specs.Prelude.{Some};
+    ghost use Rattle.tora_seat.specs.Texts.{written_answer};
+
+    ghost output = { λ answer. Some (written_answer answer) };
+
     fn fmt<W: fmt::Write>(&self, f: &mut fmt::Formatter<W>) -> fmt::Result {
         match self {
             Answer::Nothing => f.write_str("nothing"),

@@ -209,6 +209,49 @@ fn packet_of_the_current_life_is_handed_to_the_core(rt: HostRuntime) -> Result<(
     Ok(())
 }
 
+// With each request for memory refused in turn: there is no seat, or one that serves without memory.
+#[test]
+fn want_of_memory_is_answered(rt: HostRuntime) {
+    let Ok(core) = Core::new(rt.alloc(), 1, &[2, 3], &[4]) else {
+        return;
+    };
+    let Ok(mut seat) = CoreSeat::new(rt.alloc(), core) else {
+        return;
+    };
+    let mut lanes = TestLanes {
+        first: 0,
+        second: 0,
+        offers: Vec::new(rt.alloc()),
+    };
+    serves(&rt, &mut seat, &mut lanes, 0, What::Up(FIRST));
+    assert_eq!(&rt; seat.inputs(), [Input::LinkUp(2)].as_slice());
+    serves(&rt, &mut seat, &mut lanes, 2, What::Need(4));
+    assert_eq!(&rt; seat.inputs(), [Input::Need(4)].as_slice());
+    assert_eq!(&rt; lanes.first, 1);
+    serves(&rt, &mut seat, &mut lanes, 0, What::Up(SECOND));
+    let inputs = [Input::LinkDown(2), Input::LinkUp(2)];
+    assert_eq!(&rt; seat.inputs(), inputs.as_slice());
+    assert_eq!(&rt; seat.current(0), Some(SECOND));
+}
+
+#[test]
+fn answers_are_shown(rt: HostRuntime) -> Result<(), Fail> {
+    let rows = [
+        (Answer::Nothing, "nothing"),
+        (
+            Answer::Refused(StepError::WrongSender),
+            "refused: the update is not of the neighbour that sent it",
+        ),
+        (Answer::Show, "show"),
+        (Answer::Quit, "quit"),
+    ];
+    for (answer, text) in rows {
+        let printed = format!(in rt.alloc(); "{answer}")?;
+        assert_eq!(&rt; printed.as_str(), text);
+    }
+    Ok(())
+}
+
 #[test]
 fn items_and_cargoes_are_shown(rt: HostRuntime) -> Result<(), Fail> {
     let alloc = rt.alloc();
