@@ -146,6 +146,10 @@ abbrev pub is_entry_at : Level → Option Quintuple → Bool
 is_entry_at level None = false
 is_entry_at level (Some height) = is_at level height
 
+-- whether the entry at this level is erased
+abbrev pub is_cleared : ℕ → Level → Row → Bool
+is_cleared destination level row = not (row.neighbour == destination) && is_entry_at level row.entry
+
 abbrev pub cleared_row : ℕ → Level → Row → Row
 cleared_row destination level row = if not (row.neighbour == destination) && is_entry_at level row.entry then record row { entry = None } else row
 

@@ -3,7 +3,7 @@ ghost use Rattle.std.specs.Prelude.{◌≡◌, false, ◌<◌, ◌≤◌, ◌+�
 ghost use Rattle.std.specs.List.{list_any, list_all};
 ghost use Rattle.arrayvec.specs.ArrayVec.{array_vec_len};
 ghost use Rattle.tora_height.specs.Height.{IsLevel};
-ghost use Rattle.tora_core.specs.View.{neighbours_of, heights_of, are_null, is_downstream, lower_of, least_height, lower_row_of, higher_level_of, greatest_level, lower_delta_of, least_delta, is_at, all_told, told_row, row_with_entry, is_told, with_entry, erased_row, all_erased, cleared_row, all_cleared, is_entry_at, with_row, without_row};
+ghost use Rattle.tora_core.specs.View.{neighbours_of, heights_of, are_null, is_downstream, lower_of, least_height, lower_row_of, higher_level_of, greatest_level, lower_delta_of, least_delta, is_at, all_told, told_row, row_with_entry, is_told, with_entry, erased_row, all_erased, cleared_row, all_cleared, is_cleared, is_entry_at, with_row, without_row};
 ghost use Rattle.tora_core.specs.Heights.{time_after_all};
 ghost use Rattle.tora_core.specs.Links.{with_entry_at};
 
@@ -176,6 +176,7 @@ pub fn is_entry_at(level: Level, entry: Entry) -> bool
 /// Erases the entry at a level, but for that of the destination. Answers whether it was there.
 fn clear_row(destination: Id, level: Level, row: &mut Row) -> bool
     ensures row { row.new ≡ cleared_row destination level row.old }
+    ensures cleared { result ≡ is_cleared destination level row.old }
     ensures none { result ≡ false → row.new ≡ row.old }
 {
     let other = row.neighbour != destination;
@@ -191,6 +192,7 @@ fn clear_row(destination: Id, level: Level, row: &mut Row) -> bool
 /// Erases the entries at a level, but for that of the destination. Answers whether there were some.
 pub fn clear_level(destination: Id, level: Level, rows: &mut [Row]) -> bool
     ensures rows { rows.new ≡ all_cleared destination level rows.old }
+    ensures cleared { result ≡ list_any (is_cleared destination level) rows.old }
     ensures none { result ≡ false → rows.new ≡ rows.old }
 {
     let mut cleared = false;

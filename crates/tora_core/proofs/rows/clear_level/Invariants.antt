@@ -1,10 +1,12 @@
 use Rattle.std.proofs.Common.{◌≡◌, ◌++◌, false, map, take, drop}
-use Rattle.tora_core.specs.View.{cleared_row}
+use Rattle.std.specs.List.{list_any}
+use Rattle.tora_core.specs.View.{cleared_row, is_cleared}
 use Rattle.tora_core.proofs.rows.clear_level.Given as goal
 
--- the rows so far are changed, the others are not, and where none was cleared nothing is changed
+-- the rows so far are changed, the others are not; whether one was cleared, and where none was nothing is changed
 abbrev pub invariant-loop-row : goal.invariant-loop-row
 invariant-loop-row l = record {
   rows : l.rows ≡ map (cleared_row l.destination l.level) (take l.row-index l.initial.rows) ++ drop l.row-index l.initial.rows;
+  cleared : l.cleared ≡ list_any (is_cleared l.destination l.level) (take l.row-index l.initial.rows);
   none : l.cleared ≡ false → l.rows ≡ l.initial.rows;
 }
