@@ -3,7 +3,7 @@ use Rattle.std.specs.Prelude.{◌≡◌, ℕ, List, [], ◌∷◌, ◌++◌}
 use denote.RawPtr.{Ptr}
 use Rattle.rtrb.specs.declared.producer.Producer.{Producer}
 use Rattle.rtrb.specs.declared.consumer.Consumer.{Consumer}
-use Rattle.rtrb.specs.Ring.{sent, received}
+use Rattle.rtrb.specs.Ring.{sent, received, known_items}
 use Rattle.tora_seat.specs.declared.Cargo.{Cargo}
 
 -- which ring it is
@@ -17,17 +17,18 @@ pub record SendEnd : Type 0 where
   pub ring : Ring
   pub sent : List Cargo
 
--- all that the end has received, oldest first
+-- all that the end has received, and those behind them that it has found in the lane, oldest first
 pub record ReceiveEnd : Type 0 where
   pub ring : Ring
   pub received : List Cargo
+  pub found : List Cargo
 
 module _ {A P : Type 0} where
   abbrev pub send_end : Producer Cargo A P → SendEnd
   send_end p = record { ring = record { words = p.end.words; slots = p.end.slots; names = p.end.names }; sent = sent p }
 
   abbrev pub receive_end : Consumer Cargo A P → ReceiveEnd
-  receive_end c = record { ring = record { words = c.end.words; slots = c.end.slots; names = c.end.names }; received = received c }
+  receive_end c = record { ring = record { words = c.end.words; slots = c.end.slots; names = c.end.names }; received = received c; found = known_items c }
 
 -- the two ends of one lane
 abbrev pub AreEndsOf : SendEnd → ReceiveEnd → Type 0

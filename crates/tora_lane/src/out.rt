@@ -2,6 +2,7 @@
 ghost use Rattle.std.specs.Prelude.{◌≡◌, ◌+◌, ◌^◌, ◌<◌, ◌≤◌, ◌++◌, ◌∷◌, [], List, length, IsOk, IsErr, OnOk, IfOk, IfErr, IfSome, IfNone};
 ghost use Rattle.tora_lane.specs.Out.{AreEndsOf, with_sent};
 ghost use Rattle.tora_seat.specs.declared.Cargo.{Cargo};
+ghost use mathlib.Core.List.{IsPrefix};
 
 use crate::limits::{MOST_IN_ALL, OUT_LANE_ROOM};
 use rtrb::{Consumer, Producer, PushError, RingBuffer};
@@ -28,7 +29,8 @@ impl Model for OutPut {
     ghost invariant = { λ o. (256 ≤ known_free o.producer + length (sent o.producer)) × (o.count ≡ length (sent o.producer)) × (o.count ≤ 2 ^ 61) };
 }
 
-/// The neighbour's end of the lane from the core. Contracts see all that it has received, oldest first. Own profile.
+/// The neighbour's end of the lane from the core. Contracts see all that it has received, oldest first, and which of the
+/// cargoes behind them it has found in the lane. Own profile.
 #[derive(Drop)]
 pub struct OutTake {
     consumer: Consumer<Cargo>,
@@ -55,7 +57,7 @@ pub struct OutEnd {
 
 // A lane with nothing in it.
 pub(crate) fn out_lane(alloc: Global) -> Result<(OutPut, OutTake), AllocError>
-    ensures { IfOk result (λ r. AreEndsOf r.0 r.1 × (r.0.sent ≡ []) × (r.1.received ≡ [])) }
+    ensures { IfOk result (λ r. AreEndsOf r.0 r.1 × (r.0.sent ≡ []) × (r.1.received ≡ []) × (r.1.found ≡ [])) }
 {
     let (producer, consumer) = RingBuffer::new(alloc, OUT_LANE_ROOM)?;
     let put = OutPut { producer, count: 0 };
@@ -89,11 +91,16 @@ impl OutPut {
 }
 
 impl OutTake {
-    /// Takes the oldest cargo of the lane, or None where none was found there. It waits for nobody, and takes no memory.
+    /// Takes the oldest cargo of the lane, or None where none is found there. It waits for nobody, and takes no memory.
+    ///
+    /// It looks for cargoes once it has taken all that it had found, and then finds all that it sees in the lane. So what was
+    /// found is taken next, and None is answered only where nothing is found. No clause says when a cargo that another thread
+    /// has sent is seen.
     pub fn take(&mut self) -> Option<Cargo>
         ensures lane { self.new.ring ≡ self.old.ring }
         ensures taken { IfSome result (λ c. self.new.received ≡ self.old.received ++ c ∷ []) }
-        ensures none { IfNone result (self.new.received ≡ self.old.received) }
+        ensures found { IfSome result (λ c. IsPrefix self.old.found (c ∷ self.new.found)) }
+        ensures none { IfNone result ((self.new.received ≡ self.old.received) × (self.old.found ≡ []) × (self.new.found ≡ [])) }
     {
         match self.consumer.pop() {
             Ok(cargo) => Some(cargo),
@@ -103,10 +110,10 @@ impl OutTake {
 }
 
 /// Brings both ends of a lane together, once each has ended its work, and tells what became of the cargoes: what was
-/// received and then what is left in the lane is what was sent. Own profile.
+/// received and then what is left in the lane is what was sent, and what was found and not received is left first. Own profile.
 pub fn settle_out(put: OutPut, take: OutTake) -> OutEnd
     requires { AreEndsOf put take }
-    ensures { (waiting : List Cargo) × (take.received ++ waiting ≡ put.sent) × (result.sent ≡ length put.sent) × (result.received ≡ length take.received) × (result.waiting ≡ length waiting) }
+    ensures { (waiting : List Cargo) × (take.received ++ waiting ≡ put.sent) × IsPrefix take.found waiting × (result.sent ≡ length put.sent) × (result.received ≡ length take.received) × (result.waiting ≡ length waiting) }
 {
     let OutPut {
         mut producer,

@@ -507,3 +507,36 @@ fn node_has_one_to_32_links(rt: HostRuntime) -> Result<(), Fail> {
     assert_eq!(&rt; LaneError::Memory.number(), 1);
     Ok(())
 }
+
+/// Goes over the lanes of a node that has just been made, by one thread: an item and a cargo of the last link.
+fn use_lanes<R: Wait + Abort>(rt: &R, lanes: Lanes, links: usize) {
+    let Lanes {
+        mut core,
+        command: _,
+        links: mut sides,
+        mut outs,
+    } = lanes;
+    assert_eq!(rt; (sides.len(), outs.len()), (links, links));
+    let (mut port, mut take) = sides.pop().expect(rt, "a link");
+    let mut out = outs.pop().expect(rt, "its lane");
+    assert_eq!(rt; port.put(rt, 7, What::Beat), Ok(()));
+    let item = core.take(rt).ok().expect(rt, "the item");
+    assert_eq!(rt; (item.seat, item.number, item.now), (links - 1, 1, 7));
+    assert_eq!(rt; take.take(), None);
+    assert_eq!(rt; out.send(cargo(1)), Ok(()));
+    assert_eq!(rt; take.take(), Some(cargo(1)));
+    assert_eq!(rt; take.take(), None);
+}
+
+// Where memory is refused `lanes` answers so, and nothing is left of what it had made: the next call finds what it needs. No
+// other call of a lane takes memory, but for one that waits.
+#[test]
+fn want_of_memory_is_answered(rt: HostRuntime) -> Result<(), Fail> {
+    for links in [1, 2, 32] {
+        match lanes(&rt, rt.alloc(), links) {
+            Err(error) => assert_eq!(&rt; error, LaneError::Memory),
+            Ok(made) => use_lanes(&rt, made, links),
+        }
+    }
+    Ok(())
+}

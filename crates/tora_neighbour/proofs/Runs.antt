@@ -8,7 +8,7 @@ use Rattle.tora_frame.specs.FrameGrammar.{frame_spelling, frame_reading}
 use Rattle.tora_arq.specs.Settings.{Settings}
 use Rattle.tora_arq.specs.LinkEnd.{EndState}
 use Rattle.tora_arq.specs.LinkFacts.{list_of}
-use Rattle.tora_neighbour.specs.Turns.{Turn, IsTurn, AreTurns, AreBeats, is_beat_due, beat_after, tally_after}
+use Rattle.tora_neighbour.specs.Turns.{Turn, IsTurn, AreTurns, AreBeats, AreTold, is_beat_due, beat_after, tally_after}
 use Rattle.tora_neighbour.specs.Traffic.{Outside, Traffic, Came, AreDrawn, entries_of, numbers_opened, frames_sent, readings_come}
 use Rattle.tora_neighbour.specs.declared.tally.Tally.{Tally}
 use Rattle.tora_neighbour.specs.Intake.{Reading}
@@ -68,3 +68,7 @@ beats_more last (u ∷ ts) mid t after beats due is = (beats.0, beats_more (beat
 pub tally_more : (first : Tally) (ts : List Turn) (mid : Tally) (t : Turn) (after : Tally) → mid ≡ tally_after first ts → after ≡ counted_in t.intake mid → after ≡ tally_after first (ts ++ t ∷ [])
 tally_more first [] mid t after so one = one ∙ ap (counted_in t.intake) so
 tally_more first (u ∷ ts) mid t after so one = tally_more (counted_in u.intake first) ts mid t after so one
+
+pub told_more : (told : ℕ → Type 0) (ts : List Turn) (t : Turn) → AreTold told ts → told t.now → AreTold told (ts ++ t ∷ [])
+told_more told [] t so one = (one, tt)
+told_more told (u ∷ ts) t so one = (so.0, told_more told ts t so.1 one)

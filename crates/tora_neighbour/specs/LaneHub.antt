@@ -1,5 +1,6 @@
 -- What the calls of a hub over lanes make of its two ends.
 use Rattle.std.specs.Prelude.{◌≡◌, ℕ, ◌+◌, true, false, [], ◌∷◌, ◌++◌, length, Option, Some, None, Result, Ok, Err}
+use mathlib.Core.List.{IsPrefix}
 use Rattle.tora_seat.specs.declared.Cargo.{Cargo}
 use Rattle.tora_seat.specs.declared.What.{What}
 use Rattle.tora_lane.specs.declared.ports.Gone.{Gone}
@@ -15,7 +16,7 @@ abbrev pub PutsAtPort : InEnd → ℕ → What → Result (Unit {0}) Gone → In
 PutsAtPort p now what (Ok done) after = IsSamePort p after × (after.put ≡ p.put ++ new_item p.seat (length p.put + 1) now what ∷ []) × (after.gone ≡ false)
 PutsAtPort p now what (Err gone) after = IsSamePort p after × (after.put ≡ p.put) × (after.gone ≡ true)
 
--- one cargo more was received, or none
+-- one cargo more was received, the first of those that were found in the lane, or none, where none was found
 abbrev pub TakesFromLane : ReceiveEnd → Option Cargo → ReceiveEnd → Type 0
-TakesFromLane o (Some cargo) after = (after.ring ≡ o.ring) × (after.received ≡ o.received ++ cargo ∷ [])
-TakesFromLane o None after = (after.ring ≡ o.ring) × (after.received ≡ o.received)
+TakesFromLane o (Some cargo) after = (after.ring ≡ o.ring) × (after.received ≡ o.received ++ cargo ∷ []) × IsPrefix o.found (cargo ∷ after.found)
+TakesFromLane o None after = (after.ring ≡ o.ring) × (after.received ≡ o.received) × (o.found ≡ []) × (after.found ≡ [])

@@ -120,6 +120,13 @@ abbrev pub AreBeats : Option ℕ → List Turn → Option ℕ → Type 0
 AreBeats last [] after = after ≡ last
 AreBeats last (t ∷ turns) after = (t.beat ≡ is_beat_due last t.now) × AreBeats (beat_after last t) turns after
 
+-- ---- ticks
+
+-- the tick of each turn is one that was told
+abbrev pub AreTold : (ℕ → Type 0) → List Turn → Type 0
+AreTold told [] = Unit {0}
+AreTold told (t ∷ turns) = told t.now × AreTold told turns
+
 -- ---- the tally
 
 -- each datagram that came is counted

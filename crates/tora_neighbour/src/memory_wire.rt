@@ -18,6 +18,11 @@ pub struct Sent {
 }
 
 impl Default for Sent {
+    ghost use Rattle.std.specs.Prelude.{◌≡◌, []};
+    ghost use Rattle.tora_neighbour.specs.MemoryWire.{sent_of};
+
+    ghost is_default = { λ s. sent_of s ≡ [] };
+
     fn default() -> Self {
         Sent {
             bytes: [0; LONGEST],

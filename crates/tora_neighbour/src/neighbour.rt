@@ -2,7 +2,7 @@
 ghost use Rattle.std.specs.Prelude.{◌≡◌, [], ◌∷◌, ◌++◌, ℕ, List};
 ghost use Rattle.tora_arq.specs.LinkEnd.{first_end};
 ghost use Rattle.tora_neighbour.specs.Tally.{first_tally};
-ghost use Rattle.tora_neighbour.specs.Turns.{Turn, IsTurnRun, tally_after};
+ghost use Rattle.tora_neighbour.specs.Turns.{Turn, IsTurnRun, AreTold, tally_after};
 ghost use Rattle.tora_neighbour.specs.Traffic.{Traffic, outside};
 ghost use Rattle.tora_neighbour.specs.Calls.{AreCalls, LastCalls};
 ghost use Rattle.tora_neighbour.specs.Causes.{fault_of, IsEndOf};
@@ -52,7 +52,7 @@ pub fn run_neighbour<R: Wait, D: Disk, W: Wire, C: Clock, H: Hub>(
     hub: H,
 ) -> Finished<D, W, H>
     requires new { link.end.state ≡ first_end }
-    ensures turns { (turns : List Turn) × (last : Turn) × (ending : Ending) × (result.fault ≡ fault_of link.end.settings.peer ending) × IsTurnRun link.end.settings link.end.state turns last ending result.link.end.state × Traffic (outside H.puts H.takes W.tells W.coming W.tries link hub) (turns ++ last ∷ []) (outside H.puts H.takes W.tells W.coming W.tries result.link result.hub) × (result.tally ≡ tally_after first_tally (turns ++ last ∷ [])) × ((before : H) × (wire : W) × AreCalls H.did_take H.did_put W.did_send W.did_receive hub link.wire turns before wire × LastCalls H.did_take H.did_put W.did_send W.did_receive before wire last ending result.hub result.link.wire) }
+    ensures turns { (turns : List Turn) × (last : Turn) × (ending : Ending) × (result.fault ≡ fault_of link.end.settings.peer ending) × IsTurnRun link.end.settings link.end.state turns last ending result.link.end.state × Traffic (outside H.puts H.takes W.tells W.coming W.tries link hub) (turns ++ last ∷ []) (outside H.puts H.takes W.tells W.coming W.tries result.link result.hub) × (result.tally ≡ tally_after first_tally (turns ++ last ∷ [])) × AreTold (C.did_tell clock.now) (turns ++ last ∷ []) × ((before : H) × (wire : W) × AreCalls H.did_take H.did_put W.did_send W.did_receive hub link.wire turns before wire × LastCalls H.did_take H.did_put W.did_send W.did_receive before wire last ending result.hub result.link.wire) }
     ensures cause { IsEndOf result.fault link.file.numbers result.link.file.numbers (D.failures link.file.disk) (D.failures result.link.file.disk) (W.failures link.wire) (W.failures result.link.wire) (H.gone result.hub) }
 {
     let mut link = link;

@@ -209,3 +209,29 @@ fn faults_say_what_they_are(rt: HostRuntime) -> Result<(), Fail> {
     }
     Ok(())
 }
+
+// What is made for a run wants memory, and each such call answers where it is refused. Once all of it stands, the run takes
+// none: it ends as it does where memory is ample.
+#[test]
+fn want_of_memory_is_answered(rt: HostRuntime) -> Result<(), Fail> {
+    let alloc = rt.alloc();
+    let Ok(end) = LinkEnd::new(alloc, 1, 2, Times::STANDARD) else {
+        return Ok(());
+    };
+    let Ok(datagrams) = one_hello(alloc) else {
+        return Ok(());
+    };
+    let Ok(hub) = hub_of(alloc, 2) else {
+        return Ok(());
+    };
+    let link = Link {
+        end,
+        file: file_of(&rt, MemDisk::new()),
+        wire: MemWire::<16>::new(datagrams),
+    };
+    let finished = run_neighbour(&rt, link, &clock_of(10), hub);
+    assert_eq!(&rt; finished.fault, None);
+    assert_eq!(&rt; finished.tally.of_verdict(Verdict::Accepted), 1);
+    assert_eq!(&rt; finished.hub.kept(), [up(0), beat(0)].as_slice());
+    Ok(())
+}

@@ -7,7 +7,7 @@ use Rattle.tora_neighbour.specs.Causes.{fault_of, IsEndOf}
 use Rattle.tora_neighbour.proofs.Ends.{end_cause}
 use Rattle.tora_neighbour.specs.Turns.{IsTurn, IsLastTurn}
 use Rattle.tora_neighbour.proofs.Chains.{calls_more}
-use Rattle.tora_neighbour.proofs.Runs.{turns_more, beats_more, tally_more, traffic_more, no_traffic}
+use Rattle.tora_neighbour.proofs.Runs.{turns_more, beats_more, tally_more, traffic_more, told_more, no_traffic}
 use Rattle.tora_neighbour.proofs.neighbour.run_neighbour.Goals as goal
 
 pub loop-init : goal.loop-init
@@ -18,7 +18,7 @@ loop-init g c = record {
   failed = refl;
   disk = refl;
   failures = omega arith;
-  so_far = ([], refl, refl, c.new.ensures, no_traffic _, (refl, refl));
+  so_far = ([], refl, refl, c.new.ensures, no_traffic _, (refl, refl), tt);
 }
 
 pub loop-preserved : goal.loop-preserved
@@ -38,6 +38,7 @@ loop-preserved g c =
         tally_more first_tally h.so_far.0 c.loop.course.tally t.0 _ h.so_far.3 t.4,
         traffic_more _ _ _ h.so_far.0 (t.0 ∷ []) h.so_far.4 t.5,
         calls_more g.H.Hub.did_take g.H.Hub.did_put g.W.Wire.did_send g.W.Wire.did_receive c.args.hub c.args.link.wire h.so_far.0 c.loop.hub c.loop.link.wire t.0 c.turn.new.hub c.turn.new.link.wire h.so_far.5 t.6,
+        told_more (g.C.Clock.did_tell c.args.clock.now) h.so_far.0 t.0 h.so_far.6 (subst (g.C.Clock.did_tell c.args.clock.now) (sym t.7) c.now-now.ensures),
       );
     }
 
@@ -58,6 +59,7 @@ returns-in-Err-clause-turns g c =
       },
       traffic_more _ _ _ h.so_far.0 (t.0 ∷ []) h.so_far.4 t.3,
       tally_more first_tally h.so_far.0 c.loop.course.tally t.0 _ h.so_far.3 t.2,
+      told_more (g.C.Clock.did_tell c.args.clock.now) h.so_far.0 t.0 h.so_far.6 (subst (g.C.Clock.did_tell c.args.clock.now) (sym t.5) c.now-now.ensures),
       (c.loop.hub, c.loop.link.wire, h.so_far.5, t.4),
     )
 

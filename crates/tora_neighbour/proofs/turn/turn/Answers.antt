@@ -16,6 +16,7 @@ returns-in-Err-clause-last g c =
       traffic_of _ _ (idle_turn c.args.now) h.1 (c.begin.ensures.puts ∙ sym (append-nil _)) (h.2 ∙ sym (append-nil _)) (λ yes. yes) (λ yes. sym (append-nil _))
           (λ yes. record { given = []; coming_is = refl; readings_are = refl }),
       (h.3, refl),
+      refl,
     )
 
 pub returns-in-Err-exchange-clause-last : goal.returns-in-Err-exchange-clause-last
@@ -31,6 +32,7 @@ returns-in-Err-exchange-clause-last g c =
           (w.3 ∙ ap (λ ps. ps ++ map (entry_of c.args.now) w.0) c.begin.ensures.puts ∙ ap (λ ps. g.H.Hub.puts c.args.hub.now ++ ps) (sym (append-nil (map (entry_of c.args.now) w.0))))
           (c.give_up.ensures.takes ∙ b.6) c.exchange.ensures.tells x.6 x.7,
       (c.begin.new.hub, b.7, x.9, w.4),
+      refl,
     )
 
 pub returns-in-Err-tell-clause-last : goal.returns-in-Err-tell-clause-last
@@ -46,6 +48,7 @@ returns-in-Err-tell-clause-last g c =
           (w.3 ∙ ap (λ ps. ps ++ map (entry_of c.args.now) w.0) c.begin.ensures.puts ∙ ap (λ ps. g.H.Hub.puts c.args.hub.now ++ ps) (sym (append-nil (map (entry_of c.args.now) w.0))))
           (c.tell.ensures.takes ∙ b.6) c.exchange.ensures.tells x.6 x.7,
       (c.begin.new.hub, x.8.0, b.7, x.8.1, x.8.2, w.4),
+      refl,
     )
 
 pub returns-clause-turn : goal.returns-clause-turn
@@ -62,4 +65,5 @@ returns-clause-turn g c =
       x.5,
       traffic_of _ _ t b.5 (w.2 ∙ ap (λ ps. ps ++ (map (entry_of c.args.now) w.0 ++ beat_of beat c.args.now)) c.begin.ensures.puts) (c.tell.ensures.takes ∙ b.6) c.exchange.ensures.tells x.6 x.7,
       record { taken = c.begin.new.hub; sent = x.8.0; told = w.3.0; takes = b.7; sends = x.8.1; receives = x.8.2; puts = w.3.1; beat = w.3.2 },
+      refl,
     )
