@@ -1,1 +1,3 @@
 pub mod NodeConfig
+pub mod FaultText
+pub mod Refusal

@@ -29,6 +29,11 @@ pub enum Place {
 }
 
 impl Display for Place {
+    ghost use Rattle.std.specs.Prelude.{Some};
+    ghost use Rattle.tora_config.specs.FaultText.{place_text};
+
+    ghost output = { λ place. Some (place_text place) };
+
     fn fmt<W: fmt::Write>(&self, f: &mut Formatter<W>) -> fmt::Result {
         match *self {
             Place::Node => write!(f, "`node`"),
@@ -68,6 +73,11 @@ pub enum Reason {
 }
 
 impl Display for Reason {
+    ghost use Rattle.std.specs.Prelude.{Some};
+    ghost use Rattle.tora_config.specs.FaultText.{reason_text};
+
+    ghost output = { λ reason. Some (reason_text reason) };
+
     fn fmt<W: fmt::Write>(&self, f: &mut Formatter<W>) -> fmt::Result {
         match *self {
             Reason::Missing => write!(f, "is missing"),
@@ -107,12 +117,22 @@ pub enum ConfigError {
 }
 
 impl From<AllocError> for ConfigError {
+    ghost use Rattle.std.specs.Prelude.{◌≡◌};
+    ghost use Rattle.tora_config.specs.declared.fault.ConfigError.TheVariants.{Memory};
+
+    ghost from_gives = { λ _ e. e ≡ Memory };
+
     fn from(_error: AllocError) -> ConfigError {
         ConfigError::Memory
     }
 }
 
 impl<T: Drop> From<AllocFailed<T>> for ConfigError {
+    ghost use Rattle.std.specs.Prelude.{◌≡◌};
+    ghost use Rattle.tora_config.specs.declared.fault.ConfigError.TheVariants.{Memory};
+
+    ghost from_gives = { λ _ e. e ≡ Memory };
+
     fn from(_error: AllocFailed<T>) -> ConfigError {
         ConfigError::Memory
     }

@@ -370,3 +370,22 @@ fn faults_name_the_key_and_the_reason(rt: HostRuntime) -> Result<(), Fail> {
     assert_eq!(&rt; format!(in alloc; "{memory}")?.as_str(), "out of memory");
     Ok(())
 }
+
+#[test]
+fn want_of_memory_is_answered(rt: HostRuntime) {
+    match read_config(rt.alloc(), WORKED) {
+        Ok(config) => {
+            assert_eq!(&rt; config.node, 1);
+            assert_eq!(&rt; config.dests.as_slice(), [4].as_slice());
+            assert_eq!(&rt; config.life_dir.as_str(), "n1");
+            assert_eq!(&rt; config.links.len(), 1);
+        }
+        Err(ConfigError::Memory) => {}
+        Err(error) => panic!(&rt; "{error}"),
+    }
+    match read_config(rt.alloc(), "name = 1\n") {
+        Err(ConfigError::UnknownKey(key)) => assert_eq!(&rt; key.as_str(), "name"),
+        Err(ConfigError::Memory) => {}
+        _ => panic!(&rt; "an unknown key is read"),
+    }
+}

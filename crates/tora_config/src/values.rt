@@ -1,7 +1,9 @@
 //! The values of keys.
-ghost use Rattle.std.specs.Prelude.{string_bytes, ◌≡◌, ◌<◌, pos, map, Some, IfOk};
+ghost use Rattle.std.specs.Prelude.{string_bytes, ◌≡◌, ◌⊎◌, ◌<◌, pos, map, Some, None, Ok, Err, IfOk, IfErr};
 ghost use Rattle.toml.specs.Data.{as_integer, get_member};
-ghost use Rattle.toml.specs.View.{view, table_view};
+ghost use Rattle.tora_config.specs.declared.fault.ConfigError.{ConfigError};
+ghost use Rattle.toml.specs.View.{view, items_view, table_view};
+ghost use Rattle.tora_config.specs.Refusal.{id_in, port_in, id_at, port_at, text_at as text_said, list_at, at_place};
 ghost use Rattle.tora_config.specs.NodeConfig.{number_at, text_at, IsListAt};
 
 use crate::fault::{ConfigError, Place, Reason};
@@ -13,6 +15,7 @@ use tora_height::Id;
 pub fn id_of(value: &Value) -> Result<Id, Reason>
     ensures above { IfOk result (λ n. 0 < n) }
     ensures exact { IfOk result (λ n. as_integer (view value.now) ≡ Some (pos n)) }
+    ensures all { result ≡ id_in (as_integer (view value.now)) }
 {
     let Some(number) = value.as_integer() else {
         return Err(Reason::NoNumber);
@@ -32,6 +35,7 @@ pub fn id_of(value: &Value) -> Result<Id, Reason>
 pub fn port_of(value: &Value) -> Result<u16, Reason>
     ensures above { IfOk result (λ n. 0 < n) }
     ensures exact { IfOk result (λ n. as_integer (view value.now) ≡ Some (pos n)) }
+    ensures all { result ≡ port_in (as_integer (view value.now)) }
 {
     let Some(number) = value.as_integer() else {
         return Err(Reason::NoNumber);
@@ -49,7 +53,8 @@ pub fn port_of(value: &Value) -> Result<u16, Reason>
 
 /// The value at a key, which is required.
 pub fn value_at<'a>(table: &'a Table, key: &str, place: Place) -> Result<&'a Value, ConfigError>
-    ensures { IfOk result (λ v. get_member key.now (table_view table.now) ≡ Some (view v.now)) }
+    ensures found { IfOk result (λ v. get_member key.now (table_view table.now) ≡ Some (view v.now)) }
+    ensures missing { IfErr result (λ e. (get_member key.now (table_view table.now) ≡ None) × (e ≡ ConfigError.Value place Reason.Missing)) }
 {
     match table.get(key) {
         Some(value) => Ok(value),
@@ -61,6 +66,7 @@ pub fn value_at<'a>(table: &'a Table, key: &str, place: Place) -> Result<&'a Val
 pub fn id_at(table: &Table, key: &str, place: Place) -> Result<Id, ConfigError>
     ensures above { IfOk result (λ n. 0 < n) }
     ensures exact { IfOk result (λ n. number_at key.now (table_view table.now) ≡ Some (pos n)) }
+    ensures all { result ≡ at_place place (id_at (get_member key.now (table_view table.now))) }
 {
     let value = value_at(table, key, place)?;
     match id_of(value) {
@@ -73,6 +79,7 @@ pub fn id_at(table: &Table, key: &str, place: Place) -> Result<Id, ConfigError>
 pub fn port_at(table: &Table, key: &str, place: Place) -> Result<u16, ConfigError>
     ensures above { IfOk result (λ n. 0 < n) }
     ensures exact { IfOk result (λ n. number_at key.now (table_view table.now) ≡ Some (pos n)) }
+    ensures all { result ≡ at_place place (port_at (get_member key.now (table_view table.now))) }
 {
     let value = value_at(table, key, place)?;
     match port_of(value) {
@@ -83,7 +90,9 @@ pub fn port_at(table: &Table, key: &str, place: Place) -> Result<u16, ConfigErro
 
 /// A text at a key.
 pub fn text_at(alloc: Global, table: &Table, key: &str, place: Place) -> Result<String, ConfigError>
-    ensures { IfOk result (λ text. text_at key.now (table_view table.now) ≡ Some (string_bytes text)) }
+    ensures exact { IfOk result (λ text. text_at key.now (table_view table.now) ≡ Some (string_bytes text)) }
+    ensures read { IfOk result (λ text. at_place place (text_said (get_member key.now (table_view table.now))) ≡ Ok (string_bytes text)) }
+    ensures refused { IfErr result (λ e. (e ≡ ConfigError.Memory) ⊎ (at_place place (text_said (get_member key.now (table_view table.now))) ≡ Err e)) }
 {
     let value = value_at(table, key, place)?;
     match value.as_str() {
@@ -94,7 +103,9 @@ pub fn text_at(alloc: Global, table: &Table, key: &str, place: Place) -> Result<
 
 /// The values of a list at a key.
 pub fn list_at<'a>(table: &'a Table, key: &str, place: Place) -> Result<&'a [Value], ConfigError>
-    ensures { IfOk result (λ values. IsListAt key.now (table_view table.now) (map view values.now)) }
+    ensures exact { IfOk result (λ values. IsListAt key.now (table_view table.now) (map view values.now)) }
+    ensures read { IfOk result (λ values. at_place place (list_at (get_member key.now (table_view table.now))) ≡ Ok (items_view values.now)) }
+    ensures refused { IfErr result (λ e. at_place place (list_at (get_member key.now (table_view table.now))) ≡ Err e) }
 {
     let value = value_at(table, key, place)?;
     match value.as_array() {

@@ -1,3 +1,6 @@
 mod Told
 mod Served
 mod Refusals
+mod Digits
+mod Numerals
+mod Faults

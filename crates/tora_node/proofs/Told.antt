@@ -1,5 +1,5 @@
 -- What was offered, read back as answers, follows those answers.
-use Rattle.std.proofs.Common.{◌≡◌, ℕ, suc, List, [], ◌∷◌, ◌++◌, length, refl, sym, ap, subst, ◌∙◌, append_assoc, Option, Some}
+use Rattle.std.proofs.Common.{◌≡◌, ℕ, List, [], ◌∷◌, ◌++◌, length, refl, ap, subst, append_assoc, Some}
 use Rattle.std.specs.Prelude.{slice_get}
 use Rattle.tora_seat.specs.Serving.{Offer}
 use Rattle.tora_seat.specs.Offers.{Follows, AreOffered}

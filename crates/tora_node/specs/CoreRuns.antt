@@ -1,6 +1,5 @@
 -- What the core's thread does: it serves the items that it takes, one after another, and prints what they ask for.
 use Rattle.std.specs.Prelude.{◌≡◌, ◌⊎◌, ℕ, Bool, true, false, List, [], ◌∷◌, ◌++◌, length, slice_get, codes, Option, Some, None}
-use Rattle.std.specs.List.{flat_map}
 use Rattle.std.specs.Fmt.{decimal}
 use Rattle.tora_core.specs.declared.Input.{Input}
 use Rattle.tora_core.specs.Errors.{step_error_number}

@@ -1,1 +1,3 @@
 pub mod CoreRuns
+pub mod CommandText
+pub mod NodeRuns

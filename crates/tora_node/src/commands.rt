@@ -1,6 +1,8 @@
 //! The commands of a running node, one a line.
 ghost use Rattle.std.specs.Prelude.{◌≡◌, ◌<◌, ◌≤◌, ℕ, IfOk, IfSome, length};
+ghost use Rattle.tora_node.specs.CommandText.{asked_by};
 
+use crate::words::{after, id, is_word};
 use log::{Log, warn};
 use std::io::{ErrorKind, Read};
 use std::marker::Model;
@@ -28,41 +30,22 @@ pub enum Command {
     Unknown,
 }
 
-/// The number that digits spell: 1 to 2^32 - 1, without a sign and without leading zeros.
-fn id_of(digits: &[u8]) -> Option<Id>
-    ensures { IfSome result (λ id. 0 < id) }
-{
-    if digits.is_empty() || digits.len() > 10 || digits[0] == b'0' {
-        return None;
-    }
-    let mut value: u64 = 0;
-    for digit in digits {
-        if !digit.is_ascii_digit() {
-            return None;
-        }
-        value = value
-            .saturating_mul(10)
-            .saturating_add(u64::from(*digit - b'0'));
-    }
-    match u32::try_from(value) {
-        Ok(id) if id > 0 => Some(id),
-        _ => None,
-    }
-}
-
-/// What a line asks.
+/// What a line asks: `show`, `quit`, or `need D`, where D is a number from 1 to 2^32 - 1 in decimal digits, without a sign
+/// and without leading zeros.
+#[tactic(auto, unfolding(crate::specs::CommandText::asked_by))]
 pub fn command_of(line: &[u8]) -> Command
-    ensures { (d : ℕ) → result ≡ Command.Need d → 0 < d }
+    ensures exact { result ≡ asked_by line.now }
+    ensures above { (d : ℕ) → result ≡ Command.Need d → 0 < d }
 {
-    if line == b"show".as_slice() {
+    if is_word(b"show", line) {
         return Command::Show;
     }
-    if line == b"quit".as_slice() {
+    if is_word(b"quit", line) {
         return Command::Quit;
     }
-    match line.strip_prefix(b"need ") {
+    match after(b"need ", line) {
         None => Command::Unknown,
-        Some(digits) => match id_of(digits) {
+        Some(digits) => match id(digits) {
             Some(d) => Command::Need(d),
             None => Command::Unknown,
         },

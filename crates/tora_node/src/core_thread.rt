@@ -113,6 +113,7 @@ pub fn run_core<R: Wait, O: OutLanes, W: Write>(
         × (result.seat.core ≡ core_after_all seat.core (inputs_stepped seat.core.neighbours (state_of seat) xs))
         × (result.fault ≡ None → Appends (W.contents writer.old) (W.contents writer.new) (text_served seat.core.neighbours (state_of seat) xs))
         × EndsSo result.fault xs result.port.gone }
+    ensures neighbours { result.seat.core.neighbours ≡ seat.core.neighbours }
 {
     let mut seat = seat;
     let mut port = port;

@@ -15,12 +15,14 @@ mod config;
 mod core_thread;
 mod log_hub;
 mod node;
+mod words;
 
 pub use commands::{Command, LONGEST_COMMAND, command_of, run_commands};
 pub use config::Config;
 pub use core_thread::{CoreEnd, run_core};
 pub use log_hub::LogHub;
 pub use node::{Ended, run_node};
+pub use words::commands_are_read_as_written;
 
 #[cfg(test)]
 mod tests;

@@ -1,7 +1,10 @@
 //! A node and its threads.
-ghost use Rattle.std.specs.Prelude.{◌≡◌, ◌≢◌, ◌<◌, ◌≤◌, ℕ, IfOk, length};
+ghost use Rattle.std.specs.Prelude.{◌≡◌, ◌≢◌, ◌⊎◌, ◌<◌, ◌≤◌, ℕ, IfOk, IfErr, IfSome, length, map};
 ghost use Rattle.std.specs.Thread.{IsSync, IsSend};
 ghost use Rattle.tora_arq.specs.LinkEnd.{first_end};
+ghost use Rattle.tora_neighbour.specs.declared.fault.NodeError.{NodeError};
+ghost use Rattle.tora_seat.specs.Rows.{SeatView, first_seat};
+ghost use Rattle.tora_node.specs.NodeRuns.{IsCoreRun, IsRunOf, IsNodeFault, tally_of, place_of, link_fault, fault_of_link, first_link_fault, first_fault};
 
 use crate::commands::run_commands;
 use crate::config::Config;
@@ -10,14 +13,18 @@ use crate::log_hub::LogHub;
 use log::{Log, info};
 use std::alloc::Global;
 use std::io::{Read, Write};
+use std::marker::Model;
+use std::snapshot::Snapshot;
 use std::sync::Wait;
 use std::thread;
-use std::thread::Threads;
+use std::thread::{Promise, Threads};
 use tora_arq::{LinkEnd, Times};
 use tora_core::Core;
 use tora_height::Id;
-use tora_lane::{CorePort, InPort, LaneError, Lanes, OutPut, OutPuts, OutTake, What, lanes};
-use tora_life::{Disk, LifeFile};
+use tora_lane::{
+    CorePort, InPort, LaneError, Lanes, MOST_LINKS, OutPut, OutPuts, OutTake, What, lanes,
+};
+use tora_life::{Disk, LifeError, LifeFile};
 use tora_neighbour::{Clock, LaneHub, Link, NodeError, Tally, Wire, run_neighbour};
 use tora_seat::CoreSeat;
 
@@ -38,11 +45,19 @@ struct Start<'a, D: Disk, W: Wire, C> {
     ghost new: { link.end.state ≡ first_end },
 }
 
+/// Why the thread of a neighbour has ended though nobody told it to.
+#[derive(Clone, Copy)]
+enum LinkFault {
+    /// Its life file drew no number.
+    Life(LifeError),
+    /// Its wire has failed.
+    Wire,
+}
+
 /// What a neighbour's thread came to.
 #[derive(Clone, Copy)]
 struct Outcome {
-    peer: Id,
-    fault: Option<NodeError>,
+    fault: Option<LinkFault>,
     tally: Tally,
 }
 
@@ -66,10 +81,20 @@ impl<'a, D: Disk + Drop, W: Wire + Drop, C: Clock> Task for Start<'a, D, W, C> {
         let bad = bad_datagrams(&tally);
         info!(rt; "link {peer} bad datagrams {bad}");
         Outcome {
-            peer,
-            fault: finished.fault,
+            fault: link_fault(finished.fault),
             tally,
         }
+    }
+}
+
+/// Why the thread of a neighbour has ended: the others are no fault of it.
+fn link_fault(fault: Option<NodeError>) -> Option<LinkFault>
+    ensures { result ≡ link_fault fault }
+{
+    match fault {
+        Some(NodeError::Life(_, error)) => Some(LinkFault::Life(error)),
+        Some(NodeError::Wire(_)) => Some(LinkFault::Wire),
+        _ => None,
     }
 }
 
@@ -92,6 +117,16 @@ struct CoreOutcome {
     fault: Option<NodeError>,
 }
 
+/// That the core's thread serves items from this seat on.
+#[derive(Drop)]
+struct Serves(Snapshot<CoreSeat>);
+
+impl Promise<CoreOutcome> for Serves {
+    ghost use Rattle.tora_node.specs.NodeRuns.{IsCoreRun};
+
+    ghost kept_by = { λ p r. IsCoreRun p.0.value r.seat r.fault };
+}
+
 /// The work of the core's thread: the seat, its lanes, and what it writes to.
 #[derive(Drop)]
 struct CoreStart<'a, Wr> {
@@ -105,11 +140,26 @@ struct CoreStart<'a, Wr> {
 
 /// The work of the thread of a core.
 trait CoreTask {
+    /// The seat that it begins with.
+    ghost first: { Self → SeatView };
+
+    /// The seat that it begins with, for contracts.
+    fn first(&self) -> Snapshot<CoreSeat>
+        ensures { result.value ≡ first self.now };
+
     /// Does it.
-    fn run_core<R: Wait>(self, rt: &R) -> CoreOutcome;
+    fn run_core<R: Wait>(self, rt: &R) -> CoreOutcome
+        ensures { IsCoreRun (first self) result.seat result.fault };
 }
 
 impl<'a, Wr: Write> CoreTask for CoreStart<'a, Wr> {
+    ghost first = { λ t. t.seat };
+
+    fn first(&self) -> Snapshot<CoreSeat> {
+        Snapshot::of(&self.seat)
+    }
+
+    #[tactic(auto, using(crate::proofs::Faults::core_fault))]
     fn run_core<R: Wait>(self, rt: &R) -> CoreOutcome {
         let CoreStart {
             alloc,
@@ -126,26 +176,44 @@ impl<'a, Wr: Write> CoreTask for CoreStart<'a, Wr> {
     }
 }
 
-/// What a node has ended with.
+/// What a node has ended with. Contracts see its core, and the tally of each neighbour in ascending order.
 #[derive(Drop)]
 pub struct Ended {
     seat: CoreSeat,
     outcomes: Vec<Outcome>,
 }
 
+impl Model for Ended {
+    ghost use Rattle.std.specs.Prelude.{map};
+    ghost use Rattle.tora_node.specs.NodeRuns.{EndedView};
+
+    ghost Value = { EndedView };
+
+    ghost view = { λ e. record { core = e.seat.core; tallies = map (λ o. o.tally) e.outcomes.items } };
+}
+
 impl Ended {
     /// The core as the node left it.
-    pub fn core(&self) -> &Core {
+    pub fn core(&self) -> &Core
+        ensures { result.now ≡ self.now.core }
+    {
         self.seat.core()
     }
 
     /// What the datagrams of a neighbour came to; `None` where it is no neighbour.
-    pub fn tally(&self, peer: Id) -> Option<Tally> {
-        self.outcomes
-            .iter()
-            .find(|outcome| outcome.peer == peer)
-            .map(|outcome| outcome.tally)
+    pub fn tally(&self, peer: Id) -> Option<Tally>
+        ensures { result ≡ tally_of self.now peer }
+    {
+        let place = place_of(self.seat.core().neighbours(), peer)?;
+        self.outcomes.get(place).map(|outcome| outcome.tally)
     }
+}
+
+/// The place of a neighbour, in ascending order from 0 on.
+fn place_of(neighbours: &[Id], peer: Id) -> Option<usize>
+    ensures { result ≡ place_of neighbours.now peer }
+{
+    neighbours.iter().position(|n| *n == peer)
 }
 
 /// The ends of a node's links, by ascending neighbour, never opened.
@@ -165,7 +233,8 @@ fn new_ends(alloc: Global, core: &Core) -> Option<Vec<NewEnd>> {
 
 /// The lanes of a node with so many links.
 fn new_lanes<R: Wait>(rt: &R, alloc: Global, links: usize) -> Result<Lanes, NodeError>
-    ensures { IfOk result (λ l. length l.outs.items ≡ links) }
+    ensures made { IfOk result (λ l. (length l.outs.items ≡ links) × (0 < links) × (links ≤ MOST_LINKS)) }
+    ensures refused { IfErr result (λ e. (e ≡ NodeError.Memory) ⊎ ((e ≡ NodeError.Lane) × ((links ≡ 0) ⊎ (MOST_LINKS < links)))) }
 {
     match lanes(rt, alloc, links) {
         Ok(lanes) => Ok(lanes),
@@ -175,14 +244,21 @@ fn new_lanes<R: Wait>(rt: &R, alloc: Global, links: usize) -> Result<Lanes, Node
 }
 
 /// Opens the life files, by ascending neighbour.
+#[tactic(auto, using(crate::proofs::Faults::is_neighbour))]
 fn open_files<D: Disk + Drop>(
     alloc: Global,
     core: &Core,
     disks: Vec<D>,
-) -> Result<Vec<LifeFile<D>>, NodeError> {
+) -> Result<Vec<LifeFile<D>>, NodeError>
+    ensures { IfErr result (IsNodeFault core.now.neighbours) }
+{
     let me = core.me();
     let mut files = Vec::new(alloc);
-    for (peer, disk) in core.neighbours().iter().zip(disks) {
+    let mut disks = disks.into_iter();
+    for peer in core.neighbours() {
+        let Some(disk) = disks.next() else {
+            break;
+        };
         match LifeFile::open(disk, me, *peer) {
             Ok(file) => {
                 let Ok(()) = files.push(file) else {
@@ -240,7 +316,9 @@ fn run_threads<
     tasks: Vec<T>,
     clock: &C,
     reader: &mut Rd,
-) -> Option<(CoreOutcome, Vec<Outcome>)> {
+) -> Option<(CoreOutcome, Vec<Outcome>)>
+    ensures { IfSome result (λ ended. IsCoreRun (K.first core_task) ended.0.seat ended.0.fault) }
+{
     let mut command = command;
     let mut handles = Vec::new(alloc);
     let mut outcomes = Vec::new(alloc);
@@ -255,8 +333,10 @@ fn run_threads<
         rt,
         |scope| -> Option<(CoreOutcome, Vec<Outcome>)>
             requires { IsSync R.row × IsSend K.row × IsSend T.row }
+            ensures { IfSome result (λ ended. IsCoreRun (K.first core_task) ended.0.seat ended.0.fault) }
         {
-            let Ok(core_thread) = scope.spawn(move || core_task.run_core(rt)) else {
+            let promise = Serves(core_task.first());
+            let Ok(core_thread) = scope.spawn_with(promise, move || core_task.run_core(rt)) else {
                 return None;
             };
             let mut has_all = true;
@@ -297,6 +377,7 @@ fn new_core_start<'a, Wr>(
     writer: &'a mut Wr,
 ) -> Option<CoreStart<'a, Wr>>
     requires { length core.neighbours ≤ length outs.items }
+    ensures { IfSome result (λ start. start.seat ≡ first_seat core) }
 {
     let Ok(seat) = CoreSeat::new(alloc, core) else {
         return None;
@@ -310,11 +391,40 @@ fn new_core_start<'a, Wr>(
     })
 }
 
+/// The fault of a node by that of a neighbour's thread.
+fn fault_of(peer: Id, fault: LinkFault) -> NodeError
+    ensures { result ≡ fault_of_link peer fault }
+{
+    match fault {
+        LinkFault::Life(error) => NodeError::Life(peer, error),
+        LinkFault::Wire => NodeError::Wire(peer),
+    }
+}
+
+/// The fault of the least neighbour that has one.
+#[tactic(auto, using(crate::proofs::Faults::fault_here, crate::proofs::Faults::fault_behind, crate::proofs::Faults::no_fault_behind, crate::proofs::Faults::no_outcome))]
+fn first_link_fault(neighbours: &[Id], outcomes: &[Outcome]) -> Option<NodeError>
+    ensures { result ≡ first_link_fault neighbours.now outcomes.now }
+{
+    for i in 0..neighbours.len() {
+        match outcomes.get(i) {
+            None => return None,
+            Some(outcome) => match outcome.fault {
+                None => {}
+                Some(fault) => return Some(fault_of(neighbours[i], fault)),
+            },
+        }
+    }
+    None
+}
+
 /// The first fault: the core's, then that of the least neighbour.
-fn first_fault(core: &CoreOutcome, outcomes: &[Outcome]) -> Option<NodeError> {
+fn first_fault(core: &CoreOutcome, outcomes: &[Outcome]) -> Option<NodeError>
+    ensures { result ≡ first_fault core.now.fault core.now.seat.core.neighbours outcomes.now }
+{
     match core.fault {
         Some(fault) => Some(fault),
-        None => outcomes.iter().find_map(|outcome| outcome.fault),
+        None => first_link_fault(core.seat.core().neighbours(), outcomes),
     }
 }
 
@@ -331,6 +441,7 @@ fn first_fault(core: &CoreOutcome, outcomes: &[Outcome]) -> Option<NodeError> {
 /// `Lane` where there are no neighbours or more than lanes are made for; `Memory`, also where a thread can't be started;
 /// `Life` with the neighbour where its life file does not open. Once all threads have ended: the fault of the core
 /// (`Memory`, `Output`), otherwise that of the least neighbour (`Life`, `Wire`).
+#[tactic(auto, using(crate::proofs::Faults::ended_fault))]
 pub fn run_node<
     R: Threads + Wait + Log + Sync,
     D: Disk + Send + Drop,
@@ -350,6 +461,10 @@ pub fn run_node<
 ) -> Result<Ended, NodeError>
     requires wires { length wires.items ≡ length config.neighbours }
     requires disks { length disks.items ≡ length config.neighbours }
+    // Where it ends without a fault, the core is the run of what serving makes of some items from the first core on.
+    ensures core { IfOk result (λ ended. IsRunOf config ended.core) }
+    // A fault of a link names one of the neighbours.
+    ensures fault { IfErr result (IsNodeFault config.neighbours) }
 {
     let core = config.into_core();
     let Some(ends) = new_ends(alloc, &core) else {

@@ -12,8 +12,9 @@ use std::test::Fail;
 use std::thread::Threads;
 use std::time::Duration;
 use std::{io, thread, time};
+use tora_core::CoreError;
 use tora_life::{Disk, DiskError, LifeError};
-use tora_neighbour::{NodeError, UdpWire, UnixClock, Wire, WireError};
+use tora_neighbour::{MemWire, NodeError, Tally, UdpWire, UnixClock, Wire, WireError};
 
 /// The line of a core that has found its route.
 const FOUND: &[u8] = b"to 4 height (0,0,0,1,3) flag 0 hop 4";
@@ -451,4 +452,93 @@ fn documented_configuration(rt: HostRuntime) -> Result<(), Fail> {
     assert_eq!(&rt; config.peers(), [2, 3].as_slice());
     assert_eq!(&rt; command_of(b"need 4".as_slice()), Command::Need(4));
     Ok(())
+}
+
+/// Where a node prints: 256 bytes at most.
+#[derive(Drop)]
+struct Page {
+    bytes: [u8; 256],
+    length: usize,
+    ghost within: { length ≤ 256 },
+}
+
+impl Write for Page {
+    fn write(&mut self, buf: &[u8]) -> io::Result<usize> {
+        let room = &mut self.bytes[self.length..];
+        let count = room.len().min(buf.len());
+        room[..count].copy_from_slice(&buf[..count]);
+        self.length += count;
+        Ok(count)
+    }
+
+    fn flush(&mut self) -> io::Result<()> {
+        Ok(())
+    }
+}
+
+#[test]
+fn want_of_memory_refuses_a_configuration(rt: HostRuntime) {
+    match Config::new(rt.alloc(), 1, &[3, 2], &[4]) {
+        Err(error) => assert_eq!(&rt; error, CoreError::Memory),
+        Ok(config) => {
+            assert_eq!(&rt; config.peers(), [2, 3].as_slice());
+            assert_eq!(&rt; config.into_core().me(), 1);
+        }
+    }
+}
+
+/// Runs node 1 between nodes 2 and 3 over wires on which nothing comes, with these commands.
+fn run_in_memory<R: Threads + Wait + Sync + time::Clock + log::Log>(
+    rt: &R,
+    alloc: Global,
+    commands: &[u8],
+    page: &mut Page,
+) -> Result<Ended, NodeError> {
+    let config = match Config::new(alloc, 1, &[3, 2], &[4]) {
+        Ok(config) => config,
+        Err(_) => return Err(NodeError::Memory),
+    };
+    let (mut wires, mut disks) = (Vec::new(alloc), Vec::new(alloc));
+    for _ in 0..2 {
+        let wire = MemWire::<16>::new(Vec::new(alloc));
+        if wires.push(wire).is_err() || disks.push(ByteDisk::of_zeros(0)).is_err() {
+            return Err(NodeError::Memory);
+        }
+    }
+    let links = config.peers().len();
+    if wires.len() != links || disks.len() != links {
+        return Err(NodeError::Lane);
+    }
+    let clock = UnixClock::new(rt);
+    let mut reader = commands;
+    run_node(rt, alloc, config, wires, disks, &clock, &mut reader, page)
+}
+
+#[test]
+fn want_of_memory_ends_a_node(rt: HostRuntime) {
+    let alloc = rt.alloc();
+    let mut page = Page {
+        bytes: [0; 256],
+        length: 0,
+    };
+    let commands = b"need 9\nhello\nshow\nneed 0\nquit\nshow\n";
+    match run_in_memory(&rt, alloc, commands, &mut page) {
+        Err(error) => {
+            // What was printed before stands whole.
+            assert_eq!(&rt; error, NodeError::Memory);
+            assert!(&rt; page.length == 0 || page.length == 10 || page.length == 37);
+        }
+        Ok(ended) => {
+            assert_eq!(&rt;
+                &page.bytes[..page.length],
+                b"refused 5\nto 4 height - flag 0 hop -\n".as_slice()
+            );
+            assert_eq!(&rt; ended.core().me(), 1);
+            assert_eq!(&rt; ended.core().neighbours(), [2, 3].as_slice());
+            assert_eq!(&rt; ended.tally(2), Some(Tally::new()));
+            assert_eq!(&rt; ended.tally(3), Some(Tally::new()));
+            assert_eq!(&rt; ended.tally(1), None);
+            assert_eq!(&rt; ended.tally(4), None);
+        }
+    }
 }

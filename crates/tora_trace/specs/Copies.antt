@@ -1,6 +1,6 @@
 -- A copy of a node's core, which is stepped with the inputs that the core accepted, and the records of them.
-use Rattle.std.specs.Prelude.{◌≡◌, ℕ, ◌==◌, ◌&&◌, Bool, true, false, not, if◌then◌else◌, List, [], ◌∷◌, ◌++◌, length, map, filter, find, fold, Option, Some, None, option_map}
-use Rattle.std.specs.List.{flat_map}
+use Rattle.std.specs.Prelude.{◌≡◌, ℕ, nat_lt, ◌==◌, ◌&&◌, Bool, true, false, not, if◌then◌else◌, List, [], ◌∷◌, ◌++◌, length, map, filter, find, fold, Option, Some, None, option_map}
+use Rattle.std.specs.List.{flat_map, list_all}
 use Rattle.std.specs.declared.cmp.Ordering.{Ordering}
 use Rattle.std.specs.declared.cmp.Ordering.TheVariants.{Less, Equal, Greater}
 use Rattle.tora_height.specs.Height.{Quintuple}
@@ -9,7 +9,9 @@ use Rattle.tora_arq.specs.declared.Life.{Life}
 use Rattle.tora_core.specs.declared.Input.{Input}
 use Rattle.tora_core.specs.declared.Input.TheVariants as In
 use Rattle.tora_core.specs.Kept.{destinations_of}
-use Rattle.tora_core.specs.CoreRun.{CoreView, first_core, core_after, sends_of, height_of, hop_of}
+use Rattle.tora_core.specs.declared.errors.CoreError.{CoreError}
+use Rattle.tora_core.specs.declared.errors.CoreError.TheVariants.{OwnId}
+use Rattle.tora_core.specs.CoreRun.{CoreView, core_refusal, first_core, core_after, sends_of, height_of, hop_of}
 use Rattle.tora_trace.specs.declared.route.Route.{Route}
 use Rattle.tora_trace.specs.Records.{up_record, down_record, packet_record, route_record}
 
@@ -145,6 +147,14 @@ abbrev pub TakesInputs : Option Life → CopyState → List (Input × ℕ) → C
 TakesInputs life old inputs new before after = (new, after) ≡ after_inputs life inputs (old, before)
 
 -- ---- the first copy, and the copy after a restart
+
+-- no number is 0
+abbrev pub are_ids : List ℕ → Bool
+are_ids numbers = list_all (λ n. nat_lt 0 n) numbers
+
+-- why there is no copy of a core: a number is 0, or what refuses a new core
+abbrev pub copy_refusal : ℕ → List ℕ → List ℕ → Option CoreError
+copy_refusal me neighbours destinations = if nat_lt 0 me && are_ids neighbours && are_ids destinations then core_refusal me neighbours destinations else Some OwnId
 
 abbrev pub first_copy : ℕ → List ℕ → List ℕ → CopyState
 first_copy me neighbours destinations = record {

@@ -4,8 +4,9 @@ use Rattle.std.specs.List.{position}
 use Rattle.tora_frame.specs.declared.parts.Body.{Body}
 use Rattle.tora_frame.specs.declared.parts.Body.TheVariants.{Hello, Data, Ack}
 use Rattle.tora_trace.specs.declared.counts.FrameCounts.{FrameCounts}
-use Rattle.tora_trace.specs.Records.{need_record, part_record, mend_record, frames_record}
-use Rattle.tora_trace.specs.Copies.{CopyState, Told, first_copy, copy_restarted, restart_records}
+use Rattle.tora_trace.specs.Records.{frames_record}
+use Rattle.tora_core.specs.declared.errors.CoreError.{CoreError}
+use Rattle.tora_trace.specs.Copies.{CopyState, Told, copy_refusal, first_copy, copy_restarted, restart_records}
 
 pub record TraceState : Type 0 where
   pub copies : List CopyState  -- of each node's core
@@ -58,6 +59,23 @@ neighbours_in ends n = filter_map (peer_of n) ends
 
 abbrev pub first_copy_of : List (ℕ × ℕ) → List ℕ → ℕ → CopyState
 first_copy_of ends destinations n = first_copy n (neighbours_in ends n) destinations
+
+abbrev pub refusal_or : Option CoreError → Option CoreError → Option CoreError
+refusal_or (Some error) other = Some error
+refusal_or None other = other
+
+-- the first refusal of these, in order
+abbrev pub first_refusal : (ℕ → Option CoreError) → List ℕ → Option CoreError
+first_refusal refusal [] = None
+first_refusal refusal (n ∷ ns) = refusal_or (refusal n) (first_refusal refusal ns)
+
+-- why there is no copy of a node's core
+abbrev pub refusal_of : List (ℕ × ℕ) → List ℕ → ℕ → Option CoreError
+refusal_of ends destinations n = copy_refusal n (neighbours_in ends n) destinations
+
+-- why there is no trace: that of the first node of whose core there is no copy
+abbrev pub trace_refusal : List ℕ → List (ℕ × ℕ) → List ℕ → Option CoreError
+trace_refusal nodes ends destinations = first_refusal (refusal_of ends destinations) nodes
 
 -- a trace of these nodes and link ends that has no record yet
 abbrev pub first_trace : List ℕ → List (ℕ × ℕ) → List ℕ → TraceState

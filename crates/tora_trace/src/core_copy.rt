@@ -1,7 +1,7 @@
 //! A copy of a node's core, which tells of each input that the core accepted.
-ghost use Rattle.std.specs.Prelude.{◌≡◌, ◌==◌, ◌<◌, All, true, nat_lt, IfOk, OnOk, string_bytes};
+ghost use Rattle.std.specs.Prelude.{◌≡◌, ◌==◌, ◌<◌, All, true, nat_lt, IfOk, IfErr, OnOk, MatchOption, Err, None, string_bytes};
 ghost use Rattle.std.specs.List.{list_all};
-ghost use Rattle.tora_trace.specs.Copies.{TakesInput, TakesInputs, Restarts, first_copy, copy_after, input_records, after_input, after_inputs, copy_restarted, restart_records};
+ghost use Rattle.tora_trace.specs.Copies.{TakesInput, TakesInputs, Restarts, are_ids, copy_refusal, first_copy, copy_after, input_records, after_input, after_inputs, copy_restarted, restart_records};
 
 use crate::lives::{note_lives, write_link};
 use crate::packets::write_packets;
@@ -37,7 +37,8 @@ fn has_no_zero(numbers: &[Id]) -> bool
 
 /// Whether no number is 0.
 fn are_ids(numbers: &[Id]) -> bool
-    ensures { result ≡ true → All (λ n. 0 < n) numbers.now }
+    ensures exact { result ≡ are_ids numbers.now }
+    ensures all { result ≡ true → All (λ n. 0 < n) numbers.now }
 {
     has_no_zero(numbers)
 }
@@ -53,7 +54,10 @@ impl CoreCopy {
         neighbours: &[Id],
         destinations: &[Id],
     ) -> Result<CoreCopy, CoreError>
-        ensures { IfOk result (λ copy. copy ≡ first_copy me neighbours.now destinations.now) }
+        ensures made { IfOk result (λ copy. copy ≡ first_copy me neighbours.now destinations.now) }
+        ensures accepted { OnOk result (copy_refusal me neighbours.now destinations.now ≡ None) }
+        ensures refused { MatchOption (copy_refusal me neighbours.now destinations.now)
+            (IfErr result (λ e. e ≡ CoreError.Memory)) (λ e. result ≡ Err e) }
     {
         if me == 0 || !are_ids(neighbours) || !are_ids(destinations) {
             return Err(CoreError::OwnId);

@@ -1,9 +1,9 @@
 //! What a trace keeps between two events, and what it is told.
-ghost use Rattle.std.specs.Prelude.{◌≡◌, ◌++◌, IfOk, OnOk, [], map, filter_map};
+ghost use Rattle.std.specs.Prelude.{◌≡◌, ◌⊎◌, ◌++◌, IfOk, IfErr, OnOk, None, Some, [], map, filter_map};
 ghost use Rattle.std.specs.List.{position};
 ghost use Rattle.tora_trace.specs.Records.{need_record, part_record, mend_record};
 ghost use Rattle.tora_trace.specs.Copies.{after_inputs};
-ghost use Rattle.tora_trace.specs.Trace.{Tells, first_trace, first_copy_of, peer_of, neighbours_in, is_copy_of, with_text, with_frame, after_frames, frames_told, after_restart};
+ghost use Rattle.tora_trace.specs.Trace.{Tells, first_trace, refusal_of, trace_refusal, first_copy_of, peer_of, neighbours_in, is_copy_of, with_text, with_frame, after_frames, frames_told, after_restart};
 
 use crate::core_copy::CoreCopy;
 use crate::counts::{FrameCounts, write_frames};
@@ -60,7 +60,9 @@ fn first_copy(
     destinations: &[Id],
     n: Id,
 ) -> Result<CoreCopy, CoreError>
-    ensures { IfOk result (λ copy. copy ≡ first_copy_of ends.now destinations.now n) }
+    ensures made { IfOk result (λ copy. copy ≡ first_copy_of ends.now destinations.now n) }
+    ensures accepted { OnOk result (refusal_of ends.now destinations.now n ≡ None) }
+    ensures refused { IfErr result (λ e. (e ≡ CoreError.Memory) ⊎ (refusal_of ends.now destinations.now n ≡ Some e)) }
 {
     let Ok(neighbours) = neighbours_in(alloc, ends, n) else {
         return Err(CoreError::Memory);
@@ -81,13 +83,16 @@ impl Trace {
     ///
     /// # Errors
     /// `OwnId` where a number is 0, those of a new core, and `Memory`.
+    #[tactic(auto, using(crate::proofs::Refusals::first_on, crate::proofs::Refusals::first_none, crate::proofs::Refusals::first_here))]
     pub fn new(
         alloc: Global,
         nodes: &[Id],
         ends: &[(Id, Id)],
         destinations: &[Id],
     ) -> Result<Trace, CoreError>
-        ensures { IfOk result (λ trace. trace ≡ first_trace nodes.now ends.now destinations.now) }
+        ensures made { IfOk result (λ trace. trace ≡ first_trace nodes.now ends.now destinations.now) }
+        ensures accepted { OnOk result (trace_refusal nodes.now ends.now destinations.now ≡ None) }
+        ensures refused { IfErr result (λ e. (e ≡ CoreError.Memory) ⊎ (trace_refusal nodes.now ends.now destinations.now ≡ Some e)) }
     {
         let Ok(mut copies) = Vec::with_capacity(alloc, nodes.len()) else {
             return Err(CoreError::Memory);

@@ -1,10 +1,9 @@
-use Rattle.std.proofs.Common.{◌≡◌, ◌≤◌, ◌++◌, ◌∷◌, [], ℕ, List, length, refl, sym, ap, subst, ◌∙◌, inl, inr, arith, Some, None, Option}
+use Rattle.std.proofs.Common.{◌++◌, ◌∷◌, [], ℕ, List, length, refl, sym, ap, subst, ◌∙◌, inl, inr, arith}
 use Rattle.std.specs.Io.KnownBytes.{Appends}
 use Rattle.tora_seat.specs.declared.Item.{Item}
 use Rattle.tora_seat.specs.Rows.{state_of, serving_at}
 use Rattle.tora_seat.specs.declared.Answer.{Answer}
 use Rattle.tora_seat.specs.declared.What.{What}
-use Rattle.tora_seat.specs.declared.What.TheVariants.{Quit}
 use Rattle.tora_node.specs.CoreRuns.{reply_text, MayFail}
 use Rattle.tora_node.proofs.Served.{Appends-nil, nothing_ran, done, core_is}
 use Rattle.tora_node.proofs.core_thread.run_core.Goals as goal
@@ -31,6 +30,7 @@ returns-in-Err g c =
         (λ none. r.written),
         inr gone.1,
       );
+      neighbours = c.loop.invariant.neighbours;
     }
 
 pub returns-then-is_quit : goal.returns-then-is_quit
@@ -54,6 +54,7 @@ returns-then-is_quit g c =
         (λ none. d.written text (subst (λ (w : What). Appends text text (reply_text w v.answer v.seat.core)) (sym quit) (Appends-nil text))),
         inl (d.front, d.x, refl, ap (λ (i : Item). i.what) d.item_is ∙ quit),
       );
+      neighbours = c.serve-answer.ensures.neighbours ∙ h.neighbours;
     }
 
 pub returns-in-Err-reply : goal.returns-in-Err-reply
@@ -75,6 +76,7 @@ returns-in-Err-reply g c =
         (λ none. absurd (cc)),
         (d.front, d.x, refl, subst (λ (i : Item). MayFail c.in-Err-reply.fault i.what) (sym d.item_is) c.in-Err-reply.ensures.err),
       );
+      neighbours = c.serve-answer.ensures.neighbours ∙ h.neighbours;
     }
 
 pub loop-preserved : goal.loop-preserved

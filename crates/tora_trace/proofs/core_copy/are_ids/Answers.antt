@@ -8,5 +8,5 @@ all_ids : (xs : List ℕ) → list_all (λ n. ltb 0 n) xs ≡ true → All (λ n
 all_ids [] h = All-nil _
 all_ids (x ∷ xs) h = let p = and_parts (ltb 0 x) (list_all (λ n. ltb 0 n) xs) h in All-cons (λ n. 0 < n) x xs (ltb-true 0 x p.0) (all_ids xs p.1)
 
-pub returns : goal.returns
-returns c h = all_ids c.args.numbers.now (sym c.has_no_zero.ensures ∙ h)
+pub returns-clause-all : goal.returns-clause-all
+returns-clause-all c h = all_ids c.args.numbers.now (sym c.has_no_zero.ensures ∙ h)

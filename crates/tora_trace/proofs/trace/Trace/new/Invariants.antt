@@ -1,6 +1,9 @@
-use Rattle.std.proofs.Common.{◌≡◌, map, take}
-use Rattle.tora_trace.specs.Trace.{first_copy_of}
+use Rattle.std.proofs.Common.{◌≡◌, map, take, drop}
+use Rattle.tora_trace.specs.Trace.{first_copy_of, first_refusal, refusal_of}
 use Rattle.tora_trace.proofs.trace.Trace.new.Given as goal
 
 abbrev pub invariant-loop-n : goal.invariant-loop-n
-invariant-loop-n l = l.copies.items ≡ map (first_copy_of l.ends l.destinations) (take l.n-index l.nodes)
+invariant-loop-n l = record {
+  copies : l.copies.items ≡ map (first_copy_of l.ends l.destinations) (take l.n-index l.nodes);
+  none : first_refusal (refusal_of l.ends l.destinations) l.nodes ≡ first_refusal (refusal_of l.ends l.destinations) (drop l.n-index l.nodes);
+}

@@ -1,0 +1,46 @@
+-- What is wrong with a text that is no configuration: the first fault of it.
+use Rattle.std.specs.Prelude.{ℕ, ◌^◌, ◌&&◌, nat_lt, if◌then◌else◌, ℤ, pos, negsuc, List, Option, Some, None, Result, Ok, Err}
+use Rattle.toml.specs.Data.{Data, Items, as_integer, as_str, as_array}
+use Rattle.tora_config.specs.declared.fault.ConfigError.{ConfigError}
+use Rattle.tora_config.specs.declared.fault.ConfigError.TheVariants as Error
+use Rattle.tora_config.specs.declared.fault.Place.{Place}
+use Rattle.tora_config.specs.declared.fault.Reason.{Reason}
+use Rattle.tora_config.specs.declared.fault.Reason.TheVariants as Is
+
+-- the number of a node, from 1 to 2^32 - 1, or what is wrong with it
+abbrev pub id_in : Option ℤ → Result ℕ Reason
+id_in None = Err Is.NoNumber
+id_in (Some (negsuc n)) = Err Is.NoId
+id_in (Some (pos n)) = if nat_lt 0 n && nat_lt n (2 ^ 32) then Ok n else Err Is.NoId
+
+-- a port, from 1 to 2^16 - 1, or what is wrong with it
+abbrev pub port_in : Option ℤ → Result ℕ Reason
+port_in None = Err Is.NoNumber
+port_in (Some (negsuc n)) = Err Is.NoPort
+port_in (Some (pos n)) = if nat_lt 0 n && nat_lt n (2 ^ 16) then Ok n else Err Is.NoPort
+
+-- what a look-up of a key says: nothing stands there, or this
+abbrev pub found : {A : Type 0} → (Data → Result A Reason) → Option Data → Result A Reason
+found read None = Err Is.Missing
+found read (Some value) = read value
+
+abbrev pub id_at : Option Data → Result ℕ Reason
+id_at stands = found (λ value. id_in (as_integer value)) stands
+
+abbrev pub port_at : Option Data → Result ℕ Reason
+port_at stands = found (λ value. port_in (as_integer value)) stands
+
+abbrev pub ok_or : {A : Type 0} → Reason → Option A → Result A Reason
+ok_or reason None = Err reason
+ok_or reason (Some a) = Ok a
+
+abbrev pub text_at : Option Data → Result (List ℕ) Reason
+text_at stands = found (λ value. ok_or Is.NoText (as_str value)) stands
+
+abbrev pub list_at : Option Data → Result Items Reason
+list_at stands = found (λ value. ok_or Is.NoList (as_array value)) stands
+
+-- what was read at a key, or the error that names it and says what is wrong
+abbrev pub at_place : {A : Type 0} → Place → Result A Reason → Result A ConfigError
+at_place place (Ok a) = Ok a
+at_place place (Err reason) = Err (Error.Value place reason)
