@@ -3,7 +3,7 @@ use Rattle.std.proofs.Common.{◌≡◌, ℕ, ◌<◌, ◌+◌, ◌⊎◌, inl, 
 use Rattle.std.proofs.lemmas.List.{get_or-set_same, get_or-set_other}
 use Rattle.std.proofs.lemmas.Nat.{mod_below}
 use Rattle.std.specs.Prelude.{slice_index}
-use Rattle.tora_sim.specs.Hints.{last_bits, kept_place, IsGuessed, IsLastOfItsBits, AreGuessed}
+use Rattle.tora_sim.specs.Hints.{last_bits, kept_place, IsGuessed, AreGuessed}
 use Rattle.tora_sim.specs.Nodes.{NodeView}
 use Rattle.tora_sim.proofs.FreshEnds.{below_next, same_item}
 

@@ -1,8 +1,7 @@
-use Rattle.std.proofs.Common.{◌≡◌, length, ℕ, ◌<◌, arith, subst, ap, refl, ◌∙◌}
+use Rattle.std.proofs.Common.{◌≡◌, length, ◌<◌, arith, subst, ap, refl, ◌∙◌}
 use Rattle.std.proofs.lemmas.Option.{slice_get_read}
 use Rattle.std.proofs.lemmas.List.{length-set}
 use Rattle.tora_sim.specs.Hints.{last_bits, kept_place, AreGuessed}
-use Rattle.tora_sim.specs.Nodes.{NodeView}
 use Rattle.tora_sim.proofs.Guesses.{more_guessed}
 use Rattle.tora_sim.proofs.hints.Hints.new.Goals as goal
 
