@@ -42,7 +42,7 @@ pub same_item : {A : Type 0} → (x y : A) → Some x ≡ Some y → x ≡ y
 same_item x y e = cc
 
 -- a number below the next one is below this one, or is it
-below_next : (j place : ℕ) → j < place + 1 → (j < place) ⊎ (j ≡ place)
+pub below_next : (j place : ℕ) → j < place + 1 → (j < place) ⊎ (j ≡ place)
 below_next j place lt = elim (cases_Bool (ltb j place)) [ inl e ↦ inl (ltb-true j place e) | inr e ↦ inr (let more = ltb-false j place e in omega (arith, lt, more)) ]
 
 -- ---- a fresh end more

@@ -24,6 +24,7 @@ pub mod Turning
 pub mod KeyLists
 pub mod FirstStore
 pub mod FreshEnds
+pub mod Guesses
 pub mod Restarting
 pub mod Possibles
 pub mod NodeEnds

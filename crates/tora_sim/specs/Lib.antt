@@ -3,6 +3,7 @@ pub mod Files
 pub mod Datagrams
 pub mod Links
 pub mod Nodes
+pub mod Hints
 pub mod Topologies
 pub mod Store
 pub mod Steps

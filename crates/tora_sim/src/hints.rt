@@ -1,5 +1,6 @@
 //! Guesses of where the nodes and the link ends stand.
-ghost use Rattle.std.specs.Prelude.{◌<◌};
+ghost use Rattle.std.specs.Prelude.{◌≡◌, length, slice_index};
+ghost use Rattle.tora_sim.specs.Hints.{last_bits, kept_place, AreGuessed};
 
 use crate::nodes::NodeSlot;
 use tora_height::Id;
@@ -18,20 +19,24 @@ pub struct Hints {
 }
 
 /// A place as it is kept; one that does not fit is kept as the first.
-fn kept(place: usize) -> u16 {
+fn kept(place: usize) -> u16
+    ensures { result ≡ kept_place place }
+{
     u16::try_from(place).unwrap_or(0)
 }
 
 /// The bits of a number that a guess goes by.
 fn bits(n: Id) -> usize
-    ensures { result < 256 }
+    ensures { result ≡ last_bits n }
 {
     n as usize % PLACES
 }
 
 impl Hints {
-    /// The guesses for these nodes.
-    pub fn new(nodes: &[NodeSlot]) -> Hints {
+    /// The guesses for these nodes: each is right but where the number of a later node ends in the same bits.
+    pub fn new(nodes: &[NodeSlot]) -> Hints
+        ensures { AreGuessed nodes.now (length nodes.now) result.nodes result.ends }
+    {
         let mut hints = Hints {
             nodes: [0; 256],
             ends: [0; 256],
@@ -45,12 +50,16 @@ impl Hints {
     }
 
     /// Where a node may stand among the nodes.
-    pub fn node(&self, n: Id) -> usize {
+    pub fn node(&self, n: Id) -> usize
+        ensures { result ≡ slice_index self.now.nodes (last_bits n) }
+    {
         usize::from(self.nodes[bits(n)])
     }
 
     /// Where the first link end of a node may stand among the link ends.
-    pub fn first_end(&self, n: Id) -> usize {
+    pub fn first_end(&self, n: Id) -> usize
+        ensures { result ≡ slice_index self.now.ends (last_bits n) }
+    {
         usize::from(self.ends[bits(n)])
     }
 }

@@ -13,6 +13,8 @@ use tora_core::CoreError;
 use tora_height::{Entry, Height, Id};
 use tora_packet::{Packet, Update};
 
+mod memory;
+
 /// Whether no number in links is 0.
 fn are_links(links: &[(Id, Id)]) -> bool
     ensures { result ≡ true → All (λ (link : Link). (0 < link.a) × (0 < link.b)) (links_in links.now) }

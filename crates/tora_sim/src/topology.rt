@@ -131,7 +131,7 @@ impl Topology {
     pub fn has_destination(&self, d: Id) -> bool
         ensures { result ≡ has_number d self.now.destinations }
     {
-        has_number(d, &self.destinations)
+        has_number(d, self.destinations())
     }
 
     /// The nodes, in ascending order.

@@ -39,23 +39,20 @@ returns-then-receive c =
     (failed_done s.topology s.times s.clock s.nodes.items s.links.items s.datagrams.items c.self.invariant c.args.i c.in-Some.frame (sym c.in-Some.ensures)
     c.in-Some-node_place.home c.index_mut.result.now (first c) c.index_mut.ensures.value c.arm_receive.new.self (armed c) c.arm_receive.ensures)
 
-module _ (c : goal.After-self-2-1) where
-  home_first : IsFirst (is_of c.in-Some.frame.header.receiver) c.self.inside.nodes.items c.in-Some-node_place.home
-  home_first = subst (λ (hd : Header). IsFirst (is_of hd.receiver) c.self.inside.nodes.items c.in-Some-node_place.home) c.header-header.ensures.value c.in-Some-node_place.ensures.first
-
-  end_first : IsFirst (is_at c.in-Some.frame.header.receiver c.in-Some.frame.header.sender) c.self.inside.links.items c.in-Some-place.at
-  end_first = subst (λ (hd : Header). IsFirst (is_at hd.receiver hd.sender) c.self.inside.links.items c.in-Some-place.at) c.header-header.ensures.value c.in-Some-place.ensures.first
-
 pub invariant_of-self-2 : goal.invariant_of-self-2
 invariant_of-self-2 c =
     let s = c.self.inside in
+    let home_first : IsFirst (is_of c.in-Some.frame.header.receiver) s.nodes.items c.in-Some-node_place.home = subst (λ (hd : Header). IsFirst (is_of hd.receiver) s.nodes.items c.in-Some-node_place.home) c.header-header.ensures.value c.in-Some-node_place.ensures.first in
+    let end_first : IsFirst (is_at c.in-Some.frame.header.receiver c.in-Some.frame.header.sender) s.links.items c.in-Some-place.at = subst (λ (hd : Header). IsFirst (is_at hd.receiver hd.sender) s.links.items c.in-Some-place.at) c.header-header.ensures.value c.in-Some-place.ensures.first in
     received_store s.topology s.times s.clock s.nodes.items s.links.items s.datagrams.items c.self.invariant c.args.i c.in-Some.frame (sym c.in-Some.ensures)
-    c.in-Some-node_place.home c.index.result.now (home_first c) c.index.ensures c.in-Some-place.at c.index_mut-2.result.now (end_first c) c.index_mut-2.ensures.value c.receive-2.new.self c.receive-2.ensures
+    c.in-Some-node_place.home c.index.result.now home_first c.index.ensures c.in-Some-place.at c.index_mut-2.result.now end_first c.index_mut-2.ensures.value c.receive-2.new.self c.receive-2.ensures
 
 pub returns : goal.returns
 returns c =
     let s = c.self.inside in
+    let home_first : IsFirst (is_of c.in-Some.frame.header.receiver) s.nodes.items c.in-Some-node_place.home = subst (λ (hd : Header). IsFirst (is_of hd.receiver) s.nodes.items c.in-Some-node_place.home) c.header-header.ensures.value c.in-Some-node_place.ensures.first in
+    let end_first : IsFirst (is_at c.in-Some.frame.header.receiver c.in-Some.frame.header.sender) s.links.items c.in-Some-place.at = subst (λ (hd : Header). IsFirst (is_at hd.receiver hd.sender) s.links.items c.in-Some-place.at) c.header-header.ensures.value c.in-Some-place.ensures.first in
     subst (λ (before : SimState). IsDone (world_of before) (Deliver c.args.i) (world_of (state_of s.topology s.times s.clock s.nodes.items (slice_set s.links.items c.in-Some-place.at c.receive-2.new.self) s.datagrams.items))) c.self.view_is
     (received_done s.topology s.times s.clock s.nodes.items s.links.items s.datagrams.items c.self.invariant c.args.i c.in-Some.frame (sym c.in-Some.ensures)
-    c.in-Some-node_place.home c.index.result.now (home_first c) c.index.ensures c.in-Some-place.at c.index_mut-2.result.now (end_first c) c.index_mut-2.ensures.value c.receive-2.new.self
+    c.in-Some-node_place.home c.index.result.now home_first c.index.ensures c.in-Some-place.at c.index_mut-2.result.now end_first c.index_mut-2.ensures.value c.receive-2.new.self
     (sym c.receive.ensures ∙ c.if-receive.false) c.receive-2.ensures)

@@ -1,0 +1,224 @@
+//! What stands where memory is refused: for a topology, for a first world, and at an event. Each test takes that answer or the
+//! other, so that it passes whichever call for memory is refused.
+use super::*;
+
+/// A topology; `None` where memory is refused.
+fn made_or_refused(
+    rt: &impl Abort,
+    alloc: Global,
+    links: &[(Id, Id)],
+    destinations: &[Id],
+) -> Option<Topology> {
+    match made(rt, alloc, links, destinations) {
+        Ok(topology) => Some(topology),
+        Err(error) => {
+            assert_eq!(rt; error, CoreError::Memory);
+            None
+        }
+    }
+}
+
+/// Where memory is refused for a topology, that is answered. A fault is told without memory.
+#[test]
+fn want_of_memory_for_a_topology(rt: HostRuntime) {
+    let alloc = rt.alloc();
+    if let Some(topology) = made_or_refused(&rt, alloc, &[(3, 2), (1, 2)], &[3, 1]) {
+        assert_eq!(&rt; topology.links(), [(3, 2), (1, 2)].as_slice());
+        assert_eq!(&rt; topology.destinations(), [3, 1].as_slice());
+    }
+    let links = [(1, 2), (2, 1)];
+    sees(&rt, alloc, &links, &[1], Some(CoreError::Repeated));
+}
+
+/// Sees the first world of nodes 1, 2 and 3 in a row with the destination 3, or that memory was refused for it.
+fn sees_first(rt: &impl Abort, alloc: Global, found: Result<Sim, SimError>) {
+    match found {
+        Err(error) => assert_eq!(rt; error, SimError::Memory),
+        Ok(sim) => {
+            assert_eq!(rt; (sim.clock(), sim.datagrams()), (0, 0));
+            sees_route(rt, &sim, 3, 3, Some(Some(Height::zero(3))), None);
+            sees_route(rt, &sim, 1, 3, Some(None), None);
+            if let Ok(nodes) = sim.nodes(alloc) {
+                assert_eq!(rt; nodes.as_slice(), [1, 2, 3].as_slice());
+            }
+            if let Ok(ends) = sim.ends(alloc) {
+                assert_eq!(rt;
+                    ends.as_slice(),
+                    [(1, 2), (2, 1), (2, 3), (3, 2)].as_slice()
+                );
+            }
+        }
+    }
+}
+
+/// Where memory is refused for a first world, that is answered, and the topology is as it was.
+#[test]
+fn want_of_memory_for_a_first_world(rt: HostRuntime) {
+    let alloc = rt.alloc();
+    let times = Times {
+        hello: 2,
+        silent: 3,
+        retry: 1,
+        tries: 2,
+    };
+    let Some(mut topology) = made_or_refused(&rt, alloc, &[(3, 2), (1, 2)], &[3]) else {
+        return;
+    };
+    assert_eq!(&rt; topology.set_old(1), Ok(()));
+    sees_first(&rt, alloc, Sim::new(alloc, &topology));
+    sees_first(&rt, alloc, Sim::with_times(alloc, &topology, times));
+    assert_eq!(&rt; topology.links(), [(3, 2), (1, 2)].as_slice());
+    assert_eq!(&rt; topology.destinations(), [3].as_slice());
+    assert_eq!(&rt; topology.olds(), [1].as_slice());
+}
+
+/// Lets one event happen; answers whether there was memory for it.
+fn happens(rt: &impl Abort, sim: &mut Sim, event: &Event) -> bool {
+    match sim.step(event) {
+        Ok(()) => true,
+        Err(error) => {
+            assert_eq!(rt; error, SimError::Memory);
+            false
+        }
+    }
+}
+
+/// The world of nodes 1 and 2 after these events, each of which is possible; `None` where memory is refused.
+fn world_after(rt: &impl Abort, alloc: Global, events: &[Event]) -> Option<Sim> {
+    let topology = made_or_refused(rt, alloc, &[(1, 2)], &[2])?;
+    let Ok(mut sim) = Sim::new(alloc, &topology) else {
+        return None;
+    };
+    for event in events {
+        if !happens(rt, &mut sim, event) {
+            return None;
+        }
+    }
+    Some(sim)
+}
+
+/// Whether two worlds tell the same of their clocks, and of the ways of as many datagrams.
+fn are_datagrams_same(one: &Sim, other: &Sim) -> bool {
+    let mut are_same = one.clock() == other.clock() && one.datagrams() == other.datagrams();
+    for i in 0..10 {
+        are_same = are_same && one.datagram(i) == other.datagram(i);
+    }
+    are_same
+}
+
+/// Whether two worlds tell the same of a node and its core.
+fn is_node_same(one: &Sim, other: &Sim, n: Id) -> bool {
+    one.height(n, 2) == other.height(n, 2)
+        && one.next_hop(n, 2) == other.next_hop(n, 2)
+        && one.first_item(n) == other.first_item(n)
+        && one.inputs(n).len() == other.inputs(n).len()
+}
+
+/// Whether two worlds tell the same of what was sent and taken at a link end in the first life of the link.
+fn is_lane_same(one: &Sim, other: &Sim, n: Id, k: Id) -> bool {
+    let life = Life { own: 1, peer: 1 };
+    one.sent_count(n, k, life) == other.sent_count(n, k, life)
+        && one.taken_count(n, k, life) == other.taken_count(n, k, life)
+}
+
+/// Whether the same may happen in two worlds at the link end that stands at a place.
+fn is_end_same(one: &Sim, other: &Sim, place: usize, n: Id, k: Id) -> bool {
+    let events = [
+        Event::Open(n, k),
+        Event::Pull(n, k),
+        Event::Transmit(n, k),
+        Event::Pump(n, k),
+    ];
+    let mut is_same = is_lane_same(one, other, n, k);
+    for event in events.iter() {
+        is_same = is_same && one.may_happen(place, event) == other.may_happen(place, event);
+    }
+    is_same
+}
+
+/// Whether what is read of two worlds of nodes 1 and 2 is the same.
+fn are_same(one: &Sim, other: &Sim) -> bool {
+    are_datagrams_same(one, other)
+        && is_node_same(one, other, 1)
+        && is_node_same(one, other, 2)
+        && is_end_same(one, other, 0, 1, 2)
+        && is_end_same(one, other, 1, 2, 1)
+}
+
+/// Whether a world keeps more after an event.
+fn takes_memory(event: &Event) -> bool {
+    match event {
+        Event::Need(_, _) => true,
+        Event::Tick => false,
+        Event::Open(_, _) => false,
+        Event::Pull(_, _) => false,
+        Event::Transmit(_, _) => true,
+        Event::Deliver(_) => false,
+        Event::Pump(_, _) => true,
+        Event::CoreTurn(_) => true,
+        Event::Arm(_, _) => false,
+        Event::Restart(_, _) => true,
+    }
+}
+
+/// Sees that a run of events, each of which is possible behind those before them, leaves the world after all of them; or,
+/// where memory was refused at one, the world after those before that one, in which the events from it on then happen.
+fn sees_run(rt: &impl Abort, alloc: Global, before: &[Event], events: &[Event]) {
+    let Some(mut sim) = world_after(rt, alloc, before) else {
+        return;
+    };
+    let ran = sim.run(events);
+    let Some(mut other) = world_after(rt, alloc, before) else {
+        return;
+    };
+    let mut goes_on = false;
+    for event in events {
+        if ran.is_err() && takes_memory(event) && !goes_on {
+            goes_on = are_same(&sim, &other);
+        }
+        if goes_on && !happens(rt, &mut sim, event) {
+            return;
+        }
+        if !happens(rt, &mut other, event) {
+            return;
+        }
+    }
+    if ran.is_err() {
+        assert_eq!(rt; ran, Err(SimError::Memory));
+        assert!(rt; goes_on, "the world is that before an event");
+    }
+    assert!(rt;
+        are_same(&sim, &other),
+        "the worlds are the same after all events"
+    );
+}
+
+/// Where memory is refused for a first link, its packets and its meeting.
+#[test]
+fn want_of_memory_at_a_meeting(rt: HostRuntime) {
+    sees_run(&rt, rt.alloc(), &[], &MEETING);
+}
+
+/// The events by which an update goes over the link, its sender restarts, and the receiver hears of that.
+const RESTARTING: [Event; 15] = [
+    Event::Pull(1, 2),
+    Event::Transmit(1, 2),
+    Event::Deliver(4),
+    Event::Pump(2, 1),
+    Event::CoreTurn(2),
+    Event::Transmit(2, 1),
+    Event::Deliver(5),
+    Event::Tick,
+    Event::Restart(1, None),
+    Event::Open(1, 2),
+    Event::Transmit(1, 2),
+    Event::Deliver(6),
+    Event::Pump(2, 1),
+    Event::CoreTurn(2),
+    Event::Need(2, 2),
+];
+
+#[test]
+fn want_of_memory_at_a_restart(rt: HostRuntime) {
+    sees_run(&rt, rt.alloc(), &MEETING, &RESTARTING);
+}
