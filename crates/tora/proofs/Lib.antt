@@ -12,7 +12,6 @@ pub mod FaultLaws
 pub mod KindLaws
 pub mod RoundLaws
 pub mod SimulationLaws
-pub mod Flushed
 pub mod EndingLaws
 pub mod SimulationFound
 pub mod SimulationHere

@@ -21,3 +21,4 @@ pub mod ToldView
 pub mod TimesWord
 pub mod Tracing
 pub mod TracingView
+pub mod TraceOuts

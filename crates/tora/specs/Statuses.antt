@@ -1,5 +1,5 @@
 -- The exit statuses of the program.
-use Rattle.std.specs.Prelude.{ℕ, Result, Ok, Err}
+use Rattle.std.specs.Prelude.{◌≡◌, ◌⊎◌, ℕ, Bool, true, false, Result, Ok, Err}
 use Rattle.tora.specs.declared.ended.Ended.{Ended}
 use Rattle.tora.specs.declared.ended.Ended.TheVariants.{Whole, Fault}
 use Rattle.tora.specs.declared.ended.ReplayError.{ReplayError}
@@ -17,6 +17,21 @@ status_of (Err Memory) = 5
 status_of (Err Read) = 1
 status_of (Err Write) = 1
 
+-- and 1 in place of 0 where the trace of a simulation could not be written
+abbrev pub traced_status : Bool → Result Ended ReplayError → ℕ
+traced_status false ended = status_of ended
+traced_status true (Ok Whole) = 1
+traced_status true (Ok (Fault n)) = 1
+traced_status true (Err Memory) = 5
+traced_status true (Err Read) = 1
+traced_status true (Err Write) = 1
+
+-- how a run ends whose output is handed on last, where that succeeds or not
+abbrev pub after_flush : Bool → Result Ended ReplayError → Result Ended ReplayError
+after_flush true ended = ended
+after_flush false (Ok ended) = Err Write
+after_flush false (Err error) = Err error
+
 -- 5 where memory was refused, 1 for the configuration, 3 for a socket, 4 for a life file
 abbrev pub status_of_fault : NodeFault → ℕ
 status_of_fault NoMemory = 5
@@ -32,3 +47,8 @@ status_of_node (Err Node.Lane) = 1
 status_of_node (Err (Node.Life peer error)) = 4
 status_of_node (Err (Node.Wire peer)) = 3
 status_of_node (Err Node.Output) = 1
+
+-- the status of a node that was not started for a fault, whose configuration was only read, or that ran and ended
+abbrev pub EndsNode : Type 0 → Bool → ℕ → Type 0
+EndsNode A is_check status =
+    ((fault : NodeFault) × (status ≡ status_of_fault fault)) ⊎ (((is_check ≡ true) × (status ≡ 0)) ⊎ ((is_check ≡ false) × ((ended : Result A NodeError) × (status ≡ status_of_node ended))))

@@ -1,5 +1,5 @@
 -- What a trace has of each event.
-use Rattle.std.specs.Prelude.{◌≡◌, ℕ, ◌==◌, Bool, true, false, if◌then◌else◌, List, [], length, drop, slice_get, Option, Some, None, Result, Ok, Err}
+use Rattle.std.specs.Prelude.{◌≡◌, ℕ, ◌==◌, if◌then◌else◌, List, [], length, drop, slice_get, Option, Some, None}
 use Rattle.tora_arq.specs.declared.Life.{Life}
 use Rattle.tora_frame.specs.FrameParts.{FrameParts}
 use Rattle.tora_seat.specs.declared.Item.{Item}
@@ -13,12 +13,7 @@ use Rattle.tora_trace.specs.Records.{need_record, part_record, mend_record}
 use Rattle.tora_trace.specs.Copies.{after_inputs}
 use Rattle.tora_trace.specs.Trace.{TraceState, Tells as TellsOf, with_text, with_frame, after_frames, after_restart}
 use Rattle.tora.specs.Rounds.{is_parted}
-use Rattle.tora.specs.Statuses.{status_of}
 use Rattle.tora.specs.SimulationText.{with_parted, without_parted}
-use Rattle.tora.specs.declared.ended.Ended.{Ended}
-use Rattle.tora.specs.declared.ended.Ended.TheVariants.{Whole, Fault}
-use Rattle.tora.specs.declared.ended.ReplayError.{ReplayError}
-use Rattle.tora.specs.declared.ended.ReplayError.TheVariants.{Memory, Read, Write}
 use Rattle.tora.specs.declared.simulation_line.SimulationLine.{SimulationLine}
 use Rattle.tora.specs.declared.simulation_line.SimulationLine.TheVariants.{Happens, Rounds, Part, Mend, Heights, Sent, Taken, Exact, Walk}
 use Rattle.tora.specs.declared.traced.Before.{Before}
@@ -121,14 +116,3 @@ parted_after (Some (Sent a b life)) parted = parted
 parted_after (Some (Taken b a life)) parted = parted
 parted_after (Some (Exact d)) parted = parted
 parted_after (Some (Walk n d)) parted = parted
-
--- ---- how a run ends whose trace is written
-
--- 1 where the simulation would end with 0 and the trace could not be written
-abbrev pub traced_status : Bool → Result Ended ReplayError → ℕ
-traced_status true (Ok Whole) = 1
-traced_status true (Ok (Fault n)) = 1
-traced_status true (Err Memory) = 5
-traced_status true (Err Read) = 1
-traced_status true (Err Write) = 1
-traced_status false ended = status_of ended

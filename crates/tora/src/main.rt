@@ -3,9 +3,13 @@
 //! `replay` reads the inputs of one node from a reader, and writes what the node sends.
 #![tactic(auto)]
 
-ghost use Rattle.std.specs.Prelude.{◌≡◌};
+ghost use Rattle.std.specs.Prelude.{◌≡◌, ◌≢◌, ◌⊎◌, None, IfSome, option_map};
 ghost use Rattle.std.specs.Process.{exit_status};
+ghost use Rattle.clap.specs.Words.{kind_of};
+ghost use Rattle.tora.specs.Endings.{EndsFile, EndsTraced};
+ghost use Rattle.tora.specs.SimulationText.{simulation_rules};
 ghost use Rattle.tora.specs.Statuses.{status_of};
+ghost use Rattle.tora.specs.TimesWord.{asked_times};
 
 mod answer;
 mod cause;
@@ -16,6 +20,7 @@ mod flushing;
 mod line;
 mod link_lines;
 mod node_command;
+mod output;
 mod parse;
 mod recent;
 mod replay_command;
@@ -43,6 +48,7 @@ mod words;
 use clap::error::ErrorKind;
 use command::command;
 pub use ended::{Ended, ReplayError};
+use output::Output;
 pub use parse::{first_lines_are_read_as_written, lines_are_read_as_written};
 pub use replaying::{fault_is_the_first, replay};
 pub use simulated::{simulate, simulate_with};
@@ -52,6 +58,7 @@ pub use simulator::Simulator;
 use std::io;
 use std::io::BufWriter;
 use std::process::ExitCode;
+use std::rt::Files;
 use times_word::asked_times;
 use tora_sim::Sim;
 pub use words::numbers_are_read_as_printed;
@@ -99,33 +106,52 @@ fn replay_input(rt: &HostRuntime, is_verbose: bool) -> ExitCode {
     replay_command::run(rt, rt.stdin(), is_verbose, &mut writer)
 }
 
-/// Simulates the lines of a file, with the times of link ends that a word asks for, and writes the trace where a path is
-/// given for it.
-fn simulate_file(
+/// Simulates the lines of the file at a path, with the times of link ends that a word asks for, and writes the trace where a
+/// path is given for it. A word that gives no times is a fault of usage, and nothing is written.
+fn simulate_file<T: Files + AllocGlobal + Eprint, W: Output>(
+    rt: &T,
+    times: Option<&str>,
+    path: &str,
+    trace: Option<&str>,
+    is_verbose: bool,
+    writer: &mut W,
+) -> ExitCode
+    ensures usage { asked_times (option_map (λ w. w.now) times.entry) ≡ None → (exit_status result ≡ 2) × (writer.new ≡ writer.old) }
+    ensures ends { IfSome (asked_times (option_map (λ w. w.now) times.entry)) (λ t. EndsTraced T.File.remaining (simulation_rules t) W.contents W.did_flush writer.old writer.new (exit_status result)) }
+    ensures untraced { trace.entry ≡ None → IfSome (asked_times (option_map (λ w. w.now) times.entry)) (λ t. EndsFile T.File.remaining (simulation_rules t) W.contents W.did_flush writer.old writer.new (exit_status result)) }
+{
+    let Some(times) = asked_times(times) else {
+        return stop(rt, USAGE, TIMES);
+    };
+    match trace {
+        Some(trace) => {
+            let paths = (path, trace);
+            traced_command::run::<Sim, T, W>(rt, times, paths, is_verbose, writer)
+        }
+        None => sim_command::run::<Sim, T, W>(rt, times, path, is_verbose, writer),
+    }
+}
+
+/// Simulates the lines of a file, to standard output.
+fn simulate_to_output(
     rt: &HostRuntime,
     times: Option<&str>,
     path: &str,
     trace: Option<&str>,
     is_verbose: bool,
 ) -> ExitCode {
-    let Some(times) = asked_times(times) else {
-        return stop(rt, USAGE, TIMES);
-    };
     let Ok(mut writer) = BufWriter::new(rt.alloc(), io::writer(rt)) else {
         return stop(rt, MEMORY, "memory");
     };
-    let writer = &mut writer;
-    match trace {
-        Some(trace) => {
-            let paths = (path, trace);
-            traced_command::run::<Sim, HostRuntime, _>(rt, times, paths, is_verbose, writer)
-        }
-        None => sim_command::run::<Sim, HostRuntime, _>(rt, times, path, is_verbose, writer),
-    }
+    simulate_file(rt, times, path, trace, is_verbose, &mut writer)
 }
 
 /// Prints help, a version or a fault of usage.
-fn usage(rt: &HostRuntime, error: &clap::Error) -> ExitCode {
+fn usage<R: Print + Eprint>(rt: &R, error: &clap::Error) -> ExitCode
+    ensures memory { kind_of error.now ≡ ErrorKind.OutOfMemory → exit_status result ≡ 5 }
+    ensures mistake { kind_of error.now ≢ ErrorKind.OutOfMemory → kind_of error.now ≢ ErrorKind.DisplayHelp → kind_of error.now ≢ ErrorKind.DisplayVersion → exit_status result ≡ 2 }
+    ensures shown { (kind_of error.now ≡ ErrorKind.DisplayHelp) ⊎ (kind_of error.now ≡ ErrorKind.DisplayVersion) → (exit_status result ≡ 0) ⊎ (exit_status result ≡ 1) }
+{
     if error.kind() == ErrorKind::OutOfMemory {
         return stop(rt, MEMORY, "memory");
     }
@@ -167,7 +193,7 @@ fn main(rt: HostRuntime) -> ExitCode {
                 Some(("sim", sim)) => {
                     let path = sim.get_str("FILE").unwrap_or("");
                     let (times, trace) = (sim.get_str("times"), sim.get_str("trace"));
-                    simulate_file(&rt, times, path, trace, is_verbose)
+                    simulate_to_output(&rt, times, path, trace, is_verbose)
                 }
                 _ => replay_input(&rt, is_verbose),
             }

@@ -1,7 +1,8 @@
 //! `tora node CONFIG`: a node over UDP on the loopback and real life files.
 ghost use Rattle.std.specs.Prelude.{◌≡◌, IfOk};
 ghost use Rattle.std.specs.Process.{exit_status};
-ghost use Rattle.tora.specs.Statuses.{status_of_node, status_of_fault};
+ghost use Rattle.tora.specs.Statuses.{status_of_node, status_of_fault, EndsNode};
+ghost use Rattle.tora_node.specs.declared.node.Ended.{Ended};
 ghost use Rattle.tora_config.specs.NodeConfig.{IsNodeConfig};
 
 use crate::{INPUT, LIFE, MEMORY, SOCKET, stop};
@@ -193,14 +194,9 @@ pub fn run<
     R: Files<File = File> + AllocGlobal + Eprint + Net + Threads + Wait + Sync + Clock + Log,
     Rd: Read,
     W: Write + Send,
->(
-    rt: &R,
-    path: &str,
-    is_check: bool,
-    is_verbose: bool,
-    reader: &mut Rd,
-    writer: &mut W,
-) -> ExitCode {
+>(rt: &R, path: &str, is_check: bool, is_verbose: bool, reader: &mut Rd, writer: &mut W) -> ExitCode
+    ensures { EndsNode Ended is_check (exit_status result) }
+{
     let alloc = rt.alloc();
     let config = match read(rt, path, is_verbose || is_check) {
         Ok(config) => config,

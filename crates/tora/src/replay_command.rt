@@ -1,5 +1,5 @@
 //! `tora replay`: a replay of what a reader gives.
-ghost use Rattle.std.specs.Prelude.{◌≡◌};
+ghost use Rattle.std.specs.Prelude.{false};
 ghost use Rattle.std.specs.Process.{exit_status};
 ghost use Rattle.tora.specs.Endings.{EndsBy};
 ghost use Rattle.tora.specs.ReplayText.{replay_rules};
@@ -7,9 +7,10 @@ ghost use Rattle.tora.specs.ReplayText.{replay_rules};
 use crate::cause::cause_of;
 use crate::ended::{Ended, ReplayError};
 use crate::flushing::replay_and_flush;
+use crate::output::Output;
 use crate::recent::Recent;
 use crate::status;
-use std::io::{Read, Write};
+use std::io::Read;
 use std::process::ExitCode;
 
 /// Says why a line is a fault, or what failed.
@@ -32,12 +33,12 @@ fn tell<T: AllocGlobal + Eprint, R: Read>(
 }
 
 /// Replays, and then says why a line is a fault.
-fn replay_verbosely<T: AllocGlobal + Eprint, R: Read + Drop, W: Write>(
+fn replay_verbosely<T: AllocGlobal + Eprint, R: Read + Drop, W: Output>(
     rt: &T,
     reader: R,
     writer: &mut W,
 ) -> ExitCode
-    ensures { EndsBy replay_rules (R.remaining reader) (W.contents writer.old) (W.contents writer.new) (exit_status result) }
+    ensures { EndsBy replay_rules W.contents W.did_flush (R.remaining reader) writer.old writer.new false (exit_status result) }
 {
     let alloc = rt.alloc();
     let mut reader = Recent::new(alloc, reader);
@@ -48,12 +49,12 @@ fn replay_verbosely<T: AllocGlobal + Eprint, R: Read + Drop, W: Write>(
 }
 
 /// Replays, and says no more than the cause of a status.
-fn replay_quietly<T: AllocGlobal + Eprint, R: Read + Drop, W: Write>(
+fn replay_quietly<T: AllocGlobal + Eprint, R: Read + Drop, W: Output>(
     rt: &T,
     reader: R,
     writer: &mut W,
 ) -> ExitCode
-    ensures { EndsBy replay_rules (R.remaining reader) (W.contents writer.old) (W.contents writer.new) (exit_status result) }
+    ensures { EndsBy replay_rules W.contents W.did_flush (R.remaining reader) writer.old writer.new false (exit_status result) }
 {
     let mut reader = reader;
     let result = replay_and_flush(rt.alloc(), &mut reader, writer);
@@ -62,13 +63,13 @@ fn replay_quietly<T: AllocGlobal + Eprint, R: Read + Drop, W: Write>(
 
 /// Replays what a reader gives, and ends with a status: 0 at its end, 1 where a line is a fault or reading or writing
 /// failed, 5 where memory was refused.
-pub fn run<T: AllocGlobal + Eprint, R: Read + Drop, W: Write>(
+pub fn run<T: AllocGlobal + Eprint, R: Read + Drop, W: Output>(
     rt: &T,
     reader: R,
     is_verbose: bool,
     writer: &mut W,
 ) -> ExitCode
-    ensures { EndsBy replay_rules (R.remaining reader) (W.contents writer.old) (W.contents writer.new) (exit_status result) }
+    ensures { EndsBy replay_rules W.contents W.did_flush (R.remaining reader) writer.old writer.new false (exit_status result) }
 {
     if is_verbose {
         replay_verbosely(rt, reader, writer)

@@ -1,5 +1,5 @@
 //! `tora sim [--times HELLO,SILENCE,RETRY,TRIES] FILE`: a simulation of a file of lines.
-ghost use Rattle.std.specs.Prelude.{◌≡◌, ◌⊎◌};
+ghost use Rattle.std.specs.Prelude.{◌≡◌, ◌⊎◌, false};
 ghost use Rattle.std.specs.Process.{exit_status};
 ghost use Rattle.tora.specs.Endings.{EndsBy, EndsFile};
 ghost use Rattle.tora_arq.specs.Settings.{IsTimes};
@@ -7,13 +7,14 @@ ghost use Rattle.tora.specs.SimulationText.{simulation_rules};
 
 use crate::ended::{Ended, ReplayError};
 use crate::flushing::{simulate_and_flush, simulate_told_and_flush};
+use crate::output::Output;
 use crate::recent::Recent;
 use crate::session::LONGEST_LINE;
 use crate::simulation_cause::SimulationCause;
 use crate::simulator::Simulator;
 use crate::told::tell_cause;
 use crate::{INPUT, MEMORY, status, stop};
-use std::io::{ErrorKind, Read, Write};
+use std::io::{ErrorKind, Read};
 use std::process::ExitCode;
 use std::rt::Files;
 use std::{fs, io};
@@ -50,14 +51,14 @@ pub fn tell<T: Eprint, R: Read>(rt: &T, reader: &Recent<R>, ended: Result<Ended,
 }
 
 /// Simulates with these times of each link end, and says why events are refused, why a line is a fault, and what failed.
-fn simulate_verbosely<S: Simulator, T: AllocGlobal + Eprint, R: Read + Drop, W: Write>(
+fn simulate_verbosely<S: Simulator, T: AllocGlobal + Eprint, R: Read + Drop, W: Output>(
     rt: &T,
     times: Times,
     reader: R,
     writer: &mut W,
 ) -> ExitCode
     requires { IsTimes times }
-    ensures { EndsBy (simulation_rules times) (R.remaining reader) (W.contents writer.old) (W.contents writer.new) (exit_status result) }
+    ensures { EndsBy (simulation_rules times) W.contents W.did_flush (R.remaining reader) writer.old writer.new false (exit_status result) }
 {
     let alloc = rt.alloc();
     let mut reader = Recent::new(alloc, reader);
@@ -73,14 +74,14 @@ fn simulate_verbosely<S: Simulator, T: AllocGlobal + Eprint, R: Read + Drop, W: 
 }
 
 /// Simulates with these times of each link end, and says no more than the cause of a status.
-fn simulate_quietly<S: Simulator, T: AllocGlobal + Eprint, R: Read + Drop, W: Write>(
+fn simulate_quietly<S: Simulator, T: AllocGlobal + Eprint, R: Read + Drop, W: Output>(
     rt: &T,
     times: Times,
     reader: R,
     writer: &mut W,
 ) -> ExitCode
     requires { IsTimes times }
-    ensures { EndsBy (simulation_rules times) (R.remaining reader) (W.contents writer.old) (W.contents writer.new) (exit_status result) }
+    ensures { EndsBy (simulation_rules times) W.contents W.did_flush (R.remaining reader) writer.old writer.new false (exit_status result) }
 {
     let mut reader = reader;
     let result = simulate_and_flush::<S, R, W>(rt.alloc(), times, &mut reader, writer);
@@ -89,7 +90,7 @@ fn simulate_quietly<S: Simulator, T: AllocGlobal + Eprint, R: Read + Drop, W: Wr
 
 /// Simulates the lines that a reader gives, with these times of each link end, and ends with a status: 0 at its end, 1 where a line is a fault or reading or
 /// writing failed, 5 where memory was refused.
-pub fn run_over<S: Simulator, T: AllocGlobal + Eprint, R: Read + Drop, W: Write>(
+pub fn run_over<S: Simulator, T: AllocGlobal + Eprint, R: Read + Drop, W: Output>(
     rt: &T,
     times: Times,
     reader: R,
@@ -97,7 +98,7 @@ pub fn run_over<S: Simulator, T: AllocGlobal + Eprint, R: Read + Drop, W: Write>
     writer: &mut W,
 ) -> ExitCode
     requires { IsTimes times }
-    ensures { EndsBy (simulation_rules times) (R.remaining reader) (W.contents writer.old) (W.contents writer.new) (exit_status result) }
+    ensures { EndsBy (simulation_rules times) W.contents W.did_flush (R.remaining reader) writer.old writer.new false (exit_status result) }
 {
     if is_verbose {
         simulate_verbosely::<S, T, R, W>(rt, times, reader, writer)
@@ -108,7 +109,7 @@ pub fn run_over<S: Simulator, T: AllocGlobal + Eprint, R: Read + Drop, W: Write>
 
 /// Simulates the lines of the file at a path, with these times of each link end, and ends with a status: that of `run_over` over the file, 1 where it can't be
 /// opened, and 5 where memory was refused for that. Nothing is written where it is not opened.
-pub fn run<S: Simulator, T: Files + AllocGlobal + Eprint, W: Write>(
+pub fn run<S: Simulator, T: Files + AllocGlobal + Eprint, W: Output>(
     rt: &T,
     times: Times,
     path: &str,
@@ -116,7 +117,7 @@ pub fn run<S: Simulator, T: Files + AllocGlobal + Eprint, W: Write>(
     writer: &mut W,
 ) -> ExitCode
     requires { IsTimes times }
-    ensures { EndsFile T.File.remaining (simulation_rules times) (W.contents writer.old) (W.contents writer.new) (exit_status result) }
+    ensures { EndsFile T.File.remaining (simulation_rules times) W.contents W.did_flush writer.old writer.new (exit_status result) }
 {
     match fs::open(rt, path) {
         Ok(file) => run_over::<S, T, T::File, W>(rt, times, file, is_verbose, writer),

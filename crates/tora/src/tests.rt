@@ -8,6 +8,7 @@ use std::process::Abort;
 use std::test::*;
 use tora_core::CoreError;
 
+mod commands;
 mod each_call;
 mod mixed_networks;
 mod simulation_causes;
@@ -120,16 +121,6 @@ fn expect_text(
     let found = replayed(alloc, front.as_bytes(), end.as_bytes(), &mut writer);
     assert_eq!(rt; found, Ok(ended), "at {front:?} {end:?}");
     assert_eq!(rt; writer.text(), text.as_bytes(), "at {front:?} {end:?}");
-}
-
-/// The whole of `ROUTE` and `LOSS`, a few bytes at a time, with a read that fails, counted from 1.
-fn route_in_pieces(size: usize, until_failure: u64, kind: IoErrorKind) -> PieceReader<'static> {
-    PieceReader {
-        bytes: ROUTE_AND_LOSS.as_bytes(),
-        size,
-        until_failure,
-        kind,
-    }
 }
 
 const ROUTE: &str = "node 3 links 2,4 dests 4\n1 up 2\n1 up 4\n2 from 2 0101000000000004\n\
@@ -405,66 +396,138 @@ fn longest_line(rt: HostRuntime) {
     }
 }
 
+/// An engine, with lines of its kind and what it prints for them.
+#[derive(Clone, Copy)]
+enum Engine {
+    Replay,
+    Simulation,
+}
+
+impl Engine {
+    /// The lines, a few bytes at a time, with a read that fails, counted from 1.
+    fn pieces(self, size: usize, until_failure: u64, kind: IoErrorKind) -> PieceReader<'static> {
+        let lines = match self {
+            Engine::Replay => ROUTE_AND_LOSS,
+            Engine::Simulation => simulations::FOUR_FOUND_AND_LOST,
+        };
+        PieceReader {
+            bytes: lines.as_bytes(),
+            size,
+            until_failure,
+            kind,
+        }
+    }
+
+    fn text(self) -> &'static str {
+        match self {
+            Engine::Replay => LOSS_TEXT,
+            Engine::Simulation => simulations::FOUND_AND_LOST,
+        }
+    }
+
+    fn run(
+        self,
+        alloc: Global,
+        reader: &mut PieceReader<'_>,
+        writer: &mut ArrayWriter,
+    ) -> Result<Ended, ReplayError> {
+        match self {
+            Engine::Replay => replay(alloc, reader, writer),
+            Engine::Simulation => simulate(alloc, reader, writer),
+        }
+    }
+
+    /// Where a call fails the engine answers so, or memory was refused before, and what was written begins the text.
+    fn expect_failure<T: AllocGlobal + Abort>(
+        self,
+        rt: &T,
+        (size, failing_read, failing_write): (usize, u64, u64),
+        error: ReplayError,
+    ) {
+        let mut writer = ArrayWriter::new(failing_write);
+        let mut reader = self.pieces(size, failing_read, IoErrorKind::Other);
+        let found = self.run(rt.alloc(), &mut reader, &mut writer);
+        let is_told = found == Err(error) || found == Err(ReplayError::Memory);
+        let text = self.text().as_bytes();
+        assert!(rt; is_told, "at read {failing_read}, write {failing_write}");
+        assert!(rt;
+            text.starts_with(writer.text()),
+            "at read {failing_read}, write {failing_write}"
+        );
+    }
+
+    /// The whole text is written, and all lines are taken, unless memory was refused: the answer says whether it was.
+    fn expect_whole<T: AllocGlobal + Abort>(
+        self,
+        rt: &T,
+        size: usize,
+        interrupted_read: u64,
+    ) -> bool {
+        let mut writer = ArrayWriter::new(0);
+        let mut reader = self.pieces(size, interrupted_read, IoErrorKind::Interrupted);
+        let found = self.run(rt.alloc(), &mut reader, &mut writer);
+        if found == Err(ReplayError::Memory) {
+            return false;
+        }
+        let text = self.text().as_bytes();
+        assert_eq!(rt;
+            found,
+            Ok(Ended::Whole),
+            "in pieces of {size}, at read {interrupted_read}"
+        );
+        assert_eq!(rt;
+            writer.text(),
+            text,
+            "in pieces of {size}, at read {interrupted_read}"
+        );
+        true
+    }
+}
+
 #[test]
 fn input_in_pieces(rt: HostRuntime) {
-    for size in 1..80 {
-        let mut writer = ArrayWriter::new(0);
-        let mut reader = route_in_pieces(size, 0, IoErrorKind::Other);
-        let mut found = replay(rt.alloc(), &mut reader, &mut writer);
-        if found == Err(ReplayError::Memory) {
-            writer = ArrayWriter::new(0);
-            let mut reader = route_in_pieces(size, 0, IoErrorKind::Other);
-            found = replay(rt.alloc(), &mut reader, &mut writer);
+    for (engine, sizes) in [(Engine::Replay, 80), (Engine::Simulation, 40)] {
+        for size in 1..sizes {
+            let is_whole = engine.expect_whole(&rt, size, 0) || engine.expect_whole(&rt, size, 0);
+            assert!(&rt;
+                is_whole,
+                "one refusal of memory at most, in pieces of {size}"
+            );
         }
-        assert_eq!(&rt; found, Ok(Ended::Whole), "in pieces of {size}");
-        assert_eq!(&rt; writer.text(), LOSS_TEXT.as_bytes(), "in pieces of {size}");
     }
 }
 
 #[test]
 fn failed_reads(rt: HostRuntime) {
-    for call in 1..64 {
-        let mut writer = ArrayWriter::new(0);
-        let mut reader = route_in_pieces(5, call, IoErrorKind::Other);
-        let found = replay(rt.alloc(), &mut reader, &mut writer);
-        assert!(&rt;
-            matches!(found, Err(ReplayError::Read | ReplayError::Memory)),
-            "at call {call}"
-        );
-        assert!(&rt;
-            LOSS_TEXT.as_bytes().starts_with(writer.text()),
-            "at call {call}"
-        );
-    }
-}
-
-#[test]
-fn interrupted_reads_are_made_again(rt: HostRuntime) {
-    for call in 1..80 {
-        let mut writer = ArrayWriter::new(0);
-        let mut reader = route_in_pieces(5, call, IoErrorKind::Interrupted);
-        let found = replay(rt.alloc(), &mut reader, &mut writer);
-        if found != Err(ReplayError::Memory) {
-            assert_eq!(&rt; found, Ok(Ended::Whole), "at call {call}");
-            assert_eq!(&rt; writer.text(), LOSS_TEXT.as_bytes(), "at call {call}");
+    for (engine, calls) in [(Engine::Replay, 64), (Engine::Simulation, 20)] {
+        for call in 1..calls {
+            engine.expect_failure(&rt, (5, call, 0), ReplayError::Read);
         }
     }
 }
 
 #[test]
+fn interrupted_reads_are_made_again(rt: HostRuntime) {
+    let mut refused = 0u64;
+    for (engine, calls) in [(Engine::Replay, 80), (Engine::Simulation, 20)] {
+        for call in 1..calls {
+            if !engine.expect_whole(&rt, 5, call) {
+                refused = refused.saturating_add(1);
+            }
+        }
+    }
+    assert!(&rt;
+        refused <= 1,
+        "one refusal of memory at most, not {refused}"
+    );
+}
+
+#[test]
 fn failed_writes(rt: HostRuntime) {
-    for call in 1..6 {
-        let mut writer = ArrayWriter::new(call);
-        let mut reader = route_in_pieces(1000, 0, IoErrorKind::Other);
-        let found = replay(rt.alloc(), &mut reader, &mut writer);
-        assert!(&rt;
-            matches!(found, Err(ReplayError::Write | ReplayError::Memory)),
-            "at call {call}"
-        );
-        assert!(&rt;
-            LOSS_TEXT.as_bytes().starts_with(writer.text()),
-            "at call {call}"
-        );
+    for (engine, calls) in [(Engine::Replay, 6), (Engine::Simulation, 3)] {
+        for call in 1..calls {
+            engine.expect_failure(&rt, (1000, 0, call), ReplayError::Write);
+        }
     }
 }
 

@@ -1,9 +1,10 @@
 //! Where a trace goes.
 ghost use Rattle.std.specs.Prelude.{◌≡◌, false, is_some};
-ghost use Rattle.std.specs.Io.KnownBytes.{Appends};
+ghost use Rattle.std.specs.Io.KnownBytes.{Appends, Keeps};
+ghost use Rattle.tora.specs.TraceOuts.{IsPut, IsHandedOn};
 
+use crate::output::Output;
 use std::io;
-use std::io::Write;
 
 /// A writer that is given up once it fails, and why it failed.
 #[derive(Drop)]
@@ -12,9 +13,12 @@ pub struct TraceOut<W> {
     failure: Option<io::Error>,
 }
 
-impl<W: Write> TraceOut<W> {
+impl<W: Output> TraceOut<W> {
     /// Nothing was written yet.
-    pub fn new(writer: W) -> TraceOut<W> {
+    pub fn new(writer: W) -> TraceOut<W>
+        ensures writer { result.writer ≡ writer }
+        ensures failure { is_some result.failure ≡ false }
+    {
         TraceOut {
             writer,
             failure: None,
@@ -23,22 +27,26 @@ impl<W: Write> TraceOut<W> {
 
     /// Writes bytes, unless the writer has failed.
     pub fn put(&mut self, bytes: &[u8])
-        ensures { is_some self.new.failure ≡ false → Appends (W.contents self.old.writer) (W.contents self.new.writer) bytes.now }
+        ensures call { IsPut W.did_write self.old bytes.now self.new }
+        ensures bytes { is_some self.new.failure ≡ false → Appends (W.contents self.old.writer) (W.contents self.new.writer) bytes.now }
     {
         if self.failure.is_some() {
             return;
         }
-        if let Err(error) = self.writer.write_all(bytes) {
+        if let Err(error) = self.writer.put_all(bytes) {
             self.failure = Some(error);
         }
     }
 
     /// Hands on what was written, unless the writer has failed.
-    pub fn flush(&mut self) {
+    pub fn flush(&mut self)
+        ensures call { IsHandedOn W.did_flush self.old self.new }
+        ensures bytes { Keeps (W.contents self.old.writer) (W.contents self.new.writer) }
+    {
         if self.failure.is_some() {
             return;
         }
-        if let Err(error) = self.writer.flush() {
+        if let Err(error) = self.writer.hand_on() {
             self.failure = Some(error);
         }
     }

@@ -1,41 +1,36 @@
 //! `tora sim --trace PATH FILE`: a simulation of a file of lines, and its trace.
-ghost use Rattle.std.specs.Prelude.{◌≡◌, is_some};
+ghost use Rattle.std.specs.Prelude.{◌≡◌, ◌⊎◌, is_some};
 ghost use Rattle.std.specs.Process.{exit_status};
 ghost use Rattle.tora_arq.specs.Settings.{IsTimes};
-ghost use Rattle.tora.specs.Tracing.{traced_status};
+ghost use Rattle.tora.specs.Endings.{EndsBy, EndsTraced};
+ghost use Rattle.tora.specs.SimulationText.{simulation_rules};
+ghost use Rattle.tora.specs.Statuses.{traced_status};
+ghost use Rattle.tora.specs.TraceOuts.{IsHandedOn};
 
 use crate::ended::{Ended, ReplayError};
+use crate::flushing::flushed;
+use crate::output::Output;
 use crate::recent::Recent;
 use crate::sim_command::{refuse, tell};
 use crate::trace_out::TraceOut;
 use crate::tracing::simulate_traced;
 use crate::watched::Watched;
 use crate::{INPUT, MEMORY, status, stop};
-use std::io::{BufWriter, Read, Write};
+use std::io::{BufWriter, Read};
 use std::process::ExitCode;
 use std::rt::Files;
 use std::{fs, io};
 use tora_arq::Times;
 
 /// Says which path can't be the trace's, and why, and ends with the status of the cause.
-fn refuse_trace<T: Eprint>(rt: &T, path: &str, error: &io::Error) -> ExitCode {
+fn refuse_trace<T: Eprint>(rt: &T, path: &str, error: &io::Error) -> ExitCode
+    ensures { (exit_status result ≡ 1) ⊎ (exit_status result ≡ 5) }
+{
     refuse(rt, path, error, true)
 }
 
-/// Flushes the writer: `Write` where that alone fails.
-fn flushed<W: Write>(
-    writer: &mut W,
-    ended: Result<Ended, ReplayError>,
-) -> Result<Ended, ReplayError> {
-    match writer.flush() {
-        Ok(()) => ended,
-        Err(_) if ended.is_ok() => Err(ReplayError::Write),
-        Err(_) => ended,
-    }
-}
-
 /// Ends with the status of the simulation, or with 1 where that is 0 and the trace could not be written.
-fn traced_status<T: Eprint, V: Write>(
+fn traced_status<T: Eprint, V: Output>(
     rt: &T,
     ended: Result<Ended, ReplayError>,
     out: &TraceOut<V>,
@@ -60,28 +55,30 @@ fn traced_status<T: Eprint, V: Write>(
     code
 }
 
-/// Simulates the lines that a reader gives, with these times of each link end, and writes the trace.
-pub fn run_over<S: Watched, T: AllocGlobal + Eprint, R: Read + Drop, W: Write, V: Write + Drop>(
+/// Simulates the lines that a reader gives, with these times of each link end, writes the trace to the
+/// file at a path, and hands both on.
+pub fn run_over<S: Watched, T: AllocGlobal + Eprint, R: Read + Drop, W: Output, V: Output>(
     rt: &T,
     times: Times,
     reader: R,
     is_verbose: bool,
     writer: &mut W,
-    to: (&str, V),
+    path: &str,
+    out: &mut TraceOut<V>,
 ) -> ExitCode
     requires { IsTimes times }
+    ensures ends { EndsBy (simulation_rules times) W.contents W.did_flush (R.remaining reader) writer.old writer.new (is_some out.new.failure) (exit_status result) }
+    ensures trace { (before : TraceOut V) × IsHandedOn V.did_flush before out.new }
 {
-    let (path, trace) = to;
     let alloc = rt.alloc();
     let mut reader = Recent::new(alloc, reader);
-    let mut out = TraceOut::new(trace);
     let result = simulate_traced::<S, T, Recent<R>, W, V>(
         rt,
         alloc,
         times,
         &mut reader,
         writer,
-        &mut out,
+        out,
         is_verbose,
     );
     let result = flushed(writer, result);
@@ -89,7 +86,7 @@ pub fn run_over<S: Watched, T: AllocGlobal + Eprint, R: Read + Drop, W: Write, V
     if is_verbose {
         tell(rt, &reader, result);
     }
-    traced_status(rt, result, &out, path, is_verbose)
+    traced_status(rt, result, out, path, is_verbose)
 }
 
 /// Simulates the lines of the file at a path, with these times of each link end, and writes the trace to the file at another
@@ -98,7 +95,7 @@ pub fn run_over<S: Watched, T: AllocGlobal + Eprint, R: Read + Drop, W: Write, V
 /// It ends with the status of the simulation, or with 1 where that is 0 and the trace could not be written; with 1, before
 /// anything is simulated, where the file can't be opened, where that of the trace can't be made, or where both paths are
 /// one; and with 5 where memory was refused.
-pub fn run<S: Watched, T: Files + AllocGlobal + Eprint, W: Write>(
+pub fn run<S: Watched, T: Files + AllocGlobal + Eprint, W: Output>(
     rt: &T,
     times: Times,
     paths: (&str, &str),
@@ -106,6 +103,8 @@ pub fn run<S: Watched, T: Files + AllocGlobal + Eprint, W: Write>(
     writer: &mut W,
 ) -> ExitCode
     requires { IsTimes times }
+    ensures ends { EndsTraced T.File.remaining (simulation_rules times) W.contents W.did_flush writer.old writer.new (exit_status result) }
+    ensures same { paths.entry.0.now ≡ paths.entry.1.now → (exit_status result ≡ 1) × (writer.new ≡ writer.old) }
 {
     let (path, trace) = paths;
     if path == trace {
@@ -126,6 +125,8 @@ pub fn run<S: Watched, T: Files + AllocGlobal + Eprint, W: Write>(
     let Ok(records) = BufWriter::new(rt.alloc(), made) else {
         return stop(rt, MEMORY, "memory");
     };
-    let trace = (trace, records);
-    run_over::<S, T, T::File, W, BufWriter<T::File>>(rt, times, file, is_verbose, writer, trace)
+    let mut out = TraceOut::new(records);
+    run_over::<S, T, T::File, W, BufWriter<T::File>>(
+        rt, times, file, is_verbose, writer, trace, &mut out,
+    )
 }

@@ -9,10 +9,12 @@ ghost use Rattle.tora.specs.SimulationLines.{simulation_line_of};
 ghost use Rattle.tora.specs.Tracing.{after_line, parted_after};
 ghost use Rattle.tora.specs.RunningView.{running_view};
 ghost use Rattle.tora.specs.TracingView.{traced_world, tracing_kind};
+ghost use Rattle.tora.specs.TraceOuts.{waiting, waiting_behind, emptied, ArePut};
 ghost use Rattle.tora.specs.SimulationText.{first_simulation_fault, Simulates, IsSimulationBegun};
 
 use crate::ended::{Ended, ReplayError};
 use crate::engine::read_lines;
+use crate::output::Output;
 use crate::running::{Running, mend, part};
 use crate::session::FileKind;
 use crate::simulation::{Simulation, Stage};
@@ -59,8 +61,10 @@ fn note<S: Watched>(running: &mut Running<Traced<S>>, line: &[u8]) -> Result<(),
 }
 
 /// Writes the records that were not written yet.
-fn hand_on<S: Watched, W: Write>(stage: &mut Stage<Traced<S>>, out: &mut TraceOut<W>)
-    ensures { progress_of (traced_world S.world) stage.new ≡ progress_of (traced_world S.world) stage.old }
+fn hand_on<S: Watched, W: Output>(stage: &mut Stage<Traced<S>>, out: &mut TraceOut<W>)
+    ensures view { progress_of (traced_world S.world) stage.new ≡ progress_of (traced_world S.world) stage.old }
+    ensures put { ArePut W.did_write out.old (waiting stage.old) out.new }
+    ensures emptied { waiting stage.new ≡ emptied (waiting stage.old) }
 {
     if let Stage::Runs(running) = stage {
         out.put(running.sim.trace.text().as_bytes());
@@ -69,12 +73,14 @@ fn hand_on<S: Watched, W: Write>(stage: &mut Stage<Traced<S>>, out: &mut TraceOu
 }
 
 /// Notes what a line did that was taken, and writes the records that were not written yet.
-fn tell<S: Watched, W: Write>(
+fn tell<S: Watched, W: Output>(
     stage: &mut Stage<Traced<S>>,
     line: &[u8],
     out: &mut TraceOut<W>,
 ) -> Result<(), AllocError>
-    ensures { progress_of (traced_world S.world) stage.new ≡ progress_of (traced_world S.world) stage.old }
+    ensures view { progress_of (traced_world S.world) stage.new ≡ progress_of (traced_world S.world) stage.old }
+    ensures put { OnOk result (ArePut W.did_write out.old (waiting_behind S.world line.now stage.old) out.new) }
+    ensures emptied { waiting stage.new ≡ emptied (waiting stage.old) }
 {
     let noted = match stage {
         Stage::First => Ok(()),
@@ -85,7 +91,7 @@ fn tell<S: Watched, W: Write>(
     noted
 }
 
-impl<S: Watched, T: Eprint, W: Write> Tracing<'_, S, T, W> {
+impl<S: Watched, T: Eprint, W: Output> Tracing<'_, S, T, W> {
     /// Takes a line.
     fn take_line(&mut self, alloc: Global, line: &[u8], text: &mut String) -> Result<(), LineError>
         requires short { length line.now ≤ 4096 }
@@ -100,7 +106,7 @@ impl<S: Watched, T: Eprint, W: Write> Tracing<'_, S, T, W> {
     }
 }
 
-impl<S: Watched, T: Eprint, W: Write> FileKind for Tracing<'_, S, T, W> {
+impl<S: Watched, T: Eprint, W: Output> FileKind for Tracing<'_, S, T, W> {
     ghost kind = { tracing_kind S.world };
 
     fn take(&mut self, alloc: Global, line: &[u8], text: &mut String) -> Result<(), LineError> {
@@ -132,7 +138,7 @@ impl<S: Watched, T: Eprint, W: Write> FileKind for Tracing<'_, S, T, W> {
 ///
 /// A trace that can't be written stops nothing; `out` says so then.
 #[tactic(auto, unfolding(crate::specs::Engine::text_of))]
-pub fn simulate_traced<S: Watched, T: Eprint, R: Read, W: Write, V: Write>(
+pub fn simulate_traced<S: Watched, T: Eprint, R: Read, W: Write, V: Output>(
     rt: &T,
     alloc: Global,
     times: Times,

@@ -1,85 +1,8 @@
-//! Simulation files that come in pieces, and readers, writers and memory that fail.
+//! Simulations that are told on standard error, and flushes and memory that fail.
 use super::simulations::{FOUND_AND_LOST, FOUR_FOUND_AND_LOST};
 use super::*;
 use crate::flushing::{simulate_and_flush, simulate_told_and_flush};
 use tora_arq::Times;
-
-/// The whole of `FOUR_FOUND_AND_LOST`, a few bytes at a time, with a read that fails, counted from 1.
-fn four_in_pieces(size: usize, until_failure: u64, kind: IoErrorKind) -> PieceReader<'static> {
-    PieceReader {
-        bytes: FOUR_FOUND_AND_LOST.as_bytes(),
-        size,
-        until_failure,
-        kind,
-    }
-}
-
-#[test]
-fn simulation_in_pieces(rt: HostRuntime) {
-    for size in 1..40 {
-        let mut writer = ArrayWriter::new(0);
-        let mut reader = four_in_pieces(size, 0, IoErrorKind::Other);
-        let mut found = simulate(rt.alloc(), &mut reader, &mut writer);
-        if found == Err(ReplayError::Memory) {
-            writer = ArrayWriter::new(0);
-            let mut reader = four_in_pieces(size, 0, IoErrorKind::Other);
-            found = simulate(rt.alloc(), &mut reader, &mut writer);
-        }
-        assert_eq!(&rt; found, Ok(Ended::Whole), "in pieces of {size}");
-        assert_eq!(&rt;
-            writer.text(),
-            FOUND_AND_LOST.as_bytes(),
-            "in pieces of {size}"
-        );
-    }
-}
-
-#[test]
-fn failed_reads_of_a_simulation(rt: HostRuntime) {
-    for call in 1..20 {
-        let mut writer = ArrayWriter::new(0);
-        let mut reader = four_in_pieces(5, call, IoErrorKind::Other);
-        let found = simulate(rt.alloc(), &mut reader, &mut writer);
-        assert!(&rt;
-            matches!(found, Err(ReplayError::Read | ReplayError::Memory)),
-            "at call {call}"
-        );
-        assert!(&rt;
-            FOUND_AND_LOST.as_bytes().starts_with(writer.text()),
-            "at call {call}"
-        );
-    }
-}
-
-#[test]
-fn interrupted_reads_of_a_simulation(rt: HostRuntime) {
-    for call in 1..20 {
-        let mut writer = ArrayWriter::new(0);
-        let mut reader = four_in_pieces(5, call, IoErrorKind::Interrupted);
-        let found = simulate(rt.alloc(), &mut reader, &mut writer);
-        if found != Err(ReplayError::Memory) {
-            assert_eq!(&rt; found, Ok(Ended::Whole), "at call {call}");
-            assert_eq!(&rt; writer.text(), FOUND_AND_LOST.as_bytes(), "at call {call}");
-        }
-    }
-}
-
-#[test]
-fn failed_writes_of_a_simulation(rt: HostRuntime) {
-    for call in 1..3 {
-        let mut writer = ArrayWriter::new(call);
-        let mut reader = four_in_pieces(1000, 0, IoErrorKind::Other);
-        let found = simulate(rt.alloc(), &mut reader, &mut writer);
-        assert!(&rt;
-            matches!(found, Err(ReplayError::Write | ReplayError::Memory)),
-            "at call {call}"
-        );
-        assert!(&rt;
-            FOUND_AND_LOST.as_bytes().starts_with(writer.text()),
-            "at call {call}"
-        );
-    }
-}
 
 /// What is told on standard error does not change what is printed.
 #[test]
@@ -140,7 +63,7 @@ fn failed_flushes_of_a_simulation(rt: HostRuntime) {
 #[test]
 fn want_of_memory_in_a_simulation(rt: HostRuntime) {
     let mut writer = ArrayWriter::new(0);
-    let mut reader = four_in_pieces(1000, 0, IoErrorKind::Other);
+    let mut reader = FOUR_FOUND_AND_LOST.as_bytes();
     let found = simulate(rt.alloc(), &mut reader, &mut writer);
     if found == Ok(Ended::Whole) {
         assert_eq!(&rt; writer.text(), FOUND_AND_LOST.as_bytes());

@@ -7,5 +7,6 @@ returns g c = record {
   whole = c.replay_and_flush-result.ensures.whole;
   at_end = c.replay_and_flush-result.ensures.at_end;
   begun = c.replay_and_flush-result.ensures.begun;
+  flushed = c.replay_and_flush-result.ensures.flushed;
   status_is = c.status.ensures;
 }

@@ -7,5 +7,6 @@ returns g c = record {
   whole = c.simulate_and_flush-result.ensures.whole;
   at_end = c.simulate_and_flush-result.ensures.at_end;
   begun = c.simulate_and_flush-result.ensures.begun;
+  flushed = c.simulate_and_flush-result.ensures.flushed;
   status_is = c.status.ensures;
 }

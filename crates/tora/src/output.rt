@@ -1,0 +1,39 @@
+//! A writer whose calls contracts tell.
+ghost use Rattle.std.specs.Prelude.{◌≡◌, ℕ, Bool, true, is_ok, List, OnOk};
+ghost use Rattle.std.specs.Io.KnownBytes.{Appends, Keeps};
+
+use std::io;
+use std::io::Write;
+
+/// A writer whose calls contracts tell: that a call was made, and how it was answered. Every writer is one.
+pub trait Output: Write {
+    /// What writing all of some bytes made of the writer: the bytes, whether it succeeded, and the writer after it.
+    ghost did_write: { Self → List ℕ → Bool → Self → Type 0 };
+
+    /// What handing on all that was written made of it: whether it succeeded, and the writer after it.
+    ghost did_flush: { Self → Bool → Self → Type 0 };
+
+    /// Writes all of some bytes.
+    fn put_all(&mut self, bytes: &[u8]) -> io::Result<()>
+        ensures call { did_write self.old bytes.now (is_ok result) self.new }
+        ensures bytes { OnOk result (Appends (Self.contents self.old) (Self.contents self.new) bytes.now) };
+
+    /// Hands on all that was written.
+    fn hand_on(&mut self) -> io::Result<()>
+        ensures call { did_flush self.old (is_ok result) self.new }
+        ensures bytes { Keeps (Self.contents self.old) (Self.contents self.new) };
+}
+
+impl<W: Write> Output for W {
+    ghost did_write = { λ old bytes ok new. ok ≡ true → Appends (W.contents old) (W.contents new) bytes };
+
+    ghost did_flush = { λ old ok new. Keeps (W.contents old) (W.contents new) };
+
+    fn put_all(&mut self, bytes: &[u8]) -> io::Result<()> {
+        self.write_all(bytes)
+    }
+
+    fn hand_on(&mut self) -> io::Result<()> {
+        self.flush()
+    }
+}
