@@ -4,3 +4,4 @@ mod Refusals
 mod Digits
 mod Numerals
 mod Faults
+mod Commanding

@@ -1,3 +1,5 @@
 pub mod CoreRuns
 pub mod CommandText
+pub mod CommandRuns
+pub mod CommandSteps
 pub mod NodeRuns

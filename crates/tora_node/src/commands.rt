@@ -1,11 +1,14 @@
 //! The commands of a running node, one a line.
-ghost use Rattle.std.specs.Prelude.{◌≡◌, ◌<◌, ◌≤◌, ℕ, IfOk, IfSome, length};
+ghost use Rattle.std.specs.Prelude.{◌≡◌, ◌<◌, ◌≤◌, ◌++◌, ◌∷◌, [], ℕ, List, IfOk, IfErr, IfSome, true, length, take};
+ghost use Rattle.std.specs.Io.KnownBytes.{Consumes};
 ghost use Rattle.tora_node.specs.CommandText.{asked_by};
+ghost use Rattle.tora_node.specs.CommandRuns.{asked_in, Commands};
+ghost use Rattle.tora_node.specs.CommandSteps.{Holds, DidPut, PutsAll, PutsLast, is_gone, EndsReading};
 
 use crate::words::{after, id, is_word};
+use arrayvec::ArrayVec;
 use log::{Log, warn};
 use std::io::{ErrorKind, Read};
-use std::marker::Model;
 use std::sync::Wait;
 use tora_height::Id;
 use tora_lane::{InPort, What};
@@ -52,126 +55,199 @@ pub fn command_of(line: &[u8]) -> Command
     }
 }
 
-/// The line that is being read.
-#[derive(Drop)]
-struct Line {
-    bytes: [u8; LONGEST_COMMAND],
-    len: usize,
-    is_too_long: bool,
+/// Why reading commands has ended.
+#[derive(Clone, Copy, Debug, PartialEq, Eq, Hash)]
+pub enum CommandsEnd {
+    /// A line was `quit`.
+    Quit,
+    /// The input has ended.
+    End,
+    /// A read has failed.
+    Read,
+    /// Nobody takes items any more.
+    Gone,
 }
 
-impl Model for Line {
-    ghost use Rattle.std.specs.Prelude.{◌≤◌, ℕ};
-
-    ghost Value = { ℕ };
-
-    ghost view = { λ l. l.len };
-
-    ghost invariant = { λ l. l.len ≤ 4096 };
+/// The line that is being read: its bytes, where they are not too many for a command.
+#[derive(Drop)]
+struct Line {
+    bytes: ArrayVec<u8, LONGEST_COMMAND>,
+    is_too_long: bool,
 }
 
 impl Line {
     /// A line of which nothing was read.
-    fn new() -> Line {
+    fn new() -> Line
+        ensures { Holds result [] }
+    {
         Line {
-            bytes: [0; LONGEST_COMMAND],
-            len: 0,
+            bytes: ArrayVec::new(),
             is_too_long: false,
         }
     }
 
+    /// Whether nothing of the line was read.
+    fn is_empty(&self) -> bool
+        ensures { result ≡ true → (text : List ℕ) → Holds self.now text → text ≡ [] }
+    {
+        self.bytes.is_empty() && !self.is_too_long
+    }
+
     /// The next byte of the line.
-    fn push(&mut self, byte: u8) {
-        if self.len < LONGEST_COMMAND {
-            self.bytes[self.len] = byte;
-            self.len += 1;
-        } else {
+    fn push(&mut self, byte: u8)
+        ensures { (text : List ℕ) → Holds self.old text → Holds self.new (text ++ byte ∷ []) }
+    {
+        if self.bytes.try_push(byte).is_err() {
             self.is_too_long = true;
         }
     }
 
     /// What the line asks; the next line begins.
-    fn take(&mut self) -> Command {
+    fn take(&mut self) -> Command
+        ensures asked { (text : List ℕ) → Holds self.old text → result ≡ asked_in text }
+        ensures next { Holds self.new [] }
+    {
         let command = if self.is_too_long {
             Command::Unknown
         } else {
-            command_of(&self.bytes[..self.len])
+            command_of(self.bytes.as_slice())
         };
-        self.len = 0;
+        self.bytes.clear();
         self.is_too_long = false;
         command
     }
 }
 
-/// Puts what a command asks. `false` after `quit`, and where nobody takes items any more.
-fn put<R: Wait + Log, C: Clock>(rt: &R, clock: &C, port: &mut InPort, command: Command) -> bool {
+/// Puts what a command asks. Nothing follows `quit`, and where nobody takes items any more.
+fn put<R: Wait + Log, C: Clock>(
+    rt: &R,
+    clock: &C,
+    port: &mut InPort,
+    command: Command,
+) -> Option<CommandsEnd>
+    ensures { DidPut (C.did_tell clock.now) command port.old port.new result }
+{
     let what = match command {
         Command::Need(d) => What::Need(d),
         Command::Show => What::Show,
         Command::Quit => What::Quit,
         Command::Unknown => {
             warn!(rt; "a line is no command");
-            return true;
+            return None;
         }
     };
-    port.put(rt, clock.now(), what).is_ok() && command != Command::Quit
+    match port.put(rt, clock.now(), what) {
+        Err(_) => Some(CommandsEnd::Gone),
+        Ok(()) if command == Command::Quit => Some(CommandsEnd::Quit),
+        Ok(()) => None,
+    }
 }
 
-/// Reads the next bytes, and answers how many. None are left at the end of the input, and where a read fails.
-fn read<Rd: Read>(reader: &mut Rd, chunk: &mut [u8; CHUNK]) -> usize
-    ensures { result ≤ 512 }
+/// Reads the next bytes, and answers how many: at least one.
+///
+/// # Errors
+/// `End` at the end of the input, and `Read` where a read fails.
+fn read<Rd: Read>(reader: &mut Rd, chunk: &mut [u8; CHUNK]) -> Result<usize, CommandsEnd>
+    ensures count { IfOk result (λ n. n ≤ 512) }
+    ensures bytes { IfOk result (λ n. Consumes (Rd.remaining reader.old) (Rd.remaining reader.new) (take n chunk.new)) }
+    ensures err { IfErr result (λ end. EndsReading end (Rd.remaining reader.old) (Rd.remaining reader.new)) }
 {
     for _ in 0..u64::MAX {
         match reader.read(chunk.as_mut_slice()) {
-            Ok(count) => return count.min(CHUNK),
-            Err(error) if error.kind() == ErrorKind::Interrupted => {}
-            Err(_) => return 0,
+            Ok(0) => return Err(CommandsEnd::End),
+            Ok(count) => return Ok(count),
+            Err(error) => {
+                if error.kind() != ErrorKind::Interrupted {
+                    return Err(CommandsEnd::Read);
+                }
+            }
         }
     }
-    0
+    Err(CommandsEnd::Read)
 }
 
-/// Puts what the bytes ask. `false` after `quit`, and where nobody takes items any more.
+/// Puts what the lines ask that end in the bytes, and keeps the rest of them. Nothing follows `quit`, and where nobody takes
+/// items any more.
 fn put_all<R: Wait + Log, C: Clock>(
     rt: &R,
     clock: &C,
     port: &mut InPort,
     line: &mut Line,
     bytes: &[u8],
-) -> bool {
+) -> Option<CommandsEnd>
+    ensures { (text : List ℕ) → Holds line.old text → PutsAll (C.did_tell clock.now) text bytes.now port.old port.new line.new result }
+{
     for byte in bytes {
-        if *byte != b'\n' {
+        if *byte == b'\n' {
+            let end = put(rt, clock, port, line.take());
+            if end.is_some() {
+                return end;
+            }
+        } else {
             line.push(*byte);
-        } else if !put(rt, clock, port, line.take()) {
-            return false;
         }
     }
-    true
+    None
 }
 
-/// Reads commands and puts what they ask, until `quit`, the end of the input, a read that fails, or `Gone`.
+/// Puts what a last line asks, which has no end, and then `Quit`.
+fn put_last<R: Wait + Log, C: Clock>(
+    rt: &R,
+    clock: &C,
+    port: &mut InPort,
+    line: &mut Line,
+) -> Option<CommandsEnd>
+    ensures { (text : List ℕ) → Holds line.old text → PutsLast (C.did_tell clock.now) text port.old port.new result }
+{
+    if !line.is_empty() {
+        let end = put(rt, clock, port, line.take());
+        if end.is_some() {
+            return end;
+        }
+    }
+    put(rt, clock, port, Command::Quit)
+}
+
+/// Whether nobody takes items any more.
+fn is_gone(end: Option<CommandsEnd>) -> bool
+    ensures { result ≡ is_gone end }
+{
+    match end {
+        Some(CommandsEnd::Gone) => true,
+        _ => false,
+    }
+}
+
+/// Reads commands and puts what they ask, until `quit`, the end of the input, a read that fails, or `Gone`. Answers why it
+/// has ended.
 ///
 /// A line that is no command is logged and passed over. The end of the input and a failed read put `Quit`, and a last
-/// line without its end counts.
+/// line without its end counts. Each item has the tick of the moment when it is put. It may wait.
 pub fn run_commands<R: Wait + Log, Rd: Read, C: Clock>(
     rt: &R,
     reader: &mut Rd,
     clock: &C,
     port: &mut InPort,
-) {
+) -> CommandsEnd
+    ensures { Commands (C.did_tell clock.now) (Rd.remaining reader.old) (Rd.remaining reader.new) port.old port.new result }
+{
     let mut chunk = [0; CHUNK];
     let mut line = Line::new();
     for _ in rt.forever() {
-        let count = read(reader, &mut chunk);
-        if count == 0 {
-            break;
-        }
-        if !put_all(rt, clock, port, &mut line, &chunk[..count]) {
-            return;
+        match read(reader, &mut chunk) {
+            Err(end) => {
+                let last = put_last(rt, clock, port, &mut line);
+                return if is_gone(last) {
+                    CommandsEnd::Gone
+                } else {
+                    end
+                };
+            }
+            Ok(count) => match put_all(rt, clock, port, &mut line, &chunk[..count]) {
+                Some(end) => return end,
+                None => {}
+            },
         }
     }
-    if line.len > 0 && !put(rt, clock, port, line.take()) {
-        return;
-    }
-    put(rt, clock, port, Command::Quit);
+    unreachable!()
 }

@@ -17,7 +17,7 @@ mod log_hub;
 mod node;
 mod words;
 
-pub use commands::{Command, LONGEST_COMMAND, command_of, run_commands};
+pub use commands::{Command, CommandsEnd, LONGEST_COMMAND, command_of, run_commands};
 pub use config::Config;
 pub use core_thread::{CoreEnd, run_core};
 pub use log_hub::LogHub;

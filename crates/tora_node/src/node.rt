@@ -6,11 +6,11 @@ ghost use Rattle.tora_neighbour.specs.declared.fault.NodeError.{NodeError};
 ghost use Rattle.tora_seat.specs.Rows.{SeatView, first_seat};
 ghost use Rattle.tora_node.specs.NodeRuns.{IsCoreRun, IsRunOf, IsNodeFault, tally_of, place_of, link_fault, fault_of_link, first_link_fault, first_fault};
 
-use crate::commands::run_commands;
+use crate::commands::{CommandsEnd, run_commands};
 use crate::config::Config;
 use crate::core_thread::run_core;
 use crate::log_hub::LogHub;
-use log::{Log, info};
+use log::{Log, info, warn};
 use std::alloc::Global;
 use std::io::{Read, Write};
 use std::marker::Model;
@@ -350,7 +350,9 @@ fn run_threads<
                 }
             }
             if has_all {
-                run_commands(rt, reader, clock, &mut command);
+                if run_commands(rt, reader, clock, &mut command) == CommandsEnd::Read {
+                    warn!(rt; "the commands can't be read any further");
+                }
             } else {
                 let _ = command.put(rt, clock.now(), What::Quit);
             }

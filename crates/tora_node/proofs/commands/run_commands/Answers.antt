@@ -1,0 +1,41 @@
+use Rattle.std.proofs.Common.{◌≡◌, ◌+◌, ◌∷◌, [], List, ℕ, Option, Some, refl, sym, ap, subst, take, ◌∙◌}
+use Rattle.tora_node.specs.declared.commands.CommandsEnd.{CommandsEnd}
+use Rattle.tora_node.specs.CommandSteps.{Putting, PutsAll, PutsLast}
+use Rattle.tora_node.proofs.Commanding.{begun, read_on, stops, closes_with, closes_without}
+use Rattle.tora_node.proofs.commands.run_commands.Goals as goal
+use Rattle.tora_node.proofs.commands.run_commands.Goals.{then-is_gone, else-is_gone}
+
+pub loop-init : goal.loop-init
+loop-init g c = begun (g.C.Clock.did_tell c.args.clock.now) (g.Rd.Read.remaining c.args.reader.now) c.args.port.now c.new-line.result c.new-line.ensures
+
+pub returns-in-Some-put_all : goal.returns-in-Some-put_all
+returns-in-Some-put_all g c =
+    let told = g.C.Clock.did_tell c.args.clock.now in
+    let u = c.loop.invariant in
+    let p = c.put_all.ensures u.rest u.holds in
+    stops told (g.Rd.Read.remaining c.args.reader.now) (g.Rd.Read.remaining c.loop.reader) (g.Rd.Read.remaining c.read.new.reader) c.args.port.now c.loop.port c.put_all.new.port c.loop.line c.put_all.new.line
+    (take c.in-Ok.count c.read.new.chunk) c.in-Some-put_all.end u c.in-Ok.ensures.bytes (subst (λ (e : Option CommandsEnd). PutsAll told u.rest (take c.in-Ok.count c.read.new.chunk) c.loop.port c.put_all.new.port c.put_all.new.line e) c.in-Some-put_all.is p)
+
+pub loop-preserved : goal.loop-preserved
+loop-preserved g c =
+    let told = g.C.Clock.did_tell c.args.clock.now in
+    let u = c.loop.invariant in
+    let p = c.put_all.ensures u.rest u.holds in
+    read_on told (g.Rd.Read.remaining c.args.reader.now) (g.Rd.Read.remaining c.loop.reader) (g.Rd.Read.remaining c.read.new.reader) c.args.port.now c.loop.port c.put_all.new.port c.loop.line c.put_all.new.line
+    (take c.in-Ok.count c.read.new.chunk) u c.in-Ok.ensures.bytes (subst (λ (e : Option CommandsEnd). PutsAll told u.rest (take c.in-Ok.count c.read.new.chunk) c.loop.port c.put_all.new.port c.put_all.new.line e) c.in-None-put_all.is p)
+
+pub returns-in-Err : goal.returns-in-Err
+returns-in-Err g c =
+    let told = g.C.Clock.did_tell c.args.clock.now in
+    let r0 = g.Rd.Read.remaining c.args.reader.now in
+    let r1 = g.Rd.Read.remaining c.loop.reader in
+    let r2 = g.Rd.Read.remaining c.read.new.reader in
+    let after = c.put_last-last.new.port in
+    let u = c.loop.invariant in
+    let p = c.put_last-last.ensures u.rest u.holds in
+    elim c.if-is_gone.branch [
+      | then-is_gone w ↦
+          rw w.result-is (closes_without told r0 r1 r2 c.args.port.now c.loop.port after c.loop.line c.in-Err.end c.put_last-last.result u c.in-Err.ensures.err p (sym c.is_gone.ensures ∙ w.if-is_gone.true))
+      | else-is_gone w ↦
+          rw w.result-is (closes_with told r0 r1 r2 c.args.port.now c.loop.port after c.loop.line c.in-Err.end c.put_last-last.result u c.in-Err.ensures.err p (sym c.is_gone.ensures ∙ w.if-is_gone.false))
+    ]
