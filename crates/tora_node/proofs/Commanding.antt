@@ -3,6 +3,7 @@ use Rattle.std.proofs.Common.{◌≡◌, ◌⊎◌, inl, inr, ◌<◌, ◌≤◌
 use Rattle.std.specs.Prelude.{is_some}
 use Rattle.std.specs.Io.KnownBytes.{Consumes, Keeps}
 use Rattle.std.proofs.Math.Seq.{drop-cons}
+use Rattle.std.proofs.lemmas.Bool.{le-ltb}
 use Rattle.std.proofs.lemmas.List.{append-nil, length-append}
 use Rattle.tora_node.specs.CommandText.{asked_by, is_word, after, id_of, number_of}
 use Rattle.tora_lane.specs.Ports.{InEnd}
@@ -14,7 +15,7 @@ use Rattle.tora_node.specs.declared.commands.Command.TheVariants as Asks
 use Rattle.tora_node.specs.declared.commands.CommandsEnd.{CommandsEnd}
 use Rattle.tora_node.specs.declared.commands.CommandsEnd.TheVariants as Ends
 use Rattle.tora_node.specs.declared.commands.Line.{Line}
-use Rattle.tora_node.specs.CommandRuns.{asked_in, put_for, put_from, whats, AreTold, HasPut, EndsAt, Commands}
+use Rattle.tora_node.specs.CommandRuns.{asked_in, put_for, put_from, IsLine, whats, AreTold, HasPut, EndsAt, Commands}
 use Rattle.tora_node.specs.CommandSteps.{Holds, DidPut, Putting, PutsAll, PutsLast, is_gone, EndsReading}
 
 -- ---- items
@@ -312,3 +313,26 @@ closes_without told r0 r1 r2 before mid after line end (Some Ends.Quit) u e p h 
 closes_without told r0 r1 r2 before mid after line end (Some Ends.End) u e p h = absurd p
 closes_without told r0 r1 r2 before mid after line end (Some Ends.Read) u e p h = absurd p
 closes_without told r0 r1 r2 before mid after line end (Some Ends.Gone) u e p h = closes_gone told r0 r1 r2 before mid after line end u e p
+
+-- ---- line by line
+
+lines_go : (a line rest : List ℕ) → IsLine line → put_from a (line ++ 10 ∷ rest) ≡ put_for (asked_in (a ++ line)) (put_from [] rest)
+lines_go a [] rest h = ap (λ (t : List ℕ). put_for (asked_in t) (put_from [] rest)) (sym (append-nil a))
+lines_go a (c ∷ line) rest h =
+    byte_goes a (line ++ 10 ∷ rest) c h.0 ∙ lines_go (a ++ c ∷ []) line rest h.1
+    ∙ ap (λ (t : List ℕ). put_for (asked_in t) (put_from [] rest)) (append_assoc a (c ∷ []) line)
+
+last_goes : (a line : List ℕ) → IsLine line → put_from a line ≡ put_for (asked_in (a ++ line)) (Tells.Quit ∷ [])
+last_goes a [] h = ap (λ (t : List ℕ). put_for (asked_in t) (Tells.Quit ∷ [])) (sym (append-nil a))
+last_goes a (c ∷ line) h =
+    byte_goes a line c h.0 ∙ last_goes (a ++ c ∷ []) line h.1
+    ∙ ap (λ (t : List ℕ). put_for (asked_in t) (Tells.Quit ∷ [])) (append_assoc a (c ∷ []) line)
+
+short : (line : List ℕ) → length line ≤ 4096 → asked_in line ≡ asked_by line
+short line h = rw (le-ltb 4096 (length line) h) refl
+
+pub line_by_line : (line rest : List ℕ) → IsLine line → length line ≤ 4096 → put_from [] (line ++ 10 ∷ rest) ≡ put_for (asked_by line) (put_from [] rest)
+line_by_line line rest h few = lines_go [] line rest h ∙ ap (λ (k : Command). put_for k (put_from [] rest)) (short line few)
+
+pub last_line : (line : List ℕ) → IsLine line → length line ≤ 4096 → put_from [] line ≡ put_for (asked_by line) (Tells.Quit ∷ [])
+last_line line h few = last_goes [] line h ∙ ap (λ (k : Command). put_for k (Tells.Quit ∷ [])) (short line few)

@@ -30,6 +30,11 @@ abbrev pub put_from : List ℕ → List ℕ → List What
 put_from line [] = put_for (asked_in line) (Tells.Quit ∷ [])
 put_from line (c ∷ bytes) = if c == 10 then put_for (asked_in line) (put_from [] bytes) else put_from (line ++ c ∷ []) bytes
 
+-- no byte of it ends a line
+abbrev pub IsLine : List ℕ → Type 0
+IsLine [] = Unit {0}
+IsLine (c ∷ bytes) = ((c == 10) ≡ false) × IsLine bytes
+
 -- ---- what reading commands does
 
 abbrev pub whats : List Item → List What

@@ -2,7 +2,7 @@
 ghost use Rattle.std.specs.Prelude.{◌≡◌, ◌<◌, ◌≤◌, ◌++◌, ◌∷◌, [], ℕ, List, IfOk, IfErr, IfSome, true, length, take};
 ghost use Rattle.std.specs.Io.KnownBytes.{Consumes};
 ghost use Rattle.tora_node.specs.CommandText.{asked_by};
-ghost use Rattle.tora_node.specs.CommandRuns.{asked_in, Commands};
+ghost use Rattle.tora_node.specs.CommandRuns.{asked_in, put_for, put_from, IsLine, Commands};
 ghost use Rattle.tora_node.specs.CommandSteps.{Holds, DidPut, PutsAll, PutsLast, is_gone, EndsReading};
 
 use crate::words::{after, id, is_word};
@@ -251,3 +251,10 @@ pub fn run_commands<R: Wait + Log, Rd: Read, C: Clock>(
     }
     unreachable!()
 }
+
+/// What is put for an input is what its lines ask, one after another; and behind a last line without its end, `Quit`. This says
+/// it of lines that are short enough for a command; `command_of` says what a line asks.
+pub fn commands_are_put_line_by_line()
+    ensures line { (line rest : List ℕ) → IsLine line → length line ≤ 4096 → put_from [] (line ++ 10 ∷ rest) ≡ put_for (asked_by line) (put_from [] rest) }
+    ensures last { (line : List ℕ) → IsLine line → length line ≤ 4096 → put_from [] line ≡ put_for (asked_by line) (What.Quit ∷ []) }
+{}

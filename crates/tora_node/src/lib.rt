@@ -17,7 +17,9 @@ mod log_hub;
 mod node;
 mod words;
 
-pub use commands::{Command, CommandsEnd, LONGEST_COMMAND, command_of, run_commands};
+pub use commands::{
+    Command, CommandsEnd, LONGEST_COMMAND, command_of, commands_are_put_line_by_line, run_commands,
+};
 pub use config::Config;
 pub use core_thread::{CoreEnd, run_core};
 pub use log_hub::LogHub;
