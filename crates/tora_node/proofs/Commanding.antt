@@ -1,5 +1,5 @@
 -- What was put so far, and what is put for the rest.
-use Rattle.std.proofs.Common.{◌≡◌, ◌⊎◌, inl, inr, ◌<◌, ◌≤◌, ℕ, Bool, true, false, ◌==◌, List, [], ◌∷◌, ◌++◌, length, map, Option, Some, None, refl, sym, ap, ◌∙◌, arith, subst, append_assoc, ◌+◌, drop, get_or, add-one}
+use Rattle.std.proofs.Common.{◌≡◌, ◌<◌, ◌≤◌, ℕ, true, false, ◌==◌, List, [], ◌∷◌, ◌++◌, length, Option, Some, None, refl, sym, ap, ◌∙◌, arith, subst, append_assoc, ◌+◌, drop, get_or, add-one}
 use Rattle.std.specs.Prelude.{is_some}
 use Rattle.std.specs.Io.KnownBytes.{Consumes, Keeps}
 use Rattle.std.proofs.Math.Seq.{drop-cons}
@@ -15,7 +15,7 @@ use Rattle.tora_node.specs.declared.commands.Command.TheVariants as Asks
 use Rattle.tora_node.specs.declared.commands.CommandsEnd.{CommandsEnd}
 use Rattle.tora_node.specs.declared.commands.CommandsEnd.TheVariants as Ends
 use Rattle.tora_node.specs.declared.commands.Line.{Line}
-use Rattle.tora_node.specs.CommandRuns.{asked_in, put_for, put_from, IsLine, whats, AreTold, HasPut, EndsAt, Commands}
+use Rattle.tora_node.specs.CommandRuns.{asked_in, put_for, put_from, IsLine, whats, AreTold, HasPut, Commands}
 use Rattle.tora_node.specs.CommandSteps.{Holds, DidPut, Putting, PutsAll, PutsLast, is_gone, EndsReading}
 
 -- ---- items

@@ -1,7 +1,7 @@
-use Rattle.std.proofs.Common.{◌≡◌, ◌+◌, ◌∷◌, [], List, ℕ, Some, get_or, drop, refl, sym, ap, subst, ◌∙◌}
+use Rattle.std.proofs.Common.{◌+◌, [], List, ℕ, get_or, drop, refl, sym, subst, ◌∙◌}
 use Rattle.std.proofs.lemmas.Bool.{eq-eqb, ne_eqb}
 use Rattle.std.proofs.lemmas.List.{drop_all}
-use Rattle.tora_node.specs.CommandSteps.{Holds, Putting}
+use Rattle.tora_node.specs.CommandSteps.{Putting}
 use Rattle.tora_node.proofs.Commanding.{bytes_at, put_none, pushed, went_on, stopped}
 use Rattle.tora_node.proofs.commands.put_all.Goals as goal
 use Rattle.tora_node.proofs.commands.put_all.Goals.{then-byte-eq10+else-is_some, else-byte-eq10}

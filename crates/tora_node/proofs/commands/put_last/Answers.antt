@@ -1,4 +1,4 @@
-use Rattle.std.proofs.Common.{refl, sym, subst, ◌∙◌}
+use Rattle.std.proofs.Common.{sym, subst, ◌∙◌}
 use Rattle.tora_lane.specs.Ports.{InEnd}
 use Rattle.tora_node.specs.declared.commands.Command.TheVariants.{Quit}
 use Rattle.tora_node.specs.CommandSteps.{DidPut}

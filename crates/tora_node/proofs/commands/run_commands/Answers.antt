@@ -1,6 +1,6 @@
-use Rattle.std.proofs.Common.{◌≡◌, ◌+◌, ◌∷◌, [], List, ℕ, Option, Some, refl, sym, ap, subst, take, ◌∙◌}
+use Rattle.std.proofs.Common.{Option, sym, subst, take, ◌∙◌}
 use Rattle.tora_node.specs.declared.commands.CommandsEnd.{CommandsEnd}
-use Rattle.tora_node.specs.CommandSteps.{Putting, PutsAll, PutsLast}
+use Rattle.tora_node.specs.CommandSteps.{PutsAll}
 use Rattle.tora_node.proofs.Commanding.{begun, read_on, stops, closes_with, closes_without}
 use Rattle.tora_node.proofs.commands.run_commands.Goals as goal
 use Rattle.tora_node.proofs.commands.run_commands.Goals.{then-is_gone, else-is_gone}
