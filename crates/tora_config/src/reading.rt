@@ -1,10 +1,12 @@
 //! Texts to configurations.
-ghost use Rattle.std.specs.Prelude.{codes, ◌≡◌, ◌+◌, ◌<◌, ℕ, pos, List, map, length, All, Some, None, IfOk, OnOk, IfErr, IsPermutation, IsTrue, Option};
+ghost use Rattle.std.specs.Prelude.{codes, bytes_eq, ◌≡◌, ◌+◌, ◌<◌, ℕ, pos, List, map, length, All, Some, None, IfOk, OnOk, IfErr, IsPermutation, IsTrue, Option};
+ghost use Rattle.std.specs.List.{list_any};
 ghost use Rattle.toml.specs.Data.{Data, Members, as_integer};
 ghost use Rattle.toml.specs.Parse.{parse_document};
 ghost use Rattle.toml.specs.View.{view, table_view};
 ghost use Rattle.tora_core.specs.CoreRun.{core_refusal};
 ghost use Rattle.tora_config.specs.NodeConfig.{IsLinkConfig, IsNodeConfig, IsAscending, peers_of, IsListAt, AreLinksOf, says_of_link, said_link, IsWritten};
+ghost use Rattle.tora_config.specs.Reading.{Gives, unknown_key, unknown_link_key, keys_in, only_known, keys_of_configuration, keys_of_link};
 
 use crate::fault::{ConfigError, Place, Reason};
 use crate::values::{id_at, id_of, list_at, port_at, text_at};
@@ -14,21 +16,39 @@ use toml::{Table, Value};
 use tora_core::{Core, CoreError};
 use tora_height::Id;
 
-fn check_keys(alloc: Global, table: &Table) -> Result<(), ConfigError> {
+fn is_key(key: &str) -> bool
+    ensures { result ≡ list_any (bytes_eq key.now) keys_of_configuration }
+{
+    matches!(key, "node" | "dests" | "life_dir" | "link")
+}
+
+#[tactic(auto, using(crate::proofs::Keys::keys_in_view))]
+fn check_keys(alloc: Global, table: &Table) -> Result<(), ConfigError>
+    ensures { Gives (λ u. u) result (only_known keys_of_configuration unknown_key (keys_in (table_view table.now))) }
+{
     for key in table.keys() {
-        match key.as_str() {
-            "node" | "dests" | "life_dir" | "link" => {}
-            other => return Err(ConfigError::UnknownKey(String::from_str(alloc, other)?)),
+        let key = key.as_str();
+        if !is_key(key) {
+            return Err(ConfigError::UnknownKey(String::from_str(alloc, key)?));
         }
     }
     Ok(())
 }
 
-fn check_link_keys(alloc: Global, n: usize, table: &Table) -> Result<(), ConfigError> {
+fn is_link_key(key: &str) -> bool
+    ensures { result ≡ list_any (bytes_eq key.now) keys_of_link }
+{
+    matches!(key, "peer" | "local" | "remote")
+}
+
+#[tactic(auto, using(crate::proofs::Keys::keys_in_view))]
+fn check_link_keys(alloc: Global, n: usize, table: &Table) -> Result<(), ConfigError>
+    ensures { Gives (λ u. u) result (only_known keys_of_link (unknown_link_key n) (keys_in (table_view table.now))) }
+{
     for key in table.keys() {
-        match key.as_str() {
-            "peer" | "local" | "remote" => {}
-            other => return Err(ConfigError::UnknownLinkKey(n, String::from_str(alloc, other)?)),
+        let key = key.as_str();
+        if !is_link_key(key) {
+            return Err(ConfigError::UnknownLinkKey(n, String::from_str(alloc, key)?));
         }
     }
     Ok(())
