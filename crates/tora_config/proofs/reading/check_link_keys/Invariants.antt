@@ -1,6 +1,7 @@
 use Rattle.std.proofs.Common.{◌≡◌, map, string_bytes}
 use Rattle.toml.specs.View.{table_view}
-use Rattle.tora_config.specs.Reading.{unknown_link_key, keys_in, only_known, keys_of_link}
+use Rattle.tora_config.specs.Refusal.{unknown_link_key}
+use Rattle.tora_config.specs.Reading.{keys_in, only_known, keys_of_link}
 use Rattle.tora_config.proofs.reading.check_link_keys.Given as goal
 
 abbrev pub invariant-loop-key : goal.invariant-loop-key
