@@ -42,15 +42,3 @@ ends (Error.Core x) read before i values v total below is fails so_far = stops _
 pub is_done : {A : Type 0} (read : List A → Data → Result A Fault) (before : List A) (i : ℕ) (values : List Value) (total : Result (List A) Fault)
     → length values ≤ i → rest_of read before i values ≡ total → total ≡ Ok before
 is_done read before i values total end so_far = sym so_far ∙ ap (λ (vs : List Value). each_from read before (items_view vs)) (drop_all i values end)
-
--- a step after one that failed fails alike
-told_after : {A B : Type 0} (f : Fault) (r : Result A Fault) (more : A → Result B Fault) (total : Result B Fault) → total ≡ (r >>= more) → r ≡ Err f → total ≡ Err f
-told_after {A = A} f r more total is fails = is ∙ ap (λ (x : Result A Fault). x >>= more) fails
-
-pub fails_after : {A B : Type 0} (e : ConfigError) (r : Result A Fault) (more : A → Result B Fault) (total : Result B Fault) → total ≡ (r >>= more) → Fails e r → Fails e total
-fails_after Error.Memory r more total is fails = tt
-fails_after (Error.Syntax x) r more total is fails = absurd fails
-fails_after (Error.UnknownKey key) r more total is fails = told_after _ r more total is fails
-fails_after (Error.UnknownLinkKey n key) r more total is fails = told_after _ r more total is fails
-fails_after (Error.Value place reason) r more total is fails = told_after _ r more total is fails
-fails_after (Error.Core x) r more total is fails = told_after _ r more total is fails

@@ -87,10 +87,15 @@ link_beside node before value = do
   _ ← refuse_if (has_local link.local before) (refused (At.Local (length before + 1)) Is.Repeated)
   Ok link
 
+unfoldable pub listed_links : ℕ → Members → Result (List LinkConfig) Fault
+listed_links node table = do
+  values ← at_place At.Links (list_at (get_member (codes "link") table))
+  each_from (link_beside node) [] values
+
+-- at least one link
 unfoldable pub links_in : ℕ → Members → Result (List LinkConfig) Fault
 links_in node table = do
-  values ← at_place At.Links (list_at (get_member (codes "link") table))
-  links ← each_from (link_beside node) [] values
+  links ← listed_links node table
   _ ← refuse_if (length links == 0) (refused At.Links Is.Missing)
   Ok links
 

@@ -8,7 +8,7 @@ ghost use Rattle.toml.specs.View.{view, table_view};
 ghost use Rattle.tora_core.specs.CoreRun.{core_refusal};
 ghost use Rattle.tora_config.specs.NodeConfig.{IsLinkConfig, IsNodeConfig, IsAscending, peers_of, IsListAt, AreLinksOf, says_of_link, said_link, IsWritten};
 ghost use Rattle.tora_config.specs.Refusal.{unknown_key, unknown_link_key};
-ghost use Rattle.tora_config.specs.Reading.{Gives, has_core, Reads, IsNoToml, has_peer, has_local, dest_in, dests_in, link_in, link_beside, links_in, configuration_in, keys_in, only_known, keys_of_configuration, keys_of_link};
+ghost use Rattle.tora_config.specs.Reading.{Gives, has_core, Reads, IsNoToml, has_peer, has_local, dest_in, dests_in, link_in, link_beside, listed_links, links_in, configuration_in, keys_in, only_known, keys_of_configuration, keys_of_link};
 
 use crate::fault::{ConfigError, Place, Reason};
 use crate::values::{id_at, id_of, list_at, port_at, text_at};
@@ -18,6 +18,7 @@ use toml::{Table, Value};
 use tora_core::{Core, CoreError};
 use tora_height::Id;
 
+// Whether a configuration has the key.
 fn is_key(key: &str) -> bool
     ensures { result ≡ list_any (bytes_eq key.now) keys_of_configuration }
 {
@@ -37,6 +38,7 @@ fn check_keys(alloc: Global, table: &Table) -> Result<(), ConfigError>
     Ok(())
 }
 
+// Whether a link has the key.
 fn is_link_key(key: &str) -> bool
     ensures { result ≡ list_any (bytes_eq key.now) keys_of_link }
 {
@@ -159,12 +161,12 @@ fn in_order(links: Vec<LinkConfig>) -> Vec<LinkConfig>
     links
 }
 
-#[tactic(auto, unfolding(crate::specs::Reading::links_in))]
-fn links_in(alloc: Global, table: &Table, node: Id) -> Result<Vec<LinkConfig>, ConfigError>
+// The links of the list, in the order of the text.
+#[tactic(auto, unfolding(crate::specs::Reading::listed_links))]
+fn listed_links(alloc: Global, table: &Table, node: Id) -> Result<Vec<LinkConfig>, ConfigError>
     ensures links { IfOk result (λ links. All IsLinkConfig links.items) }
-    ensures some_link { IfOk result (λ links. 0 < length links.items) }
     ensures exact { IfOk result (λ links. (values : List Data) × IsListAt (codes "link") (table_view table.now) values × (map says_of_link values ≡ map said_link links.items)) }
-    ensures gives { Gives (λ links. links.items) result (links_in node (table_view table.now)) }
+    ensures gives { Gives (λ links. links.items) result (listed_links node (table_view table.now)) }
 {
     let mut links = Vec::new(alloc);
     let values = list_at(table, "link", Place::Links)?;
@@ -172,6 +174,18 @@ fn links_in(alloc: Global, table: &Table, node: Id) -> Result<Vec<LinkConfig>, C
         let link = link_beside(alloc, node, links.as_slice(), value)?;
         links.push(link)?;
     }
+    Ok(links)
+}
+
+// These links, which are at least one.
+#[tactic(auto, unfolding(crate::specs::Reading::links_in))]
+fn links_in(alloc: Global, table: &Table, node: Id) -> Result<Vec<LinkConfig>, ConfigError>
+    ensures links { IfOk result (λ links. All IsLinkConfig links.items) }
+    ensures some_link { IfOk result (λ links. 0 < length links.items) }
+    ensures exact { IfOk result (λ links. (values : List Data) × IsListAt (codes "link") (table_view table.now) values × (map says_of_link values ≡ map said_link links.items)) }
+    ensures gives { Gives (λ links. links.items) result (links_in node (table_view table.now)) }
+{
+    let links = listed_links(alloc, table, node)?;
     if links.is_empty() {
         return Err(ConfigError::Value(Place::Links, Reason::Missing));
     }
@@ -205,6 +219,7 @@ fn check_core(
     }
 }
 
+// The configuration that a table gives.
 #[tactic(auto, unfolding(crate::specs::Reading::configuration_in))]
 fn config_of(alloc: Global, table: &Table) -> Result<NodeConfig, ConfigError>
     ensures range { IfOk result IsNodeConfig }
@@ -228,10 +243,12 @@ fn config_of(alloc: Global, table: &Table) -> Result<NodeConfig, ConfigError>
 /// Reads a configuration.
 ///
 /// # Errors
-/// The first of these: `Syntax` where the text is no TOML, `UnknownKey` (the first key, in the table's order, that is none
-/// of a configuration), then what is wrong at `node`, `dests`, `life_dir` and `link`, in this order, and then `Core`. Of
-/// each link in turn: that it is no table, `UnknownLinkKey`, then `peer`, `local` and `remote`, then `peer` and `local`
-/// beside those of the links before it. `Memory` may come at any point.
+/// The first of these: `Syntax` where the text is no TOML, `UnknownKey`, then what is wrong at `node`, `dests`, `life_dir`
+/// and `link`, in this order, and then `Core`. Of each destination in turn: what is wrong with its number, and then that it
+/// stands before. Of each link in turn: that it is no table, `UnknownLinkKey`, what is wrong at `peer`, `local` and
+/// `remote`, that the peer is the node itself, that it is the peer of a link before, and that `local` is that of a link
+/// before. Of several unknown keys the first in the order of the table is told, in which keys ascend by their bytes.
+/// `Memory` may come at any point.
 pub fn read_config(alloc: Global, text: &str) -> Result<NodeConfig, ConfigError>
     ensures range { IfOk result IsNodeConfig }
     ensures written { IfOk result (λ c. (table : Members) × (parse_document text.now ≡ Some table) × IsWritten table c) }

@@ -3,7 +3,7 @@ use Rattle.toml.specs.View.{view}
 use Rattle.tora_config.specs.NodeConfig.{IsLinkConfig, says_of_link, said_link}
 use Rattle.tora_config.specs.Reading.{link_beside}
 use Rattle.tora_config.proofs.Loops.{rest_of}
-use Rattle.tora_config.proofs.reading.links_in.Given as goal
+use Rattle.tora_config.proofs.reading.listed_links.Given as goal
 
 abbrev pub invariant-loop-value : goal.invariant-loop-value
 invariant-loop-value l = record {
