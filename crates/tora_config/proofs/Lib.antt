@@ -1,1 +1,4 @@
-mod Lists
+pub mod Lists
+pub mod Keys
+pub mod Loops
+pub mod Order

@@ -1,3 +1,4 @@
 pub mod NodeConfig
 pub mod FaultText
 pub mod Refusal
+pub mod Reading

@@ -1,11 +1,16 @@
--- What is wrong with a text that is no configuration: the first fault of it.
+-- What is wrong with a table that is no configuration, and with each value of it.
 use Rattle.std.specs.Prelude.{ℕ, ◌^◌, ◌&&◌, nat_lt, if◌then◌else◌, ℤ, pos, negsuc, List, Option, Some, None, Result, Ok, Err}
 use Rattle.toml.specs.Data.{Data, Items, as_integer, as_str, as_array}
-use Rattle.tora_config.specs.declared.fault.ConfigError.{ConfigError}
-use Rattle.tora_config.specs.declared.fault.ConfigError.TheVariants as Error
+use Rattle.tora_core.specs.declared.errors.CoreError.{CoreError}
 use Rattle.tora_config.specs.declared.fault.Place.{Place}
 use Rattle.tora_config.specs.declared.fault.Reason.{Reason}
 use Rattle.tora_config.specs.declared.fault.Reason.TheVariants as Is
+
+pub data Fault : Type 0 where
+  unknown_key : List ℕ → Fault
+  unknown_link_key : ℕ → List ℕ → Fault
+  refused : Place → Reason → Fault
+  no_core : CoreError → Fault
 
 -- the number of a node, from 1 to 2^32 - 1, or what is wrong with it
 abbrev pub id_in : Option ℤ → Result ℕ Reason
@@ -40,7 +45,7 @@ text_at stands = found (λ value. ok_or Is.NoText (as_str value)) stands
 abbrev pub list_at : Option Data → Result Items Reason
 list_at stands = found (λ value. ok_or Is.NoList (as_array value)) stands
 
--- what was read at a key, or the error that names it and says what is wrong
-abbrev pub at_place : {A : Type 0} → Place → Result A Reason → Result A ConfigError
+-- what was read at a place, or the fault that names it and says what is wrong
+abbrev pub at_place : {A : Type 0} → Place → Result A Reason → Result A Fault
 at_place place (Ok a) = Ok a
-at_place place (Err reason) = Err (Error.Value place reason)
+at_place place (Err reason) = Err (refused place reason)

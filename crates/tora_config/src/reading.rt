@@ -1,10 +1,14 @@
 //! Texts to configurations.
-ghost use Rattle.std.specs.Prelude.{codes, ◌≡◌, ◌+◌, ◌<◌, ℕ, pos, List, map, length, All, Some, None, IfOk, OnOk, IfErr, IsPermutation, IsTrue, Option};
+ghost use Rattle.std.specs.Prelude.{codes, bytes_eq, ◌≡◌, ◌+◌, ◌<◌, ℕ, pos, List, map, length, All, Some, None, IfOk, OnOk, IfErr, IsPermutation, IsTrue, Option};
+ghost use Rattle.std.specs.List.{list_any};
+ghost use Rattle.std.specs.List.Sorted.{IsNonDecreasingBy};
 ghost use Rattle.toml.specs.Data.{Data, Members, as_integer};
 ghost use Rattle.toml.specs.Parse.{parse_document};
 ghost use Rattle.toml.specs.View.{view, table_view};
 ghost use Rattle.tora_core.specs.CoreRun.{core_refusal};
 ghost use Rattle.tora_config.specs.NodeConfig.{IsLinkConfig, IsNodeConfig, IsAscending, peers_of, IsListAt, AreLinksOf, says_of_link, said_link, IsWritten};
+ghost use Rattle.tora_config.specs.Refusal.{unknown_key, unknown_link_key};
+ghost use Rattle.tora_config.specs.Reading.{Gives, has_core, Reads, IsNoToml, has_peer, has_local, dest_in, dests_in, link_in, link_beside, listed_links, links_in, configuration_in, keys_in, only_known, keys_of_configuration, keys_of_link};
 
 use crate::fault::{ConfigError, Place, Reason};
 use crate::values::{id_at, id_of, list_at, port_at, text_at};
@@ -14,52 +18,86 @@ use toml::{Table, Value};
 use tora_core::{Core, CoreError};
 use tora_height::Id;
 
-fn check_keys(alloc: Global, table: &Table) -> Result<(), ConfigError> {
+// Whether a configuration has the key.
+fn is_key(key: &str) -> bool
+    ensures { result ≡ list_any (bytes_eq key.now) keys_of_configuration }
+{
+    matches!(key, "node" | "dests" | "life_dir" | "link")
+}
+
+#[tactic(auto, using(crate::proofs::Keys::keys_in_view))]
+fn check_keys(alloc: Global, table: &Table) -> Result<(), ConfigError>
+    ensures { Gives (λ u. u) result (only_known keys_of_configuration unknown_key (keys_in (table_view table.now))) }
+{
     for key in table.keys() {
-        match key.as_str() {
-            "node" | "dests" | "life_dir" | "link" => {}
-            other => return Err(ConfigError::UnknownKey(String::from_str(alloc, other)?)),
+        let key = key.as_str();
+        if !is_key(key) {
+            return Err(ConfigError::UnknownKey(String::from_str(alloc, key)?));
         }
     }
     Ok(())
 }
 
-fn check_link_keys(alloc: Global, n: usize, table: &Table) -> Result<(), ConfigError> {
+// Whether a link has the key.
+fn is_link_key(key: &str) -> bool
+    ensures { result ≡ list_any (bytes_eq key.now) keys_of_link }
+{
+    matches!(key, "peer" | "local" | "remote")
+}
+
+#[tactic(auto, using(crate::proofs::Keys::keys_in_view))]
+fn check_link_keys(alloc: Global, n: usize, table: &Table) -> Result<(), ConfigError>
+    ensures { Gives (λ u. u) result (only_known keys_of_link (unknown_link_key n) (keys_in (table_view table.now))) }
+{
     for key in table.keys() {
-        match key.as_str() {
-            "peer" | "local" | "remote" => {}
-            other => return Err(ConfigError::UnknownLinkKey(n, String::from_str(alloc, other)?)),
+        let key = key.as_str();
+        if !is_link_key(key) {
+            return Err(ConfigError::UnknownLinkKey(n, String::from_str(alloc, key)?));
         }
     }
     Ok(())
 }
 
+// A destination that is none of those before it.
+#[tactic(auto, unfolding(crate::specs::Reading::dest_in))]
+fn dest_of(before: &[Id], value: &Value) -> Result<Id, ConfigError>
+    ensures above { IfOk result (λ d. 0 < d) }
+    ensures exact { IfOk result (λ d. as_integer (view value.now) ≡ Some (pos d)) }
+    ensures gives { Gives (λ d. d) result (dest_in before.now (view value.now)) }
+{
+    let place = Place::Dest(before.len() + 1);
+    match id_of(value) {
+        Ok(dest) => {
+            if before.contains(&dest) {
+                return Err(ConfigError::Value(place, Reason::Repeated));
+            }
+            Ok(dest)
+        }
+        Err(reason) => Err(ConfigError::Value(place, reason)),
+    }
+}
+
+#[tactic(auto, unfolding(crate::specs::Reading::dests_in))]
 fn dests_in(alloc: Global, table: &Table) -> Result<Vec<Id>, ConfigError>
     ensures above { IfOk result (λ dests. All (λ d. 0 < d) dests.items) }
     ensures exact { IfOk result (λ dests. (values : List Data) × IsListAt (codes "dests") (table_view table.now) values × (map as_integer values ≡ map (λ d. Some (pos d)) dests.items)) }
+    ensures gives { Gives (λ dests. dests.items) result (dests_in (table_view table.now)) }
 {
     let mut dests = Vec::new(alloc);
-    let mut n = 0usize;
     let values = list_at(table, "dests", Place::Dests)?;
     for value in values {
-        n = n.saturating_add(1);
-        match id_of(value) {
-            Ok(dest) => {
-                if dests.as_slice().contains(&dest) {
-                    return Err(ConfigError::Value(Place::Dest(n), Reason::Repeated));
-                }
-                dests.push(dest)?;
-            }
-            Err(reason) => return Err(ConfigError::Value(Place::Dest(n), reason)),
-        }
+        let dest = dest_of(dests.as_slice(), value)?;
+        dests.push(dest)?;
     }
     Ok(dests)
 }
 
 // The link with the number n, from 1 on.
+#[tactic(auto, unfolding(crate::specs::Reading::link_in))]
 fn link_of(alloc: Global, n: usize, value: &Value) -> Result<LinkConfig, ConfigError>
     ensures range { IfOk result IsLinkConfig }
     ensures exact { IfOk result (λ link. says_of_link (view value.now) ≡ said_link link) }
+    ensures gives { Gives (λ link. link) result (link_in n (view value.now)) }
 {
     let Some(table) = value.as_table() else {
         return Err(ConfigError::Value(Place::Link(n), Reason::NoTable));
@@ -75,56 +113,83 @@ fn link_of(alloc: Global, n: usize, value: &Value) -> Result<LinkConfig, ConfigE
     })
 }
 
-// Sees that the link with the number n is to another node than those before it, from another port.
-fn check_link(
-    n: usize,
+fn has_peer(links: &[LinkConfig], peer: Id) -> bool
+    ensures { result ≡ has_peer peer links.now }
+{
+    links.iter().any(|link| link.peer == peer)
+}
+
+fn has_local(links: &[LinkConfig], local: u16) -> bool
+    ensures { result ≡ has_local local links.now }
+{
+    links.iter().any(|link| link.local == local)
+}
+
+// A link to another node than this one and those of the links before it, from another port than theirs.
+#[tactic(auto, unfolding(crate::specs::Reading::link_beside))]
+fn link_beside(
+    alloc: Global,
     node: Id,
     before: &[LinkConfig],
-    link: &LinkConfig,
-) -> Result<(), ConfigError> {
+    value: &Value,
+) -> Result<LinkConfig, ConfigError>
+    ensures range { IfOk result IsLinkConfig }
+    ensures exact { IfOk result (λ link. says_of_link (view value.now) ≡ said_link link) }
+    ensures gives { Gives (λ link. link) result (link_beside node before.now (view value.now)) }
+{
+    let n = before.len() + 1;
+    let link = link_of(alloc, n, value)?;
     if link.peer == node {
         return Err(ConfigError::Value(Place::Peer(n), Reason::OwnId));
     }
-    for other in before {
-        if other.peer == link.peer {
-            return Err(ConfigError::Value(Place::Peer(n), Reason::Repeated));
-        }
-        if other.local == link.local {
-            return Err(ConfigError::Value(Place::Local(n), Reason::Repeated));
-        }
+    if has_peer(before, link.peer) {
+        return Err(ConfigError::Value(Place::Peer(n), Reason::Repeated));
     }
-    Ok(())
+    if has_local(before, link.local) {
+        return Err(ConfigError::Value(Place::Local(n), Reason::Repeated));
+    }
+    Ok(link)
 }
 
 // The links by ascending peer.
 fn in_order(links: Vec<LinkConfig>) -> Vec<LinkConfig>
     ensures same { IsPermutation links.items result.items }
-    ensures len { length result.items ≡ length links.items }
-    ensures links { All IsLinkConfig links.items → All IsLinkConfig result.items }
+    ensures rising { IsNonDecreasingBy (λ link. link.peer) result.items }
 {
     let mut links = links;
-    links.as_mut_slice().sort_unstable_by_key(|link| link.peer);
+    links.sort_unstable_by_key(|link| link.peer);
     links
 }
 
+// The links of the list, in the order of the text.
+#[tactic(auto, unfolding(crate::specs::Reading::listed_links))]
+fn listed_links(alloc: Global, table: &Table, node: Id) -> Result<Vec<LinkConfig>, ConfigError>
+    ensures links { IfOk result (λ links. All IsLinkConfig links.items) }
+    ensures exact { IfOk result (λ links. (values : List Data) × IsListAt (codes "link") (table_view table.now) values × (map says_of_link values ≡ map said_link links.items)) }
+    ensures gives { Gives (λ links. links.items) result (listed_links node (table_view table.now)) }
+{
+    let mut links = Vec::new(alloc);
+    let values = list_at(table, "link", Place::Links)?;
+    for value in values {
+        let link = link_beside(alloc, node, links.as_slice(), value)?;
+        links.push(link)?;
+    }
+    Ok(links)
+}
+
+// These links, which are at least one.
+#[tactic(auto, unfolding(crate::specs::Reading::links_in))]
 fn links_in(alloc: Global, table: &Table, node: Id) -> Result<Vec<LinkConfig>, ConfigError>
     ensures links { IfOk result (λ links. All IsLinkConfig links.items) }
     ensures some_link { IfOk result (λ links. 0 < length links.items) }
-    ensures exact { IfOk result (λ links. (values : List Data) × IsListAt (codes "link") (table_view table.now) values × AreLinksOf values links.items) }
+    ensures exact { IfOk result (λ links. (values : List Data) × IsListAt (codes "link") (table_view table.now) values × (map says_of_link values ≡ map said_link links.items)) }
+    ensures gives { Gives (λ links. links.items) result (links_in node (table_view table.now)) }
 {
-    let mut links = Vec::new(alloc);
-    let mut n = 0usize;
-    let values = list_at(table, "link", Place::Links)?;
-    for value in values {
-        n = n.saturating_add(1);
-        let link = link_of(alloc, n, value)?;
-        check_link(n, node, links.as_slice(), &link)?;
-        links.push(link)?;
-    }
+    let links = listed_links(alloc, table, node)?;
     if links.is_empty() {
         return Err(ConfigError::Value(Place::Links, Reason::Missing));
     }
-    Ok(in_order(links))
+    Ok(links)
 }
 
 fn peers_of(alloc: Global, links: &[LinkConfig]) -> Result<Vec<Id>, AllocError>
@@ -133,18 +198,7 @@ fn peers_of(alloc: Global, links: &[LinkConfig]) -> Result<Vec<Id>, AllocError>
     links.iter().map(|link| link.peer).collect(alloc)
 }
 
-fn are_ascending(numbers: &[Id]) -> bool
-    ensures { IsTrue result → IsAscending numbers.now }
-{
-    for i in 1..numbers.len() {
-        if numbers[i - 1] >= numbers[i] {
-            return false;
-        }
-    }
-    true
-}
-
-// Sees that there is a core of these, and that the links are in order.
+// Sees that there is a core of these.
 fn check_core(
     alloc: Global,
     node: Id,
@@ -154,13 +208,10 @@ fn check_core(
     requires node { 0 < node }
     requires dests { All (λ d. 0 < d) dests.now }
     requires links { All IsLinkConfig links.now }
-    ensures ascending { OnOk result (IsAscending (peers_of links.now)) }
     ensures accepted { OnOk result (core_refusal node (peers_of links.now) dests.now ≡ None) }
+    ensures gives { Gives (λ u. u) result (has_core (core_refusal node (peers_of links.now) dests.now)) }
 {
     let peers = peers_of(alloc, links)?;
-    if !are_ascending(peers.as_slice()) {
-        return Err(ConfigError::Value(Place::Links, Reason::Repeated));
-    }
     match Core::new(alloc, node, peers.as_slice(), dests) {
         Ok(_) => Ok(()),
         Err(CoreError::Memory) => Err(ConfigError::Memory),
@@ -168,15 +219,41 @@ fn check_core(
     }
 }
 
+// The configuration that a table gives.
+#[tactic(auto, unfolding(crate::specs::Reading::configuration_in))]
+fn config_of(alloc: Global, table: &Table) -> Result<NodeConfig, ConfigError>
+    ensures range { IfOk result IsNodeConfig }
+    ensures written { IfOk result (λ c. IsWritten (table_view table.now) c) }
+    ensures exact { Reads result (configuration_in (table_view table.now)) }
+{
+    check_keys(alloc, table)?;
+    let node = id_at(table, "node", Place::Node)?;
+    let dests = dests_in(alloc, table)?;
+    let life_dir = text_at(alloc, table, "life_dir", Place::LifeDir)?;
+    let links = links_in(alloc, table, node)?;
+    check_core(alloc, node, dests.as_slice(), links.as_slice())?;
+    Ok(NodeConfig {
+        node,
+        dests,
+        life_dir,
+        links: in_order(links),
+    })
+}
+
 /// Reads a configuration.
 ///
 /// # Errors
 /// The first of these: `Syntax` where the text is no TOML, `UnknownKey`, then what is wrong at `node`, `dests`, `life_dir`
-/// and `link`, in this order (of each link in turn `UnknownLinkKey`, then `peer`, `local` and `remote`, then `peer` and
-/// `local` beside those of the links before it), and then `Core`. `Memory` may come at any point.
+/// and `link`, in this order, and then `Core`. Of each destination in turn: what is wrong with its number, and then that it
+/// stands before. Of each link in turn: that it is no table, `UnknownLinkKey`, what is wrong at `peer`, `local` and
+/// `remote`, that the peer is the node itself, that it is the peer of a link before, and that `local` is that of a link
+/// before. Of several unknown keys the first in the order of the table is told, in which keys ascend by their bytes.
+/// `Memory` may come at any point.
 pub fn read_config(alloc: Global, text: &str) -> Result<NodeConfig, ConfigError>
     ensures range { IfOk result IsNodeConfig }
     ensures written { IfOk result (λ c. (table : Members) × (parse_document text.now ≡ Some table) × IsWritten table c) }
+    ensures exact { (table : Members) → parse_document text.now ≡ Some table → Reads result (configuration_in table) }
+    ensures syntax { parse_document text.now ≡ None → IsNoToml result }
 {
     let table = match toml::table_from_str(alloc, text) {
         Ok(table) => table,
@@ -187,16 +264,5 @@ pub fn read_config(alloc: Global, text: &str) -> Result<NodeConfig, ConfigError>
             return Err(ConfigError::Syntax(error));
         }
     };
-    check_keys(alloc, &table)?;
-    let node = id_at(&table, "node", Place::Node)?;
-    let dests = dests_in(alloc, &table)?;
-    let life_dir = text_at(alloc, &table, "life_dir", Place::LifeDir)?;
-    let links = links_in(alloc, &table, node)?;
-    check_core(alloc, node, dests.as_slice(), links.as_slice())?;
-    Ok(NodeConfig {
-        node,
-        dests,
-        life_dir,
-        links,
-    })
+    config_of(alloc, &table)
 }

@@ -1,7 +1,7 @@
 //! The values of keys.
-ghost use Rattle.std.specs.Prelude.{string_bytes, ◌≡◌, ◌⊎◌, ◌<◌, pos, map, Some, None, Ok, Err, IfOk, IfErr};
+ghost use Rattle.std.specs.Prelude.{string_bytes, ◌≡◌, ◌<◌, pos, map, Some, None, Ok, Err, IfOk, IfErr};
 ghost use Rattle.toml.specs.Data.{as_integer, get_member};
-ghost use Rattle.tora_config.specs.declared.fault.ConfigError.{ConfigError};
+ghost use Rattle.tora_config.specs.Reading.{Gives};
 ghost use Rattle.toml.specs.View.{view, items_view, table_view};
 ghost use Rattle.tora_config.specs.Refusal.{id_in, port_in, id_at, port_at, text_at as text_said, list_at, at_place};
 ghost use Rattle.tora_config.specs.NodeConfig.{number_at, text_at, IsListAt};
@@ -66,7 +66,8 @@ pub fn value_at<'a>(table: &'a Table, key: &str, place: Place) -> Result<&'a Val
 pub fn id_at(table: &Table, key: &str, place: Place) -> Result<Id, ConfigError>
     ensures above { IfOk result (λ n. 0 < n) }
     ensures exact { IfOk result (λ n. number_at key.now (table_view table.now) ≡ Some (pos n)) }
-    ensures all { result ≡ at_place place (id_at (get_member key.now (table_view table.now))) }
+    ensures gives { Gives (λ n. n) result (at_place place (id_at (get_member key.now (table_view table.now)))) }
+    ensures no_memory { IfErr result (λ e. ¬ (e ≡ ConfigError.Memory)) }
 {
     let value = value_at(table, key, place)?;
     match id_of(value) {
@@ -79,7 +80,8 @@ pub fn id_at(table: &Table, key: &str, place: Place) -> Result<Id, ConfigError>
 pub fn port_at(table: &Table, key: &str, place: Place) -> Result<u16, ConfigError>
     ensures above { IfOk result (λ n. 0 < n) }
     ensures exact { IfOk result (λ n. number_at key.now (table_view table.now) ≡ Some (pos n)) }
-    ensures all { result ≡ at_place place (port_at (get_member key.now (table_view table.now))) }
+    ensures gives { Gives (λ n. n) result (at_place place (port_at (get_member key.now (table_view table.now)))) }
+    ensures no_memory { IfErr result (λ e. ¬ (e ≡ ConfigError.Memory)) }
 {
     let value = value_at(table, key, place)?;
     match port_of(value) {
@@ -91,8 +93,7 @@ pub fn port_at(table: &Table, key: &str, place: Place) -> Result<u16, ConfigErro
 /// A text at a key.
 pub fn text_at(alloc: Global, table: &Table, key: &str, place: Place) -> Result<String, ConfigError>
     ensures exact { IfOk result (λ text. text_at key.now (table_view table.now) ≡ Some (string_bytes text)) }
-    ensures read { IfOk result (λ text. at_place place (text_said (get_member key.now (table_view table.now))) ≡ Ok (string_bytes text)) }
-    ensures refused { IfErr result (λ e. (e ≡ ConfigError.Memory) ⊎ (at_place place (text_said (get_member key.now (table_view table.now))) ≡ Err e)) }
+    ensures gives { Gives string_bytes result (at_place place (text_said (get_member key.now (table_view table.now)))) }
 {
     let value = value_at(table, key, place)?;
     match value.as_str() {
@@ -104,8 +105,8 @@ pub fn text_at(alloc: Global, table: &Table, key: &str, place: Place) -> Result<
 /// The values of a list at a key.
 pub fn list_at<'a>(table: &'a Table, key: &str, place: Place) -> Result<&'a [Value], ConfigError>
     ensures exact { IfOk result (λ values. IsListAt key.now (table_view table.now) (map view values.now)) }
-    ensures read { IfOk result (λ values. at_place place (list_at (get_member key.now (table_view table.now))) ≡ Ok (items_view values.now)) }
-    ensures refused { IfErr result (λ e. at_place place (list_at (get_member key.now (table_view table.now))) ≡ Err e) }
+    ensures gives { Gives (λ values. items_view values.now) result (at_place place (list_at (get_member key.now (table_view table.now)))) }
+    ensures no_memory { IfErr result (λ e. ¬ (e ≡ ConfigError.Memory)) }
 {
     let value = value_at(table, key, place)?;
     match value.as_array() {

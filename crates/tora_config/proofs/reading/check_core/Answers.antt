@@ -11,5 +11,5 @@ above links are k d below = (are k d below).peer
 
 pub new-requires-clause-neighbours : goal.new-requires-clause-neighbours
 new-requires-clause-neighbours c =
-    subst (λ (ns : List ℕ). All (λ n. 0 < n) ns) (sym (c.as_slice-2.ensures.value ∙ c.in_ok-peers.ensures))
+    subst (λ (ns : List ℕ). All (λ n. 0 < n) ns) (sym (c.as_slice.ensures.value ∙ c.in_ok-peers.ensures))
     (All-map (λ n. 0 < n) (λ (link : LinkConfig). link.peer) c.args.links.now (above c.args.links.now c.requires.links))
