@@ -295,10 +295,3 @@ impl fmt::Display for ArqError {
         }
     }
 }
-
-#[cfg(test)]
-mod batches;
-#[cfg(test)]
-mod shuffled;
-#[cfg(test)]
-mod tests;

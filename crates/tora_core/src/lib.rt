@@ -99,8 +99,3 @@ impl fmt::Display for Input {
 /// The packets that one input broadcasts, at most one for each destination, by ascending destination. Each goes to
 /// every neighbour whose link is up after the input.
 pub type Sends = ArrayVec<Packet, MOST_DESTINATIONS>;
-
-#[cfg(test)]
-mod plain;
-#[cfg(test)]
-mod tests;

@@ -87,6 +87,3 @@ impl FrameError {
         }
     }
 }
-
-#[cfg(test)]
-mod tests;

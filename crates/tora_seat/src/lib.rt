@@ -102,6 +102,3 @@ pub struct Stepped {
     /// The packet.
     pub packet: Packet,
 }
-
-#[cfg(test)]
-mod tests;

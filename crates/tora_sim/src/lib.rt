@@ -33,6 +33,3 @@ mod watching;
 pub use sim::Sim;
 pub use topology::{MOST_NODES, Topology, topology_fault};
 pub use tora_world::{Call, Event, SimError};
-
-#[cfg(test)]
-mod tests;

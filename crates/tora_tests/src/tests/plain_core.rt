@@ -1,7 +1,7 @@
 //! The rules as a plain body: nothing is kept beside the rows, and every question goes through them. The tests compare the
 //! core with it.
-use crate::{Input, StepError};
 use std::alloc::{AllocError, Global};
+use tora_core::{Input, StepError};
 use tora_height::{GREATEST_DELTA, GREATEST_TAU, Id};
 use tora_packet::Packet;
 

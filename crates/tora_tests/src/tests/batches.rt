@@ -1,10 +1,10 @@
 //! Frames of version 2: batches, and ends of both versions beside each other.
 ghost use Rattle.std.specs.Prelude.{◌<◌, ◌≢◌};
 
-use super::*;
 use std::alloc::Global;
 use std::process::Abort;
 use std::test::Fail;
+use tora_arq::{Life, LinkEnd, LinkEvent, Times, Verdict};
 use tora_frame::{Body, Frame, Packets, Version, decode_into, encode};
 use tora_height::Id;
 use tora_packet::Packet;

@@ -2,13 +2,16 @@
 ghost use Rattle.std.specs.Prelude.{◌≡◌, ◌≤◌, IfSome, length};
 ghost use Rattle.arrayvec.specs.ArrayVec.{array_vec_len};
 
-use super::*;
 use std::alloc::Global;
 use std::cmp::Ordering;
 use std::process::Abort;
 use std::test::*;
+use tora_frame::{
+    Body, BorrowedBody, BorrowedFrame, Frame, FrameError, GREATEST_NUMBER, Header, LONGEST_FRAME,
+    MOST_PACKETS, Packets, Version, decode, decode_into, encode, encode_into,
+};
 use tora_height::Height;
-use tora_packet::{Clear, Packet, Update};
+use tora_packet::{Clear, Packet, PacketError, Update};
 
 /// The frames of the formats, and more made of the tables of the layouts: in version 1 DATA frames with an update and with
 /// a clear, in version 2 a HELLO, an ACK, and a DATA frame with an update.

@@ -1,13 +1,13 @@
 //! Worked exchanges of frames of version 1, and frames that no honest peer sends.
 ghost use Rattle.std.specs.Prelude.{◌≢◌, ◌<◌, ◌≤◌, ◌^◌};
 
-use super::*;
 use std::alloc::Global;
 use std::process::Abort;
 use std::test::Fail;
+use tora_arq::{ArqError, Life, LinkEnd, LinkEvent, Reason, SubmitError, Times, Verdict};
 use tora_frame::{Body, Frame, GREATEST_NUMBER, Header, Packets, Version};
 use tora_height::{Height, Id};
-use tora_packet::Update;
+use tora_packet::{Packet, Update};
 
 const LIFE: Life = Life { own: 5, peer: 9 };
 

@@ -1,10 +1,13 @@
 //! Items served over lanes that fill up.
 
-use super::*;
 use std::alloc::Global;
 use std::process::Abort;
 use std::test::Fail;
-use tora_core::{Core, Input};
+use tora_arq::{Life, Reason};
+use tora_core::{Core, Input, StepError};
+use tora_height::Id;
+use tora_packet::Packet;
+use tora_seat::{Answer, Cargo, CoreSeat, Item, OutLanes, Stepped, What};
 
 mod line;
 

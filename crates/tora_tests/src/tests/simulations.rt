@@ -4,7 +4,6 @@ ghost use Rattle.std.specs.List.{All};
 ghost use Rattle.tora_world.specs.Topology.{Link};
 ghost use Rattle.tora_sim.specs.Topologies.{links_in};
 
-use super::*;
 use std::alloc::Global;
 use std::process::Abort;
 use std::test::Fail;
@@ -12,6 +11,7 @@ use tora_arq::{Life, Times};
 use tora_core::CoreError;
 use tora_height::{Entry, Height, Id};
 use tora_packet::{Packet, Update};
+use tora_sim::{Event, Sim, SimError, Topology, topology_fault};
 
 mod memory;
 

@@ -1,13 +1,13 @@
 //! Worked runs of the rules, and texts.
 ghost use Rattle.std.specs.Prelude.{◌<◌, ◌≤◌, ◌≡◌, true, All};
 
-use super::*;
-use crate::plain::{Plain, Told, told_by};
+use super::plain_core::{Plain, Told, told_by};
 use std::alloc::{AllocError, Global};
 use std::process::Abort;
 use std::test::Fail;
-use tora_height::Height;
-use tora_packet::{Clear, Update};
+use tora_core::{Core, CoreError, Input, Sends, StepError};
+use tora_height::{Height, Id};
+use tora_packet::{Clear, Packet, Update};
 
 /// The height of these parts.
 fn height(rt: &impl Abort, tau: u64, oid: Id, r: u8, delta: i32, id: Id) -> Height {

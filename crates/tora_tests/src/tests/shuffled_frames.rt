@@ -1,8 +1,8 @@
 //! Two ends over datagrams that are lost, repeated and reordered.
 
-use super::*;
 use std::alloc::Global;
 use std::process::Abort;
+use tora_arq::{LinkEnd, LinkEvent, Times};
 use tora_frame::Frame;
 use tora_height::Id;
 use tora_packet::Packet;
