@@ -1,8 +1,0 @@
-use Rattle.std.proofs.Common.{◌-◌}
-use Rattle.tora.specs.Rounds.{repeats}
-use Rattle.tora.proofs.RoundLaws.{Onward}
-use Rattle.tora.proofs.rounds.repeat.Given as goal
-
-abbrev pub invariant-loop : goal.invariant-loop
-invariant-loop g l =
-    Onward (g.S.Simulator.world l.initial.sim) (repeats l.most l.event (g.S.Simulator.world l.initial.sim)) (g.S.Simulator.world l.sim) l.some (repeats (l.most - l.counter) l.event (g.S.Simulator.world l.sim))

@@ -1,6 +1,0 @@
-use Rattle.tora_world.specs.declared.Event.TheVariants.{CoreTurn}
-use Rattle.tora.proofs.RoundLaws.{idle}
-use Rattle.tora.proofs.rounds.turn_core.Goals as goal
-
-pub returns-then-not-may_happen : goal.returns-then-not-may_happen
-returns-then-not-may_happen g c = idle (g.S.Simulator.world c.args.sim.now) 1024 (CoreTurn c.args.n) (c.may_happen.ensures c.if-not-may_happen.true)

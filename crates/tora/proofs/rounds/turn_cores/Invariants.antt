@@ -1,8 +1,0 @@
-use Rattle.std.proofs.Common.{drop}
-use Rattle.tora.specs.Rounds.{each_core}
-use Rattle.tora.proofs.RoundLaws.{Onward}
-use Rattle.tora.proofs.rounds.turn_cores.Given as goal
-
-abbrev pub invariant-loop-place : goal.invariant-loop-place
-invariant-loop-place g l =
-    Onward (g.S.Simulator.world l.initial.sim) (each_core l.nodes (g.S.Simulator.world l.initial.sim)) (g.S.Simulator.world l.sim) l.some (each_core (drop l.place l.nodes) (g.S.Simulator.world l.sim))

@@ -1,8 +1,0 @@
-use Rattle.tora.specs.Rounds.{repeats, each, end_event}
-use Rattle.tora.proofs.RoundLaws.{each_part}
-use Rattle.tora.proofs.rounds.turn_ends.Goals as goal
-
-pub loop-place-preserved : goal.loop-place-preserved
-loop-place-preserved g c =
-    rw c.either-some.ensures (each_part (λ e. repeats c.args.most (end_event c.args.kind e)) c.args.ends.now c.loop-place.place (0, 0) (g.S.Simulator.world c.args.sim.now) (each (λ e. repeats c.args.most (end_event c.args.kind e)) c.args.ends.now (g.S.Simulator.world c.args.sim.now))
-    (g.S.Simulator.world c.loop-place.sim) (g.S.Simulator.world c.turn_end.new.sim) c.loop-place.some c.in_ok-any.any c.loop-place-test.true c.loop-place.invariant c.in_ok-any.ensures)

@@ -1,8 +1,0 @@
-use Rattle.tora.proofs.Grammar.{number_prints, number_again}
-use Rattle.tora.proofs.words.numbers_are_read_as_printed.Goals as goal
-
-pub returns-clause-prints : goal.returns-clause-prints
-returns-clause-prints c = number_prints
-
-pub returns-clause-again : goal.returns-clause-again
-returns-clause-again c = number_again

@@ -1,7 +1,0 @@
--- What a running simulation is.
-use Rattle.tora_world.specs.World.{World}
-use Rattle.tora.specs.declared.running.Running.{Running}
-use Rattle.tora.specs.SimulationText.{RunningView}
-
-abbrev pub running_view : {S : Type 0} → (S → World) → Running S → RunningView
-running_view world s = record { dests = s.dests.items; nodes = s.nodes.items; ends = s.ends.items; parted = s.parted.items; world = world s.sim }

@@ -1,0 +1,79 @@
+//! The engines, with all that was written handed on.
+ghost use Rattle.std.specs.Prelude.{◌≡◌, ◌≢◌, Bool, Ok, IfOk, IfErr, IfSome};
+ghost use Rattle.std.specs.Io.KnownBytes.{IsAtEnd, Keeps};
+ghost use Rattle.tora_arq.specs.Settings.{IsTimes};
+ghost use Rattle.tora_lines.specs.Flushing.{IsFlushed};
+ghost use Rattle.tora_lines.specs.LineText.{fault_of};
+ghost use Rattle.tora_replay.specs.ReplayText.{first_fault, Replays, IsBegun};
+ghost use Rattle.tora_script.specs.SimulationText.{first_simulation_fault, Simulates, IsSimulationBegun};
+ghost use Rattle.tora_lines.specs.Flushing.{after_flush};
+
+use tora_lines::{Ended, ReplayError};
+use tora_lines::Output;
+use tora_replay::replay;
+use tora_script::simulate_in;
+use tora_script::Simulator;
+use tora_script::simulate_told;
+use std::alloc::Global;
+use tora_lines::flushed;
+use std::io::Read;
+use tora_arq::Times;
+
+/// Replays, and flushes the writer: `Write` where that alone fails.
+pub fn replay_and_flush<R: Read, W: Output>(
+    alloc: Global,
+    reader: &mut R,
+    writer: &mut W,
+) -> Result<Ended, ReplayError>
+    ensures whole { IfOk result (λ ended. IfSome (R.remaining reader.old) (λ input.
+        Replays input (W.contents writer.old) (W.contents writer.new) ended)) }
+    ensures at_end { result ≡ Ok Ended.Whole → IsAtEnd (R.remaining reader.new) }
+    ensures fault { IfOk result (λ ended. IfSome (R.remaining reader.old) (λ input. fault_of ended ≡ first_fault input)) }
+    ensures begun { IfErr result (λ e. e ≢ ReplayError.Write →
+        IsBegun (R.remaining reader.old) (R.remaining reader.new) (W.contents writer.old) (W.contents writer.new)) }
+    ensures flushed { IsFlushed W.did_flush result writer.new }
+{
+    let result = replay(alloc, reader, writer);
+    flushed(writer, result)
+}
+
+/// Simulates with these times of each link end, and flushes the writer: `Write` where that alone fails.
+pub fn simulate_and_flush<S: Simulator, R: Read, W: Output>(
+    alloc: Global,
+    times: Times,
+    reader: &mut R,
+    writer: &mut W,
+) -> Result<Ended, ReplayError>
+    requires { IsTimes times }
+    ensures whole { IfOk result (λ ended. IfSome (R.remaining reader.old) (λ input.
+        Simulates times input (W.contents writer.old) (W.contents writer.new) ended)) }
+    ensures at_end { result ≡ Ok Ended.Whole → IsAtEnd (R.remaining reader.new) }
+    ensures fault { IfOk result (λ ended. IfSome (R.remaining reader.old) (λ input. fault_of ended ≡ first_simulation_fault times input)) }
+    ensures begun { IfErr result (λ e. e ≢ ReplayError.Write →
+        IsSimulationBegun times (R.remaining reader.old) (R.remaining reader.new) (W.contents writer.old) (W.contents writer.new)) }
+    ensures flushed { IsFlushed W.did_flush result writer.new }
+{
+    let result = simulate_in::<S, R, W>(alloc, times, reader, writer);
+    flushed(writer, result)
+}
+
+/// Simulates with these times of each link end, tells on standard error what is refused, and flushes the writer: `Write` where that alone fails.
+pub fn simulate_told_and_flush<S: Simulator, T: Eprint, R: Read, W: Output>(
+    rt: &T,
+    alloc: Global,
+    times: Times,
+    reader: &mut R,
+    writer: &mut W,
+) -> Result<Ended, ReplayError>
+    requires { IsTimes times }
+    ensures whole { IfOk result (λ ended. IfSome (R.remaining reader.old) (λ input.
+        Simulates times input (W.contents writer.old) (W.contents writer.new) ended)) }
+    ensures at_end { result ≡ Ok Ended.Whole → IsAtEnd (R.remaining reader.new) }
+    ensures fault { IfOk result (λ ended. IfSome (R.remaining reader.old) (λ input. fault_of ended ≡ first_simulation_fault times input)) }
+    ensures begun { IfErr result (λ e. e ≢ ReplayError.Write →
+        IsSimulationBegun times (R.remaining reader.old) (R.remaining reader.new) (W.contents writer.old) (W.contents writer.new)) }
+    ensures flushed { IsFlushed W.did_flush result writer.new }
+{
+    let result = simulate_told::<S, T, R, W>(rt, alloc, times, reader, writer);
+    flushed(writer, result)
+}

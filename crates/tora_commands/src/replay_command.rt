@@ -1,0 +1,79 @@
+//! `tora replay`: a replay of what a reader gives.
+ghost use Rattle.std.specs.Prelude.{false};
+ghost use Rattle.std.specs.Process.{exit_status};
+ghost use Rattle.tora_commands.specs.Endings.{EndsBy};
+ghost use Rattle.tora_replay.specs.ReplayText.{replay_rules};
+
+use tora_replay::cause_of;
+use tora_lines::{Ended, ReplayError};
+use crate::flushing::replay_and_flush;
+use tora_lines::Output;
+use tora_lines::Recent;
+use crate::status;
+use std::io::Read;
+use std::process::ExitCode;
+
+/// Says why a line is a fault, or what failed.
+fn tell<T: AllocGlobal + Eprint, R: Read>(
+    rt: &T,
+    reader: &Recent<R>,
+    ended: Result<Ended, ReplayError>,
+) {
+    let _ = match ended {
+        Ok(Ended::Whole) => Ok(()),
+        Ok(Ended::Fault(number)) if reader.is_lossy() => {
+            rt.eprintln(format_args!("tora: line {number} was not kept"))
+        }
+        Ok(Ended::Fault(number)) => {
+            let cause = cause_of(rt.alloc(), number, reader.line(number));
+            rt.eprintln(format_args!("tora: line {number}: {cause}"))
+        }
+        Err(error) => rt.eprintln(format_args!("tora: {error}")),
+    };
+}
+
+/// Replays, and then says why a line is a fault.
+fn replay_verbosely<T: AllocGlobal + Eprint, R: Read + Drop, W: Output>(
+    rt: &T,
+    reader: R,
+    writer: &mut W,
+) -> ExitCode
+    ensures { EndsBy replay_rules W.contents W.did_flush (R.remaining reader) writer.old writer.new false (exit_status result) }
+{
+    let alloc = rt.alloc();
+    let mut reader = Recent::new(alloc, reader);
+    let result = replay_and_flush(alloc, &mut reader, writer);
+    let code = status(rt, result);
+    tell(rt, &reader, result);
+    code
+}
+
+/// Replays, and says no more than the cause of a status.
+fn replay_quietly<T: AllocGlobal + Eprint, R: Read + Drop, W: Output>(
+    rt: &T,
+    reader: R,
+    writer: &mut W,
+) -> ExitCode
+    ensures { EndsBy replay_rules W.contents W.did_flush (R.remaining reader) writer.old writer.new false (exit_status result) }
+{
+    let mut reader = reader;
+    let result = replay_and_flush(rt.alloc(), &mut reader, writer);
+    status(rt, result)
+}
+
+/// Replays what a reader gives, and ends with a status: 0 at its end, 1 where a line is a fault or reading or writing
+/// failed, 5 where memory was refused.
+pub fn run<T: AllocGlobal + Eprint, R: Read + Drop, W: Output>(
+    rt: &T,
+    reader: R,
+    is_verbose: bool,
+    writer: &mut W,
+) -> ExitCode
+    ensures { EndsBy replay_rules W.contents W.did_flush (R.remaining reader) writer.old writer.new false (exit_status result) }
+{
+    if is_verbose {
+        replay_verbosely(rt, reader, writer)
+    } else {
+        replay_quietly(rt, reader, writer)
+    }
+}

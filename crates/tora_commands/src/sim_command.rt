@@ -1,0 +1,126 @@
+//! `tora sim [--times HELLO,SILENCE,RETRY,TRIES] FILE`: a simulation of a file of lines.
+ghost use Rattle.std.specs.Prelude.{◌≡◌, ◌⊎◌, false};
+ghost use Rattle.std.specs.Process.{exit_status};
+ghost use Rattle.tora_commands.specs.Endings.{EndsBy, EndsFile};
+ghost use Rattle.tora_arq.specs.Settings.{IsTimes};
+ghost use Rattle.tora_script.specs.SimulationText.{simulation_rules};
+
+use tora_lines::{Ended, ReplayError};
+use crate::flushing::{simulate_and_flush, simulate_told_and_flush};
+use tora_lines::Output;
+use tora_lines::Recent;
+use tora_lines::LONGEST_LINE;
+use tora_script::SimulationCause;
+use tora_script::Simulator;
+use tora_script::tell_cause;
+use crate::{INPUT, MEMORY, status, stop};
+use std::io::{ErrorKind, Read};
+use std::process::ExitCode;
+use std::rt::Files;
+use std::{fs, io};
+use tora_arq::Times;
+
+/// Says why there is no file, and ends with the status of the cause.
+pub fn refuse<R: Eprint>(rt: &R, path: &str, error: &io::Error, is_verbose: bool) -> ExitCode
+    ensures { (exit_status result ≡ 1) ⊎ (exit_status result ≡ 5) }
+{
+    if error.kind() == ErrorKind::OutOfMemory {
+        return stop(rt, MEMORY, "memory");
+    }
+    let code = stop(rt, INPUT, "input");
+    if is_verbose {
+        let _ = rt.eprintln(format_args!("tora: {path}: {error}"));
+    }
+    code
+}
+
+/// Says why a line is too long, or what failed: what else is a fault was told as it came.
+pub fn tell<T: Eprint, R: Read>(rt: &T, reader: &Recent<R>, ended: Result<Ended, ReplayError>) {
+    match ended {
+        Ok(Ended::Whole) => {}
+        Ok(Ended::Fault(number)) => {
+            let len = reader.line(number).map_or(0, |line| line.len());
+            if len > LONGEST_LINE {
+                tell_cause(rt, number, SimulationCause::TooLong);
+            }
+        }
+        Err(error) => {
+            let _ = rt.eprintln(format_args!("tora: {error}"));
+        }
+    }
+}
+
+/// Simulates with these times of each link end, and says why events are refused, why a line is a fault, and what failed.
+fn simulate_verbosely<S: Simulator, T: AllocGlobal + Eprint, R: Read + Drop, W: Output>(
+    rt: &T,
+    times: Times,
+    reader: R,
+    writer: &mut W,
+) -> ExitCode
+    requires { IsTimes times }
+    ensures { EndsBy (simulation_rules times) W.contents W.did_flush (R.remaining reader) writer.old writer.new false (exit_status result) }
+{
+    let alloc = rt.alloc();
+    let mut reader = Recent::new(alloc, reader);
+    let result = simulate_told_and_flush::<S, T, Recent<R>, W>(
+        rt,
+        alloc,
+        times,
+        &mut reader,
+        writer,
+    );
+    tell(rt, &reader, result);
+    status(rt, result)
+}
+
+/// Simulates with these times of each link end, and says no more than the cause of a status.
+fn simulate_quietly<S: Simulator, T: AllocGlobal + Eprint, R: Read + Drop, W: Output>(
+    rt: &T,
+    times: Times,
+    reader: R,
+    writer: &mut W,
+) -> ExitCode
+    requires { IsTimes times }
+    ensures { EndsBy (simulation_rules times) W.contents W.did_flush (R.remaining reader) writer.old writer.new false (exit_status result) }
+{
+    let mut reader = reader;
+    let result = simulate_and_flush::<S, R, W>(rt.alloc(), times, &mut reader, writer);
+    status(rt, result)
+}
+
+/// Simulates the lines that a reader gives, with these times of each link end, and ends with a status: 0 at its end, 1 where a line is a fault or reading or
+/// writing failed, 5 where memory was refused.
+pub fn run_over<S: Simulator, T: AllocGlobal + Eprint, R: Read + Drop, W: Output>(
+    rt: &T,
+    times: Times,
+    reader: R,
+    is_verbose: bool,
+    writer: &mut W,
+) -> ExitCode
+    requires { IsTimes times }
+    ensures { EndsBy (simulation_rules times) W.contents W.did_flush (R.remaining reader) writer.old writer.new false (exit_status result) }
+{
+    if is_verbose {
+        simulate_verbosely::<S, T, R, W>(rt, times, reader, writer)
+    } else {
+        simulate_quietly::<S, T, R, W>(rt, times, reader, writer)
+    }
+}
+
+/// Simulates the lines of the file at a path, with these times of each link end, and ends with a status: that of `run_over` over the file, 1 where it can't be
+/// opened, and 5 where memory was refused for that. Nothing is written where it is not opened.
+pub fn run<S: Simulator, T: Files + AllocGlobal + Eprint, W: Output>(
+    rt: &T,
+    times: Times,
+    path: &str,
+    is_verbose: bool,
+    writer: &mut W,
+) -> ExitCode
+    requires { IsTimes times }
+    ensures { EndsFile T.File.remaining (simulation_rules times) W.contents W.did_flush writer.old writer.new (exit_status result) }
+{
+    match fs::open(rt, path) {
+        Ok(file) => run_over::<S, T, T::File, W>(rt, times, file, is_verbose, writer),
+        Err(error) => refuse(rt, path, &error, is_verbose),
+    }
+}

@@ -1,0 +1,132 @@
+//! `tora sim --trace PATH FILE`: a simulation of a file of lines, and its trace.
+ghost use Rattle.std.specs.Prelude.{◌≡◌, ◌⊎◌, is_some};
+ghost use Rattle.std.specs.Process.{exit_status};
+ghost use Rattle.tora_arq.specs.Settings.{IsTimes};
+ghost use Rattle.tora_commands.specs.Endings.{EndsBy, EndsTraced};
+ghost use Rattle.tora_script.specs.SimulationText.{simulation_rules};
+ghost use Rattle.tora_commands.specs.Statuses.{traced_status};
+ghost use Rattle.tora_traced.specs.TraceOuts.{IsHandedOn};
+
+use tora_lines::{Ended, ReplayError};
+use tora_lines::flushed;
+use tora_lines::Output;
+use tora_lines::Recent;
+use crate::sim_command::{refuse, tell};
+use tora_traced::TraceOut;
+use tora_traced::simulate_traced;
+use tora_traced::Watched;
+use crate::{INPUT, MEMORY, status, stop};
+use std::io::{BufWriter, Read};
+use std::process::ExitCode;
+use std::rt::Files;
+use std::{fs, io};
+use tora_arq::Times;
+
+/// Says which path can't be the trace's, and why, and ends with the status of the cause.
+fn refuse_trace<T: Eprint>(rt: &T, path: &str, error: &io::Error) -> ExitCode
+    ensures { (exit_status result ≡ 1) ⊎ (exit_status result ≡ 5) }
+{
+    refuse(rt, path, error, true)
+}
+
+/// Ends with the status of the simulation, or with 1 where that is 0 and the trace could not be written.
+fn traced_status<T: Eprint, V: Output>(
+    rt: &T,
+    ended: Result<Ended, ReplayError>,
+    out: &TraceOut<V>,
+    path: &str,
+    is_verbose: bool,
+) -> ExitCode
+    ensures { exit_status result ≡ traced_status (is_some out.now.failure) ended }
+{
+    let Some(error) = out.failure() else {
+        return status(rt, ended);
+    };
+    let code = match ended {
+        Ok(Ended::Whole) => stop(rt, INPUT, "input"),
+        Ok(Ended::Fault(_)) => stop(rt, INPUT, "input"),
+        Err(ReplayError::Memory) => stop(rt, MEMORY, "memory"),
+        Err(ReplayError::Read) => stop(rt, INPUT, "input"),
+        Err(ReplayError::Write) => stop(rt, INPUT, "input"),
+    };
+    if is_verbose {
+        let _ = rt.eprintln(format_args!("tora: {path}: {error}"));
+    }
+    code
+}
+
+/// Simulates the lines that a reader gives, with these times of each link end, writes the trace to the
+/// file at a path, and hands both on.
+pub fn run_over<S: Watched, T: AllocGlobal + Eprint, R: Read + Drop, W: Output, V: Output>(
+    rt: &T,
+    times: Times,
+    reader: R,
+    is_verbose: bool,
+    writer: &mut W,
+    path: &str,
+    out: &mut TraceOut<V>,
+) -> ExitCode
+    requires { IsTimes times }
+    ensures ends { EndsBy (simulation_rules times) W.contents W.did_flush (R.remaining reader) writer.old writer.new (is_some out.new.failure) (exit_status result) }
+    ensures trace { (before : TraceOut V) × IsHandedOn V.did_flush before out.new }
+{
+    let alloc = rt.alloc();
+    let mut reader = Recent::new(alloc, reader);
+    let result = simulate_traced::<S, T, Recent<R>, W, V>(
+        rt,
+        alloc,
+        times,
+        &mut reader,
+        writer,
+        out,
+        is_verbose,
+    );
+    let result = flushed(writer, result);
+    out.flush();
+    if is_verbose {
+        tell(rt, &reader, result);
+    }
+    traced_status(rt, result, out, path, is_verbose)
+}
+
+/// Simulates the lines of the file at a path, with these times of each link end, and writes the trace to the file at another
+/// one, which is made anew.
+///
+/// It ends with the status of the simulation, or with 1 where that is 0 and the trace could not be written; with 1, before
+/// anything is simulated, where the file can't be opened, where that of the trace can't be made, or where both paths are
+/// one; and with 5 where memory was refused.
+pub fn run<S: Watched, T: Files + AllocGlobal + Eprint, W: Output>(
+    rt: &T,
+    times: Times,
+    paths: (&str, &str),
+    is_verbose: bool,
+    writer: &mut W,
+) -> ExitCode
+    requires { IsTimes times }
+    ensures ends { EndsTraced T.File.remaining (simulation_rules times) W.contents W.did_flush writer.old writer.new (exit_status result) }
+    ensures same { paths.entry.0.now ≡ paths.entry.1.now → (exit_status result ≡ 1) × (writer.new ≡ writer.old) }
+{
+    let (path, trace) = paths;
+    if path == trace {
+        let code = stop(rt, INPUT, "input");
+        let _ = rt.eprintln(format_args!(
+            "tora: {path}: the trace would take the place of the file"
+        ));
+        return code;
+    }
+    let file = match fs::open(rt, path) {
+        Ok(file) => file,
+        Err(error) => return refuse(rt, path, &error, is_verbose),
+    };
+    let made = match fs::create(rt, trace) {
+        Ok(made) => made,
+        Err(error) => return refuse_trace(rt, trace, &error),
+    };
+    let Ok(records) = BufWriter::new(rt.alloc(), made) else {
+        return stop(rt, MEMORY, "memory");
+    };
+    let mut out = TraceOut::new(records);
+    run_over::<S, T, T::File, W, BufWriter<T::File>>(
+        rt, times, file, is_verbose, writer, trace, &mut out,
+    )
+}

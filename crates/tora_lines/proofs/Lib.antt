@@ -1,0 +1,12 @@
+pub mod Digits
+pub mod Ends
+pub mod FaultLaws
+pub mod Flow
+pub mod Grammar
+pub mod KindLaws
+pub mod ListLaws
+pub mod Pending
+pub mod Splits
+pub mod Steps
+pub mod Whole
+pub mod WordLaws

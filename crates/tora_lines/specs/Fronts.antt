@@ -1,0 +1,17 @@
+-- What stands in front of a text, and what is read behind it.
+use Rattle.std.specs.Prelude.{ℕ, nat_eq, if◌then◌else◌, List, length, drop, Option, Some, None}
+use Rattle.std.specs.List.{starts_with}
+
+infixl 10 ◌>>=◌
+abbrev pub ◌>>=◌ : {A B : Type 0} → Option A → (A → Option B) → Option B
+(Some x) >>= f = f x
+None >>= f = None
+
+-- what follows a text that stands in front
+unfoldable pub after : List ℕ → List ℕ → Option (List ℕ)
+after front text = if starts_with nat_eq text front then Some (drop (length front) text) else None
+
+-- what is read behind a word, or the other where the word doesn't stand in front
+abbrev pub or_else : {A : Type 0} → Option (List ℕ) → (List ℕ → Option A) → Option A → Option A
+or_else (Some rest) read other = read rest
+or_else None read other = other

@@ -1,0 +1,10 @@
+pub mod Engine
+pub mod Flushing
+pub mod Fronts
+pub mod Gives
+pub mod Kinds
+pub mod LineText
+pub mod Pieces
+pub mod Session
+pub mod WordGrammar
+pub mod Words

@@ -1,0 +1,15 @@
+-- How ids and lists of ids are written.
+use Rattle.std.specs.Prelude.{◌≡◌, ℕ, codes, List, [], ◌∷◌, ◌++◌, map}
+use Rattle.std.specs.List.{join_with_byte}
+use Rattle.std.specs.Fmt.{decimal}
+use Rattle.tora_packet.specs.PacketParts.{IsId}
+
+-- a word and a node's number
+pub record SpellsId (word text : List ℕ) (n : ℕ) : Type 0 where
+  pub id : IsId n
+  pub text_is : text ≡ word ++ decimal n
+
+-- ids between commas, or `-` for none
+abbrev pub list_text : List ℕ → List ℕ
+list_text [] = codes "-"
+list_text (n ∷ ns) = join_with_byte 44 (map decimal (n ∷ ns))

@@ -1,0 +1,272 @@
+//! From a reader of lines to a writer of answers.
+ghost use Rattle.std.specs.Prelude.{◌≡◌, ◌≢◌, ◌+◌, ◌-◌, ◌^◌, ◌<◌, ◌≤◌, ◌++◌, [], length, drop, OnOk, IfOk, IfErr, IfSome, None, Ok, true, vec_len, ℕ, List, Some};
+ghost use Rattle.std.specs.Io.KnownBytes.{Appends, IsAtEnd, ReadConsumes};
+ghost use Rattle.tora_lines.specs.LineText.{faulty};
+ghost use Rattle.tora_lines.specs.Engine.{text_of, IsOpen, Answers, Keeps, Drains, TakesChunk, Finishes, Ends, IsWholeText, IsFrontOfText};
+
+use crate::ended::{Ended, ReplayError};
+use crate::session::{FileKind, LONGEST_LINE, Session};
+use crate::text::numbered;
+use crate::words::{LineError, place};
+use std::alloc::{AllocError, Global};
+use std::io;
+use std::io::{ErrorKind, Read, Write};
+
+/// The most times that a reader is asked. Own profile.
+pub const MOST_READS: u64 = 0x1_0000_0000;
+
+/// How many bytes are asked for at once.
+const CHUNK: usize = 0x1_0000;
+
+fn put<W: Write>(writer: &mut W, text: &[u8]) -> Result<(), ReplayError>
+    ensures ok { OnOk result (Appends (W.contents writer.old) (W.contents writer.new) text.now) }
+    ensures err { IfErr result (λ e. e ≡ ReplayError.Write) }
+{
+    match writer.write_all(text) {
+        Ok(()) => Ok(()),
+        Err(_) => Err(ReplayError::Write),
+    }
+}
+
+/// Takes one line, and writes what is printed for it.
+fn answer<K: FileKind, W: Write>(
+    alloc: Global,
+    session: &mut Session<K>,
+    writer: &mut W,
+    line: &[u8],
+) -> Result<bool, ReplayError>
+    ensures { Answers K.kind session.old.state line.now session.new.state (W.contents writer.old) (W.contents writer.new) result }
+{
+    match session.take(alloc, line) {
+        Ok(()) => {
+            put(writer, session.text.as_bytes())?;
+            Ok(true)
+        }
+        Err(LineError::Fault) => Ok(false),
+        Err(LineError::Memory) => Err(ReplayError::Memory),
+    }
+}
+
+/// Takes the whole lines of the text, and says how many bytes are left behind them, or nothing at
+/// a fault.
+fn drain<K: FileKind, W: Write>(
+    alloc: Global,
+    session: &mut Session<K>,
+    number: &mut u64,
+    writer: &mut W,
+    text: &[u8],
+) -> Result<Option<usize>, ReplayError>
+    requires { number.old + length text.now < 2 ^ 64 }
+    ensures { Drains K.kind session.old.state number.old text.now (W.contents writer.old) (W.contents writer.new) session.new.state number.new result }
+{
+    let mut rest = text;
+    while let Some(at) = place(b'\n', rest) {
+        if !answer(alloc, session, writer, &rest[..at])? {
+            return Ok(None);
+        }
+        *number += 1;
+        rest = &rest[at + 1..];
+    }
+    Ok(Some(rest.len()))
+}
+
+/// Puts bytes behind what is pending of a line, unless the line is then too long.
+fn keep(pending: &mut Vec<u8>, bytes: &[u8]) -> Result<bool, ReplayError>
+    requires { vec_len pending.old ≤ LONGEST_LINE }
+    ensures { Keeps pending.old.items bytes.now pending.new.items result }
+{
+    if bytes.len() > LONGEST_LINE - pending.len() {
+        return Ok(false);
+    }
+    match pending.extend_from_slice(bytes) {
+        Ok(()) => Ok(true),
+        Err(_) => Err(ReplayError::Memory),
+    }
+}
+
+/// Takes the line that is pending and ends so. Nothing is pending once it is taken.
+fn end_line<K: FileKind, W: Write>(
+    alloc: Global,
+    session: &mut Session<K>,
+    writer: &mut W,
+    pending: &mut Vec<u8>,
+    end: &[u8],
+) -> Result<bool, ReplayError>
+    requires { vec_len pending.old ≤ LONGEST_LINE }
+    ensures line { Answers K.kind session.old.state (pending.old.items ++ end.now) session.new.state (W.contents writer.old) (W.contents writer.new) result }
+    ensures empty { result ≡ Ok true → (pending.new.items ≡ []) × (vec_len pending.new ≡ 0) }
+{
+    if !keep(pending, end)? {
+        return Ok(false);
+    }
+    let taken = answer(alloc, session, writer, pending.as_slice())?;
+    pending.clear();
+    Ok(taken)
+}
+
+/// Takes the whole lines of a text that begins with a line, and keeps what is left of it.
+fn take_rest<K: FileKind, W: Write>(
+    alloc: Global,
+    session: &mut Session<K>,
+    number: &mut u64,
+    writer: &mut W,
+    pending: &mut Vec<u8>,
+    text: &[u8],
+) -> Result<bool, ReplayError>
+    requires room { number.old + length text.now < 2 ^ 64 }
+    requires empty { pending.old.items ≡ [] }
+    requires len { vec_len pending.old ≡ 0 }
+    ensures { TakesChunk K.kind session.old.state number.old text.now (W.contents writer.old) (W.contents writer.new)
+        session.new.state number.new pending.new.items result }
+{
+    let Some(left) = drain(alloc, session, number, writer, text)? else {
+        return Ok(false);
+    };
+    keep(pending, &text[text.len() - left..])
+}
+
+/// Takes the whole lines of what is pending and the chunk behind it, and keeps what is left of them.
+fn take_chunk<K: FileKind, W: Write>(
+    alloc: Global,
+    session: &mut Session<K>,
+    number: &mut u64,
+    writer: &mut W,
+    pending: &mut Vec<u8>,
+    chunk: &[u8],
+) -> Result<bool, ReplayError>
+    requires room { number.old + length pending.old.items + length chunk.now < 2 ^ 64 }
+    requires is_open { IsOpen pending.old.items }
+    requires short { vec_len pending.old ≤ LONGEST_LINE }
+    ensures { TakesChunk K.kind session.old.state number.old (pending.old.items ++ chunk.now) (W.contents writer.old) (W.contents writer.new)
+        session.new.state number.new pending.new.items result }
+{
+    let Some(at) = place(b'\n', chunk) else {
+        return keep(pending, chunk);
+    };
+    if !end_line(alloc, session, writer, pending, &chunk[..at])? {
+        return Ok(false);
+    }
+    *number += 1;
+    take_rest(alloc, session, number, writer, pending, &chunk[at + 1..])
+}
+
+/// Writes that a line is a fault.
+fn fault<W: Write>(alloc: Global, number: u64, writer: &mut W) -> Result<Ended, ReplayError>
+    ensures { Ends (faulty number) (W.contents writer.old) (W.contents writer.new) result }
+{
+    let mut text = String::new(alloc);
+    if numbered(&mut text, "fault ", number).is_err() {
+        return Err(ReplayError::Memory);
+    }
+    put(writer, text.as_bytes())?;
+    Ok(Ended::Fault(number))
+}
+
+/// Says how an input ends that ends before this line.
+fn close<K: FileKind, W: Write>(
+    alloc: Global,
+    session: &Session<K>,
+    number: u64,
+    writer: &mut W,
+) -> Result<Ended, ReplayError>
+    ensures { Ends (K.kind.text session.now.state number []) (W.contents writer.old) (W.contents writer.new) result }
+{
+    match session.state.end(alloc, number) {
+        Ok(None) => Ok(Ended::Whole),
+        Ok(Some(line)) => fault(alloc, line, writer),
+        Err(_) => Err(ReplayError::Memory),
+    }
+}
+
+/// Takes a last line that has no end, and says how the input ended.
+fn finish<K: FileKind, W: Write>(
+    alloc: Global,
+    session: &mut Session<K>,
+    number: u64,
+    writer: &mut W,
+    last: &[u8],
+) -> Result<Ended, ReplayError>
+    requires is_open { IsOpen last.now }
+    requires room { number + 1 < 2 ^ 64 }
+    ensures { Finishes K.kind session.old.state number last.now (W.contents writer.old) (W.contents writer.new) result }
+{
+    if last.is_empty() {
+        return close(alloc, session, number, writer);
+    }
+    if answer(alloc, session, writer, last)? {
+        close(alloc, session, number + 1, writer)
+    } else {
+        fault(alloc, number, writer)
+    }
+}
+
+fn zeros(alloc: Global, size: usize) -> Result<Vec<u8>, AllocError>
+    ensures { IfOk result (λ v. vec_len v ≡ size) }
+{
+    vec![in alloc; 0u8; size]
+}
+
+/// Asks the reader once.
+fn read_some<R: Read>(reader: &mut R, chunk: &mut Vec<u8>) -> io::Result<usize>
+    ensures len { vec_len chunk.new ≡ vec_len chunk.old }
+    ensures bound { IfOk result (λ n. n ≤ vec_len chunk.new) }
+    ensures bytes { ReadConsumes (R.remaining reader.old) (R.remaining reader.new) result chunk.new.items }
+{
+    reader.read(chunk.as_mut_slice())
+}
+
+/// Reads the lines of a file to the end of the input or to the first line that is a fault, and writes what is printed
+/// for each.
+///
+/// # Errors
+/// `Memory` where memory was refused; `Read` where a read failed, or 2^32 reads came to no end; `Write` where a write
+/// failed. No line is taken in part.
+pub fn read_lines<K: FileKind, R: Read, W: Write>(
+    alloc: Global,
+    state: K,
+    reader: &mut R,
+    writer: &mut W,
+) -> Result<Ended, ReplayError>
+    // What was written is the text of the whole input, and the input ends so.
+    ensures whole { IfOk result (λ ended. IfSome (R.remaining reader.old) (λ input.
+        IsWholeText (text_of K.kind state 1) input (W.contents writer.old) (W.contents writer.new) ended)) }
+    ensures at_end { result ≡ Ok Ended.Whole → IsAtEnd (R.remaining reader.new) }
+    // What was written begins the text of what was read.
+    ensures begun { IfErr result (λ e. e ≢ ReplayError.Write →
+        IsFrontOfText (text_of K.kind state 1) (R.remaining reader.old) (R.remaining reader.new) (W.contents writer.old) (W.contents writer.new)) }
+{
+    let mut session = Session::new(alloc, state);
+    let mut number = 1u64;
+    let Ok(mut pending) = Vec::with_capacity(alloc, LONGEST_LINE) else {
+        return Err(ReplayError::Memory);
+    };
+    let Ok(mut chunk) = zeros(alloc, CHUNK) else {
+        return Err(ReplayError::Memory);
+    };
+    for _ in 0..MOST_READS {
+        match read_some(reader, &mut chunk) {
+            Ok(n) => {
+                if n == 0 {
+                    return finish(alloc, &mut session, number, writer, pending.as_slice());
+                }
+                let goes = take_chunk(
+                    alloc,
+                    &mut session,
+                    &mut number,
+                    writer,
+                    &mut pending,
+                    &chunk.as_slice()[..n],
+                )?;
+                if !goes {
+                    return fault(alloc, number, writer);
+                }
+            }
+            Err(e) => {
+                if e.kind() != ErrorKind::Interrupted {
+                    return Err(ReplayError::Read);
+                }
+            }
+        }
+    }
+    Err(ReplayError::Read)
+}

@@ -1,0 +1,33 @@
+//! What stands in front of a text.
+ghost use Rattle.std.specs.Prelude.{◌≡◌, ◌≤◌, IfSome, length};
+ghost use Rattle.std.specs.Option.{option_map};
+ghost use Rattle.tora_lines.specs.Fronts.{after};
+ghost use Rattle.tora_lines.specs.Gives.{Gives};
+
+use crate::words::LineError;
+
+/// What follows a text that stands in front of another, if it does.
+#[tactic(auto, unfolding(crate::specs::Fronts::after))]
+pub fn after<'a>(front: &[u8], text: &'a [u8]) -> Option<&'a [u8]>
+    ensures rest { option_map (λ rest. rest.now) result ≡ after front.now text.now }
+    ensures shorter { IfSome result (λ rest. length rest.now ≤ length text.now) }
+{
+    if text.starts_with(front) {
+        Some(&text[front.len()..])
+    } else {
+        None
+    }
+}
+
+/// What follows a text that has to stand in front of another.
+///
+/// # Errors
+/// `Fault` where it does not.
+pub fn behind<'a>(front: &[u8], text: &'a [u8]) -> Result<&'a [u8], LineError>
+    ensures { Gives (λ rest. rest.now) result (after front.now text.now) }
+{
+    match after(front, text) {
+        Some(rest) => Ok(rest),
+        None => Err(LineError::Fault),
+    }
+}

@@ -1,0 +1,56 @@
+//! What is kept between two lines of a file, and the answer to the last line.
+ghost use Rattle.std.specs.Prelude.{◌≡◌, ◌≤◌, [], length, string_bytes, IfOk};
+ghost use Rattle.tora_lines.specs.LineText.{ending};
+ghost use Rattle.tora_lines.specs.Engine.{Kind};
+ghost use Rattle.tora_lines.specs.Session.{TakesLine};
+
+use crate::words::LineError;
+use std::alloc::{AllocError, Global};
+
+/// The most bytes of a line, without its LF. Own profile.
+pub const LONGEST_LINE: usize = 4096;
+
+/// A kind of file of lines, by what is kept between two of them.
+pub trait FileKind: Drop {
+    ghost kind: { Kind Self };
+
+    /// Takes a line of at most 4,096 bytes, and puts what is printed for it behind an empty text.
+    fn take(&mut self, alloc: Global, line: &[u8], text: &mut String) -> Result<(), LineError>
+        requires short { length line.now ≤ 4096 }
+        requires empty { string_bytes text.old ≡ [] }
+        ensures { TakesLine kind self.old line.now self.new (string_bytes text.new) result };
+
+    /// The number of the line that is a fault where the input ends before this line, if one is.
+    fn end(&self, alloc: Global, number: u64) -> Result<Option<u64>, AllocError>
+        ensures { IfOk result (λ fault. kind.text self.now number [] ≡ ending fault) };
+}
+
+/// What is kept between two lines, and what was printed for the last line.
+#[derive(Drop)]
+pub struct Session<K> {
+    pub state: K,
+    pub text: String,
+}
+
+impl<K: FileKind> Session<K> {
+    /// Before the first line.
+    pub fn new(alloc: Global, state: K) -> Session<K>
+        ensures { result.state ≡ state }
+    {
+        Session {
+            state,
+            text: String::new(alloc),
+        }
+    }
+
+    /// Takes a line, and keeps what is printed for it.
+    pub fn take(&mut self, alloc: Global, line: &[u8]) -> Result<(), LineError>
+        ensures { TakesLine K.kind self.old.state line.now self.new.state (string_bytes self.new.text) result }
+    {
+        if line.len() > LONGEST_LINE {
+            return Err(LineError::Fault);
+        }
+        self.text.clear();
+        self.state.take(alloc, line, &mut self.text)
+    }
+}

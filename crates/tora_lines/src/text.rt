@@ -1,0 +1,12 @@
+//! What is printed.
+ghost use Rattle.std.specs.Prelude.{◌≡◌, ◌++◌, OnOk, string_bytes};
+ghost use Rattle.tora_lines.specs.LineText.{numbered};
+
+use std::alloc::AllocError;
+
+/// Puts a word, a number and the end of the line behind a text.
+pub fn numbered(out: &mut String, word: &str, number: u64) -> Result<(), AllocError>
+    ensures { OnOk result (string_bytes out.new ≡ string_bytes out.old ++ numbered word.now number) }
+{
+    writeln!(out, "{word}{number}")
+}

@@ -1,0 +1,4 @@
+pub mod Answers
+pub mod LineGrammar
+pub mod Lines
+pub mod ReplayText

@@ -1,0 +1,69 @@
+-- What a replay of an input prints, and how it ends.
+use Rattle.std.specs.Prelude.{ℕ, List, [], Option, Some, None}
+use Rattle.std.specs.Option.{option_map, option_and_then}
+use Rattle.tora_core.specs.declared.errors.CoreError.{CoreError}
+use Rattle.tora_core.specs.CoreRun.{CoreView, core_refusal, first_core}
+use Rattle.tora_replay.specs.Lines.{HeaderParts, header_of, line_of}
+use Rattle.tora_lines.specs.LineText.{Rules, whole_text, fault_of, IsFirstFaultBy}
+use Rattle.tora_lines.specs.Engine.{IsWholeText, IsFrontOfText}
+use Rattle.tora_replay.specs.Answers.{Reply, answer}
+use Rattle.tora_lines.specs.declared.ended.Ended.{Ended}
+
+-- ---- one line: the core is None before the first
+
+-- the core of a first line, unless it is refused
+abbrev pub core_unless : Option CoreError → HeaderParts → Option CoreView
+core_unless None h = Some (first_core h.node h.links h.dests)
+core_unless (Some error) h = None
+
+unfoldable pub core_of : HeaderParts → Option CoreView
+core_of h = core_unless (core_refusal h.node h.links h.dests) h
+
+abbrev pub left_by : Reply → Option CoreView × List ℕ
+left_by r = (Some r.0, r.1)
+
+abbrev pub first_reply : List ℕ → Option Reply
+first_reply line = option_map (λ core. (core, [])) (option_and_then core_of (header_of line))
+
+abbrev pub next_reply : CoreView → List ℕ → Option Reply
+next_reply core line = option_map (answer core) (line_of line)
+
+unfoldable pub replay_reply : Option CoreView → List ℕ → Option (Option CoreView × List ℕ)
+replay_reply None line = option_map left_by (first_reply line)
+replay_reply (Some core) line = option_map left_by (next_reply core line)
+
+-- the end of the input is a fault where the first line is still required
+abbrev pub missing : Option CoreView → ℕ → Option ℕ
+missing None n = Some n
+missing (Some core) n = None
+
+abbrev pub replay_rules : Rules (Option CoreView)
+replay_rules = record { start = None; reply = replay_reply; at_end = missing }
+
+-- ---- all lines
+
+-- what is printed for an input
+abbrev pub replay_text : List ℕ → List ℕ
+replay_text bytes = (whole_text replay_rules bytes).0
+
+-- how an input ends
+abbrev pub replay_end : List ℕ → Ended
+replay_end bytes = (whole_text replay_rules bytes).1
+
+-- the number of the first line that is a fault, if one is
+abbrev pub first_fault : List ℕ → Option ℕ
+first_fault bytes = fault_of (replay_end bytes)
+
+-- of lines from line n on, line m is a fault, and all before it are taken
+abbrev pub IsFirstFault : Option CoreView → ℕ → List (List ℕ) → ℕ → Type 0
+IsFirstFault core n lines m = IsFirstFaultBy replay_rules core n lines m
+
+-- ---- what replay promises
+
+-- Known bytes grew by what is printed for the input, and the input ends so.
+abbrev pub Replays : List ℕ → Option (List ℕ) → Option (List ℕ) → Ended → Type 0
+Replays input old new ended = IsWholeText (whole_text replay_rules) input old new ended
+
+-- The reader gave some bytes, and the writer got a front of what is printed for them.
+abbrev pub IsBegun : Option (List ℕ) → Option (List ℕ) → Option (List ℕ) → Option (List ℕ) → Type 0
+IsBegun old_reader new_reader old_writer new_writer = IsFrontOfText (whole_text replay_rules) old_reader new_reader old_writer new_writer

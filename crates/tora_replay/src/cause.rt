@@ -1,0 +1,118 @@
+//! Why a line is a fault, in plain words.
+use crate::parse;
+use std::alloc::Global;
+use thiserror::Error;
+use tora_core::{Core, CoreError};
+use tora_lines::{LONGEST_LINE, words};
+
+/// Why a line is a fault.
+#[derive(Clone, Copy, Debug, PartialEq, Eq, Error)]
+pub enum Cause {
+    #[error("the input ends where the first line is required")]
+    Missing,
+    #[error("it has more than 4096 bytes")]
+    TooLong,
+    #[error("it is empty")]
+    Empty,
+    #[error("it ends with a carriage return")]
+    CarriageReturn,
+    #[error("the first line is `node I links LIST dests LIST`, with one blank between two words")]
+    Header,
+    #[error("a node's number is from 1 to 4294967295, without leading zeros; a list is such numbers between commas, or `-`")]
+    HeaderNumber,
+    #[error("the first line is refused: {0}")]
+    Refused(CoreError),
+    #[error("a line begins with its time, a number below 2^64 without leading zeros")]
+    Time,
+    #[error("nothing stands behind the time")]
+    NoOrder,
+    #[error("its second word is none of `up`, `down`, `need`, `from` and `show`")]
+    Word,
+    #[error("behind `up`, `down` and `need` stands one node's number, from 1 to 4294967295, without leading zeros")]
+    Id,
+    #[error("behind `from` stand a node's number, from 1 to 4294967295, and the bytes of a packet")]
+    From,
+    #[error("the bytes of a packet are an even number of hexadecimal digits, or `-` for none")]
+    Digits,
+    #[error("nothing stands behind `show`")]
+    Show,
+    #[error("it is no line of a replay file")]
+    Other,
+}
+
+/// Why the first line is a fault.
+fn first_cause(alloc: Global, line: &[u8]) -> Cause {
+    let header = match parse::header(alloc, line) {
+        Ok(header) => header,
+        Err(_) => return header_cause(line),
+    };
+    match Core::new(alloc, header.node, &header.links, &header.dests) {
+        Ok(_) => Cause::Other,
+        Err(error) => Cause::Refused(error),
+    }
+}
+
+/// Whether the first line has its three names, and why it is a fault all the same.
+fn header_cause(line: &[u8]) -> Cause {
+    let mut pieces = line.split(|byte| *byte == b' ');
+    for name in [b"node".as_slice(), b"links".as_slice(), b"dests".as_slice()] {
+        if pieces.next() != Some(name) || pieces.next().is_none() {
+            return Cause::Header;
+        }
+    }
+    if pieces.next().is_none() {
+        Cause::HeaderNumber
+    } else {
+        Cause::Header
+    }
+}
+
+/// Why what stands behind `from` is a fault.
+fn from_cause(text: &[u8]) -> Cause {
+    match words::cut(b' ', text) {
+        Some((neighbour, _)) if words::id(neighbour).is_some() => Cause::Digits,
+        _ => Cause::From,
+    }
+}
+
+/// Why a line behind the first is a fault.
+fn next_cause(line: &[u8]) -> Cause {
+    let Some((now, rest)) = words::cut(b' ', line) else {
+        return if words::number(line).is_some() {
+            Cause::NoOrder
+        } else {
+            Cause::Time
+        };
+    };
+    if words::number(now).is_none() {
+        return Cause::Time;
+    }
+    let (word, text) = words::cut(b' ', rest).unwrap_or((rest, b""));
+    match word {
+        b"up" | b"down" | b"need" => Cause::Id,
+        b"from" => from_cause(text),
+        b"show" => Cause::Show,
+        _ => Cause::Word,
+    }
+}
+
+/// Why the line of this number, that is a fault, is one. Without a line the input ends before it.
+pub fn cause_of(alloc: Global, number: u64, line: Option<&[u8]>) -> Cause {
+    let Some(line) = line else {
+        return Cause::Missing;
+    };
+    if line.is_empty() {
+        return Cause::Empty;
+    }
+    if line.len() > LONGEST_LINE {
+        return Cause::TooLong;
+    }
+    if line.ends_with(b"\r") {
+        return Cause::CarriageReturn;
+    }
+    if number == 1 {
+        first_cause(alloc, line)
+    } else {
+        next_cause(line)
+    }
+}

@@ -1,0 +1,63 @@
+//! Packets in hexadecimal digits.
+ghost use Rattle.std.specs.Prelude.{◌≡◌, ◌*◌, ◌<◌, ◌≤◌, length, false};
+ghost use Rattle.std.specs.Option.{option_map};
+ghost use Rattle.tora_packet.specs.PacketGrammar.{packet_reading};
+ghost use Rattle.tora_lines.specs.Words.{is_dash};
+ghost use Rattle.tora_replay.specs.Lines.{bytes_of};
+
+use tora_lines::words::is_dash;
+use tora_packet::{LONGEST_PACKET, Packet, PacketError, decode};
+
+/// What the bytes spell that are written in hexadecimal digits, or nothing where these are no digits. The room has one
+/// byte for each two digits.
+#[tactic(auto, unfolding(crate::specs::Lines::bytes_of))]
+fn reading(digits: &[u8], room: &mut [u8]) -> Option<Result<Packet, PacketError>>
+    requires some { 0 < length digits.now }
+    requires plain { is_dash digits.now ≡ false }
+    requires room { length digits.now ≤ 2 * length room.old }
+    ensures { result ≡ option_map packet_reading (bytes_of digits.now) }
+{
+    let bytes = &mut room[..digits.len() / 2];
+    match hex::decode_to_slice(digits, bytes) {
+        Ok(()) => Some(decode(bytes)),
+        Err(_) => None,
+    }
+}
+
+fn short_reading(digits: &[u8]) -> Option<Result<Packet, PacketError>>
+    requires some { 0 < length digits.now }
+    requires plain { is_dash digits.now ≡ false }
+    requires room { length digits.now ≤ 64 }
+    ensures { result ≡ option_map packet_reading (bytes_of digits.now) }
+{
+    reading(digits, &mut [0; LONGEST_PACKET])
+}
+
+fn long_reading(digits: &[u8]) -> Option<Result<Packet, PacketError>>
+    requires some { 0 < length digits.now }
+    requires plain { is_dash digits.now ≡ false }
+    requires room { length digits.now ≤ 4096 }
+    ensures { result ≡ option_map packet_reading (bytes_of digits.now) }
+{
+    reading(digits, &mut [0; 2048])
+}
+
+/// The packet that is written in hexadecimal digits, or why they spell none; `-` is no bytes. Nothing where the word is
+/// neither.
+#[tactic(auto, unfolding(crate::specs::Lines::bytes_of))]
+pub fn packet(text: &[u8]) -> Option<Result<Packet, PacketError>>
+    requires { length text.now ≤ 4096 }
+    ensures { result ≡ option_map packet_reading (bytes_of text.now) }
+{
+    if text.is_empty() {
+        return None;
+    }
+    if is_dash(text) {
+        return Some(decode(&[]));
+    }
+    if text.len() <= 2 * LONGEST_PACKET {
+        short_reading(text)
+    } else {
+        long_reading(text)
+    }
+}

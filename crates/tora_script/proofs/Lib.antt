@@ -1,0 +1,6 @@
+pub mod LinkPairs
+pub mod RoundLaws
+pub mod SimulationFound
+pub mod SimulationHere
+pub mod SimulationLaws
+pub mod Starting

@@ -1,0 +1,32 @@
+-- What the simulator's own clauses say, as the engine asks for it.
+use Rattle.std.proofs.Common.{◌≡◌, inl, inr, refl, ap, arith, ℕ, ◌<◌, List, Some, None}
+use Rattle.std.proofs.lemmas.List.Elements.{All-map}
+use Rattle.tora_arq.specs.declared.Times.{Times}
+use Rattle.tora_world.specs.declared.Event.{Event}
+use Rattle.tora_world.specs.declared.SimError.{SimError}
+use Rattle.tora_world.specs.Errors.{sim_error_number}
+use Rattle.tora_world.specs.Topology.{Link, topology_fault}
+use Rattle.tora_world.specs.World.{World, first_world, world_after, world_by}
+use Rattle.tora_sim.specs.Topologies.{link_in, topology_of, AreNumbers}
+use Rattle.tora_sim.specs.Steps.{IsRefused}
+use Rattle.tora_script.specs.Simulator.{ArePairs, AreIds, mixed_topology, started}
+
+-- no number of the topology is 0
+pub numbers_of : (links : List (ℕ × ℕ)) (dests : List ℕ) → ArePairs links → AreIds dests → AreNumbers (topology_of links dests)
+numbers_of links dests pairs ids = record {
+  links = All-map (λ (link : Link). (0 < link.a) × (0 < link.b)) link_in links pairs;
+  destinations = ids;
+}
+
+-- a topology without a fault has a first world
+pub started_as : (links : List (ℕ × ℕ)) (dests olds : List ℕ) (times : Times) (w : World) → topology_fault (topology_of links dests) ≡ None → w ≡ first_world (mixed_topology links dests olds) times → started links dests olds times ≡ Some w
+unfolding started
+started_as links dests olds times w sound made = rw (sound, made) refl
+
+-- an event that is refused for another cause than memory, which has the number 1, leaves the world as it was
+pub stays : (w after : World) (event : Event) (e : SimError) → 1 < sim_error_number e → IsRefused w event e after → after ≡ world_after w event
+unfolding world_by
+stays w after event e other refused = elim refused.cause [
+  | inl none ↦ let one : sim_error_number e ≡ 1 = ap sim_error_number none.0 in absurd (omega arith)
+  | inr cause ↦ rw cause refused.world
+]

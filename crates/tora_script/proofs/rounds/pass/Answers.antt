@@ -1,0 +1,26 @@
+use Rattle.std.proofs.Common.{length}
+use Rattle.tora_script.specs.declared.rounds.EndTurn.TheVariants as turn
+use Rattle.tora_script.specs.Rounds.{plan_then, each_core, each_end, new_deliveries, pass}
+use Rattle.tora_script.proofs.RoundLaws.{Happened-then}
+use Rattle.tora_script.proofs.rounds.pass.Goals as goal
+
+pub returns : goal.returns
+unfolding pass
+returns g c =
+    let w0 = g.S.Simulator.world c.args.sim.now in
+    let w1 = g.S.Simulator.world c.turn_cores.new.sim in
+    let w2 = g.S.Simulator.world c.turn_ends.new.sim in
+    let w3 = g.S.Simulator.world c.turn_ends-2.new.sim in
+    let w4 = g.S.Simulator.world c.deliver_new.new.sim in
+    let w5 = g.S.Simulator.world c.turn_ends-3.new.sim in
+    let cores = each_core c.args.nodes.now in
+    let pulls = each_end turn.Pull c.args.ends.now in
+    let sends = each_end turn.Transmit c.args.ends.now in
+    let deliveries = new_deliveries c.args.parted.now (length w0.datagrams) in
+    let pumps = each_end turn.Pump c.args.ends.now in
+    let delivered = rw c.datagrams-first.ensures at c.in_ok-delivered.ensures in
+    let last = Happened-then w3 w4 w5 c.in_ok-delivered.delivered c.in_ok-pumped.pumped deliveries pumps delivered c.in_ok-pumped.ensures in
+    let sent = Happened-then w2 w3 w5 c.in_ok-sent.sent _ sends (plan_then deliveries pumps) c.in_ok-sent.ensures last in
+    let pulled = Happened-then w1 w2 w5 c.in_ok-pulled.pulled _ pulls (plan_then sends (plan_then deliveries pumps)) c.in_ok-pulled.ensures sent in
+    let turned = Happened-then w0 w1 w5 c.in_ok-turned.turned _ cores (plan_then pulls (plan_then sends (plan_then deliveries pumps))) c.in_ok-turned.ensures pulled in
+    rw (c.either-4.ensures, c.either-3.ensures, c.either-2.ensures, c.either.ensures) turned

@@ -1,0 +1,8 @@
+use Rattle.std.proofs.Common.{drop}
+use Rattle.tora_script.specs.Rounds.{each_core}
+use Rattle.tora_script.proofs.RoundLaws.{Onward}
+use Rattle.tora_script.proofs.rounds.turn_cores.Given as goal
+
+abbrev pub invariant-loop-place : goal.invariant-loop-place
+invariant-loop-place g l =
+    Onward (g.S.Simulator.world l.initial.sim) (each_core l.nodes (g.S.Simulator.world l.initial.sim)) (g.S.Simulator.world l.sim) l.some (each_core (drop l.place l.nodes) (g.S.Simulator.world l.sim))

@@ -1,0 +1,227 @@
+-- What a simulation of an input prints, and how it ends.
+use Rattle.std.specs.Prelude.{ℕ, ◌-◌, ◌==◌, ◌&&◌, ◌||◌, Bool, not, if◌then◌else◌, codes, List, [], ◌∷◌, ◌++◌, length, filter, Option, Some, None, option_map, unwrap_or}
+use Rattle.std.specs.List.{flat_map, list_any}
+use Rattle.std.specs.Option.{option_and_then}
+use Rattle.std.specs.Fmt.{decimal}
+use Rattle.tora_height.specs.Height.{Quintuple}
+use Rattle.tora_arq.specs.declared.Times.{Times}
+use Rattle.tora_core.specs.Numbers.{has_number}
+use Rattle.tora_core.specs.ShowText.{height_text, hop_text}
+use Rattle.tora_world.specs.declared.Event.{Event}
+use Rattle.tora_world.specs.declared.SimError.{SimError}
+use Rattle.tora_world.specs.Errors.{sim_error_number}
+use Rattle.tora_world.specs.World.{World, refusal_of, world_after, world_after_all, sent_packets, taken_packets}
+use Rattle.tora_lines.specs.LineText.{Rules, numbered, whole_text, fault_of, IsFirstFaultBy}
+use Rattle.tora_lines.specs.Engine.{IsWholeText, IsFrontOfText}
+use Rattle.tora_script.specs.SimulationLines.{dests_of, link_of, old_of, simulation_line_of}
+use Rattle.tora_script.specs.Rounds.{is_same_pair, is_parted, rounds}
+use Rattle.tora_world.specs.Walks.{height_at, hop_at, exact_in, walk_of}
+use Rattle.tora_sim.specs.Readers.{ends_in}
+use Rattle.tora_sim.specs.Topologies.{with_old}
+use Rattle.tora_script.specs.Simulator.{has_topology, started, nodes_of}
+use Rattle.tora_lines.specs.declared.ended.Ended.{Ended}
+use Rattle.tora_script.specs.declared.script_line.SimulationLine.{SimulationLine}
+use Rattle.tora_script.specs.declared.script_line.SimulationLine.TheVariants.{Happens, Rounds, Part, Mend, Heights, Sent, Taken, Exact, Walk}
+
+-- ---- what is kept between two lines
+
+-- a simulation behind its links
+pub record RunningView : Type 0 where
+  pub dests : List ℕ  -- the destinations
+  pub nodes : List ℕ  -- the nodes, ascending
+  pub ends : List (ℕ × ℕ)  -- the link ends, by ascending node and then neighbour
+  pub parted : List (ℕ × ℕ)  -- the pairs of nodes between which rounds deliver nothing
+  pub world : World
+
+pub data Progress : Type 0 where
+  First : Progress  -- before the first line
+  Links : (dests : List ℕ) (links : List (ℕ × ℕ)) (olds : List ℕ) → Progress  -- the destinations, the links so far, and behind these the old nodes so far
+  Runs : RunningView → Progress
+
+-- a simulation of these destinations that begins in a world
+abbrev pub begun_in : List ℕ → World → RunningView
+begun_in dests w = record { dests = dests; nodes = nodes_of w; ends = ends_in w.topology; parted = []; world = w }
+
+-- ---- a line behind the links
+
+abbrev pub Reply : Type 0
+Reply = RunningView × List ℕ
+
+abbrev pub refusal_text : Option SimError → List ℕ
+refusal_text None = []
+refusal_text (Some error) = numbered (codes "refused ") (sim_error_number error)
+
+-- an event: nothing, or `refused N` where it changes nothing
+abbrev pub event_reply : RunningView → Event → Reply
+event_reply s event = (record s { world = world_after s.world event }, refusal_text (refusal_of s.world event))
+
+abbrev pub after_rounds : ℕ → RunningView → World
+after_rounds r s = world_after_all s.world (rounds r s.nodes s.ends s.parted s.world)
+
+-- there is a link between the nodes
+abbrev pub has_end : ℕ → ℕ → List (ℕ × ℕ) → Bool
+has_end a b ends = list_any (λ e. (e.0 == a) && (e.1 == b)) ends
+
+abbrev pub with_parted : ℕ → ℕ → List (ℕ × ℕ) → List (ℕ × ℕ)
+with_parted a b parted = if is_parted parted a b then parted else parted ++ (a, b) ∷ []
+
+abbrev pub without_parted : ℕ → ℕ → List (ℕ × ℕ) → List (ℕ × ℕ)
+without_parted a b parted = filter (λ p. not (is_same_pair (a, b) p)) parted
+
+-- NULL where there is no height
+abbrev pub known_height : Option (Option Quintuple) → Option Quintuple
+known_height None = None
+known_height (Some entry) = entry
+
+-- `node N H hop K`
+unfoldable pub node_line : World → ℕ → ℕ → List ℕ
+node_line w d n = codes "node " ++ decimal n ++ codes " " ++ height_text (known_height (height_at w n d)) ++ codes " hop " ++ hop_text (hop_at w n d) ++ 10 ∷ []
+
+-- the line of each node
+abbrev pub heights_text : World → ℕ → List ℕ → List ℕ
+heights_text w d nodes = flat_map (node_line w d) nodes
+
+-- the heights for a destination, unless it is none of the simulation
+abbrev pub heights_reply : RunningView → ℕ → Option Reply
+heights_reply s d = if has_number d s.dests then Some (s, heights_text s.world d s.nodes) else None
+
+-- `count C`
+abbrev pub count_text : ℕ → List ℕ
+count_text n = numbered (codes "count ") n
+
+-- a reply, unless the line names no link
+abbrev pub where_linked : RunningView → ℕ → ℕ → Reply → Option Reply
+where_linked s a b reply = if has_end a b s.ends then Some reply else None
+
+-- `exact 1` where the entries for a destination are exact, else `exact 0`; unless it is none of the simulation
+abbrev pub exact_text : Bool → List ℕ
+exact_text is_exact = numbered (codes "exact ") (if is_exact then 1 else 0)
+
+abbrev pub exact_reply : RunningView → ℕ → Option Reply
+exact_reply s d = if has_number d s.dests then Some (s, exact_text (exact_in s.world d)) else None
+
+-- a node behind the first of a walk
+abbrev pub next_text : ℕ → List ℕ
+next_text n = 44 ∷ decimal n
+
+-- the nodes behind the first, each after a comma
+abbrev pub rest_text : List ℕ → List ℕ
+rest_text nodes = flat_map next_text nodes
+
+-- `walk LIST`, and `walk -` where there is no walk
+abbrev pub nodes_text : List ℕ → List ℕ
+nodes_text [] = codes "walk -" ++ 10 ∷ []
+nodes_text (n ∷ nodes) = codes "walk " ++ decimal n ++ rest_text nodes ++ 10 ∷ []
+
+unfoldable pub walk_text : Option (List ℕ) → List ℕ
+walk_text walk = nodes_text (unwrap_or walk [])
+
+-- the walk of a node to a destination, unless there is no such node, or it is no destination of the simulation
+abbrev pub walk_reply : RunningView → ℕ → ℕ → Option Reply
+walk_reply s n d = if has_number n s.nodes && has_number d s.dests then Some (s, walk_text (walk_of s.world n d)) else None
+
+unfoldable pub running_reply : RunningView → SimulationLine → Option Reply
+running_reply s (Happens event) = Some (event_reply s event)
+running_reply s (Rounds r) = Some (record s { world = after_rounds r s }, [])
+running_reply s (Part a b) = where_linked s a b (record s { parted = with_parted a b s.parted }, [])
+running_reply s (Mend a b) = where_linked s a b (record s { parted = without_parted a b s.parted }, [])
+running_reply s (Heights d) = heights_reply s d
+running_reply s (Sent a b life) = where_linked s a b (s, count_text (length (sent_packets s.world a b life)))
+running_reply s (Taken b a life) = where_linked s b a (s, count_text (length (taken_packets s.world b a life)))
+running_reply s (Exact d) = exact_reply s d
+running_reply s (Walk n d) = walk_reply s n d
+
+abbrev pub line_reply : RunningView → List ℕ → Option Reply
+line_reply s line = option_and_then (running_reply s) (simulation_line_of line)
+
+-- ---- a line of the links
+
+-- one link more, unless a node is old already
+abbrev pub with_link : List ℕ → List (ℕ × ℕ) → List ℕ → ℕ × ℕ → Option Progress
+with_link dests links [] link = Some (Links dests (links ++ link ∷ []) [])
+with_link dests links (n ∷ olds) link = None
+
+-- a link names the node
+abbrev pub is_linked : ℕ → List (ℕ × ℕ) → Bool
+is_linked n links = list_any (λ p. (p.0 == n) || (p.1 == n)) links
+
+-- one old node more, where a link names it, and there is a topology of the links
+abbrev pub with_old_line : List ℕ → List (ℕ × ℕ) → List ℕ → ℕ → Option Progress
+with_old_line dests links olds n = if is_linked n links && has_topology links dests then Some (Links dests links (with_old n olds)) else None
+
+-- ---- any line
+
+abbrev pub left_by : Reply → Progress × List ℕ
+left_by r = (Runs r.0, r.1)
+
+-- nothing is printed
+abbrev pub silent : Progress → Progress × List ℕ
+silent progress = (progress, [])
+
+-- behind the links: the world is made, and the line is one of its simulation
+abbrev pub first_run : Times → List ℕ → List (ℕ × ℕ) → List ℕ → List ℕ → Option Reply
+first_run times dests links olds line = option_and_then (λ w. line_reply (begun_in dests w) line) (started links dests olds times)
+
+-- the line behind the last link and the last old node: at least one link is required
+abbrev pub behind_links : Times → List ℕ → List (ℕ × ℕ) → List ℕ → List ℕ → Option (Progress × List ℕ)
+behind_links times dests [] olds line = None
+behind_links times dests (link ∷ links) olds line = option_map left_by (first_run times dests (link ∷ links) olds line)
+
+-- a line behind the first, which may say a link or an old node
+abbrev pub link_reply : Times → List ℕ → List (ℕ × ℕ) → List ℕ → List ℕ → Option (ℕ × ℕ) → Option ℕ → Option (Progress × List ℕ)
+link_reply times dests links olds line (Some link) old = option_map silent (with_link dests links olds link)
+link_reply times dests links olds line None (Some n) = option_map silent (with_old_line dests links olds n)
+link_reply times dests links olds line None None = behind_links times dests links olds line
+
+-- behind the first line
+abbrev pub first_progress : List ℕ → Option Progress
+first_progress line = option_map (λ dests. Links dests [] []) (dests_of line)
+
+unfoldable pub simulation_reply : Times → Progress → List ℕ → Option (Progress × List ℕ)
+simulation_reply times First line = option_map silent (first_progress line)
+simulation_reply times (Links dests links olds) line = link_reply times dests links olds line (link_of line) (old_of line)
+simulation_reply times (Runs s) line = option_map left_by (line_reply s line)
+
+-- ---- the end
+
+-- the first line or a link is still required: a fault of the line that would come next; where there is no such topology, of the last link's line
+abbrev pub end_of_links : ℕ → List ℕ → List (ℕ × ℕ) → Option ℕ
+end_of_links n dests [] = Some n
+end_of_links n dests (link ∷ links) = if has_topology (link ∷ links) dests then None else Some (n - 1)
+
+unfoldable pub simulation_at_end : Progress → ℕ → Option ℕ
+simulation_at_end First n = Some n
+simulation_at_end (Links dests links olds) n = end_of_links n dests links
+simulation_at_end (Runs s) n = None
+
+-- the rules of a simulation whose link ends have these times
+abbrev pub simulation_rules : Times → Rules Progress
+simulation_rules times = record { start = First; reply = simulation_reply times; at_end = simulation_at_end }
+
+-- ---- all lines
+
+-- what is printed for an input
+abbrev pub simulation_text : Times → List ℕ → List ℕ
+simulation_text times bytes = (whole_text (simulation_rules times) bytes).0
+
+-- how an input ends
+abbrev pub simulation_end : Times → List ℕ → Ended
+simulation_end times bytes = (whole_text (simulation_rules times) bytes).1
+
+-- the number of the first line that is a fault, if one is
+abbrev pub first_simulation_fault : Times → List ℕ → Option ℕ
+first_simulation_fault times bytes = fault_of (simulation_end times bytes)
+
+-- of lines from line n on, line m is a fault, and all before it are taken
+abbrev pub IsFirstSimulationFault : Times → Progress → ℕ → List (List ℕ) → ℕ → Type 0
+IsFirstSimulationFault times progress n lines m = IsFirstFaultBy (simulation_rules times) progress n lines m
+
+-- ---- what simulate promises
+
+-- Known bytes grew by what is printed for the input, and the input ends so.
+abbrev pub Simulates : Times → List ℕ → Option (List ℕ) → Option (List ℕ) → Ended → Type 0
+Simulates times input old new ended = IsWholeText (whole_text (simulation_rules times)) input old new ended
+
+-- The reader gave some bytes, and the writer got a front of what is printed for them.
+abbrev pub IsSimulationBegun : Times → Option (List ℕ) → Option (List ℕ) → Option (List ℕ) → Option (List ℕ) → Type 0
+IsSimulationBegun times old_reader new_reader old_writer new_writer = IsFrontOfText (whole_text (simulation_rules times)) old_reader new_reader old_writer new_writer

@@ -1,0 +1,14 @@
+-- The kind of file that a simulation is whose refusals are told.
+use Rattle.tora_world.specs.World.{World}
+use Rattle.tora_script.specs.declared.told.Told.{Told}
+use Rattle.tora_lines.specs.LineText.{text_from}
+use Rattle.tora_lines.specs.Engine.{Kind}
+use Rattle.tora_lines.specs.Kinds.{long_lines_are_faults}
+use Rattle.tora_script.specs.SimulationView.{progress_of}
+use Rattle.tora_script.specs.SimulationText.{simulation_rules}
+
+abbrev pub told_kind : {S T : Type 0} → (S → World) → Kind (Told S T)
+told_kind world = record {
+  text = λ s. text_from (simulation_rules s.state.times) (progress_of world s.state.stage);
+  long = λ s line h. long_lines_are_faults (simulation_rules s.state.times) (progress_of world s.state.stage) line h;
+}

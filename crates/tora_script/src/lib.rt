@@ -1,0 +1,33 @@
+//! The simulation of a file of lines: the lines, the rounds, what is printed, and why a line is a fault.
+//!
+//! The engine asks for a simulator (`Simulator`), which `tora_sim::Sim` is; another one may stand around it and watch its
+//! events.
+//!
+//! ```rust
+//! let ended = simulate(alloc, &mut reader, &mut writer)?;
+//! ```
+#![tactic(auto)]
+
+mod causes;
+mod link_lines;
+mod parse;
+mod rounds;
+mod running;
+mod script_line;
+mod simulated;
+mod simulating;
+mod simulation;
+mod simulator;
+mod told;
+
+pub use link_lines::LinkLines;
+pub use rounds::{is_parted, make_rounds};
+pub use running::{Running, mend, part};
+pub use simulated::{simulate, simulate_with};
+pub use simulating::{simulate_in, simulation_fault_is_the_first};
+pub use simulation::{Simulation, Stage};
+pub use causes::{SimulationCause, simulation_cause};
+pub use script_line::SimulationLine;
+pub use parse::{simulation_line, simulation_lines_are_read_as_written};
+pub use simulator::Simulator;
+pub use told::{Told, simulate_told, tell_cause};

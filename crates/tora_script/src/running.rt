@@ -1,0 +1,318 @@
+//! A simulation behind its links.
+ghost use Rattle.std.specs.Prelude.{◌≡◌, ◌++◌, [], OnOk, Some, None, if◌then◌else◌, length, string_bytes, option_map};
+ghost use Rattle.tora_core.specs.Numbers.{has_number};
+ghost use Rattle.tora_arq.specs.Settings.{IsTimes};
+ghost use Rattle.tora_lines.specs.Gives.{Gives};
+ghost use Rattle.tora_lines.specs.LineText.{numbered, TakesReply};
+ghost use Rattle.tora_world.specs.World.{sent_packets, taken_packets};
+ghost use Rattle.tora_script.specs.Simulator.{ArePairs, AreIds, started};
+ghost use Rattle.tora_script.specs.RunningView.{running_view};
+ghost use Rattle.tora_script.specs.SimulationText.{begun_in, has_end, with_parted, without_parted, node_line, heights_text, heights_reply, count_text, exact_reply, rest_text, nodes_text, walk_text, walk_reply, running_reply, line_reply, event_reply, after_rounds, where_linked, known_height};
+
+use tora_lines::numbered;
+use crate::rounds::{is_parted, is_same_pair, make_rounds};
+use crate::script_line::SimulationLine;
+use crate::parse::simulation_line;
+use crate::simulator::Simulator;
+use tora_lines::words::LineError;
+use std::alloc::{AllocError, Global};
+use tora_arq::{Life, Times};
+use tora_core::CoreError;
+use tora_height::{Entry, Id};
+use tora_trace::{HeightText, HopText};
+use tora_world::{Event, SimError};
+
+/// A simulation behind its links: what the links fix, the pairs of nodes that are parted, and the world.
+#[derive(Drop)]
+pub struct Running<S> {
+    pub dests: Vec<Id>,
+    pub nodes: Vec<Id>,
+    pub ends: Vec<(Id, Id)>,
+    pub parted: Vec<(Id, Id)>,
+    /// Why the event of the last line was refused, if it was.
+    pub refused: Option<SimError>,
+    pub sim: S,
+}
+
+/// Whether a number is among others.
+pub fn has_number(n: Id, numbers: &[Id]) -> bool
+    ensures { result ≡ has_number n numbers.now }
+{
+    numbers.iter().any(|m| *m == n)
+}
+
+/// Whether there is a link between the nodes.
+fn has_end(a: Id, b: Id, ends: &[(Id, Id)]) -> bool
+    ensures { result ≡ has_end a b ends.now }
+{
+    ends.iter().any(|e| e.0 == a && e.1 == b)
+}
+
+/// Parts two nodes.
+pub fn part(parted: &mut Vec<(Id, Id)>, a: Id, b: Id) -> Result<(), AllocError>
+    ensures { OnOk result (parted.new.items ≡ with_parted a b parted.old.items) }
+{
+    if is_parted(parted.as_slice(), a, b) {
+        return Ok(());
+    }
+    parted.push((a, b))?;
+    Ok(())
+}
+
+/// Mends two nodes.
+pub fn mend(parted: &mut Vec<(Id, Id)>, a: Id, b: Id)
+    ensures { parted.new.items ≡ without_parted a b parted.old.items }
+{
+    parted.retain(|p| !is_same_pair((a, b), *p));
+}
+
+fn known_height(height: Option<Entry>) -> Entry
+    ensures { result ≡ known_height height }
+{
+    match height {
+        None => None,
+        Some(entry) => entry,
+    }
+}
+
+/// Puts `node N H hop K` behind a text.
+#[tactic(auto, unfolding(crate::specs::SimulationText::node_line))]
+fn write_node<S: Simulator>(out: &mut String, sim: &S, d: Id, n: Id) -> Result<(), AllocError>
+    ensures { OnOk result (string_bytes out.new ≡ string_bytes out.old ++ node_line (S.world sim.now) d n) }
+{
+    let height = HeightText(known_height(sim.height(n, d)));
+    let hop = HopText(sim.next_hop(n, d));
+    writeln!(out, "node {n} {height} hop {hop}")
+}
+
+fn write_heights<S: Simulator>(
+    out: &mut String,
+    sim: &S,
+    d: Id,
+    nodes: &[Id],
+) -> Result<(), AllocError>
+    ensures { OnOk result (string_bytes out.new ≡ string_bytes out.old ++ heights_text (S.world sim.now) d nodes.now) }
+{
+    for n in nodes {
+        write_node(out, sim, d, *n)?;
+    }
+    Ok(())
+}
+
+/// Puts the nodes of a walk behind the first, each after a comma, behind a text.
+fn write_rest(out: &mut String, nodes: &[Id]) -> Result<(), AllocError>
+    ensures { OnOk result (string_bytes out.new ≡ string_bytes out.old ++ rest_text nodes.now) }
+{
+    for n in nodes {
+        write!(out, ",{n}")?;
+    }
+    Ok(())
+}
+
+/// Puts `walk LIST` behind a text, `walk -` for no nodes.
+fn write_nodes(out: &mut String, nodes: &[Id]) -> Result<(), AllocError>
+    ensures { OnOk result (string_bytes out.new ≡ string_bytes out.old ++ nodes_text nodes.now) }
+{
+    match nodes.split_first() {
+        None => writeln!(out, "walk -"),
+        Some((first, rest)) => {
+            write!(out, "walk {first}")?;
+            write_rest(out, rest)?;
+            writeln!(out, "")
+        }
+    }
+}
+
+/// Puts a walk behind a text.
+#[tactic(auto, unfolding(crate::specs::SimulationText::walk_text))]
+fn write_walk(out: &mut String, walk: Option<Vec<Id>>) -> Result<(), AllocError>
+    ensures { OnOk result (string_bytes out.new ≡ string_bytes out.old ++ walk_text (option_map (λ v. v.items) walk)) }
+{
+    match walk {
+        None => write_nodes(out, &[]),
+        Some(nodes) => write_nodes(out, &nodes),
+    }
+}
+
+/// The first world; a fault where there is no such topology.
+#[tactic(auto, unfolding(crate::specs::Simulator::started))]
+fn start<S: Simulator>(
+    alloc: Global,
+    links: &[(Id, Id)],
+    dests: &[Id],
+    olds: &[Id],
+    times: Times,
+) -> Result<S, LineError>
+    requires links { ArePairs links.now }
+    requires dests { AreIds dests.now }
+    requires times { IsTimes times }
+    ensures { Gives (λ sim. S.world sim) result (started links.now dests.now olds.now times) }
+{
+    match S::start(alloc, links, dests, olds, times) {
+        Ok(sim) => Ok(sim),
+        Err(CoreError::Memory) => Err(LineError::Memory),
+        Err(_) => Err(LineError::Fault),
+    }
+}
+
+impl<S: Simulator> Running<S> {
+    /// Begins in the first world; a fault where there is no such topology.
+    pub fn new(
+        alloc: Global,
+        dests: &[Id],
+        links: &[(Id, Id)],
+        olds: &[Id],
+        times: Times,
+    ) -> Result<Running<S>, LineError>
+        requires links { ArePairs links.now }
+        requires dests { AreIds dests.now }
+        requires times { IsTimes times }
+        ensures { Gives (running_view S.world) result (option_map (begun_in dests.now) (started links.now dests.now olds.now times)) }
+    {
+        let sim: S = start(alloc, links, dests, olds, times)?;
+        let nodes = sim.nodes(alloc)?;
+        let ends = sim.ends(alloc)?;
+        let mut own = Vec::new(alloc);
+        own.extend_from_slice(dests)?;
+        Ok(Running {
+            dests: own,
+            nodes,
+            ends,
+            parted: Vec::new(alloc),
+            refused: None,
+            sim,
+        })
+    }
+
+    /// Makes an event happen, and puts its refusal behind a text.
+    fn happen(&mut self, event: &Event, out: &mut String) -> Result<(), AllocError>
+        ensures { OnOk result (TakesReply (event_reply (running_view S.world self.old) event.now) (running_view S.world self.new) (string_bytes out.old) (string_bytes out.new)) }
+    {
+        let refused = self.sim.happen(event)?;
+        self.refused = refused;
+        match refused {
+            None => Ok(()),
+            Some(error) => numbered(out, "refused ", u64::from(error.number())),
+        }
+    }
+
+    fn rounds(&mut self, count: u64) -> Result<(), AllocError>
+        ensures { OnOk result ((running_view S.world self.new) ≡ record (running_view S.world self.old) { world = after_rounds count (running_view S.world self.old) }) }
+    {
+        make_rounds(&mut self.sim, count, &self.nodes, &self.ends, &self.parted)
+    }
+
+    fn part(&mut self, a: Id, b: Id) -> Result<(), LineError>
+        ensures { Gives (λ _. ((running_view S.world self.new), [])) result (where_linked (running_view S.world self.old) a b (record (running_view S.world self.old) { parted = with_parted a b (running_view S.world self.old).parted }, [])) }
+    {
+        if !has_end(a, b, &self.ends) {
+            return Err(LineError::Fault);
+        }
+        part(&mut self.parted, a, b)?;
+        Ok(())
+    }
+
+    fn mend(&mut self, a: Id, b: Id) -> Result<(), LineError>
+        ensures { Gives (λ _. ((running_view S.world self.new), [])) result (where_linked (running_view S.world self.old) a b (record (running_view S.world self.old) { parted = without_parted a b (running_view S.world self.old).parted }, [])) }
+    {
+        if !has_end(a, b, &self.ends) {
+            return Err(LineError::Fault);
+        }
+        mend(&mut self.parted, a, b);
+        Ok(())
+    }
+
+    fn heights(&self, d: Id, out: &mut String) -> Result<(), LineError>
+        requires { string_bytes out.old ≡ [] }
+        ensures { Gives (λ _. ((running_view S.world self.now), string_bytes out.new)) result (heights_reply (running_view S.world self.now) d) }
+    {
+        if !has_number(d, &self.dests) {
+            return Err(LineError::Fault);
+        }
+        write_heights(out, &self.sim, d, &self.nodes)?;
+        Ok(())
+    }
+
+    fn sent(&self, a: Id, b: Id, life: Life, out: &mut String) -> Result<(), LineError>
+        requires { string_bytes out.old ≡ [] }
+        ensures { Gives (λ _. ((running_view S.world self.now), string_bytes out.new)) result (where_linked (running_view S.world self.now) a b ((running_view S.world self.now), count_text (length (sent_packets (running_view S.world self.now).world a b life)))) }
+    {
+        if !has_end(a, b, &self.ends) {
+            return Err(LineError::Fault);
+        }
+        numbered(out, "count ", self.sim.sent(a, b, life) as u64)?;
+        Ok(())
+    }
+
+    fn taken(&self, b: Id, a: Id, life: Life, out: &mut String) -> Result<(), LineError>
+        requires { string_bytes out.old ≡ [] }
+        ensures { Gives (λ _. ((running_view S.world self.now), string_bytes out.new)) result (where_linked (running_view S.world self.now) b a ((running_view S.world self.now), count_text (length (taken_packets (running_view S.world self.now).world b a life)))) }
+    {
+        if !has_end(b, a, &self.ends) {
+            return Err(LineError::Fault);
+        }
+        numbered(out, "count ", self.sim.taken(b, a, life) as u64)?;
+        Ok(())
+    }
+
+    fn exact(&self, d: Id, out: &mut String) -> Result<(), LineError>
+        requires { string_bytes out.old ≡ [] }
+        ensures { Gives (λ _. ((running_view S.world self.now), string_bytes out.new)) result (exact_reply (running_view S.world self.now) d) }
+    {
+        if !has_number(d, &self.dests) {
+            return Err(LineError::Fault);
+        }
+        let count = if self.sim.exact(d) { 1 } else { 0 };
+        numbered(out, "exact ", count)?;
+        Ok(())
+    }
+
+    fn walk(&self, n: Id, d: Id, out: &mut String) -> Result<(), LineError>
+        requires { string_bytes out.old ≡ [] }
+        ensures { Gives (λ _. ((running_view S.world self.now), string_bytes out.new)) result (walk_reply (running_view S.world self.now) n d) }
+    {
+        if !has_number(n, &self.nodes) || !has_number(d, &self.dests) {
+            return Err(LineError::Fault);
+        }
+        let walk = self.sim.walk(*self.nodes.allocator(), n, d)?;
+        write_walk(out, walk)?;
+        Ok(())
+    }
+
+    /// Does what a line asks for, and puts what is printed for it behind an empty text.
+    #[tactic(auto, unfolding(crate::specs::SimulationText::running_reply))]
+    fn answer(&mut self, line: SimulationLine, out: &mut String) -> Result<(), LineError>
+        requires { string_bytes out.old ≡ [] }
+        ensures { Gives (λ _. ((running_view S.world self.new), string_bytes out.new)) result (running_reply (running_view S.world self.old) line) }
+    {
+        match line {
+            SimulationLine::Happens(event) => {
+                self.happen(&event, out)?;
+                Ok(())
+            }
+            SimulationLine::Rounds(count) => {
+                self.rounds(count)?;
+                Ok(())
+            }
+            SimulationLine::Part(a, b) => self.part(a, b),
+            SimulationLine::Mend(a, b) => self.mend(a, b),
+            SimulationLine::Heights(d) => self.heights(d, out),
+            SimulationLine::Sent(a, b, life) => self.sent(a, b, life, out),
+            SimulationLine::Taken(b, a, life) => self.taken(b, a, life, out),
+            SimulationLine::Exact(d) => self.exact(d, out),
+            SimulationLine::Walk(n, d) => self.walk(n, d, out),
+        }
+    }
+
+    /// Takes a line, and puts what is printed for it behind an empty text.
+    pub fn take(&mut self, line: &[u8], out: &mut String) -> Result<(), LineError>
+        requires { string_bytes out.old ≡ [] }
+        ensures { Gives (λ _. ((running_view S.world self.new), string_bytes out.new)) result (line_reply (running_view S.world self.old) line.now) }
+    {
+        self.refused = None;
+        let Some(line) = simulation_line(line) else {
+            return Err(LineError::Fault);
+        };
+        self.answer(line, out)
+    }
+}

@@ -1,0 +1,87 @@
+//! What the engine asks of a simulator.
+ghost use Rattle.std.specs.Prelude.{◌≡◌, true, false, is_some, length, option_map, IfOk};
+ghost use Rattle.tora_world.specs.World.{World, refusal_of, world_after, datagram, sent_packets, taken_packets};
+ghost use Rattle.tora_arq.specs.Settings.{IsTimes};
+ghost use Rattle.tora_script.specs.Simulator.{ArePairs, AreIds, Starts, nodes_of};
+ghost use Rattle.tora_sim.specs.Readers.{ends_in};
+ghost use Rattle.tora_world.specs.Walks.{height_at, hop_at, exact_in, walk_of};
+
+use std::alloc::{AllocError, Global};
+use tora_arq::{Life, Times};
+use tora_core::CoreError;
+use tora_height::{Entry, Id};
+use tora_world::{Event, SimError};
+
+/// A simulated world.
+pub trait Simulator: Drop {
+    ghost world: { Self → World };
+
+    /// The first world of links and destinations, or why there is no such topology.
+    ///
+    /// The link ends of the old nodes speak version 1 of frames alone, and those of all other nodes both versions; an old
+    /// node that no link names changes nothing. Each link end has these times.
+    fn start(
+        alloc: Global,
+        links: &[(Id, Id)],
+        dests: &[Id],
+        olds: &[Id],
+        times: Times,
+    ) -> Result<Self, CoreError>
+        requires links { ArePairs links.now }
+        requires dests { AreIds dests.now }
+        requires times { IsTimes times }
+        ensures { Starts world links.now dests.now olds.now times result };
+
+    /// Whether an event may be possible now: where the answer is `false`, `happen` refuses it.
+    ///
+    /// It costs less than `happen`, and is asked first of each event of a round. The place says where to look: the place of
+    /// the event's node among `nodes`, or of its link end among `ends`, from 0 on. Where it is another's, or the event is of
+    /// neither, the answer may be `true` of any event.
+    fn may_happen(&self, place: usize, event: &Event) -> bool
+        ensures { result ≡ false → is_some (refusal_of (world self.now) event.now) ≡ true };
+
+    /// Makes an event happen, and says why it is refused, if it is: it then changes nothing.
+    fn happen(&mut self, event: &Event) -> Result<Option<SimError>, AllocError>
+        ensures refused { IfOk result (λ refused. refused ≡ refusal_of (world self.old) event.now) }
+        ensures after { IfOk result (λ _. world self.new ≡ world_after (world self.old) event.now) };
+
+    /// The nodes, in ascending order.
+    fn nodes(&self, alloc: Global) -> Result<Vec<Id>, AllocError>
+        ensures { IfOk result (λ v. v.items ≡ nodes_of (world self.now)) };
+
+    /// The link ends, in ascending order of the node and then of the neighbour.
+    fn ends(&self, alloc: Global) -> Result<Vec<(Id, Id)>, AllocError>
+        ensures { IfOk result (λ v. v.items ≡ ends_in (world self.now).topology) };
+
+    /// How many datagrams were ever sent.
+    fn datagrams(&self) -> u64
+        ensures { result ≡ length (world self.now).datagrams };
+
+    /// The sender and the receiver of a datagram, by its number from 1.
+    fn datagram(&self, i: u64) -> Option<(Id, Id)>
+        ensures { result ≡ option_map (λ f. (f.header.sender, f.header.receiver)) (datagram (world self.now) i) };
+
+    /// The height of a node for a destination.
+    fn height(&self, n: Id, d: Id) -> Option<Entry>
+        ensures { result ≡ height_at (world self.now) n d };
+
+    /// The next hop of a node for a destination.
+    fn next_hop(&self, n: Id, d: Id) -> Option<Id>
+        ensures { result ≡ hop_at (world self.now) n d };
+
+    /// How many packets the core of `a` sent to `b` in a life.
+    fn sent(&self, a: Id, b: Id, life: Life) -> usize
+        ensures { result ≡ length (sent_packets (world self.now) a b life) };
+
+    /// How many packets the core of `b` took from `a` in a life.
+    fn taken(&self, b: Id, a: Id, life: Life) -> usize
+        ensures { result ≡ length (taken_packets (world self.now) b a life) };
+
+    /// Whether the entries for a destination are exact.
+    fn exact(&self, d: Id) -> bool
+        ensures { result ≡ exact_in (world self.now) d };
+
+    /// The walk from a node to a destination, if there is one. It is asked of a node and a destination of the world.
+    fn walk(&self, alloc: Global, n: Id, d: Id) -> Result<Option<Vec<Id>>, AllocError>
+        ensures { IfOk result (λ walk. option_map (λ v. v.items) walk ≡ walk_of (world self.now) n d) };
+}

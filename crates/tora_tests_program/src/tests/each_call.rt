@@ -1,0 +1,151 @@
+//! A call that fails at any place among the events of a run.
+use super::*;
+use std::alloc::AllocError;
+use tora_arq::{Life, Times};
+use tora_height::{Entry, Height, Id};
+use tora_script::{Simulator, make_rounds};
+use tora_sim::{Sim, Topology};
+use tora_world::{Call, Event, SimError};
+
+/// A simulator that keeps the events that happen in it.
+#[derive(Drop)]
+struct Recorder {
+    sim: Sim,
+    events: Vec<Event>,
+}
+
+impl Simulator for Recorder {
+    ghost use Rattle.tora_sim.specs.Store.{world_of};
+
+    ghost world = { λ recorder. world_of recorder.sim };
+
+    fn start(
+        alloc: Global,
+        links: &[(Id, Id)],
+        dests: &[Id],
+        olds: &[Id],
+        times: Times,
+    ) -> Result<Recorder, CoreError> {
+        let sim = <Sim as Simulator>::start(alloc, links, dests, olds, times)?;
+        Ok(Recorder {
+            sim,
+            events: Vec::new(alloc),
+        })
+    }
+
+    fn may_happen(&self, place: usize, event: &Event) -> bool {
+        self.sim.may_happen(place, event)
+    }
+
+    fn happen(&mut self, event: &Event) -> Result<Option<SimError>, AllocError> {
+        let refused = self.sim.happen(event)?;
+        if refused.is_none() {
+            self.events.push(*event)?;
+        }
+        Ok(refused)
+    }
+
+    fn nodes(&self, alloc: Global) -> Result<Vec<Id>, AllocError> {
+        self.sim.nodes(alloc)
+    }
+
+    fn ends(&self, alloc: Global) -> Result<Vec<(Id, Id)>, AllocError> {
+        self.sim.ends(alloc)
+    }
+
+    fn datagrams(&self) -> u64 {
+        self.sim.datagrams()
+    }
+
+    fn datagram(&self, i: u64) -> Option<(Id, Id)> {
+        <Sim as Simulator>::datagram(&self.sim, i)
+    }
+
+    fn height(&self, n: Id, d: Id) -> Option<Entry> {
+        self.sim.height(n, d)
+    }
+
+    fn next_hop(&self, n: Id, d: Id) -> Option<Id> {
+        self.sim.next_hop(n, d)
+    }
+
+    fn sent(&self, a: Id, b: Id, life: Life) -> usize {
+        <Sim as Simulator>::sent(&self.sim, a, b, life)
+    }
+
+    fn taken(&self, b: Id, a: Id, life: Life) -> usize {
+        <Sim as Simulator>::taken(&self.sim, b, a, life)
+    }
+
+    fn exact(&self, d: Id) -> bool {
+        self.sim.exact(d)
+    }
+
+    fn walk(&self, alloc: Global, n: Id, d: Id) -> Result<Option<Vec<Id>>, AllocError> {
+        <Sim as Simulator>::walk(&self.sim, alloc, n, d)
+    }
+}
+
+/// A line of four nodes.
+const LINKS: [(Id, Id); 3] = [(1, 2), (2, 3), (3, 4)];
+
+const NODES: [Id; 4] = [1, 2, 3, 4];
+
+const ENDS: [(Id, Id); 6] = [(1, 2), (2, 1), (2, 3), (3, 2), (3, 4), (4, 3)];
+
+/// The events of a need of node 1 and three rounds, after which the route is found.
+fn recorded(rt: &impl Abort, alloc: Global) -> Vec<Event> {
+    let started = <Recorder as Simulator>::start(alloc, &LINKS, &[4], &[], Times::STANDARD);
+    let mut recorder = started.expect(rt, "a simulator");
+    assert!(rt; matches!(recorder.happen(&Event::Need(1, 4)), Ok(None)));
+    assert!(rt; make_rounds(&mut recorder, 3, &NODES, &ENDS, &[]).is_ok());
+    let Recorder { sim, events } = recorder;
+    assert!(rt; has_routes(&sim), "the route is found");
+    events
+}
+
+/// Whether the node's height and next hop are those of the route to node 4.
+fn has_route(sim: &Sim, n: Id, delta: i32, hop: Option<Id>) -> bool {
+    sim.height(n, 4) == Some(Height::new(0, 0, 0, delta, n).ok()) && sim.next_hop(n, 4) == hop
+}
+
+fn has_routes(sim: &Sim) -> bool {
+    has_route(sim, 1, 3, Some(2))
+        && has_route(sim, 2, 2, Some(3))
+        && has_route(sim, 3, 1, Some(4))
+        && has_route(sim, 4, 0, None)
+}
+
+/// Lets the events happen with a call armed before one of them, passes over those that are refused, and then makes 60
+/// rounds.
+fn run_armed(rt: &impl Abort, alloc: Global, events: &[Event], place: usize, arm: &Event) -> Sim {
+    let topology = Topology::new(alloc, &LINKS, &[4]).expect(rt, "a topology");
+    let mut sim = Sim::new(alloc, &topology).expect(rt, "a simulator");
+    for (at, event) in events.iter().enumerate() {
+        if at == place {
+            assert!(rt; sim.step(arm).is_ok());
+        }
+        let _ = sim.step(event);
+    }
+    assert!(rt; make_rounds(&mut sim, 60, &NODES, &ENDS, &[]).is_ok());
+    sim
+}
+
+/// Whatever call of whatever node fails, and at whatever place among the events, the route comes back.
+#[test]
+fn each_call(rt: HostRuntime) {
+    let events = recorded(&rt, rt.alloc());
+    assert!(&rt; events.len() > 100, "{} events", events.len());
+    for place in 0..events.len() {
+        for n in NODES {
+            for call in [Call::SendLost, Call::SendGone, Call::Receive] {
+                let arm = Event::Arm(n, call);
+                let sim = run_armed(&rt, rt.alloc(), events.as_slice(), place, &arm);
+                assert!(&rt;
+                    has_routes(&sim),
+                    "a call of node {n} armed before event {place}"
+                );
+            }
+        }
+    }
+}

@@ -1,0 +1,256 @@
+//! Traces of simulations.
+use super::*;
+use tora_arq::Times;
+use tora_traced::{TraceOut, simulate_traced};
+
+/// A writer of records.
+fn records(until_failure: u64, keeps: bool) -> ArrayWriter {
+    let mut writer = ArrayWriter::new(until_failure);
+    writer.keeps = keeps;
+    writer
+}
+
+/// Simulates the front of an input and its end, and hands the trace on. Where memory was refused it is simulated again,
+/// since one refusal is no reason for a second.
+fn traced<T: AllocGlobal + Eprint>(
+    rt: &T,
+    (front, end): (&str, &str),
+    writer: &mut ArrayWriter,
+    (until_failure, keeps): (u64, bool),
+    is_verbose: bool,
+) -> (Result<Ended, ReplayError>, TraceOut<ArrayWriter>) {
+    let alloc = rt.alloc();
+    let mut out = TraceOut::new(records(until_failure, keeps));
+    let mut input = front.as_bytes().chain(end.as_bytes());
+    let mut found = simulate_traced::<Sim, T, _, _, _>(
+        rt,
+        alloc,
+        Times::STANDARD,
+        &mut input,
+        writer,
+        &mut out,
+        is_verbose,
+    );
+    if found == Err(ReplayError::Memory) {
+        *writer = ArrayWriter::new(0);
+        out = TraceOut::new(records(until_failure, keeps));
+        let mut input = front.as_bytes().chain(end.as_bytes());
+        found = simulate_traced::<Sim, T, _, _, _>(
+            rt,
+            alloc,
+            Times::STANDARD,
+            &mut input,
+            writer,
+            &mut out,
+            is_verbose,
+        );
+    }
+    out.flush();
+    (found, out)
+}
+
+/// The front of a simulation and its end have this trace, print the text, and end so.
+fn expect_trace<T: AllocGlobal + Eprint + Abort>(
+    rt: &T,
+    (front, end): (&str, &str),
+    text: &str,
+    trace: &str,
+    ended: Ended,
+) {
+    for is_verbose in [false, true] {
+        let mut writer = ArrayWriter::new(0);
+        let (found, out) = traced(rt, (front, end), &mut writer, (0, false), is_verbose);
+        assert_eq!(rt; found, Ok(ended), "at {front:?} {end:?}");
+        assert_eq!(rt; writer.text(), text.as_bytes(), "at {front:?} {end:?}");
+        assert!(rt; out.failure().is_none(), "at {front:?} {end:?}");
+        let records = str::from_utf8(out.writer.text()).unwrap_or("");
+        assert_eq!(rt; records, trace, "at {front:?} {end:?}");
+    }
+}
+
+/// The words of a line; those behind the last are empty.
+fn words(line: &[u8]) -> [&[u8]; 6] {
+    let none: &[u8] = b"";
+    let mut words = line.split(|byte| *byte == b' ');
+    [
+        words.next().unwrap_or(none),
+        words.next().unwrap_or(none),
+        words.next().unwrap_or(none),
+        words.next().unwrap_or(none),
+        words.next().unwrap_or(none),
+        words.next().unwrap_or(none),
+    ]
+}
+
+/// Height and next hop that a trace tells last of a node, as it writes them.
+fn told<'a>(trace: &'a [u8], n: &[u8], d: &[u8]) -> Option<(&'a [u8], &'a [u8])> {
+    let mut last = None;
+    for line in trace.split(|byte| *byte == b'\n') {
+        let [_, word, node, destination, height, hop] = words(line);
+        if word == b"route".as_slice() && node == n && destination == d {
+            last = Some((height, hop));
+        }
+    }
+    last
+}
+
+/// Whether a trace tells what is printed of a node: `node N H hop K`. What it tells nothing of is as it was at first.
+fn tells(trace: &[u8], line: &[u8], d: &[u8]) -> bool {
+    let [_, n, height, _, hop, _] = words(line);
+    match told(trace, n, d) {
+        Some(last) => last == (height, hop),
+        None if n == d => height.starts_with(b"(0,0,0,0,") && hop == b"-".as_slice(),
+        None => height == b"-".as_slice() && hop == b"-".as_slice(),
+    }
+}
+
+/// The trace of these lines tells each height and next hop for a destination that is printed behind them, of so many nodes.
+fn expect_told<T: AllocGlobal + Eprint + Abort>(rt: &T, lines: &str, heights: &str, count: usize) {
+    let mut writer = ArrayWriter::new(0);
+    let (found, out) = traced(rt, (lines, heights), &mut writer, (0, false), false);
+    assert_eq!(rt; found, Ok(Ended::Whole), "at {lines:?}");
+    assert!(rt; out.failure().is_none(), "at {lines:?}");
+    let d = heights.trim_start_matches("heights ").trim_end().as_bytes();
+    let trace = out.writer.text();
+    let mut printed = 0usize;
+    for line in writer.text().split(|byte| *byte == b'\n') {
+        if line.starts_with(b"node ") {
+            printed = printed.saturating_add(1);
+            assert!(rt; tells(trace, line, d), "at {lines:?} {line:?}");
+        }
+    }
+    assert_eq!(rt; printed, count, "at {lines:?}");
+}
+
+/// Two nodes: a need that is asked for in vain, then answered by the neighbour, which is the destination.
+#[test]
+fn trace_of_two_nodes(rt: HostRuntime) {
+    expect_trace(
+        &rt,
+        (
+            "dests 2\nlink 1 2\nneed 1 2\nturn 1\nheights 2\n",
+            "need 1 2\nneed 3 2\n",
+        ),
+        "node 1 - hop -\nnode 2 (0,0,0,0,2) hop -\nrefused 2\n",
+        "0 need 1 2\n0 qry 1 2 0\n0 need 1 2\n",
+        Ended::Whole,
+    );
+    let mut writer = ArrayWriter::new(0);
+    let lines = ("dests 2\nlink 1 2\nneed 1 2\n", "rounds 1\nheights 2\n");
+    let (found, out) = traced(&rt, lines, &mut writer, (0, false), false);
+    assert_eq!(&rt; found, Ok(Ended::Whole));
+    let records = str::from_utf8(out.writer.text()).unwrap_or("");
+    let bound = "0 need 1 2\n0 qry 1 2 0\n1 up 1 2 1 1\n1 upd 1 2 1 (0,0,0,1,1)\n\
+        1 route 1 2 (0,0,0,1,1) 2\n1 up 2 1 1 1\n1 frames ";
+    assert!(&rt; records.starts_with(bound), "{records}");
+}
+
+/// What is parted is sent and not delivered, and each line `part` and `mend` has its record, with the clock.
+#[test]
+fn trace_of_a_parted_link(rt: HostRuntime) {
+    expect_trace(
+        &rt,
+        (
+            "dests -\nlink 1 2\npart 1 2\npart 2 1\nrounds 1\nmend 2 1\n",
+            "mend 2 1\npart 3 1\n",
+        ),
+        "fault 8\n",
+        "0 part 1 2\n0 part 2 1\n1 frames 4 0 0 4\n1 mend 2 1\n1 mend 2 1\n",
+        Ended::Fault(8),
+    );
+}
+
+/// Datagrams of single events, and of none; the record of them comes as the clock goes on, and what is lost on sending is
+/// none.
+#[test]
+fn trace_of_single_events(rt: HostRuntime) {
+    expect_trace(
+        &rt,
+        (
+            "dests -\nlink 1 2\ntick\nopen 1 2\ntransmit 1 2\ntick\n",
+            "arm 2 send-lost\nopen 2 1\ntransmit 2 1\ntick\n",
+        ),
+        "",
+        "1 frames 1 0 0 0\n",
+        Ended::Whole,
+    );
+}
+
+/// Traces folded to every height that is printed: a route is found, lost and found again.
+#[test]
+fn trace_tells_each_height(rt: HostRuntime) {
+    let runs = [
+        "dests 4\nlink 1 2\nlink 2 3\nlink 3 4\nneed 1 4\n",
+        "dests 4\nlink 1 2\nlink 2 3\nlink 3 4\nneed 1 4\nrounds 1\n",
+        "dests 4\nlink 1 2\nlink 2 3\nlink 3 4\nneed 1 4\nrounds 3\n",
+        "dests 4\nlink 1 2\nlink 2 3\nlink 3 4\nneed 1 4\nrounds 3\npart 3 4\nrounds 50\n",
+        "dests 4\nlink 1 2\nlink 2 3\nlink 3 4\nneed 1 4\nrounds 3\npart 3 4\nrounds 60\n",
+        "dests 4\nlink 1 2\nlink 2 3\nlink 3 4\nneed 1 4\nrounds 3\npart 3 4\nrounds 60\nmend 3 4\n\
+            need 1 4\nrounds 3\n",
+        "dests 4\nlink 1 2\nlink 2 3\nlink 3 4\nneed 1 4\nrounds 3\nrestart 2 -\n",
+        "dests 4\nlink 1 2\nlink 2 3\nlink 3 4\nneed 1 4\nrounds 3\nrestart 2 -\nrounds 1\n",
+        "dests 4\nlink 1 2\nlink 2 3\nlink 3 4\nneed 1 4\nrounds 3\nrestart 2 -\nneed 1 4\nrounds 9\n",
+        "dests 4\nlink 1 2\nlink 2 3\nlink 3 4\nneed 1 4\nrounds 3\nrestart 4 -\nrounds 3\n",
+    ];
+    for run in runs {
+        expect_told(&rt, run, "heights 4\n", 4);
+    }
+    expect_told(
+        &rt,
+        "dests 5,1\nlink 1 2\nlink 2 3\nlink 3 4\nlink 4 5\nlink 5 1\nlink 2 5\nneed 3 5\nneed 3 1\n\
+            rounds 4\npart 2 5\nrounds 70\n",
+        "heights 5\n",
+        5,
+    );
+}
+
+/// A trace that can't be written, or not handed on, changes nothing of what is printed.
+#[test]
+fn trace_that_fails_stops_nothing(rt: HostRuntime) {
+    let lines = (
+        "dests 4\nlink 1 2\nlink 2 3\nlink 3 4\nneed 1 4\nrounds 3\nheights 4\npart 3 4\nrounds 60\n",
+        "heights 4\n",
+    );
+    let printed = "node 1 (0,0,0,3,1) hop 2\nnode 2 (0,0,0,2,2) hop 3\n\
+        node 3 (0,0,0,1,3) hop 4\nnode 4 (0,0,0,0,4) hop -\n\
+        node 1 - hop -\nnode 2 - hop -\nnode 3 - hop -\nnode 4 (0,0,0,0,4) hop -\n";
+    for (until_failure, keeps) in [(0, false), (0, true), (1, false), (2, false), (3, false)] {
+        let mut writer = ArrayWriter::new(0);
+        let (found, out) = traced(&rt, lines, &mut writer, (until_failure, keeps), false);
+        assert_eq!(&rt; found, Ok(Ended::Whole), "at {until_failure}");
+        assert_eq!(&rt; writer.text(), printed.as_bytes(), "at {until_failure}");
+        let fails = keeps || until_failure > 0;
+        assert_eq!(&rt; out.failure().is_some(), fails, "at {until_failure}");
+    }
+}
+
+/// A simulation that stops leaves the records of what happened.
+#[test]
+fn trace_of_a_simulation_that_stops(rt: HostRuntime) {
+    expect_trace(
+        &rt,
+        (
+            "dests 2\nlink 1 2\nneed 1 2\n",
+            "turn 1\nturns 1\nneed 1 2\n",
+        ),
+        "fault 5\n",
+        "0 need 1 2\n0 qry 1 2 0\n",
+        Ended::Fault(5),
+    );
+    expect_trace(
+        &rt,
+        ("dests 2\n", "need 1 2\n"),
+        "fault 2\n",
+        "",
+        Ended::Fault(2),
+    );
+    let mut writer = ArrayWriter::new(1);
+    let lines = (
+        "dests 2\nlink 1 2\nneed 1 2\nturn 1\n",
+        "heights 2\nneed 1 2\n",
+    );
+    let (found, out) = traced(&rt, lines, &mut writer, (0, false), false);
+    assert_eq!(&rt; found, Err(ReplayError::Write));
+    let records = str::from_utf8(out.writer.text()).unwrap_or("");
+    assert_eq!(&rt; records, "0 need 1 2\n0 qry 1 2 0\n");
+}

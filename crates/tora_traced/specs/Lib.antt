@@ -1,0 +1,3 @@
+pub mod TraceOuts
+pub mod Tracing
+pub mod TracingView

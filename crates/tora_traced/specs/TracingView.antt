@@ -1,0 +1,19 @@
+-- The kind of file that a simulation is whose trace is written.
+use Rattle.tora_world.specs.World.{World}
+use Rattle.tora_traced.specs.declared.traced.Traced.{Traced}
+use Rattle.tora_traced.specs.declared.tracing.Tracing.{Tracing}
+use Rattle.tora_lines.specs.LineText.{text_from}
+use Rattle.tora_lines.specs.Engine.{Kind}
+use Rattle.tora_lines.specs.Kinds.{long_lines_are_faults}
+use Rattle.tora_script.specs.SimulationView.{progress_of}
+use Rattle.tora_script.specs.SimulationText.{simulation_rules}
+
+-- the world of a simulator whose events are traced
+abbrev pub traced_world : {S : Type 0} → (S → World) → Traced S → World
+traced_world world t = world t.sim
+
+abbrev pub tracing_kind : {S T W : Type 0} → (S → World) → Kind (Tracing S T W)
+tracing_kind world = record {
+  text = λ s. text_from (simulation_rules s.told.state.times) (progress_of (traced_world world) s.told.state.stage);
+  long = λ s line h. long_lines_are_faults (simulation_rules s.told.state.times) (progress_of (traced_world world) s.told.state.stage) line h;
+}

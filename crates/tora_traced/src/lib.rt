@@ -1,0 +1,14 @@
+//! A simulation whose trace is written: the simulator whose events are told, and the file of lines that is simulated in it.
+//!
+//! The records themselves, and the copies of cores that they are told from, are those of `tora_trace`.
+#![tactic(auto)]
+
+mod trace_out;
+mod traced;
+mod tracing;
+mod watched;
+
+pub use trace_out::TraceOut;
+pub use traced::Traced;
+pub use tracing::{Tracing, simulate_traced};
+pub use watched::Watched;

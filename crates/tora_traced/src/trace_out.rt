@@ -1,0 +1,60 @@
+//! Where a trace goes.
+ghost use Rattle.std.specs.Prelude.{◌≡◌, false, is_some};
+ghost use Rattle.std.specs.Io.KnownBytes.{Appends, Keeps};
+ghost use Rattle.tora_traced.specs.TraceOuts.{IsPut, IsHandedOn};
+
+use tora_lines::Output;
+use std::io;
+
+/// A writer that is given up once it fails, and why it failed.
+#[derive(Drop)]
+pub struct TraceOut<W> {
+    pub writer: W,
+    failure: Option<io::Error>,
+}
+
+impl<W: Output> TraceOut<W> {
+    /// Nothing was written yet.
+    pub fn new(writer: W) -> TraceOut<W>
+        ensures writer { result.writer ≡ writer }
+        ensures failure { is_some result.failure ≡ false }
+    {
+        TraceOut {
+            writer,
+            failure: None,
+        }
+    }
+
+    /// Writes bytes, unless the writer has failed.
+    pub fn put(&mut self, bytes: &[u8])
+        ensures call { IsPut W.did_write self.old bytes.now self.new }
+        ensures bytes { is_some self.new.failure ≡ false → Appends (W.contents self.old.writer) (W.contents self.new.writer) bytes.now }
+    {
+        if self.failure.is_some() {
+            return;
+        }
+        if let Err(error) = self.writer.put_all(bytes) {
+            self.failure = Some(error);
+        }
+    }
+
+    /// Hands on what was written, unless the writer has failed.
+    pub fn flush(&mut self)
+        ensures call { IsHandedOn W.did_flush self.old self.new }
+        ensures bytes { Keeps (W.contents self.old.writer) (W.contents self.new.writer) }
+    {
+        if self.failure.is_some() {
+            return;
+        }
+        if let Err(error) = self.writer.hand_on() {
+            self.failure = Some(error);
+        }
+    }
+
+    /// Why the writer failed, if it did.
+    pub fn failure(&self) -> Option<&io::Error>
+        ensures { is_some result ≡ is_some self.now.failure }
+    {
+        self.failure.as_ref()
+    }
+}

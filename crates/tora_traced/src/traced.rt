@@ -1,0 +1,231 @@
+//! A simulator whose events are traced.
+ghost use Rattle.std.specs.Prelude.{◌≡◌, drop, IfOk, OnOk};
+ghost use Rattle.tora_world.specs.World.{refusal_of, world_after};
+ghost use Rattle.tora_traced.specs.Tracing.{life_of_what, life_told, before_of, HasRecords, Records, with_sent, after_sent};
+
+use tora_script::is_parted;
+use tora_script::Simulator;
+use crate::watched::Watched;
+use std::alloc::{AllocError, Global};
+use tora_arq::{Life, Times};
+use tora_core::{CoreError, Input};
+use tora_frame::Frame;
+use tora_height::{Entry, Id};
+use tora_seat::{Item, What};
+use tora_trace::Trace;
+use tora_world::{Event, SimError};
+
+/// A simulator, and the trace of its events.
+#[derive(Drop)]
+pub struct Traced<S> {
+    pub sim: S,
+    pub trace: Trace,
+    /// The pairs of nodes whose link is parted.
+    pub parted: Vec<(Id, Id)>,
+}
+
+/// What is read of a world before an event.
+#[derive(Clone, Copy)]
+struct Before {
+    clock: u64,
+    /// How many datagrams were ever sent.
+    datagrams: u64,
+    /// How many inputs the core accepted whose turn the event is.
+    inputs: usize,
+    /// The life that its item tells to be up.
+    life: Option<Life>,
+}
+
+fn life_of_what(what: &What) -> Option<Life>
+    ensures { result ≡ life_of_what what.now }
+{
+    match what {
+        What::Up(life) => Some(*life),
+        What::Packet(_, _) => None,
+        What::Down(_, _) => None,
+        What::Beat => None,
+        What::Need(_) => None,
+        What::Show => None,
+        What::Quit => None,
+    }
+}
+
+/// The life that an item tells to be up.
+fn life_told(item: Option<Item>) -> Option<Life>
+    ensures { result ≡ life_told item }
+{
+    match item {
+        None => None,
+        Some(item) => life_of_what(&item.what),
+    }
+}
+
+/// The inputs behind so many.
+fn behind(inputs: &[(Input, u64)], count: usize) -> &[(Input, u64)]
+    ensures { result.now ≡ drop count inputs.now }
+{
+    if count > inputs.len() {
+        return &[];
+    }
+    &inputs[count..]
+}
+
+impl<S: Watched> Traced<S> {
+    /// Reads what the records of an event need of the world before it.
+    fn before(&self, event: &Event) -> Before
+        ensures { result ≡ before_of (S.world self.now.sim) event.now }
+    {
+        let (clock, datagrams) = (self.sim.clock(), self.sim.datagrams());
+        match event {
+            Event::CoreTurn(n) => Before {
+                clock,
+                datagrams,
+                inputs: self.sim.inputs(*n).len(),
+                life: life_told(self.sim.first_item(*n)),
+            },
+            _ => Before {
+                clock,
+                datagrams,
+                inputs: 0,
+                life: None,
+            },
+        }
+    }
+
+    /// Tells of a datagram that was sent, if one was since there were so many.
+    fn tell_sent(&mut self, count: u64) -> Result<(), AllocError>
+        ensures kept { self.new ≡ record self.old { trace = self.new.trace } }
+        ensures told { OnOk result (self.new.trace ≡ after_sent self.old.parted.items count (S.world self.old.sim) self.old.trace) }
+    {
+        let last = self.sim.datagrams();
+        if last == count {
+            return Ok(());
+        }
+        match self.sim.frame(last) {
+            None => Ok(()),
+            Some(frame) => {
+                let header = frame.header();
+                let is_parted = is_parted(&self.parted, header.sender, header.receiver);
+                self.trace.sent(&frame, is_parted)
+            }
+        }
+    }
+
+    /// Tells what an event did that was not refused.
+    fn tell(&mut self, event: &Event, before: Before) -> Result<(), AllocError>
+        ensures kept { self.new ≡ record self.old { trace = self.new.trace } }
+        ensures told { OnOk result (HasRecords self.old.parted.items before event.now (S.world self.old.sim) self.old.trace self.new.trace) }
+    {
+        match event {
+            Event::Need(n, d) => self.trace.need(before.clock, *n, *d),
+            Event::Tick => self.trace.frames(before.clock),
+            Event::Transmit(_, _) => self.tell_sent(before.datagrams),
+            Event::CoreTurn(n) => {
+                let inputs = behind(self.sim.inputs(*n), before.inputs);
+                self.trace.turn(*n, inputs, before.life)
+            }
+            Event::Restart(n, _) => self.trace.restart(before.clock, *n),
+            Event::Open(_, _) => Ok(()),
+            Event::Pull(_, _) => Ok(()),
+            Event::Deliver(_) => Ok(()),
+            Event::Pump(_, _) => Ok(()),
+            Event::Arm(_, _) => Ok(()),
+        }
+    }
+
+    /// Makes an event happen, and tells what it did.
+    fn step(&mut self, event: &Event) -> Result<Option<SimError>, AllocError>
+        ensures refused { IfOk result (λ refused. refused ≡ refusal_of (S.world self.old.sim) event.now) }
+        ensures after { IfOk result (λ _. S.world self.new.sim ≡ world_after (S.world self.old.sim) event.now) }
+        ensures told { IfOk result (λ refused. Records self.old.parted.items (S.world self.old.sim) event.now (S.world self.new.sim) self.old.trace self.new.trace refused) }
+        ensures kept { self.new.parted ≡ self.old.parted }
+    {
+        let before = self.before(event);
+        let refused = self.sim.happen(event)?;
+        match refused {
+            None => {
+                self.tell(event, before)?;
+                Ok(None)
+            }
+            Some(error) => Ok(Some(error)),
+        }
+    }
+}
+
+impl<S: Watched> Simulator for Traced<S> {
+    ghost world = { λ t. S.world t.sim };
+
+    fn start(
+        alloc: Global,
+        links: &[(Id, Id)],
+        dests: &[Id],
+        olds: &[Id],
+        times: Times,
+    ) -> Result<Traced<S>, CoreError> {
+        let sim: S = S::start(alloc, links, dests, olds, times)?;
+        let Ok(nodes) = sim.nodes(alloc) else {
+            return Err(CoreError::Memory);
+        };
+        let Ok(ends) = sim.ends(alloc) else {
+            return Err(CoreError::Memory);
+        };
+        // A topology that is accepted gives cores that are accepted.
+        let Ok(trace) = Trace::new(alloc, &nodes, &ends, dests) else {
+            return Err(CoreError::Memory);
+        };
+        Ok(Traced {
+            sim,
+            trace,
+            parted: Vec::new(alloc),
+        })
+    }
+
+    #[inline(always)]
+    fn may_happen(&self, place: usize, event: &Event) -> bool {
+        self.sim.may_happen(place, event)
+    }
+
+    fn happen(&mut self, event: &Event) -> Result<Option<SimError>, AllocError> {
+        self.step(event)
+    }
+
+    fn nodes(&self, alloc: Global) -> Result<Vec<Id>, AllocError> {
+        self.sim.nodes(alloc)
+    }
+
+    fn ends(&self, alloc: Global) -> Result<Vec<(Id, Id)>, AllocError> {
+        self.sim.ends(alloc)
+    }
+
+    fn datagrams(&self) -> u64 {
+        self.sim.datagrams()
+    }
+
+    fn datagram(&self, i: u64) -> Option<(Id, Id)> {
+        self.sim.datagram(i)
+    }
+
+    fn height(&self, n: Id, d: Id) -> Option<Entry> {
+        self.sim.height(n, d)
+    }
+
+    fn next_hop(&self, n: Id, d: Id) -> Option<Id> {
+        self.sim.next_hop(n, d)
+    }
+
+    fn sent(&self, a: Id, b: Id, life: Life) -> usize {
+        self.sim.sent(a, b, life)
+    }
+
+    fn taken(&self, b: Id, a: Id, life: Life) -> usize {
+        self.sim.taken(b, a, life)
+    }
+
+    fn exact(&self, d: Id) -> bool {
+        self.sim.exact(d)
+    }
+
+    fn walk(&self, alloc: Global, n: Id, d: Id) -> Result<Option<Vec<Id>>, AllocError> {
+        self.sim.walk(alloc, n, d)
+    }
+}

@@ -1,0 +1,168 @@
+//! A simulation whose trace is written.
+ghost use Rattle.std.specs.Prelude.{◌≡◌, ◌≢◌, ◌≤◌, [], length, string_bytes, Ok, OnOk, IfOk, IfErr, IfSome};
+ghost use Rattle.std.specs.Io.KnownBytes.{IsAtEnd};
+ghost use Rattle.tora_arq.specs.Settings.{IsTimes};
+ghost use Rattle.tora_lines.specs.LineText.{fault_of};
+ghost use Rattle.tora_lines.specs.Session.{TakesLine};
+ghost use Rattle.tora_script.specs.SimulationView.{progress_of};
+ghost use Rattle.tora_script.specs.SimulationLines.{simulation_line_of};
+ghost use Rattle.tora_traced.specs.Tracing.{after_line, parted_after};
+ghost use Rattle.tora_script.specs.RunningView.{running_view};
+ghost use Rattle.tora_traced.specs.TracingView.{traced_world, tracing_kind};
+ghost use Rattle.tora_traced.specs.TraceOuts.{waiting, waiting_behind, emptied, ArePut};
+ghost use Rattle.tora_script.specs.SimulationText.{first_simulation_fault, Simulates, IsSimulationBegun};
+
+use tora_lines::{Ended, ReplayError};
+use tora_lines::read_lines;
+use tora_lines::Output;
+use tora_script::{Running, mend, part};
+use tora_lines::FileKind;
+use tora_script::{Simulation, Stage};
+use tora_script::SimulationLine;
+use tora_script::simulation_line;
+use tora_script::Told;
+use crate::trace_out::TraceOut;
+use crate::traced::Traced;
+use crate::watched::Watched;
+use tora_lines::words::LineError;
+use std::alloc::{AllocError, Global};
+use std::io::{Read, Write};
+use tora_arq::Times;
+
+/// A simulation file whose trace is written line by line; where it is verbose, why an event is refused and why a line is a
+/// fault is told.
+#[derive(Drop)]
+pub struct Tracing<'a, S, T, W> {
+    told: Told<'a, Traced<S>, T>,
+    is_verbose: bool,
+    out: &'a mut TraceOut<W>,
+}
+
+/// Notes what a line did that is no event: a part, a mend, and the datagrams of rounds.
+fn note<S: Watched>(running: &mut Running<Traced<S>>, line: &[u8]) -> Result<(), AllocError>
+    ensures view { running_view (traced_world S.world) running.new ≡ running_view (traced_world S.world) running.old }
+    ensures trace { OnOk result (running.new.sim.trace ≡ after_line (S.world running.old.sim.sim).clock (simulation_line_of line.now) running.old.sim.trace) }
+    ensures parted { OnOk result (running.new.sim.parted.items ≡ parted_after (simulation_line_of line.now) running.old.sim.parted.items) }
+{
+    let now = running.sim.sim.clock();
+    match simulation_line(line) {
+        Some(SimulationLine::Part(a, b)) => {
+            part(&mut running.sim.parted, a, b)?;
+            running.sim.trace.part(now, a, b)
+        }
+        Some(SimulationLine::Mend(a, b)) => {
+            mend(&mut running.sim.parted, a, b);
+            running.sim.trace.mend(now, a, b)
+        }
+        Some(SimulationLine::Rounds(_)) => running.sim.trace.frames(now),
+        Some(_) => Ok(()),
+        None => Ok(()),
+    }
+}
+
+/// Writes the records that were not written yet.
+fn hand_on<S: Watched, W: Output>(stage: &mut Stage<Traced<S>>, out: &mut TraceOut<W>)
+    ensures view { progress_of (traced_world S.world) stage.new ≡ progress_of (traced_world S.world) stage.old }
+    ensures put { ArePut W.did_write out.old (waiting stage.old) out.new }
+    ensures emptied { waiting stage.new ≡ emptied (waiting stage.old) }
+{
+    if let Stage::Runs(running) = stage {
+        out.put(running.sim.trace.text().as_bytes());
+        running.sim.trace.clear();
+    }
+}
+
+/// Notes what a line did that was taken, and writes the records that were not written yet.
+fn tell<S: Watched, W: Output>(
+    stage: &mut Stage<Traced<S>>,
+    line: &[u8],
+    out: &mut TraceOut<W>,
+) -> Result<(), AllocError>
+    ensures view { progress_of (traced_world S.world) stage.new ≡ progress_of (traced_world S.world) stage.old }
+    ensures put { OnOk result (ArePut W.did_write out.old (waiting_behind S.world line.now stage.old) out.new) }
+    ensures emptied { waiting stage.new ≡ emptied (waiting stage.old) }
+{
+    let noted = match stage {
+        Stage::First => Ok(()),
+        Stage::Links(_) => Ok(()),
+        Stage::Runs(running) => note(running, line),
+    };
+    hand_on(stage, out);
+    noted
+}
+
+impl<S: Watched, T: Eprint, W: Output> Tracing<'_, S, T, W> {
+    /// Takes a line.
+    fn take_line(&mut self, alloc: Global, line: &[u8], text: &mut String) -> Result<(), LineError>
+        requires short { length line.now ≤ 4096 }
+        requires empty { string_bytes text.old ≡ [] }
+        ensures { TakesLine (tracing_kind S.world) self.old line.now self.new (string_bytes text.new) result }
+    {
+        if self.is_verbose {
+            self.told.take(alloc, line, text)
+        } else {
+            self.told.state.take(alloc, line, text)
+        }
+    }
+}
+
+impl<S: Watched, T: Eprint, W: Output> FileKind for Tracing<'_, S, T, W> {
+    ghost kind = { tracing_kind S.world };
+
+    fn take(&mut self, alloc: Global, line: &[u8], text: &mut String) -> Result<(), LineError> {
+        match self.take_line(alloc, line, text) {
+            Ok(()) => {
+                let state = &mut self.told.state;
+                tell(&mut state.stage, line, self.out)?;
+                Ok(())
+            }
+            Err(error) => {
+                let state = &mut self.told.state;
+                hand_on(&mut state.stage, self.out);
+                Err(error)
+            }
+        }
+    }
+
+    fn end(&self, alloc: Global, number: u64) -> Result<Option<u64>, AllocError> {
+        if self.is_verbose {
+            self.told.end(alloc, number)
+        } else {
+            self.told.state.end(alloc, number)
+        }
+    }
+}
+
+/// Simulates with these times of each link end, and writes the trace: of each line, what happened in it. Where it is verbose, it tells on standard error why an
+/// event is refused and why a line is a fault, unless it is too long.
+///
+/// A trace that can't be written stops nothing; `out` says so then.
+#[tactic(auto, unfolding(tora_lines::specs::Engine::text_of))]
+pub fn simulate_traced<S: Watched, T: Eprint, R: Read, W: Write, V: Output>(
+    rt: &T,
+    alloc: Global,
+    times: Times,
+    reader: &mut R,
+    writer: &mut W,
+    out: &mut TraceOut<V>,
+    is_verbose: bool,
+) -> Result<Ended, ReplayError>
+    requires { IsTimes times }
+    ensures whole { IfOk result (λ ended. IfSome (R.remaining reader.old) (λ input.
+        Simulates times input (W.contents writer.old) (W.contents writer.new) ended)) }
+    ensures at_end { result ≡ Ok Ended.Whole → IsAtEnd (R.remaining reader.new) }
+    ensures fault { IfOk result (λ ended. IfSome (R.remaining reader.old) (λ input. fault_of ended ≡ first_simulation_fault times input)) }
+    ensures begun { IfErr result (λ e. e ≢ ReplayError.Write →
+        IsSimulationBegun times (R.remaining reader.old) (R.remaining reader.new) (W.contents writer.old) (W.contents writer.new)) }
+{
+    let state: Tracing<'_, S, T, V> = Tracing {
+        told: Told {
+            rt,
+            number: 0,
+            state: Simulation::new(times),
+        },
+        is_verbose,
+        out,
+    };
+    read_lines(alloc, state, reader, writer)
+}
