@@ -7,7 +7,9 @@
 use std::io;
 use std::io::BufWriter;
 use std::process::ExitCode;
-use tora_commands::{MEMORY, USAGE, command, node_command, replay_command, simulate_file, stop, usage};
+use tora_commands::{
+    MEMORY, USAGE, command, node_command, replay_command, simulate_file, stop, usage,
+};
 pub use tora_lines::{Ended, ReplayError, numbers_are_read_as_printed};
 pub use tora_replay::{
     fault_is_the_first, first_lines_are_read_as_written, lines_are_read_as_written, replay,

@@ -8,16 +8,12 @@ ghost use Rattle.tora_replay.specs.ReplayText.{first_fault, Replays, IsBegun};
 ghost use Rattle.tora_script.specs.SimulationText.{first_simulation_fault, Simulates, IsSimulationBegun};
 ghost use Rattle.tora_lines.specs.Flushing.{after_flush};
 
-use tora_lines::{Ended, ReplayError};
-use tora_lines::Output;
-use tora_replay::replay;
-use tora_script::simulate_in;
-use tora_script::Simulator;
-use tora_script::simulate_told;
 use std::alloc::Global;
-use tora_lines::flushed;
 use std::io::Read;
 use tora_arq::Times;
+use tora_lines::{Ended, Output, ReplayError, flushed};
+use tora_replay::replay;
+use tora_script::{Simulator, simulate_in, simulate_told};
 
 /// Replays, and flushes the writer: `Write` where that alone fails.
 pub fn replay_and_flush<R: Read, W: Output>(

@@ -4,14 +4,12 @@ ghost use Rattle.std.specs.Process.{exit_status};
 ghost use Rattle.tora_commands.specs.Endings.{EndsBy};
 ghost use Rattle.tora_replay.specs.ReplayText.{replay_rules};
 
-use tora_replay::cause_of;
-use tora_lines::{Ended, ReplayError};
 use crate::flushing::replay_and_flush;
-use tora_lines::Output;
-use tora_lines::Recent;
 use crate::status;
 use std::io::Read;
 use std::process::ExitCode;
+use tora_lines::{Ended, Output, Recent, ReplayError};
+use tora_replay::cause_of;
 
 /// Says why a line is a fault, or what failed.
 fn tell<T: AllocGlobal + Eprint, R: Read>(

@@ -5,20 +5,15 @@ ghost use Rattle.tora_commands.specs.Endings.{EndsBy, EndsFile};
 ghost use Rattle.tora_arq.specs.Settings.{IsTimes};
 ghost use Rattle.tora_script.specs.SimulationText.{simulation_rules};
 
-use tora_lines::{Ended, ReplayError};
 use crate::flushing::{simulate_and_flush, simulate_told_and_flush};
-use tora_lines::Output;
-use tora_lines::Recent;
-use tora_lines::LONGEST_LINE;
-use tora_script::SimulationCause;
-use tora_script::Simulator;
-use tora_script::tell_cause;
 use crate::{INPUT, MEMORY, status, stop};
 use std::io::{ErrorKind, Read};
 use std::process::ExitCode;
 use std::rt::Files;
 use std::{fs, io};
 use tora_arq::Times;
+use tora_lines::{Ended, LONGEST_LINE, Output, Recent, ReplayError};
+use tora_script::{SimulationCause, Simulator, tell_cause};
 
 /// Says why there is no file, and ends with the status of the cause.
 pub fn refuse<R: Eprint>(rt: &R, path: &str, error: &io::Error, is_verbose: bool) -> ExitCode

@@ -3,8 +3,8 @@ ghost use Rattle.std.specs.Prelude.{◌≡◌, ◌<◌, IfSome, option_map};
 ghost use Rattle.tora_arq.specs.Settings.{IsTimes};
 ghost use Rattle.tora_commands.specs.TimesWord.{positive_of, times_of, asked_times};
 
-use tora_lines::words;
 use tora_arq::{Times, standard_times};
+use tora_lines::words;
 
 /// A number from 1 on.
 #[tactic(auto, unfolding(crate::specs::TimesWord::positive_of))]

@@ -7,20 +7,15 @@ ghost use Rattle.tora_script.specs.SimulationText.{simulation_rules};
 ghost use Rattle.tora_commands.specs.Statuses.{traced_status};
 ghost use Rattle.tora_traced.specs.TraceOuts.{IsHandedOn};
 
-use tora_lines::{Ended, ReplayError};
-use tora_lines::flushed;
-use tora_lines::Output;
-use tora_lines::Recent;
 use crate::sim_command::{refuse, tell};
-use tora_traced::TraceOut;
-use tora_traced::simulate_traced;
-use tora_traced::Watched;
 use crate::{INPUT, MEMORY, status, stop};
 use std::io::{BufWriter, Read};
 use std::process::ExitCode;
 use std::rt::Files;
 use std::{fs, io};
 use tora_arq::Times;
+use tora_lines::{Ended, Output, Recent, ReplayError, flushed};
+use tora_traced::{TraceOut, Watched, simulate_traced};
 
 /// Says which path can't be the trace's, and why, and ends with the status of the cause.
 fn refuse_trace<T: Eprint>(rt: &T, path: &str, error: &io::Error) -> ExitCode

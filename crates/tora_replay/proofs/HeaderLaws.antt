@@ -1,25 +1,12 @@
 -- The first line is read exactly where it is written so.
-use Rattle.std.proofs.Common.{◌≡◌, ℕ, ◌<◌, Bool, true, false, cond, ◌==◌, ◌&&◌, codes, List, [], ◌∷◌, ◌++◌, length, get_or, map, All, Option, None, Some, refl, sym, ap, ◌∙◌, arith}
-use Rattle.std.specs.List.{join_with_byte}
-use Rattle.std.specs.Option.{option_and_then, option_map}
+use Rattle.std.proofs.Common.{◌≡◌, ℕ, codes, List, ◌∷◌, ◌++◌, Option, Some, refl, ap, ◌∙◌, arith}
 use Rattle.std.specs.Fmt.{decimal}
-use Rattle.std.specs.Char.{is_ascii_digit}
-use Rattle.std.proofs.lemmas.Bool.{eq-eqb}
-use Rattle.std.proofs.lemmas.Bool.Decides.{nat_tests}
-use Rattle.std.proofs.lemmas.List.{append-nil}
-use Rattle.std.proofs.lemmas.List.Elements.{All-nil, All-cons, All-head, All-tail, All-weaker, All-append, All-get_or}
-use Rattle.std.proofs.lemmas.List.Sums.{AllPass-from_list_all}
-use Rattle.std.proofs.lemmas.List.Splits.{slice_split_none, slice_split_at, join_with_byte-slice_split, length-slice_split}
-use Rattle.std.proofs.lemmas.Fmt.{digits_decimal, decimal_nonempty}
-use Rattle.tora_packet.specs.PacketParts.{IsId}
-use Rattle.tora_lines.specs.Words.{cut, split, id_of, ids_of, is_dash, list_of}
+use Rattle.tora_lines.specs.Words.{cut, id_of, list_of}
 use Rattle.tora_replay.specs.Lines.{HeaderParts, header_of}
 use Rattle.tora_lines.specs.Fronts.{after, ◌>>=◌}
 use Rattle.tora_lines.specs.WordGrammar.{list_text}
 use Rattle.tora_replay.specs.LineGrammar.{SpellsHeader}
-use Rattle.tora_lines.proofs.Splits.{Lacks}
-use Rattle.tora_lines.proofs.Grammar.{own}
-use Rattle.tora_lines.proofs.WordLaws.{some_is, bind_some, id_found, id_here, after_found, after_here, cut_found, cut_here, no_blank, dash_found}
+use Rattle.tora_lines.proofs.WordLaws.{some_is, bind_some, id_found, id_here, after_found, after_here, cut_found, cut_here, no_blank}
 use Rattle.tora_lines.proofs.ListLaws.{list_found, list_here, list_no_blank}
 
 -- ---- the first line

@@ -1,19 +1,10 @@
 -- A line is read exactly where it is written so.
-use Rattle.std.proofs.Common.{◌≡◌, subst, ℕ, ◌+◌, ◌<◌, ◌^◌, ◌⊎◌, inl, inr, Bool, true, false, cond, nat_eq, ltb, ◌==◌, codes, List, [], ◌∷◌, ◌++◌, length, get_or, take, drop, Option, None, Some, Result, Ok, Err, is_some, refl, sym, ap, ◌∙◌, arith}
-use Rattle.std.specs.List.{starts_with, position, position_or_len}
-use Rattle.std.specs.Option.{option_and_then}
+use Rattle.std.proofs.Common.{◌≡◌, subst, ℕ, ◌<◌, ◌^◌, ◌⊎◌, inl, inr, Bool, true, false, cond, ◌==◌, codes, List, [], ◌∷◌, ◌++◌, length, Option, None, Some, Result, Ok, Err, is_some, refl, sym, ap, ◌∙◌, arith}
 use Rattle.std.specs.Result.{result_ok}
 use Rattle.std.specs.Fmt.{decimal}
-use Rattle.std.specs.Char.{is_ascii_digit}
-use Rattle.std.proofs.Math.Seq.{take-append_seam, drop-append_seam, drop-append-add, get_or-append_seam}
-use Rattle.std.proofs.Math.ListN.{get_or-append}
-use Rattle.std.proofs.lemmas.Bool.{lt-ltb, and_parts, eqb-true, eqb-false}
+use Rattle.std.proofs.lemmas.Bool.{and_parts, eqb-true, eqb-false}
 use Rattle.std.proofs.lemmas.Bool.Decides.{nat_tests}
-use Rattle.std.proofs.lemmas.List.{take-append-drop, length-append, nil_from_length}
-use Rattle.std.proofs.lemmas.List.Elements.{All-weaker}
-use Rattle.std.proofs.lemmas.List.Sums.{AllPass-from_list_all, position_or_len_is}
-use Rattle.std.proofs.lemmas.Slice.Eq.{bytes_eq-Decides}
-use Rattle.std.proofs.lemmas.Fmt.{digits_decimal}
+use Rattle.std.proofs.lemmas.List.{nil_from_length}
 use Rattle.hex.specs.Hex.{decode_of}
 use Rattle.hex.specs.declared.error.FromHexError.{FromHexError}
 use Rattle.hex.specs.declared.error.FromHexError.TheVariants.{OddLength}
@@ -24,14 +15,13 @@ use Rattle.tora_packet.specs.PacketGrammar.{packet_reading}
 use Rattle.tora_replay.specs.declared.line.Line.{Line}
 use Rattle.tora_replay.specs.declared.line.Order.{Order}
 use Rattle.tora_replay.specs.declared.line.Order.TheVariants.{Up, Down, Need, From, Show}
-use Rattle.tora_lines.specs.Words.{cut, number_of, id_from, id_of, is_dash}
+use Rattle.tora_lines.specs.Words.{cut, number_of, id_of, is_dash}
 use Rattle.tora_replay.specs.Lines.{bytes_of}
 use Rattle.tora_lines.specs.Fronts.{after, or_else, ◌>>=◌}
 use Rattle.tora_replay.specs.Lines.{from_of, with_id, is_show, order_of, line_of}
 use Rattle.tora_replay.specs.LineGrammar.{SpellsBytes, SpellsFrom, SpellsOrder, SpellsLine}
 use Rattle.tora_lines.specs.WordGrammar.{SpellsId}
-use Rattle.tora_lines.proofs.Splits.{Lacks, cut_at, cut_some_place}
-use Rattle.tora_lines.proofs.Grammar.{own, number_prints, number_again}
+use Rattle.tora_lines.proofs.Grammar.{number_prints, number_again}
 use Rattle.tora_lines.proofs.WordLaws.{some_is, bind_some, id_found, id_here, after_found, after_here, no_blank, cut_found, cut_here, dash_found, or_else_some}
 
 -- ---- bytes

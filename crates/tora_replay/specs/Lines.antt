@@ -1,12 +1,11 @@
 -- The lines of a replay file: what each line says.
-use Rattle.std.specs.Prelude.{ℕ, Bool, ◌==◌, ◌&&◌, if◌then◌else◌, nat_eq, codes, is_some, List, [], ◌∷◌, length, drop, Option, Some, None}
-use Rattle.std.specs.List.{starts_with}
+use Rattle.std.specs.Prelude.{ℕ, Bool, ◌==◌, ◌&&◌, if◌then◌else◌, codes, is_some, List, [], length, Option, Some, None}
 use Rattle.tora_packet.specs.PacketGrammar.{packet_reading}
 use Rattle.tora_replay.specs.declared.line.Header.{Header}
 use Rattle.tora_replay.specs.declared.line.Line.{Line}
 use Rattle.tora_replay.specs.declared.line.Order.{Order}
 use Rattle.tora_replay.specs.declared.line.Order.TheVariants.{Up, Down, Need, From, Show}
-use Rattle.tora_lines.specs.Words.{cut, split, number_of, id_of, list_of}
+use Rattle.tora_lines.specs.Words.{cut, number_of, id_of, list_of}
 use Rattle.std.specs.Result.{result_ok}
 use Rattle.hex.specs.Hex.{decode_of}
 use Rattle.tora_lines.specs.Fronts.{◌>>=◌, after, or_else}

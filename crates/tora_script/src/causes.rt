@@ -1,12 +1,12 @@
 //! Why a line of a simulation file is a fault, in plain words.
 use crate::link_lines::LinkLines;
+use crate::parse::{old, simulation_line};
+use crate::script_line::SimulationLine;
 use crate::simulating::is_linked;
 use crate::simulation::Stage;
-use crate::script_line::SimulationLine;
-use crate::parse::{old, simulation_line};
-use tora_lines::words;
 use thiserror::Error;
 use tora_core::CoreError;
+use tora_lines::words;
 use tora_sim::topology_fault;
 
 /// Why a line of a simulation file is a fault.

@@ -20,14 +20,14 @@ mod simulation;
 mod simulator;
 mod told;
 
+pub use causes::{SimulationCause, simulation_cause};
 pub use link_lines::LinkLines;
+pub use parse::{simulation_line, simulation_lines_are_read_as_written};
 pub use rounds::{is_parted, make_rounds};
 pub use running::{Running, mend, part};
+pub use script_line::SimulationLine;
 pub use simulated::{simulate, simulate_with};
 pub use simulating::{simulate_in, simulation_fault_is_the_first};
 pub use simulation::{Simulation, Stage};
-pub use causes::{SimulationCause, simulation_cause};
-pub use script_line::SimulationLine;
-pub use parse::{simulation_line, simulation_lines_are_read_as_written};
 pub use simulator::Simulator;
 pub use told::{Told, simulate_told, tell_cause};

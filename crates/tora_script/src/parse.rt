@@ -5,13 +5,12 @@ ghost use Rattle.tora_script.specs.SimulationGrammar.{SpellsSimulationLine, Spel
 ghost use Rattle.tora_lines.specs.Gives.{Gives};
 ghost use Rattle.tora_script.specs.SimulationLines.{is_word, pair_of, life_number_of, life_of, lane_of, call_of, torn_of, rounds_of, arm_of, restart_of, end_event_of, node_event_of, walk_line_of, order_line_of, simulation_line_of, dests_of, link_of, old_of};
 
-use tora_lines::{after, behind};
 use crate::script_line::SimulationLine;
-use tora_lines::words;
-use tora_lines::words::LineError;
 use std::alloc::Global;
 use tora_arq::Life;
 use tora_height::Id;
+use tora_lines::words::LineError;
+use tora_lines::{after, behind, words};
 use tora_world::{Call, Event};
 
 /// The most rounds of one line. Own profile.

@@ -9,16 +9,16 @@ ghost use Rattle.tora_script.specs.Simulator.{ArePairs, AreIds, started};
 ghost use Rattle.tora_script.specs.RunningView.{running_view};
 ghost use Rattle.tora_script.specs.SimulationText.{begun_in, has_end, with_parted, without_parted, node_line, heights_text, heights_reply, count_text, exact_reply, rest_text, nodes_text, walk_text, walk_reply, running_reply, line_reply, event_reply, after_rounds, where_linked, known_height};
 
-use tora_lines::numbered;
+use crate::parse::simulation_line;
 use crate::rounds::{is_parted, is_same_pair, make_rounds};
 use crate::script_line::SimulationLine;
-use crate::parse::simulation_line;
 use crate::simulator::Simulator;
-use tora_lines::words::LineError;
 use std::alloc::{AllocError, Global};
 use tora_arq::{Life, Times};
 use tora_core::CoreError;
 use tora_height::{Entry, Id};
+use tora_lines::numbered;
+use tora_lines::words::LineError;
 use tora_trace::{HeightText, HopText};
 use tora_world::{Event, SimError};
 

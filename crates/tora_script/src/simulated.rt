@@ -7,7 +7,6 @@ ghost use Rattle.tora_lines.specs.LineText.{fault_of};
 ghost use Rattle.tora_script.specs.Simulator.{with_old_node};
 ghost use Rattle.tora_script.specs.SimulationText.{first_simulation_fault, Simulates, IsSimulationBegun};
 
-use tora_lines::{Ended, ReplayError};
 use crate::simulating::simulate_in;
 use crate::simulator::Simulator;
 use std::alloc::{AllocError, Global};
@@ -15,6 +14,7 @@ use std::io::{Read, Write};
 use tora_arq::{Life, Times, standard_times};
 use tora_core::CoreError;
 use tora_height::{Entry, Id};
+use tora_lines::{Ended, ReplayError};
 use tora_sim::{Sim, Topology};
 use tora_world::{Event, SimError};
 

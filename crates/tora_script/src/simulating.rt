@@ -10,19 +10,17 @@ ghost use Rattle.tora_script.specs.RunningView.{running_view};
 ghost use Rattle.tora_script.specs.SimulationView.{progress_of, simulation_kind};
 ghost use Rattle.tora_script.specs.SimulationText.{Progress, first_progress, with_link, is_linked, with_old_line, first_run, behind_links, end_of_links, simulation_reply, first_simulation_fault, IsFirstSimulationFault, Simulates, IsSimulationBegun};
 
-use tora_lines::{Ended, ReplayError};
-use tora_lines::read_lines;
 use crate::link_lines::LinkLines;
-use crate::running::Running;
-use tora_lines::FileKind;
-use crate::simulation::{Simulation, Stage};
 use crate::parse;
+use crate::running::Running;
+use crate::simulation::{Simulation, Stage};
 use crate::simulator::Simulator;
-use tora_lines::words::LineError;
 use std::alloc::{AllocError, Global};
 use std::io::{Read, Write};
 use tora_arq::Times;
 use tora_height::Id;
+use tora_lines::words::LineError;
+use tora_lines::{Ended, FileKind, ReplayError, read_lines};
 use tora_sim::topology_fault;
 
 /// The first line.

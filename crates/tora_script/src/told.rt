@@ -6,16 +6,14 @@ ghost use Rattle.tora_lines.specs.LineText.{fault_of};
 ghost use Rattle.tora_script.specs.ToldView.{told_kind};
 ghost use Rattle.tora_script.specs.SimulationText.{first_simulation_fault, Simulates, IsSimulationBegun};
 
-use tora_lines::{Ended, ReplayError};
-use tora_lines::read_lines;
-use tora_lines::FileKind;
-use crate::simulation::{Simulation, Stage};
 use crate::causes::{SimulationCause, end_cause, simulation_cause};
+use crate::simulation::{Simulation, Stage};
 use crate::simulator::Simulator;
-use tora_lines::words::LineError;
 use std::alloc::{AllocError, Global};
 use std::io::{Read, Write};
 use tora_arq::Times;
+use tora_lines::words::LineError;
+use tora_lines::{Ended, FileKind, ReplayError, read_lines};
 
 /// A simulation file, and where is told why an event is refused and why a line is a fault.
 #[derive(Drop)]

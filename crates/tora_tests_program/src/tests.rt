@@ -4,7 +4,8 @@ use std::io::{Error, ErrorKind as IoErrorKind, Read, Write};
 use std::process::{Abort, ExitCode};
 use std::test::*;
 use tora_commands::{
-    command, replay_and_flush, replay_command, sim_command, simulate_file, traced_command, usage,
+    INPUT, MEMORY, USAGE, command, replay_and_flush, replay_command, sim_command, simulate_file,
+    traced_command, usage,
 };
 use tora_core::CoreError;
 use tora_lines::{Ended, Recent, ReplayError};

@@ -1,5 +1,5 @@
 -- What a trace has of each event.
-use Rattle.std.specs.Prelude.{◌≡◌, ℕ, ◌==◌, if◌then◌else◌, List, [], length, drop, slice_get, Option, Some, None}
+use Rattle.std.specs.Prelude.{◌≡◌, ℕ, ◌==◌, if◌then◌else◌, List, length, drop, slice_get, Option, Some, None}
 use Rattle.tora_arq.specs.declared.Life.{Life}
 use Rattle.tora_frame.specs.FrameParts.{FrameParts}
 use Rattle.tora_seat.specs.declared.Item.{Item}

@@ -3,8 +3,8 @@ ghost use Rattle.std.specs.Prelude.{◌≡◌, false, is_some};
 ghost use Rattle.std.specs.Io.KnownBytes.{Appends, Keeps};
 ghost use Rattle.tora_traced.specs.TraceOuts.{IsPut, IsHandedOn};
 
-use tora_lines::Output;
 use std::io;
+use tora_lines::Output;
 
 /// A writer that is given up once it fails, and why it failed.
 #[derive(Drop)]

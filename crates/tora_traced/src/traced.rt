@@ -3,14 +3,13 @@ ghost use Rattle.std.specs.Prelude.{◌≡◌, drop, IfOk, OnOk};
 ghost use Rattle.tora_world.specs.World.{refusal_of, world_after};
 ghost use Rattle.tora_traced.specs.Tracing.{life_of_what, life_told, before_of, HasRecords, Records, with_sent, after_sent};
 
-use tora_script::is_parted;
-use tora_script::Simulator;
 use crate::watched::Watched;
 use std::alloc::{AllocError, Global};
 use tora_arq::{Life, Times};
 use tora_core::{CoreError, Input};
 use tora_frame::Frame;
 use tora_height::{Entry, Id};
+use tora_script::{Simulator, is_parted};
 use tora_seat::{Item, What};
 use tora_trace::Trace;
 use tora_world::{Event, SimError};

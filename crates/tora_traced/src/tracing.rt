@@ -12,22 +12,15 @@ ghost use Rattle.tora_traced.specs.TracingView.{traced_world, tracing_kind};
 ghost use Rattle.tora_traced.specs.TraceOuts.{waiting, waiting_behind, emptied, ArePut};
 ghost use Rattle.tora_script.specs.SimulationText.{first_simulation_fault, Simulates, IsSimulationBegun};
 
-use tora_lines::{Ended, ReplayError};
-use tora_lines::read_lines;
-use tora_lines::Output;
-use tora_script::{Running, mend, part};
-use tora_lines::FileKind;
-use tora_script::{Simulation, Stage};
-use tora_script::SimulationLine;
-use tora_script::simulation_line;
-use tora_script::Told;
 use crate::trace_out::TraceOut;
 use crate::traced::Traced;
 use crate::watched::Watched;
-use tora_lines::words::LineError;
 use std::alloc::{AllocError, Global};
 use std::io::{Read, Write};
 use tora_arq::Times;
+use tora_lines::words::LineError;
+use tora_lines::{Ended, FileKind, Output, ReplayError, read_lines};
+use tora_script::{Running, Simulation, SimulationLine, Stage, Told, mend, part, simulation_line};
 
 /// A simulation file whose trace is written line by line; where it is verbose, why an event is refused and why a line is a
 /// fault is told.
