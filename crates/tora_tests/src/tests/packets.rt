@@ -1,7 +1,7 @@
 //! The byte vectors of the formats, and the refused packets.
-use super::*;
 use std::test::*;
 use tora_height::Height;
+use tora_packet::*;
 
 /// The update for 4 of these parts.
 fn update(tau: u64, oid: u32, r: u8, delta: i32, id: u32) -> Option<Packet> {

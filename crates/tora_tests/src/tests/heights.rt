@@ -1,6 +1,6 @@
 //! The example of the documentation, and texts.
-use super::*;
 use std::test::*;
+use tora_height::*;
 
 #[test]
 fn example_of_the_documentation(rt: HostRuntime) -> Result<(), Fail> {
