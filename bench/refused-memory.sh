@@ -1,8 +1,8 @@
 #!/usr/bin/env bash
 # Refuses memory to every test of every crate: the Nth call for it, N from 1 on until none is refused any more, each in a run
 # of its own. A test named `want_of_memory..` must pass in every run. Any other test may fail where it wants memory, but none
-# may fault or hang. (Tests that run threads may wait for one that was not started: those of a crate that has `tests_may=Threads..`
-# in crates.txt. They are ended after 20 seconds and counted; any other test has 60.)
+# may fault or hang. (Tests of lanes and of neighbours' threads may wait for a thread that was not started: those of the modules
+# `lanes` and `neighbours`. They are ended after 20 seconds and counted; any other test has 60.)
 # usage: bench/refused-memory.sh [-m MOST] [CRATE ..]     all crates where none is named; MOST is 2000 without -m
 # Behind the MOSTth call N goes on in steps of a twentieth. The crates' tests are built by `rt test`, which proves them, where
 # they are not built. It needs a C compiler.
@@ -60,10 +60,12 @@ for crate in "$@"; do
   tests=$top/crates/$crate/out/${crate}_tests
   [ -x "$tests" ] || (cd "$crate" && rt test) >"$work/built" 2>&1 || { tail -n 5 "$work/built"; exit 2; }
   calls=0 all_runs=0 all_failed=0 thinned= count=0 waited=0
-  threads=$(grep "^$crate " "$top/crates.txt" | grep -o 'tests_may=Threads')
-  limit=$([ -n "$threads" ] && echo 20 || echo 60)
   for name in $("$tests" --list | sed -n 's/: test$//p'); do
     count=$((count + 1))
+    case $name in
+      tests::lanes::* | tests::neighbours::*) threads=1 limit=20 ;;
+      *) threads= limit=60 ;;
+    esac
     sweep "$tests" "$name" || wrong=$((wrong + 1))
   done
   echo "$crate: $count tests, which call for memory $calls times; $all_runs runs with one call refused, of which $all_failed ended a test$([ "$waited" = 0 ] || echo " ($waited waited for a thread)")${thinned:+; in steps:$thinned}"

@@ -48,6 +48,3 @@ pub struct NodeConfig {
     /// Its links, at least one, by ascending peer.
     pub links: Vec<LinkConfig>,
 }
-
-#[cfg(test)]
-mod tests;

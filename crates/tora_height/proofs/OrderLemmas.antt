@@ -1,5 +1,5 @@
 -- The orders of heights and levels, part by part.
-use Rattle.std.proofs.Common.{◌≡◌, ◌⊎◌, ◌<◌, ◌<ℤ◌, ℕ, refl, ap, subst, sym, ◌∙◌, arith, inl, inr, Less, Equal, Greater, Ordering}
+use Rattle.std.proofs.Common.{◌≡◌, ◌⊎◌, ◌<◌, ◌<ℤ◌, ℕ, refl, subst, sym, ◌∙◌, arith, inl, inr, Less, Equal, Greater, Ordering}
 use Rattle.std.proofs.lemmas.Bool.Decides.{nat_tests}
 use Rattle.std.proofs.lemmas.Int.{ints}
 use Rattle.std.specs.Cmp.{IsTotalOrder}

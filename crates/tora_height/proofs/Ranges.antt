@@ -3,7 +3,7 @@ use Rattle.std.proofs.Common.{◌≡◌, None, arith}
 use Rattle.std.proofs.lemmas.Bool.Decides.{nat_tests}
 use Rattle.std.proofs.lemmas.Int.{ints}
 use Rattle.std.specs.Prelude.{◌<◌, ◌^◌}
-use Rattle.tora_height.specs.Height.{Quintuple, IsLevel, IsHeight, level_of, height_fault}
+use Rattle.tora_height.specs.Height.{Quintuple, IsHeight, height_fault}
 
 -- parts without a fault are a height, where the numbers of nodes fit
 pub no_fault_is_height : (h : Quintuple) → h.oid < 2 ^ 32 → h.id < 2 ^ 32 → height_fault h ≡ None → IsHeight h

@@ -309,6 +309,3 @@ pub fn ranges_are_tested()
     ensures accepted { (h : Quintuple) → IsHeight h → height_fault h ≡ None }
     ensures refused { (h : Quintuple) → h.oid < 2 ^ 32 → h.id < 2 ^ 32 → height_fault h ≡ None → IsHeight h }
 {}
-
-#[cfg(test)]
-mod tests;

@@ -27,8 +27,6 @@ mod out;
 mod out_puts;
 mod ports;
 mod rule;
-#[cfg(test)]
-mod tests;
 
 pub use errors::LaneError;
 pub use laws::what_was_offered_was_sent;

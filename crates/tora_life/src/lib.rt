@@ -49,8 +49,7 @@ pub use laws::{drawn_life_numbers_rise, tags_name_their_owners};
 pub use life_file::{LifeFile, OpenFault};
 pub use mem_disk::MemDisk;
 pub use numbers::LifeError;
+pub use slots::{bound_of, slot_bytes};
 pub use state::DiskCall;
-pub use tags::{Owner, Tag};
-
-#[cfg(test)]
-mod tests;
+pub use tags::{Owner, Tag, tag_bytes};
+pub use whole_read::{ReadFrom, read_whole};

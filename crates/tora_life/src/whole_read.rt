@@ -9,7 +9,7 @@ use std::os::unix::fs::FileExt;
 /// Bytes that are read from a place on, as many at a time as the reader pleases.
 ///
 /// A reader either tells contracts its bytes, or tells none, as a file of the operating system.
-pub(crate) trait ReadFrom {
+pub trait ReadFrom {
     /// Whether contracts are told the bytes.
     ghost tells: { Self → Bool };
 
@@ -49,11 +49,7 @@ impl ReadFrom for File {
 /// # Errors
 ///
 /// The first other error of a read.
-pub(crate) fn read_whole<F: ReadFrom>(
-    reader: &mut F,
-    at: usize,
-    buf: &mut [u8],
-) -> io::Result<usize>
+pub fn read_whole<F: ReadFrom>(reader: &mut F, at: usize, buf: &mut [u8]) -> io::Result<usize>
     ensures count { IfOk result (λ n. n ≤ length buf.old) }
     ensures read { IsTrue (F.tells reader.old) → IfOk result (λ n. IsRead (F.bytes reader.old) at buf.old n buf.new) }
 {

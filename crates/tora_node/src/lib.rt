@@ -25,6 +25,3 @@ pub use core_thread::{CoreEnd, run_core};
 pub use log_hub::LogHub;
 pub use node::{Ended, run_node};
 pub use words::commands_are_read_as_written;
-
-#[cfg(test)]
-mod tests;

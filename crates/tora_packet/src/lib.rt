@@ -143,6 +143,3 @@ impl Default for Packet {
         Packet::Qry(Query::of(1))
     }
 }
-
-#[cfg(test)]
-mod tests;

@@ -2,7 +2,9 @@
 mod batches;
 mod cores;
 mod frames;
+mod heights;
 mod link_ends;
+mod packets;
 mod plain_core;
 mod seats;
 mod shuffled_frames;

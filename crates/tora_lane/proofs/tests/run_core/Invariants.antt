@@ -1,5 +1,0 @@
-use Rattle.std.proofs.Common.{◌≡◌}
-use Rattle.tora_lane.proofs.tests.run_core.Given as goal
-
-abbrev pub invariant-loop-number : goal.invariant-loop-number
-invariant-loop-number g l = (l.first.ring ≡ l.initial.first.ring) × (l.second.ring ≡ l.initial.second.ring)

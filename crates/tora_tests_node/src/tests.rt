@@ -1,0 +1,6 @@
+//! The tests of each crate, each over its public names.
+mod configurations;
+mod lanes;
+mod life_files;
+mod neighbours;
+mod nodes;

@@ -1,0 +1,103 @@
+// A neighbour's thread over memory and over the loopback.
+ghost use Rattle.std.specs.Prelude.{◌≡◌, ◌≢◌, ◌<◌};
+ghost use Rattle.tora_arq.specs.LinkEnd.{first_end};
+
+use std::alloc::{AllocError, Global};
+use std::process::Abort;
+use std::sync::Wait;
+use std::sync::atomic::{AtomicU64, Ordering};
+use std::test::Fail;
+use tora_arq::{Life, LinkEnd, Reason, Times, Verdict};
+use tora_frame::FrameError;
+use tora_height::Id;
+use tora_lane::{Cargo, What};
+use tora_life::{Disk, DiskCall, LifeError, LifeFile, MemDisk};
+use tora_neighbour::*;
+
+mod datagrams;
+mod documented;
+mod runs;
+mod sockets;
+
+// A clock that goes on by so many ticks each time it is read.
+#[derive(Drop)]
+struct Leaping {
+    now: AtomicU64,
+    step: u64,
+}
+
+impl Clock for Leaping {
+    ghost did_tell = { λ c tick. Unit {0} };
+
+    fn now(&self) -> u64 {
+        self.now.fetch_add(self.step, Ordering::SeqCst)
+    }
+}
+
+fn clock_of(step: u64) -> Leaping {
+    Leaping {
+        now: AtomicU64::new(0),
+        step,
+    }
+}
+
+// The bytes of a frame, by the table of the formats.
+fn frame_bytes(
+    alloc: Global,
+    kind: u8,
+    sender: u32,
+    life: u64,
+    heard: u64,
+    payload: &[u8],
+) -> Result<Vec<u8>, AllocError> {
+    let mut bytes = Vec::new(alloc);
+    let length = u16::try_from(payload.len()).unwrap_or(0);
+    bytes.extend_from_slice(&[1, kind])?;
+    bytes.extend_from_slice(&length.to_be_bytes())?;
+    bytes.extend_from_slice(&sender.to_be_bytes())?;
+    bytes.extend_from_slice(&1u32.to_be_bytes())?;
+    bytes.extend_from_slice(&life.to_be_bytes())?;
+    bytes.extend_from_slice(&heard.to_be_bytes())?;
+    bytes.extend_from_slice(payload)?;
+    Ok(bytes)
+}
+
+// A HELLO of node 2 to node 1.
+fn hello(alloc: Global, life: u64, heard: u64) -> Result<Vec<u8>, AllocError> {
+    frame_bytes(alloc, 1, 2, life, heard, &[])
+}
+
+fn end_of(rt: &impl Abort, alloc: Global, me: Id, peer: Id) -> LinkEnd
+    requires me { 0 < me }
+    requires peer { 0 < peer }
+    requires other { me ≢ peer }
+    ensures { result.state ≡ first_end }
+{
+    LinkEnd::new(alloc, me, peer, Times::STANDARD).expect(rt, "memory")
+}
+
+fn file_of(rt: &impl Abort, disk: MemDisk) -> LifeFile<MemDisk> {
+    match LifeFile::open(disk, 1, 2) {
+        Ok(file) => file,
+        Err(fault) => panic!(rt; "the file does not open: {:?}", fault.error),
+    }
+}
+
+// How many datagrams were counted.
+fn total(tally: &Tally) -> u64 {
+    let mut sum = 0u64;
+    for verdict in [
+        Verdict::Accepted,
+        Verdict::Repeated,
+        Verdict::Ahead,
+        Verdict::Stale,
+        Verdict::Foreign,
+        Verdict::Busy,
+    ] {
+        sum = sum.saturating_add(tally.of_verdict(verdict));
+    }
+    for n in 0..=255u8 {
+        sum = sum.saturating_add(tally.of_bad(n));
+    }
+    sum
+}

@@ -1,0 +1,544 @@
+//! Nodes of several threads, in one process.
+ghost use Rattle.std.specs.Prelude.{◌<◌, ◌≤◌};
+
+use std::alloc::Global;
+use std::io::{Read, Write};
+use std::net::Net;
+use std::process::Abort;
+use std::sync::Wait;
+use std::sync::atomic::{AtomicU64, Ordering};
+use std::test::Fail;
+use std::thread::Threads;
+use std::time::Duration;
+use std::{io, thread, time};
+use tora_core::CoreError;
+use tora_life::{Disk, DiskError, LifeError};
+use tora_neighbour::{MemWire, NodeError, Tally, UdpWire, UnixClock, Wire, WireError};
+use tora_node::*;
+
+/// The line of a core that has found its route.
+const FOUND: &[u8] = b"to 4 height (0,0,0,1,3) flag 0 hop 4";
+
+/// A disk of 64 bytes that never fails, and tells contracts no bytes.
+#[derive(Drop)]
+struct ByteDisk {
+    bytes: [u8; 80],
+    length: usize,
+    ghost within: { length ≤ 80 },
+}
+
+impl ByteDisk {
+    /// A disk with so many bytes of zero.
+    fn of_zeros(length: usize) -> ByteDisk
+        requires { length ≤ 80 }
+    {
+        ByteDisk {
+            bytes: [0; 80],
+            length,
+        }
+    }
+
+    /// A disk with two slots of zeros and this tag.
+    fn of_tag(tag: &[u8; 32]) -> ByteDisk {
+        let mut bytes = [0; 80];
+        bytes[32..64].copy_from_slice(tag);
+        ByteDisk { bytes, length: 64 }
+    }
+}
+
+impl Disk for ByteDisk {
+    ghost use Rattle.std.specs.Prelude.{[], false};
+    ghost use Rattle.std.proofs.Common.{rules};
+
+    ghost tells = { λ d. false };
+
+    ghost seen = { λ d. [] };
+
+    ghost may_leave = { λ d c. ⊥ };
+
+    ghost moment = { λ d. 0 };
+
+    ghost left_since = { λ d t c. ⊥ };
+
+    ghost failures = { λ d. 0 };
+
+    ghost reads = { λ d at buf answer bytes new. Unit {0} };
+
+    ghost writes = { λ d at bytes answer new. Unit {0} };
+
+    ghost syncs = { λ d answer new. Unit {0} };
+
+    ghost seen_may_stay = { Prim.search rules };
+
+    ghost counts_now = { λ d t c le now. now };
+
+    ghost only_now = { λ d c left. left };
+
+    fn read(&mut self, at: usize, buf: &mut [u8]) -> Result<usize, DiskError> {
+        let there = &self.bytes[..self.length];
+        let Some(rest) = there.get(at..) else {
+            return Ok(0);
+        };
+        let count = rest.len().min(buf.len());
+        buf[..count].copy_from_slice(&rest[..count]);
+        Ok(count)
+    }
+
+    fn write_at(&mut self, at: usize, bytes: &[u8]) -> Result<(), DiskError> {
+        if at > 80 || bytes.len() > 80 - at {
+            return Ok(());
+        }
+        let end = at + bytes.len();
+        self.bytes[at..end].copy_from_slice(bytes);
+        if end > self.length {
+            self.length = end;
+        }
+        Ok(())
+    }
+
+    fn sync(&mut self) -> Result<(), DiskError> {
+        Ok(())
+    }
+}
+
+/// What the two nodes of a test tell each other of their course.
+#[derive(Drop)]
+struct Course {
+    /// 1 once something was printed.
+    printed: AtomicU64,
+    /// 1 once the route was printed.
+    found: AtomicU64,
+}
+
+/// Where a node prints: it looks for the route.
+#[derive(Drop)]
+struct Screen<'a> {
+    course: &'a Course,
+}
+
+impl Write for Screen<'_> {
+    fn write(&mut self, buf: &[u8]) -> io::Result<usize> {
+        if buf.windows(FOUND.len()).any(|part| part == FOUND) {
+            self.course.found.store(1, Ordering::SeqCst);
+        }
+        self.course.printed.store(1, Ordering::SeqCst);
+        Ok(buf.len())
+    }
+
+    fn flush(&mut self) -> io::Result<()> {
+        Ok(())
+    }
+}
+
+/// Commands: one at first, and then `show` every 100 ms until the route is found, a hundred times at most.
+#[derive(Drop)]
+struct Asking<'a, R> {
+    rt: &'a R,
+    first: &'a [u8],
+    course: &'a Course,
+    asked: u64,
+}
+
+impl<R: time::Clock> Read for Asking<'_, R> {
+    fn read(&mut self, buf: &mut [u8]) -> io::Result<usize> {
+        let text: &[u8] = if self.asked == 0 {
+            self.first
+        } else if self.asked <= 100 && self.course.found.load(Ordering::SeqCst) == 0 {
+            thread::sleep(self.rt, Duration::from_millis(100));
+            b"show\n"
+        } else {
+            return Ok(0);
+        };
+        self.asked = self.asked.saturating_add(1);
+        let count = text.len().min(buf.len());
+        for (to, from) in buf.iter_mut().zip(text) {
+            *to = *from;
+        }
+        Ok(count)
+    }
+}
+
+/// Runs a node with one link over the loopback.
+fn run_one<R: Threads + Wait + Sync + Net + time::Clock + log::Log + Abort>(
+    rt: &R,
+    alloc: Global,
+    me: u32,
+    peer: u32,
+    wire: UdpWire,
+    first: &[u8],
+    course: &Course,
+) -> bool
+    requires me { 0 < me }
+    requires peer { 0 < peer }
+{
+    let config = Config::new(alloc, me, &[peer], &[4]).expect(rt, "a configuration");
+    let mut wires = Vec::new(alloc);
+    wires.push(wire).expect(rt, "memory");
+    let mut disks = Vec::new(alloc);
+    disks.push(ByteDisk::of_zeros(0)).expect(rt, "memory");
+    let links = config.peers().len();
+    assert_eq!(rt; wires.len(), links);
+    assert_eq!(rt; disks.len(), links);
+    let clock = UnixClock::new(rt);
+    let mut commands = Asking {
+        rt,
+        first,
+        course,
+        asked: 0,
+    };
+    let mut screen = Screen { course };
+    run_node(
+        rt,
+        alloc,
+        config,
+        wires,
+        disks,
+        &clock,
+        &mut commands,
+        &mut screen,
+    )
+    .is_ok()
+}
+
+/// Two wires to each other, on two ports of the loopback that are free.
+fn pair<R: Net>(rt: &R) -> Option<(UdpWire, UdpWire)> {
+    for port in 44_400..44_900u16 {
+        let Ok(first) = UdpWire::bind(rt, port, port + 500) else {
+            continue;
+        };
+        let Ok(second) = UdpWire::bind(rt, port + 500, port) else {
+            continue;
+        };
+        return Some((first, second));
+    }
+    None
+}
+
+/// Waits until the other node has printed, 10 s at most.
+fn wait_for_print<R: time::Clock>(rt: &R, course: &Course) {
+    for _ in 0..100 {
+        if course.printed.load(Ordering::SeqCst) == 1 {
+            return;
+        }
+        thread::sleep(rt, Duration::from_millis(100));
+    }
+}
+
+#[test]
+fn two_nodes_on_the_loopback(rt: HostRuntime) -> Result<(), Fail> {
+    let alloc = rt.alloc();
+    let (third, fourth) = pair(&rt).ok_or("no two ports are free")?;
+    let course = Course {
+        printed: AtomicU64::new(0),
+        found: AtomicU64::new(0),
+    };
+    let (runtime, shared) = (&rt, &course);
+    let (three, four) = thread::join(
+        &rt,
+        move || run_one(runtime, alloc, 3, 4, third, b"need 4\nshow\n", shared),
+        move || {
+            wait_for_print(runtime, shared);
+            run_one(runtime, alloc, 4, 3, fourth, b"hello\n", shared)
+        },
+    );
+    assert!(&rt; three && four);
+    assert_eq!(&rt; course.found.load(Ordering::SeqCst), 1);
+    Ok(())
+}
+
+/// A wire on which nothing comes, that looks in its first `receive` whether another wire is in its own.
+#[derive(Drop)]
+struct Meeting<'a, R> {
+    rt: &'a R,
+    own: &'a AtomicU64,
+    other: &'a AtomicU64,
+    met: &'a AtomicU64,
+}
+
+impl<R: time::Clock> Wire for Meeting<'_, R> {
+    ghost use Rattle.std.specs.Prelude.{false, []};
+
+    ghost tells = { λ w. false };
+
+    ghost coming = { λ w. [] };
+
+    ghost tries = { λ w. [] };
+
+    ghost failures = { λ w. 0 };
+
+    ghost did_send = { λ w bytes answer after. Unit {0} };
+
+    ghost did_receive = { λ w answer buffer after. Unit {0} };
+
+    fn send(&mut self, _bytes: &[u8]) -> Result<(), WireError> {
+        Ok(())
+    }
+
+    fn receive(&mut self, _buf: &mut [u8]) -> Result<Option<usize>, WireError> {
+        if self.own.swap(1, Ordering::SeqCst) == 0 {
+            for _ in 0..10_000 {
+                if self.other.load(Ordering::SeqCst) == 1 {
+                    self.met.fetch_add(1, Ordering::SeqCst);
+                    break;
+                }
+                thread::sleep(self.rt, Duration::from_millis(1));
+            }
+        }
+        Ok(None)
+    }
+}
+
+/// Commands that end once both neighbours have met, after ten seconds at the latest.
+#[derive(Drop)]
+struct Waiting<'a, R> {
+    rt: &'a R,
+    met: &'a AtomicU64,
+}
+
+impl<R: time::Clock> Read for Waiting<'_, R> {
+    fn read(&mut self, _buf: &mut [u8]) -> io::Result<usize> {
+        for _ in 0..100 {
+            if self.met.load(Ordering::SeqCst) == 2 {
+                break;
+            }
+            thread::sleep(self.rt, Duration::from_millis(100));
+        }
+        Ok(0)
+    }
+}
+
+#[test]
+fn neighbours_at_once(rt: HostRuntime) -> Result<(), Fail> {
+    let alloc = rt.alloc();
+    let (first, second, met) = (AtomicU64::new(0), AtomicU64::new(0), AtomicU64::new(0));
+    let config = Config::new(alloc, 1, &[2, 3], &[4])
+        .ok()
+        .ok_or("a configuration")?;
+    let mut wires = Vec::new(alloc);
+    wires.push(Meeting {
+        rt: &rt,
+        own: &first,
+        other: &second,
+        met: &met,
+    })?;
+    wires.push(Meeting {
+        rt: &rt,
+        own: &second,
+        other: &first,
+        met: &met,
+    })?;
+    let mut disks = Vec::new(alloc);
+    disks.push(ByteDisk::of_zeros(0))?;
+    disks.push(ByteDisk::of_zeros(0))?;
+    let links = config.peers().len();
+    assert_eq!(&rt; wires.len(), links);
+    assert_eq!(&rt; disks.len(), links);
+    let clock = UnixClock::new(&rt);
+    let mut commands = Waiting { rt: &rt, met: &met };
+    let mut screen = Vec::new(alloc);
+    let ended = run_node(
+        &rt,
+        alloc,
+        config,
+        wires,
+        disks,
+        &clock,
+        &mut commands,
+        &mut screen,
+    );
+    assert!(&rt; ended.is_ok());
+    assert_eq!(&rt; met.load(Ordering::SeqCst), 2);
+    Ok(())
+}
+
+/// The tag of node 1 and peer 2.
+const TAG: [u8; 32] = [
+    0x54, 0x4f, 0x52, 0x41, 0x4c, 0x49, 0x46, 0x32, 0, 0, 0, 1, 0, 0, 0, 2, 0xab, 0xb0, 0xad, 0xbe,
+    0xb3, 0xb6, 0xb9, 0xcd, 0xff, 0xff, 0xff, 0xfe, 0xff, 0xff, 0xff, 0xfd,
+];
+
+/// Runs node 1 with the one neighbour 3 over this life file, and answers the fault. No thread is started.
+fn fault_of<'a, R: Threads + Wait + Sync + time::Clock + log::Log + Abort>(
+    rt: &'a R,
+    alloc: Global,
+    first: &'a AtomicU64,
+    second: &'a AtomicU64,
+    met: &'a AtomicU64,
+    disk: ByteDisk,
+) -> Result<Option<NodeError>, Fail> {
+    let config = Config::new(alloc, 1, &[3], &[4])
+        .ok()
+        .ok_or("a configuration")?;
+    let mut wires = Vec::new(alloc);
+    wires.push(Meeting {
+        rt,
+        own: first,
+        other: second,
+        met,
+    })?;
+    let mut disks = Vec::new(alloc);
+    disks.push(disk)?;
+    let links = config.peers().len();
+    assert_eq!(rt; wires.len(), links);
+    assert_eq!(rt; disks.len(), links);
+    let clock = UnixClock::new(rt);
+    let mut commands = Waiting { rt, met };
+    let mut screen = Vec::new(alloc);
+    let ended = run_node(
+        rt,
+        alloc,
+        config,
+        wires,
+        disks,
+        &clock,
+        &mut commands,
+        &mut screen,
+    );
+    assert_eq!(rt; first.load(Ordering::SeqCst), 0);
+    Ok(ended.err())
+}
+
+#[test]
+fn a_damaged_life_file_starts_no_thread(rt: HostRuntime) -> Result<(), Fail> {
+    let (first, second, met) = (AtomicU64::new(0), AtomicU64::new(0), AtomicU64::new(0));
+    let disk = ByteDisk::of_zeros(65);
+    let fault = fault_of(&rt, rt.alloc(), &first, &second, &met, disk)?;
+    assert_eq!(&rt; fault, Some(NodeError::Life(3, LifeError::Damaged)));
+    Ok(())
+}
+
+#[test]
+fn a_life_file_of_another_link_starts_no_thread(rt: HostRuntime) -> Result<(), Fail> {
+    let (first, second, met) = (AtomicU64::new(0), AtomicU64::new(0), AtomicU64::new(0));
+    let disk = ByteDisk::of_tag(&TAG);
+    let fault = fault_of(&rt, rt.alloc(), &first, &second, &met, disk)?;
+    assert_eq!(&rt; fault, Some(NodeError::Life(3, LifeError::Foreign)));
+    Ok(())
+}
+
+#[test]
+fn lines_that_are_commands(rt: HostRuntime) {
+    assert_eq!(&rt; command_of(b"show"), Command::Show);
+    assert_eq!(&rt; command_of(b"quit"), Command::Quit);
+    assert_eq!(&rt; command_of(b"need 4"), Command::Need(4));
+    assert_eq!(&rt;
+        command_of(b"need 4294967295"),
+        Command::Need(4_294_967_295)
+    );
+    for line in [
+        b"".as_slice(),
+        b"need",
+        b"need ",
+        b"need 0",
+        b"need 04",
+        b"need +4",
+        b"need 4 ",
+        b"need  4",
+        b"need 4294967296",
+        b"need 99999999999",
+        b"Show",
+        b"show ",
+        b"quit\r",
+    ] {
+        assert_eq!(&rt; command_of(line), Command::Unknown);
+    }
+}
+
+#[test]
+fn documented_configuration(rt: HostRuntime) -> Result<(), Fail> {
+    let config = Config::new(rt.alloc(), 1, &[3, 2], &[4])
+        .ok()
+        .ok_or("a configuration")?;
+    assert_eq!(&rt; config.peers(), [2, 3].as_slice());
+    assert_eq!(&rt; command_of(b"need 4".as_slice()), Command::Need(4));
+    Ok(())
+}
+
+/// Where a node prints: 256 bytes at most.
+#[derive(Drop)]
+struct Page {
+    bytes: [u8; 256],
+    length: usize,
+    ghost within: { length ≤ 256 },
+}
+
+impl Write for Page {
+    fn write(&mut self, buf: &[u8]) -> io::Result<usize> {
+        let room = &mut self.bytes[self.length..];
+        let count = room.len().min(buf.len());
+        room[..count].copy_from_slice(&buf[..count]);
+        self.length += count;
+        Ok(count)
+    }
+
+    fn flush(&mut self) -> io::Result<()> {
+        Ok(())
+    }
+}
+
+#[test]
+fn want_of_memory_refuses_a_configuration(rt: HostRuntime) {
+    match Config::new(rt.alloc(), 1, &[3, 2], &[4]) {
+        Err(error) => assert_eq!(&rt; error, CoreError::Memory),
+        Ok(config) => {
+            assert_eq!(&rt; config.peers(), [2, 3].as_slice());
+            assert_eq!(&rt; config.into_core().me(), 1);
+        }
+    }
+}
+
+/// Runs node 1 between nodes 2 and 3 over wires on which nothing comes, with these commands.
+fn run_in_memory<R: Threads + Wait + Sync + time::Clock + log::Log>(
+    rt: &R,
+    alloc: Global,
+    commands: &[u8],
+    page: &mut Page,
+) -> Result<Ended, NodeError> {
+    let config = match Config::new(alloc, 1, &[3, 2], &[4]) {
+        Ok(config) => config,
+        Err(_) => return Err(NodeError::Memory),
+    };
+    let (mut wires, mut disks) = (Vec::new(alloc), Vec::new(alloc));
+    for _ in 0..2 {
+        let wire = MemWire::<16>::new(Vec::new(alloc));
+        if wires.push(wire).is_err() || disks.push(ByteDisk::of_zeros(0)).is_err() {
+            return Err(NodeError::Memory);
+        }
+    }
+    let links = config.peers().len();
+    if wires.len() != links || disks.len() != links {
+        return Err(NodeError::Lane);
+    }
+    let clock = UnixClock::new(rt);
+    let mut reader = commands;
+    run_node(rt, alloc, config, wires, disks, &clock, &mut reader, page)
+}
+
+#[test]
+fn want_of_memory_ends_a_node(rt: HostRuntime) {
+    let alloc = rt.alloc();
+    let mut page = Page {
+        bytes: [0; 256],
+        length: 0,
+    };
+    let commands = b"need 9\nhello\nshow\nneed 0\nquit\nshow\n";
+    match run_in_memory(&rt, alloc, commands, &mut page) {
+        Err(error) => {
+            // What was printed before stands whole.
+            assert_eq!(&rt; error, NodeError::Memory);
+            assert!(&rt; page.length == 0 || page.length == 10 || page.length == 37);
+        }
+        Ok(ended) => {
+            assert_eq!(&rt;
+                &page.bytes[..page.length],
+                b"refused 5\nto 4 height - flag 0 hop -\n".as_slice()
+            );
+            assert_eq!(&rt; ended.core().me(), 1);
+            assert_eq!(&rt; ended.core().neighbours(), [2, 3].as_slice());
+            assert_eq!(&rt; ended.tally(2), Some(Tally::new()));
+            assert_eq!(&rt; ended.tally(3), Some(Tally::new()));
+            assert_eq!(&rt; ended.tally(1), None);
+            assert_eq!(&rt; ended.tally(4), None);
+        }
+    }
+}
