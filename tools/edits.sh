@@ -5,7 +5,7 @@
 #   -j NUMBER   as many crates side by side, each with up to 4 GB; 1 without it
 # Each crate is tried on a copy, which is gone at the end, so that what is not committed is tried, too. The copy takes the
 # libraries of the crates below from their out/ (`rt all check` makes them), and proves those that are missing or old. The
-# first edit of a crate costs a proof of it, each further one 10 to 40 seconds.
+# first edit of a crate costs a proof of it, each further one 20 to 90 seconds.
 # The last line is 'N passed, M failed', the status 1 where one failed. An edit that can't be applied has failed.
 set -u
 top=$(cd "$(dirname "$0")/.." && pwd)
