@@ -10,5 +10,5 @@ top=$(cd "$(dirname "$0")/.." && pwd)
 seconds=${1:?seconds}
 seed=${2:-$(od -An -N4 -tu4 /dev/urandom | tr -d ' ')}
 kept=${3:-$PWD/fuzz-kept}
-"$top/tora" --version >/dev/null
+"$top/tora" build >&2
 exec python3 "$top/bench/fuzz.py" "$top" "$seconds" "$seed" "$kept"

@@ -6,7 +6,7 @@
 set -eu
 top=$(cd "$(dirname "$0")/.." && pwd)
 runs=${1:-20}
-"$top/tora" --version >/dev/null
+"$top/tora" build >&2
 python3 - "$top" "$runs" <<'P'
 import os
 import select

@@ -7,7 +7,7 @@ base=${1:?the folder of the baseline}
 lines=${2:-1000000}
 rounds=${3:-5}
 . "$top/bench/baseline.sh" "$base"
-"$top/tora" --version >/dev/null
+"$top/tora" build >&2
 "$bin" gen-mix "$lines" 1 >"$work/mix.replay"
 echo "a mixed file of $lines lines, $(stat -c %s "$work/mix.replay") bytes"
 python3 "$top/bench/measure.py" "$rounds" "$work/mix.replay" "$work/a" "$work/b" -- "$top/crates/tora/out/tora" replay -- "$bin" replay

@@ -10,7 +10,7 @@ base=${1:?the folder of the baseline}
 repeats=${2:-40}
 rounds=${3:-5}
 . "$top/bench/baseline.sh" "$base"
-"$top/tora" --version >/dev/null
+"$top/tora" build >&2
 
 # A file whose lines behind the links come so many times.
 repeated() {

@@ -10,5 +10,5 @@ case ${1-} in -h | --help) sed -n '2,/^set -eu/{/^# /s/^# //p}' "$0"; exit 0 ;; 
 top=$(cd "$(dirname "$0")/.." && pwd)
 minutes=${1:?minutes}
 seed=${2:-$(od -An -N4 -tu4 /dev/urandom | tr -d ' ')}
-"$top/tora" --version >/dev/null
+"$top/tora" build >&2
 exec python3 "$top/bench/soak.py" "$top" "$minutes" "$seed"

@@ -46,7 +46,7 @@ parallel --version 2>/dev/null | grep -q '^GNU parallel' || fail 2 "parallel is 
 if [ -n "${TORA_SIM:-}" ]; then
   read -r -a simulate <<<"$TORA_SIM"
 else
-  "$here/../tora" --version >/dev/null
+  "$here/../tora" build >&2
   simulate=("$here/../crates/tora/out/tora" sim)
 fi
 program=$(command -v "${simulate[0]}") || fail 2 "there is no program ${simulate[0]}"

@@ -1,0 +1,96 @@
+#!/usr/bin/env python3
+"""Runs the tests of every crate of crates.txt that has some, without a proof.
+
+usage: ./tora test [--jobs N] [CRATE ..]
+
+  --jobs N    N crates at a time, in place of two
+  CRATE ..    the tests of these crates alone
+
+`rt try --test` compiles each crate with its tests and runs them with checks at run time. Each crate is told as it ends, and
+each test that fails with what it wrote. The last line is `N passed, M failed`, in tests; a crate whose tests can't be compiled
+counts as one that failed. Exit status: 0 where none failed, else 1 (also where there is no test); 2 for usage. Nothing is proved here: `rt ci` is the gate.
+"""
+import argparse
+import os
+import re
+import signal
+import subprocess
+import sys
+import time
+from concurrent.futures import ThreadPoolExecutor, as_completed
+
+TOP = os.path.dirname(os.path.dirname(os.path.realpath(__file__)))
+TEST = re.compile(r"#\s*\[[^]]*\btest\b")
+
+
+def crates():
+    """The crates of crates.txt, in its order."""
+    with open(f"{TOP}/crates.txt") as text:
+        rows = [it.partition("#")[0].partition(":")[0].split() for it in text]
+    return [it[0] for it in rows if it]
+
+
+def sources(crate):
+    for at, _, names in os.walk(f"{TOP}/crates/{crate}/src"):
+        for name in names:
+            if name.endswith(".rt"):
+                with open(f"{at}/{name}", errors="replace") as text:
+                    yield text.read()
+
+
+def outcome(said):
+    """How many tests passed, and by name what each wrote that failed, or None where the tests did not run to their end."""
+    count = re.search(r"^tests: (\d+)$", said, re.M)
+    ended = re.search(r"^test result: \S+ (\d+) passed; (\d+) failed;", said, re.M)
+    told = re.findall(r"^test (\S+) \.\.\. FAILED\n((?:    .*\n)*)", said, re.M)
+    if not count or not ended or int(ended[1]) + int(ended[2]) != int(count[1]) or len(told) != int(ended[2]):
+        return None
+    return int(ended[1]), dict(told)
+
+
+def run(crate):
+    """Runs the tests of a crate; answers its name, the seconds, the status and what was said."""
+    began = time.time()
+    how = {"stdin": subprocess.DEVNULL, "stdout": subprocess.PIPE, "stderr": subprocess.STDOUT, "errors": "replace"}
+    ran = subprocess.run(["rt", "try", "--test"], cwd=f"{TOP}/crates/{crate}", **how)
+    return crate, time.time() - began, ran.returncode, ran.stdout
+
+
+def main():
+    if {"-h", "--help"} & {*sys.argv[1:]}:
+        print(__doc__, end="")
+        return 0
+    words = argparse.ArgumentParser(prog="./tora test", usage="./tora test [--jobs N] [CRATE ..]", add_help=False)
+    words.add_argument("--jobs", type=int, default=2)
+    words.add_argument("crates", nargs="*")
+    asked = words.parse_args()
+    for it in asked.crates:
+        if it not in crates():
+            words.error(f"no crate {it} in crates.txt")
+    if asked.jobs < 1:
+        words.error("--jobs takes a number from 1 on")
+    lines = {it: [text.count("\n") for text in sources(it)] for it in crates()}
+    have = [it for it in asked.crates or crates() if any(TEST.search(text) for text in sources(it))]
+    # what takes longest first: a crate with much below it, which a try reads whole
+    have.sort(key=lambda it: -sum(lines[it]))
+    passed = failed = 0
+    with ThreadPoolExecutor(asked.jobs) as pool:
+        for ended in as_completed([pool.submit(run, it) for it in have]):
+            crate, seconds, status, said = ended.result()
+            found = outcome(said)
+            if found is None or bool(found[1]) != bool(status):
+                failed += 1
+                print(f"{crate}: the tests did not run to their end (rt try: status {status})\n{said}", end="", flush=True)
+                continue
+            passed, failed = passed + found[0], failed + len(found[1])
+            for name, wrote in found[1].items():
+                print(f"{crate}: {name} FAILED\n{wrote}", end="")
+            print(f"{crate}: {found[0]} passed, {len(found[1])} failed ({round(seconds)} s)", flush=True)
+    print("run with checks at run time, and not proved: `rt ci` is the gate" if have else "no tests")
+    print(f"{passed} passed, {failed} failed")
+    return 1 if failed or not have else 0
+
+
+if __name__ == "__main__":
+    signal.signal(signal.SIGINT, lambda *_: os._exit(130))
+    sys.exit(main())
