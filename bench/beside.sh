@@ -8,13 +8,9 @@ base=${2:?the folder of the baseline}
 steps=${3:-300000}
 rounds=${4:-5}
 . "$top/bench/baseline.sh" "$base"
-case $what in
-  codec) ours=(tora_bench_codec "$steps") ;;
-  *) ours=(tora_bench "$what" "$steps") ;;
-esac
-(cd "$top/crates/${ours[0]}" && rt run >/dev/null 2>&1)
+(cd "$top/crates/tora_bench" && rt run >/dev/null 2>&1)
 for _ in $(seq "$rounds"); do
-  "$top/crates/${ours[0]}/out/${ours[0]}" "${ours[@]:1}" >>"$work/ours"
+  "$top/crates/tora_bench/out/tora_bench" "$what" "$steps" >>"$work/ours"
   "$bin" bench "$steps" >>"$work/theirs"
 done
 python3 - "$work/ours" "$work/theirs" "$what" <<'P'

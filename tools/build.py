@@ -182,7 +182,7 @@ def build_all(rtlib, crates, lanes, times):
     behind = longest_behind(crates, times.weights)
     built = {it.name for it in crates if not it.is_program and it.is_built()}
     left = sorted((it for it in crates if it.name not in built), key=lambda it: -behind[it.name])
-    is_anew = not built and not any(it.has_kept() for it in crates)
+    is_anew = crates[-1].name == PROGRAM and not built and not any(it.has_kept() for it in crates)
     start, memory, running = time.time(), 0.85 * free(rtlib), {}
     if built:
         say(f"{len(built)} of {len(crates)} crates are proved already")

@@ -3,13 +3,16 @@
 //! `tora_bench hold-least N`, `hold-small N` and `hold-large N` hold N cores at once. `tora_bench core N` times N steps of a
 //! core on mixes of inputs, four with 8 neighbours and 16 destinations, three with 32 and 64, `tora_bench link N` N packets
 //! that go from one link end to another and are acknowledged, one at a time and a window at a time: in frames of one and in
-//! batches, and each of them as frames and as bytes. Each line is a name,
+//! batches, and each of them as frames and as bytes. `tora_bench codec N` encodes and decodes N updates, then N DATA frames
+//! of version 1 with an update each, and then N DATA frames of version 2 with sixteen updates each. Each line is a name,
 //! nanoseconds an operation (the best of seven runs), and a number that depends on every result.
 #![tactic(auto)]
 
+mod codec;
 mod inputs;
 mod links;
 
+use codec::Coded;
 use inputs::{
     Size, fresh_core, mixed_inputs, quiet_update, reacting_update, routed_core, small_core,
 };
@@ -112,6 +115,8 @@ enum Mix {
     Link,
     /// A window of packets between two link ends of a version.
     Window(Version, Passed),
+    /// Packets or frames that are encoded and decoded.
+    Codec(Coded),
 }
 
 impl Mix {
@@ -126,6 +131,7 @@ impl Mix {
             Mix::Window(Version::One, Passed::Bytes) => "link-window-bytes",
             Mix::Window(Version::Two, Passed::Frame) => "link-batch",
             Mix::Window(Version::Two, Passed::Bytes) => "link-batch-bytes",
+            Mix::Codec(coded) => coded.name(),
         }
     }
 
@@ -135,7 +141,7 @@ impl Mix {
             Mix::Mixed(size) => fresh_core(alloc, size),
             Mix::Reacting => small_core(alloc),
             Mix::Quiet(size) | Mix::Links(size) => routed_core(alloc, size),
-            Mix::Link | Mix::Window(_, _) => fresh_core(alloc, Size::Least),
+            Mix::Link | Mix::Window(_, _) | Mix::Codec(_) => fresh_core(alloc, Size::Least),
         }
     }
 
@@ -147,6 +153,7 @@ impl Mix {
             Mix::Links(_) => run_links(core, steps),
             Mix::Link => run_link(alloc, steps).unwrap_or(0),
             Mix::Window(version, passed) => run_window(alloc, steps, version, passed).unwrap_or(0),
+            Mix::Codec(coded) => coded.run(alloc, steps).unwrap_or(0),
         }
     }
 
@@ -157,6 +164,7 @@ impl Mix {
             Mix::Quiet(_) | Mix::Reacting | Mix::Links(_) | Mix::Link | Mix::Window(_, _) => {
                 u64::from(steps)
             }
+            Mix::Codec(_) => codec::count(steps),
         }
     }
 }
@@ -232,6 +240,9 @@ fn main(rt: HostRuntime) -> io::Result<()> {
         Mix::Window(Version::One, Passed::Bytes),
         Mix::Window(Version::Two, Passed::Frame),
         Mix::Window(Version::Two, Passed::Bytes),
+        Mix::Codec(Coded::Packet),
+        Mix::Codec(Coded::Frame),
+        Mix::Codec(Coded::Batch),
     ] {
         if mix.name().starts_with(word.as_str()) {
             time(&rt, mix, &[], steps)?;

@@ -1,23 +1,8 @@
-//! Times the codecs of packets and frames, for `bench/codec.sh`. With no words it prints nothing.
-//!
-//! `tora_bench_codec N` encodes and decodes N updates, then N DATA frames of version 1 with an update each, and then N DATA
-//! frames of version 2 with sixteen updates each. Each line is a name, nanoseconds an operation (the best of seven runs),
-//! and a number that depends on every result. It is a program of its own so that the compiler sees the codecs as the
-//! baseline's does, with one place that calls them.
-#![tactic(auto)]
-
+//! The codecs of packets and frames.
 use std::alloc::Global;
-use std::io;
-use std::time::{Duration, Instant};
 use tora_frame::{Frame, Header, MOST_PACKETS, Packets, Version, decode_into, encode_into};
 use tora_height::Height;
 use tora_packet::{Packet, Update};
-
-/// How often each codec is run; the best run counts.
-const RUNS: u32 = 7;
-
-/// The operations of one run where no number is given.
-const STEPS: u32 = 1_000_000;
 
 /// How many values are encoded before they are decoded, so that no value can be passed on in a register.
 const BATCH: u32 = 256;
@@ -34,13 +19,36 @@ fn update(i: u32) -> Option<Update> {
 
 /// What is encoded and decoded.
 #[derive(Clone, Copy, PartialEq, Eq)]
-enum Coded {
+pub enum Coded {
     /// An update.
     Packet,
     /// A DATA frame of version 1 with an update.
     Frame,
     /// A DATA frame of version 2 with sixteen updates.
     Batch,
+}
+
+impl Coded {
+    pub fn name(self) -> &'static str {
+        match self {
+            Coded::Packet => "codec-packet",
+            Coded::Frame => "codec-frame",
+            Coded::Batch => "codec-batch",
+        }
+    }
+
+    /// Encodes and decodes until the steps are done; a number that depends on every result.
+    pub fn run(self, alloc: Global, steps: u32) -> Option<u64> {
+        match self {
+            Coded::Packet => run_packets(alloc, steps),
+            Coded::Frame | Coded::Batch => run_frames(alloc, steps, self),
+        }
+    }
+}
+
+/// How many operations a run has.
+pub fn count(steps: u32) -> u64 {
+    u64::from(steps / BATCH * BATCH)
 }
 
 /// The `i`th DATA frame.
@@ -126,41 +134,4 @@ fn run_frames(alloc: Global, steps: u32, coded: Coded) -> Option<u64> {
         }
     }
     Some(sum)
-}
-
-/// Times one of the three, and prints its line.
-fn time(rt: &HostRuntime, coded: Coded, steps: u32) -> io::Result<()> {
-    let mut best: Option<Duration> = None;
-    let mut sum = 0u64;
-    for _ in 0..RUNS {
-        let start = Instant::now(rt)?;
-        let told = match coded {
-            Coded::Packet => run_packets(rt.alloc(), steps),
-            Coded::Frame => run_frames(rt.alloc(), steps, coded),
-            Coded::Batch => run_frames(rt.alloc(), steps, coded),
-        };
-        let passed = start.elapsed(rt)?;
-        best = Some(best.map_or(passed, |least| least.min(passed)));
-        sum = told.unwrap_or(0);
-    }
-    let name = match coded {
-        Coded::Packet => "codec-packet",
-        Coded::Frame => "codec-frame",
-        Coded::Batch => "codec-batch",
-    };
-    let nanoseconds = best.map_or(0, |least| least.as_nanos());
-    let hundredths = nanoseconds.saturating_mul(100) / u128::from((steps / BATCH * BATCH).max(1));
-    let (whole, part) = (hundredths / 100, hundredths % 100);
-    println!(rt; "{name} {whole}.{part:02} ns/op check {sum:016x}")
-}
-
-fn main(rt: HostRuntime) -> io::Result<()> {
-    let words = std::env::args(&rt)?.collect::<Vec<String>>(rt.alloc())?;
-    let Some(word) = words.get(1) else {
-        return Ok(());
-    };
-    let steps = word.as_str().parse::<u32>().unwrap_or(STEPS);
-    time(&rt, Coded::Packet, steps)?;
-    time(&rt, Coded::Frame, steps)?;
-    time(&rt, Coded::Batch, steps)
 }
