@@ -9,7 +9,7 @@ use Rattle.tora_life.specs.LifeFile.{Covers}
 use Rattle.tora_life.specs.Migration.{version_of}
 use Rattle.tora_life.specs.State.{seen_of}
 use Rattle.tora_life.proofs.Migrations.{is_tagged}
-use Rattle.tora_tests_node.proofs.tests.life_files.in_memory.restart.Goals as goal
+use Rattle.tora_tests_files.proofs.tests.life_files.in_memory.restart.Goals as goal
 
 covered : (c : goal.After-open) → Covers c.args.file.owner c.args.file.numbers.drawn (seen_of c.crash.new.self.state)
 covered c = c.close-disk.ensures.kept.images refl (seen_of c.crash.new.self.state) c.crash.ensures.left

@@ -1,6 +1,6 @@
 use Rattle.std.proofs.Common.{Result, Ok, Err, IfOk, IfErr}
 use Rattle.tora_life.proofs.InMemory.{opens_by}
-use Rattle.tora_tests_node.proofs.tests.life_files.in_memory.open_in_memory.Goals as goal
+use Rattle.tora_tests_files.proofs.tests.life_files.in_memory.open_in_memory.Goals as goal
 
 if_ok : {A E : Type 0} (r : Result A E) (P Q : A → Type 0) → ((v : A) → P v → Q v) → IfOk r P → IfOk r Q
 if_ok (Ok v) P Q so p = so v p
