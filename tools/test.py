@@ -8,7 +8,8 @@ usage: ./tora test [--jobs N] [CRATE ..]
 
 `rt try --test` compiles each crate with its tests and runs them with checks at run time. Each crate is told as it ends, and
 each test that fails with what it wrote. The last line is `N passed, M failed`, in tests; a crate whose tests can't be compiled
-counts as one that failed. Exit status: 0 where none failed, else 1 (also where there is no test); 2 for usage. Nothing is proved here: `rt ci` is the gate.
+counts as one that failed. Nothing is proved here: `rt ci` is the gate. Exit status: 0 where none failed, 1 where one did or
+there is none, 2 for usage.
 """
 import argparse
 import os
@@ -21,6 +22,8 @@ from concurrent.futures import ThreadPoolExecutor, as_completed
 
 TOP = os.path.dirname(os.path.dirname(os.path.realpath(__file__)))
 TEST = re.compile(r"#\s*\[[^]]*\btest\b")
+# The runs that go on.
+running = set()
 
 
 def crates():
@@ -52,8 +55,18 @@ def run(crate):
     """Runs the tests of a crate; answers its name, the seconds, the status and what was said."""
     began = time.time()
     how = {"stdin": subprocess.DEVNULL, "stdout": subprocess.PIPE, "stderr": subprocess.STDOUT, "errors": "replace"}
-    ran = subprocess.run(["rt", "try", "--test"], cwd=f"{TOP}/crates/{crate}", **how)
-    return crate, time.time() - began, ran.returncode, ran.stdout
+    ran = subprocess.Popen(["rt", "try", "--test"], cwd=f"{TOP}/crates/{crate}", **how)
+    running.add(ran)
+    said, _ = ran.communicate()
+    running.remove(ran)
+    return crate, time.time() - began, ran.returncode, said
+
+
+def broken_off(number, _):
+    """Ends, and has the runs end and take their folders away."""
+    for it in [*running]:
+        it.terminate()
+    os._exit(128 + number)
 
 
 def main():
@@ -92,5 +105,6 @@ def main():
 
 
 if __name__ == "__main__":
-    signal.signal(signal.SIGINT, lambda *_: os._exit(130))
+    for it in (signal.SIGINT, signal.SIGTERM, signal.SIGHUP):
+        signal.signal(it, broken_off)
     sys.exit(main())
