@@ -194,10 +194,13 @@ def build_all(rtlib, crates, lanes, times):
                 idle = lanes - sum(it[2] for it in running.values())
                 room = memory - sum(it[1] for it in running.values())
                 needs = need(rtlib, crate)
-                if idle <= 0 or running and needs > room:
+                # what the whole build waits for starts though all processors are busy, and shares them
+                is_waited_for = all(behind[crate.name] >= behind[it.name] for it in [*left, *(of[0] for of in running.values())])
+                if idle <= 0 and not is_waited_for or running and needs > room:
                     continue
                 # the longest chain comes first, and gets what the crates behind it can't share evenly
-                jobs = max(1, min(4, -(-idle // (len(ready) - at)), 1 + int((room / needs - 1) / 0.6)))
+                share = min(4, lanes) if is_waited_for else min(4, -(-idle // (len(ready) - at)))
+                jobs = max(1, min(share, 1 + int((room / needs - 1) / 0.6)))
                 left.remove(crate)
                 has_kept = crate.has_kept()
                 needs *= 1 + 0.6 * (jobs - 1)

@@ -1,13 +1,16 @@
 #!/usr/bin/env bash
 # Checks the tools on stored scenarios: a small study, whose CSV, summary, loops and pictures (as .dot) are compared with
-# stored ones, the reading of movement files, and the refusals of bad input.
+# Checks the tools on stored scenarios: a small study, whose CSV, summary, loops and pictures (as .dot) are compared with
+# stored ones, the data in pages that play the runs, the reading of movement files, and the refusals of bad input. Beside
+# them the dissector, the completion, what ./tora install puts where, and that the manual page and the help have the lines of
+# docs/formats.md.
 # usage: tools/check.sh [--store]
 #   --store   write what comes out to tools/stored in place of comparing; for a change that is meant to change it
 # Where a simulator with --trace is there, the stored simulations are run, too. The stored traces are those of a second,
 # unverified simulator, which knows version 1 of frames alone: with a line `old N` for every node the trace has to be the
 # stored one byte for byte, and without these lines in all but its records of datagrams. The simulator is TORA_SIM where
 # that is set, else the program that stands in crates/tora/out; nothing is built.
-# Needs python3 alone.
+# The dissector tools/tora.lua is tried on a stored capture, where there is a tshark (package tshark). Else python3 is enough.
 set -eu
 here=$(cd "$(dirname "$0")" && pwd)
 store=
@@ -54,6 +57,19 @@ all_old() {
     { print }' "$1"
 }
 
+# A command that has to end well.
+holds() {
+  local what=$1
+  shift
+  if "$@" >"$work/out" 2>"$work/err"; then
+    passed=$((passed + 1))
+  else
+    failed=$((failed + 1))
+    echo "check: $what: $*" >&2
+    head -3 "$work/err" >&2
+  fi
+}
+
 # A command that has to be refused with this status and these words.
 refuses() {
   local wanted=$1 words=$2 status=0
@@ -93,6 +109,11 @@ check_simulator() {
     grep -v ' frames ' "$work/trace" >"$work/found"
     agrees "$work/wanted" "$work/found" "$run.trace without its records of frames"
   done
+  "${command[@]}" --trace "$work/trace" ../../examples/loop-after-clear.sim >/dev/null
+  TORA_SIM="${command[*]}" python3 ../play.py --sim ../../examples/loop-after-clear.sim -o "$work/sim.html"
+  holds 'a simulation file that play.py runs' python3 ../agree.py --page "$work/sim.html" "$work/trace"
+  printf 'dests 1\nlink 1 2\nrounds 3\nround 3\n' >"$work/s"
+  TORA_SIM="${command[*]}" refuses 1 "$work/s:4: the simulator calls this line a fault" python3 ../play.py --sim "$work/s" -o "$work/refused.html"
 }
 
 check_study() {
@@ -116,6 +137,29 @@ check_pictures() {
   same breaks "$work/breaks"
   python3 ../dag.py 7-9.json 7-9.trace 1 "$work/dag" --break 3 --format dot >/dev/null
   for name in "$work"/dag-*.dot; do same "${name##*/}" "$name"; done
+}
+
+# The data in pages: the records are those of the trace, and folded they give the same heights and next hops in each round.
+check_pages() {
+  local run
+  for run in $runs; do
+    python3 ../play.py "$run.json" "$run.trace" -o "$work/$run.html"
+    holds "$run.json" python3 ../agree.py --page "$work/$run.html" "$run.trace"
+    python3 ../play.py --read "$work/$run.html" >"$work/read"
+    agrees "$run.trace" "$work/read" "the trace in the page of $run"
+  done
+  python3 ../play.py 7-9.trace -o "$work/alone.html"
+  holds 'a trace alone' python3 ../agree.py --page "$work/alone.html" 7-9.trace
+  printf '# by hand\n%s 0 0\n' 1 2 3 4 5 6 7 | sed 's/^\([0-9]*\) 0/\1 \11.5/' >"$work/places"
+  python3 ../play.py --sim 7-9.sim 7-9.trace --place "$work/places" -o "$work/placed.html"
+  holds 'a simulation file, placed by hand' python3 ../agree.py --page "$work/placed.html" 7-9.trace
+  holds 'nothing is loaded from elsewhere' test -z "$(grep -oE '(src|href)="[^d][^"]*"|https?://|@import|url\(' "$work"/*.html)"
+  mkdir -p "$work/study/rows"
+  cp study.csv "$work/study/"
+  for run in 6-1 7-9; do cp "$run.json" "$run.trace" "$work/study/rows/"; done
+  python3 ../study_page.py "$work/study"
+  same index.html "$work/study/index.html"
+  holds 'the page of a run of the study' python3 ../agree.py --page "$work/study/rows/7-9.html" 7-9.trace
 }
 
 check_motion() {
@@ -157,10 +201,129 @@ check_refusals() {
   refuses 2 'no column colour' python3 ../summary.py study.csv colour
 }
 
+# The dissector, on the capture of stored/frames.list: of a port that is decoded as tora, and by the bytes alone.
+check_dissector() {
+  local tried=(tshark -X lua_script:../tora.lua -r frames.pcap -T fields -e tora.summary)
+  python3 ../capture.py frames.list "$work/frames.pcap"
+  same frames.pcap "$work/frames.pcap"
+  if ! command -v tshark >/dev/null; then
+    echo "check: no tshark (package tshark); tools/tora.lua is not tried"
+    return
+  fi
+  sed -n 's/^[^#|]*| //p' frames.list >"$work/wanted"
+  "${tried[@]}" -d udp.port==40021,tora >"$work/found" 2>"$work/err" || cat "$work/err" >&2
+  agrees "$work/wanted" "$work/found" "what tools/tora.lua says of stored/frames.pcap"
+  sed -i '/no frame/d' "$work/wanted"
+  "${tried[@]}" 2>"$work/err" | sed '/^$/d' >"$work/found"
+  agrees "$work/wanted" "$work/found" "what tools/tora.lua says of stored/frames.pcap by its bytes"
+}
+
+# ./tora install and uninstall, in a copy with a stand-in for the program.
+check_install() {
+  local copy=$work/copy root=$work/root tora=$work/copy/tora program=$work/copy/crates/tora/out/tora
+  mkdir -p "$copy/crates/tora/src" "$copy/crates/tora/out" "$copy/tools" "$copy/docs" "$root/usr/share/tora"
+  cp ../../tora ../../crates.txt "$copy/"
+  cp -R ../install.py ../tora.lua ../completion "$copy/tools/"
+  cp ../../docs/tora.1 "$copy/docs/"
+  refuses 2 'the program is not built' "$tora" install
+  printf '#!/bin/sh\necho "the program, $*"\n' >"$program"
+  chmod +x "$program"
+  touch -d '1 minute ago' "$program"
+  touch "$copy/crates/tora/src/main.rt"
+  refuses 2 'the program is older than its sources' "$tora" install
+  touch "$program"
+  refuses 2 'a path from the root on' "$tora" install usr
+  refuses 1 'Not a directory' env DESTDIR="$program" "$tora" install
+  echo 'of somebody else' >"$root/usr/share/tora/other"
+  DESTDIR=$root "$tora" install /usr >"$work/told"
+  (cd "$root" && "usr/bin/tora" sim x && find . -type f -printf '%m %P\n' | sort -k2) >"$work/installed"
+  same installed "$work/installed"
+  DESTDIR=$root "$tora" uninstall /usr >"$work/told"
+  (cd "$root" && find . -type f) >"$work/found"
+  echo ./usr/share/tora/other >"$work/wanted"
+  agrees "$work/wanted" "$work/found" 'what stays behind uninstall'
+}
+
+# Completion for bash: what is offered behind words, and for a beginning of the next.
+check_completion() {
+  local it
+  while IFS= read -r it; do
+    echo "$it: $(cd ../../examples/line-of-four && ../../tools/completion/offers.sh "$it")"
+  done >"$work/completion" <<<$'tora \ntora s\n../../tora i\ntora -v sim --t\ntora sim --times 1 \ntora node --ch\ntora node n1\ntora help '
+  same completion "$work/completion"
+}
+
+# The forms of lines in the manual page and the help are those of docs/formats.md.
+check_forms() {
+  python3 ../forms.py >"$work/found" || true
+  agrees /dev/null "$work/found" 'docs/formats.md has lines that the manual page or the help lacks, which'
+}
+
+# What play.py refuses, and that no page is left behind.
+check_page_refusals() {
+  local page=$work/refused.html
+  : >"$work/t"
+  refuses 1 "$work/t:1: the trace is empty" python3 ../play.py 6-1.json "$work/t" -o "$page"
+  refuses 1 "$work/t:1: the trace is empty" python3 ../play.py "$work/t" -o "$page"
+  head -c 5000 6-1.trace >"$work/t"
+  refuses 1 "$work/t:$(($(wc -l <"$work/t") + 1)): the line is cut" python3 ../play.py 6-1.json "$work/t" -o "$page"
+  head -300 6-1.trace >"$work/t"
+  refuses 1 "$work/t:300: the trace ends in round 230 of 300: it is cut" python3 ../play.py 6-1.json "$work/t" -o "$page"
+  refuses 1 '7-9.trace:4: no link of the scenario' python3 ../play.py 6-1.json 7-9.trace -o "$page"
+  refuses 1 '8-1.trace:1: no link of the scenario' python3 ../play.py 8-2.json 8-1.trace -o "$page"
+  sed '5s/$/ 1/' 6-1.trace >"$work/t"
+  refuses 1 "$work/t:5: \`" python3 ../play.py --sim 6-1.sim "$work/t" -o "$page"
+  printf '1 0 0\n2 1 x\n' >"$work/p"
+  refuses 1 "$work/p:2: X or Y is no number" python3 ../play.py 6-1.trace --place "$work/p" -o "$page"
+  printf '1 0 0\n1 1 0\n' >"$work/p"
+  refuses 1 "$work/p:2: node 1: has a place already" python3 ../play.py 6-1.trace --place "$work/p" -o "$page"
+  printf '1 0 0\n' >"$work/p"
+  refuses 1 "$work/p: no place of node 2" python3 ../play.py 6-1.trace --place "$work/p" -o "$page"
+  printf 'dests 1\nnode 2\n' >"$work/s"
+  refuses 1 "$work/s:2: no line of a simulation file" python3 ../play.py --sim "$work/s" -o "$page"
+  refuses 2 '--place is for runs without motion' python3 ../play.py 6-1.json 6-1.trace --place "$work/p" -o "$page"
+  refuses 1 "$work/p: no page of play.py" python3 ../play.py --read "$work/p"
+  sed 's/"positions": \[\[\[/&"x",/' 6-1.json >"$work/j"
+  refuses 1 "$work/j: no scenario: \`positions\` are not those of its nodes" python3 ../play.py "$work/j" 6-1.trace -o "$page"
+  printf '99999999 up 1 2 1 1\n99999999 route 1 2 - -\n' >"$work/t"
+  refuses 1 "$work/t:2: 99999999 rounds are too many for a page" python3 ../play.py "$work/t" -o "$page"
+  python3 ../play.py 6-1.json 6-1.trace -o "$work/damaged.html"
+  sed -i 's/^[A-Za-z0-9+/]\{76\}$/!/' "$work/damaged.html"
+  refuses 1 "$work/damaged.html: the" python3 ../play.py --read "$work/damaged.html"
+  holds 'no page is left behind' test -z "$(ls "$work" | grep '^refused')"
+}
+
+# Two processes on one life file: the second ends with status 4 and names the file, and a killed one leaves no lock behind.
+check_lock() {
+  local program=$here/../crates/tora/out/tora it process
+  [ -x "$program" ] || return 0
+  for it in 3 4; do
+    printf 'node = 1\ndests = [2]\nlife_dir = "%s"\n[[link]]\npeer = 2\nlocal = 40%d12\nremote = 40%d21\n' "$work/lives" $it $it >"$work/$it.toml"
+  done
+  mkfifo "$work/commands"
+  "$program" node "$work/3.toml" <"$work/commands" >"$work/table" 2>"$work/log" &
+  process=$!
+  exec 9>"$work/commands"
+  echo show >&9
+  for ((it = 0; it < 100; it++)); do [ ! -s "$work/table" ] || break; sleep 0.05; done
+  refuses 4 "tora: life: $work/lives/life-2: " "$program" node "$work/4.toml" </dev/null
+  disown "$process"
+  kill -9 "$process"
+  refuses 0 '' "$program" node "$work/4.toml" </dev/null
+  exec 9>&-
+}
+
 check_simulator
+check_lock
 check_study
 check_pictures
+check_pages
 check_motion
 check_refusals
+check_forms
+check_dissector
+check_install
+check_completion
+check_page_refusals
 echo "$passed passed, $failed failed"
 [ "$failed" = 0 ]

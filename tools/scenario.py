@@ -13,9 +13,13 @@ more, links are declared in the order of their total contact time, the longest f
 room. The contact time that is lost so is told, and stands in the scenario (contact_kept), as do the nodes without a link.
 """
 import argparse
+import bisect
+import collections
 import gzip
+import itertools
 import json
 import math
+import operator
 import random
 import re
 import sys
@@ -28,6 +32,7 @@ MOST_NEIGHBOURS = 32
 STANDARD_TIMES = [10, 50, 5, 8]
 NUMBER = r"([-+]?(?:\d+\.?\d*|\.\d+)(?:[eE][-+]?\d+)?)"
 START = re.compile(r"\$node_\((\d+)\)\s+set\s+([XYZ])_\s+" + NUMBER + "$")
+TIME_OF = operator.itemgetter(0)
 MOVE = re.compile(
     r"\$ns_\s+at\s+" + NUMBER + r'\s+"\$node_\((\d+)\)\s+setdest\s+' + NUMBER + r"\s+" + NUMBER + r"\s+" + NUMBER + r'"$'
 )
@@ -57,11 +62,8 @@ def position(way, time):
         return way[0][1:]
     if time >= way[-1][0]:
         return way[-1][1:]
-    low, high = 0, len(way) - 1
-    while high - low > 1:
-        middle = (low + high) // 2
-        low, high = (middle, high) if way[middle][0] <= time else (low, middle)
-    (began, x, y), (ends, to_x, to_y) = way[low], way[high]
+    high = bisect.bisect_right(way, time, key=TIME_OF)
+    (began, x, y), (ends, to_x, to_y) = way[high - 1], way[high]
     part = (time - began) / (ends - began) if ends > began else 1
     return x + part * (to_x - x), y + part * (to_y - y)
 
@@ -105,11 +107,14 @@ def read_ns2(path):
             raise refused(path, number, f"node {node} has no first position")
         if time < 0 or speed < 0:
             raise refused(path, number, "a time or a speed is below 0")
-        here = position(ways[node], time)
-        ways[node] = [point for point in ways[node] if point[0] < time] + [(time, *here)]
+        way = ways[node]
+        here = position(way, time)
+        while way and way[-1][0] >= time:  # times rise, so what is broken off stands at the end
+            way.pop()
+        way.append((time, *here))
         length = math.hypot(x - here[0], y - here[1])
         if length and speed > 0:
-            ways[node].append((time + length / speed, x, y))
+            way.append((time + length / speed, x, y))
     return ways
 
 
@@ -131,18 +136,19 @@ def read_bonnmotion(path, coordinates):
 
 
 def contacts(positions, reach):
-    """For each sample the pairs within `reach`, and for each pair in how many samples it is."""
-    near, total = [], {}
+    """For each sample the pairs within `reach`, for each pair in how many samples it is, and the most pairs of a node at once."""
+    count = len(positions[0])
+    rows = [[(i, j) for j in range(i + 1, count + 1)] for i in range(1, count)]
+    near, total, most, square = [], collections.Counter(), 0, reach * reach
     for places in positions:
-        now = set()
-        for i, (x, y) in enumerate(places):
-            for j in range(i + 1, len(places)):
-                if (x - places[j][0]) ** 2 + (y - places[j][1]) ** 2 <= reach * reach:
-                    now.add((i + 1, j + 1))
-        for pair in now:
-            total[pair] = total.get(pair, 0) + 1
+        now = []
+        for row, (x, y) in zip(rows, places):
+            later = places[row[0][0] :]
+            now += [pair for pair, (p, q) in zip(row, later) if (dx := x - p) * dx + (dy := y - q) * dy <= square]
         near.append(now)
-    return near, total
+        total.update(now)
+        most = max(most, *collections.Counter(itertools.chain.from_iterable(now)).values(), 0)
+    return near, total, most
 
 
 def declared_links(total, limit):
@@ -161,7 +167,7 @@ def simulation_lines(scenario, near, every, need):
     lines = ["dests " + ",".join(map(str, destinations))] + [f"link {a} {b}" for a, b in scenario["links"]]
     linked = known  # a simulation begins with every link mended
     for at, now in enumerate(near):
-        want = now & known
+        want = known.intersection(now)
         lines += [f"part {a} {b}" for a, b in sorted(linked - want)] + [f"mend {a} {b}" for a, b in sorted(want - linked)]
         scenario["breaks"] += len(linked - want) if at else 0
         linked, clock = want, at * scenario["sample"]
@@ -221,7 +227,7 @@ def make(options):
         raise Refused(f"{len(ways)} nodes; a simulated world has 2 to {MOST_NODES}")
     starts = range(0, options.rounds, options.sample)
     positions = [[tuple(round(c, 2) for c in position(way, at * TICK)) for way in ways] for at in starts]
-    near, total = contacts(positions, options.range)
+    near, total, most_at_once = contacts(positions, options.range)
     links, degree = declared_links(total, options.limit)
     if not links:
         raise Refused("no two nodes ever meet")
@@ -233,7 +239,7 @@ def make(options):
         "limit": options.limit, "times": times_of(options.times), "destinations": [], "flows": [], "links": links,
         "contact_kept": round(sum(total[link] for link in links) / sum(total.values()), 6), "links_met": len(total),
         "most_met": max(met.values()),
-        "most_at_once": max(sum(node in pair for pair in now) for now in near for node in range(1, len(ways) + 1)),
+        "most_at_once": most_at_once,
         "breaks": 0, "left_out": [node for node in range(1, len(ways) + 1) if node not in degree], "positions": positions,
     }
     choose_flows(scenario, sorted(degree), options, source)

@@ -1,14 +1,16 @@
 #!/usr/bin/env bash
 # Shows a study that sweep.sh made: its plot and summary, and pictures of a break where runs were kept (sweep.sh --keep).
-# usage: tools/show.sh DIR [RUN] [OPTION OF dag.py]..
-#   RUN   NODES-SEED, as 20-1; without it the first run of the study
+# usage: tools/show.sh DIR [--page] [RUN] [OPTION OF dag.py]..
+#   RUN     NODES-SEED, as 20-1; without it the first run of the study
+#   --page  make DIR/index.html, too: the summary, the plot, and a link to a page of each run that plays it
 # It writes DIR/study.dat, DIR/study.png, DIR/summary.txt and DIR/break-ROUND.png: before, during and after the first break
 # of a route to the first destination; dag.py has options for others.
 set -eu
 here=$(cd "$(dirname "$0")" && pwd)
 case ${1:---help} in -h | --help) sed -n '2,/^set -eu/{/^# /s/^# //p}' "$0"; exit 0 ;; esac
-dir=$1
+dir=$1 page=
 shift
+case ${1:-} in --page) page=1; shift ;; esac
 command -v python3 >/dev/null || { echo "show: python3 is missing (package python3)" >&2; exit 2; }
 command -v gnuplot >/dev/null || { echo "show: gnuplot is missing (package gnuplot-nox)" >&2; exit 2; }
 [ -e "$dir/study.csv" ] || { echo "show: $dir/study.csv: there is no study" >&2; exit 1; }
@@ -16,6 +18,10 @@ python3 "$here/summary.py" "$dir/study.csv" >"$dir/summary.txt"
 python3 "$here/summary.py" --data "$dir/study.csv" >"$dir/study.dat"
 gnuplot -e "data='$dir/study.dat'; picture='$dir/study.png'" "$here/plot.gp"
 echo "$dir/study.png: the plot; $dir/summary.txt: its figures"
+if [ -n "$page" ]; then
+  python3 "$here/study_page.py" "$dir"
+  echo "$dir/index.html: summary, plot, and a link to the page of each run"
+fi
 run=$(sed -n '2s/^\([0-9]*\),\([0-9]*\),.*/\1-\2/p' "$dir/study.csv")
 case ${1:-} in [0-9]*) run=$1; shift ;; esac
 scenario=$dir/rows/$run.json
@@ -24,4 +30,9 @@ if [ ! -e "$scenario" ]; then
   exit 0
 fi
 destination=$(sed -n 's/^ "destinations": \[\([0-9]*\).*/\1/p' "$scenario")
+if [ -e "$dir/rows/$run.html" ]; then
+  echo "$dir/rows/$run.html#destination=$destination: the page that plays this run"
+else
+  echo "tools/show.sh $dir --page makes pages that play the runs" >&2
+fi
 python3 "$here/dag.py" "$scenario" "$dir/rows/$run.trace" "$destination" "$dir/break" "$@"

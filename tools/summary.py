@@ -50,14 +50,16 @@ def groups(path, names, rows, key, columns):
     }
 
 
+def spread_text(values):
+    """Median, least and greatest of some values, for readers."""
+    return f"{statistics.median(values):.4g} [{min(values):.4g} .. {max(values):.4g}]" if values else "-"
+
+
 def table_lines(key, cells, columns):
     """A table for readers: median, least and greatest."""
     yield f"{key:22}" + "".join(f"{value:<36g}" for value in cells)
     for name in columns:
-        texts = []
-        for group in cells.values():
-            values = group[name]
-            texts.append(f"{statistics.median(values):.4g} [{min(values):.4g} .. {max(values):.4g}]" if values else "-")
+        texts = [spread_text(group[name]) for group in cells.values()]
         yield (f"{name:22}" + "".join(f"{text:36}" for text in texts)).rstrip()
 
 

@@ -1,6 +1,6 @@
 #!/usr/bin/env bash
 # A study: one run for each size and seed, by GNU parallel. It writes DIR/study.csv, and begins again where it was broken off.
-# usage: tools/sweep.sh [--jobs N] [--sshlogin HOSTS] [--keep] DIR "SIZES" SEEDS [OPTION OF scenario.py]..
+# usage: tools/sweep.sh [--jobs N] [--sshlogin HOSTS] [--keep] [--page] DIR "SIZES" SEEDS [OPTION OF scenario.py]..
 #   DIR               holds the rows, the job log (joblog) and what the study is (study.txt)
 #   SIZES             numbers of nodes, as "10 20 40"
 #   SEEDS             how many seeds: 1 to SEEDS
@@ -8,6 +8,7 @@
 #   --sshlogin HOSTS  machines as GNU parallel names them, as 4/first,8/second; `:` is this one. Each needs ssh, rsync and
 #                     python3; the tools and the program are copied there for the time of the study
 #   --keep            keep each run's simulation file, scenario and trace in DIR/rows
+#   --page            make a page that plays each run, DIR/rows/NODES-SEED.html, and DIR/index.html with a link to each
 # TORA_SIM is the command that simulates, in place of the repository's `./tora sim`.
 # It ends with status 1 where a run failed; the CSV then has the rows that there are.
 set -eu
@@ -22,13 +23,14 @@ need() {
   command -v "$1" >/dev/null || fail 2 "$1 is missing (package $2)"
 }
 
-jobs='' hosts='' keep=''
+jobs='' hosts='' keep='' page=''
 while [ $# -gt 0 ]; do
   case $1 in
     -h | --help) sed -n '2,/^set -eu/{/^# /s/^# //p}' "$0"; exit 0 ;;
     --jobs) jobs=${2:?}; shift 2 ;;
     --sshlogin) hosts=${2:?}; shift 2 ;;
     --keep) keep=1; shift ;;
+    --page) page=1; shift ;;
     -*) fail 2 "no option $1 (--help)" ;;
     *) break ;;
   esac
@@ -61,8 +63,13 @@ echo "$want" >"$dir/study.txt" # --resume counts runs and does not compare what 
 
 # What a run needs stands in one folder, so that it can be copied to other machines as it is.
 bundle=$dir/bundle
-mkdir -p "$bundle"
-cp "$here/study-one.sh" "$here/scenario.py" "$here/measure.py" "$here/study.py" "$bundle/"
+mkdir -p "$bundle/page"
+tools=(study-one.sh scenario.py measure.py study.py)
+if [ -n "$page" ]; then
+  tools+=(play.py play_data.py play_place.py)
+  for part in "$here"/page/*.*; do tools+=("page/${part##*/}"); done
+fi
+for name in "${tools[@]}"; do cp "$here/$name" "$bundle/$name"; done
 cp "$program" "$bundle/simulator"
 words=(./bundle/simulator "${simulate[@]:1}")
 
@@ -75,10 +82,10 @@ if [ -n "$hosts" ]; then
   mkdir -p "$dir/tora-study" "$dir/rows"
   ln -sfn ../bundle "$dir/tora-study/bundle"
   ln -sfn ../rows "$dir/tora-study/rows"
-  for name in study-one.sh scenario.py measure.py study.py simulator; do parallel+=(--basefile "./bundle/$name"); done
-  for end in csv ${keep:+sim json trace}; do parallel+=(--return "rows/{1}-{2}.$end"); done
+  for name in "${tools[@]}" simulator; do parallel+=(--basefile "./bundle/$name"); done
+  for end in csv ${keep:+sim json trace} ${page:+html}; do parallel+=(--return "rows/{1}-{2}.$end"); done
 fi
-command=(env "TORA_SIM=${words[*]}" "KEEP=$keep" bash ./bundle/study-one.sh rows "{1}" "{2}" "$@")
+command=(env "TORA_SIM=${words[*]}" "KEEP=$keep" "PAGE=$page" bash ./bundle/study-one.sh rows "{1}" "{2}" "$@")
 status=0
 # shellcheck disable=SC2086
 (cd "$dir" && "${parallel[@]}" "${command[@]}" ::: $sizes ::: $(seq "$seeds")) || status=1
@@ -93,4 +100,10 @@ status=0
   done
 } >"$dir/.study.csv"
 mv "$dir/.study.csv" "$dir/study.csv"
+if [ -n "$page" ]; then
+  python3 "$here/study_page.py" "$dir" || status=1
+  echo "sweep: $dir/index.html links the page of each run" >&2
+elif [ -n "$keep" ]; then
+  echo "sweep: tools/show.sh $dir --page makes a page of each run, and $dir/index.html with links to them" >&2
+fi
 exit "$status"

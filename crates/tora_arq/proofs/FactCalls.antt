@@ -420,8 +420,8 @@ transmit-idle s e now = go e.phase
 
     go_hello : (own heard : ℕ) (other : Option FrameParts × EndState) → Idle e other → Idle e (on_hello s e own heard now other)
     go_hello own heard other h =
-        cond_both (is_hello_due s e now) _ _ (Idle e) (λ _ q. absurd (cc)) (λ _.
-        cond_both (is_old_hello_due e) _ _ (Idle e) (λ _ q. absurd (cc)) (λ _. h))
+        cond_both (is_old_hello_due e) _ _ (Idle e) (λ _ q. absurd (cc)) (λ _.
+        cond_both (is_hello_due s e now) _ _ (Idle e) (λ _ q. absurd (cc)) (λ _. h))
 
     go : (ph : Phase) → Idle e (on_transmit_in s e now ph)
     go Closed = λ q. refl

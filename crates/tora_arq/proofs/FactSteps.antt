@@ -628,10 +628,10 @@ module _ (s : Settings) (now : ℕ) (e : EndState) where
   -- a HELLO where one is due, and otherwise another frame
   hello_sends : (own heard : ℕ) (other : Option FrameParts × EndState) → ((version : Version) → IsFrameSentIn s e (frame_sent s version own heard Hello) e.phase) → Sends s now e other → Sends s now e (on_hello s e own heard now other)
   hello_sends own heard other h k =
-      cond_both (is_hello_due s e now) _ _ (Sends s now e)
-      (λ _. sends_some s now e (after_hello s e now) (frame_sent s s.version own heard Hello) (owing_keeps s now e false (is_two s.version) e.owes_ack (Some now)) (h s.version)) (λ _.
       cond_both (is_old_hello_due e) _ _ (Sends s now e)
-      (λ _. sends_some s now e (after_old_hello e) (frame_sent s One own heard Hello) (owing_keeps s now e e.owes_hello false e.owes_ack e.last_hello) (h One)) (λ _. k))
+      (λ _. sends_some s now e (after_old_hello e) (frame_sent s One own heard Hello) (owing_keeps s now e e.owes_hello false e.owes_ack e.last_hello) (h One)) (λ _.
+      cond_both (is_hello_due s e now) _ _ (Sends s now e)
+      (λ _. sends_some s now e (after_hello s e now) (frame_sent s s.version own heard Hello) (owing_keeps s now e false (is_two s.version) e.owes_ack (Some now)) (h s.version)) (λ _. k))
 
   due_sends : (life : Life) → e.phase ≡ Bound life → (o : Option DueBatch) → due_of s e now ≡ o → Sends s now e (on_transmit_due s e life o)
   due_sends life j None q =

@@ -81,13 +81,13 @@ sends : (s : Settings) (e : EndState) (life : Life) (packets : List Packet) (now
     on_transmit s (with_queue e (map untried packets)) now ≡ (Some (flood_frame s e life packets), after_flood e now packets)
 unfolding on_transmit on_transmit_in
 sends s e life packets now idle some most window =
-    rw (idle.bound, idle.no_hello, no_old_hello s e life now idle, idle.mark, first_all s.times now 16 (suc e.acknowledged) s.window packets some most window) refl
+    rw (idle.bound, no_old_hello s e life now idle, idle.no_hello, idle.mark, first_all s.times now 16 (suc e.acknowledged) s.window packets some most window) refl
 
 settled_on : (s : Settings) (e : EndState) (life : Life) (packets : List Packet) (now : ℕ) → IsIdle s e life now → 0 < s.times.retry →
     on_transmit s (after_flood e now packets) now ≡ (None, after_flood e now packets)
 unfolding on_transmit on_transmit_in
 settled_on s e life packets now idle retry =
-    rw (idle.bound, idle.no_hello, no_old_hello s e life now idle, idle.mark, none_again s.times now 16 (suc e.acknowledged) s.window packets retry) refl
+    rw (idle.bound, no_old_hello s e life now idle, idle.no_hello, idle.mark, none_again s.times now 16 (suc e.acknowledged) s.window packets retry) refl
 
 settles : (s : Settings) (e : EndState) (life : Life) (packets : List Packet) (now : ℕ) → IsIdle s e life now → 0 < s.times.retry → frame_due s (after_flood e now packets) now ≡ None
 settles s e life packets now idle retry = ap (λ (x : Option FrameParts × EndState). x.0) (settled_on s e life packets now idle retry)

@@ -87,17 +87,17 @@ is_old_next s e = is_two s.version && not e.speaks_two
 
 -- how many HELLOs are due
 abbrev count_hellos : Settings → ℕ → EndState → ℕ
-count_hellos s now e = if is_hello_due s e now then suc (one_where (is_old_next s e)) else one_where (is_old_hello_due e)
+count_hellos s now e = one_where (is_old_hello_due e) + (if is_hello_due s e now then suc (one_where (is_old_next s e)) else 0)
 
-count_hellos_most : (s : Settings) (now : ℕ) (e : EndState) → count_hellos s now e ≤ 2
+count_hellos_most : (s : Settings) (now : ℕ) (e : EndState) → count_hellos s now e ≤ 3
 count_hellos_most s now e =
-    cond_both (is_hello_due s e now) _ _ (λ n. n ≤ 2) (λ _. omega (arith, one_where_most (is_old_next s e))) (λ _. omega (arith, one_where_most (is_old_hello_due e)))
+    cond_both (is_hello_due s e now) _ _ (λ n. one_where (is_old_hello_due e) + n ≤ 3) (λ _. omega (arith, one_where_most (is_old_next s e), one_where_most (is_old_hello_due e))) (λ _. omega (arith, one_where_most (is_old_hello_due e)))
 
 -- at most so many frames are due
 abbrev count_due : Settings → ℕ → EndState → ℕ
 count_due s now e = count_hellos s now e + count_ready s.times now s.window e.queue + one_where e.owes_ack
 
-count_due_most : (s : Settings) (now : ℕ) (e : EndState) → count_due s now e ≤ s.window + 3
+count_due_most : (s : Settings) (now : ℕ) (e : EndState) → count_due s now e ≤ s.window + 4
 count_due_most s now e = omega (arith, count_hellos_most s now e, count_ready_most s.times now s.window e.queue, one_where_most e.owes_ack)
 
 some_packets : (version : Version) → 0 < most_packets version
@@ -117,8 +117,8 @@ transmit_counts s now e t = go e.phase
 
     hello : (own heard : ℕ) (other : Option FrameParts × EndState) → Counts s now e other → Counts s now e (on_hello s e own heard now other)
     hello own heard other k =
-        cond_both (is_hello_due s e now) _ _ (Counts s now e) (λ due f q. rw (no_hello, due) omega arith) (λ none.
-        cond_both (is_old_hello_due e) _ _ (Counts s now e) (λ due f q. rw (none, due) omega arith) (λ _. k))
+        cond_both (is_old_hello_due e) _ _ (Counts s now e) (λ due f q. rw due omega arith) (λ none.
+        cond_both (is_hello_due s e now) _ _ (Counts s now e) (λ due f q. rw (no_hello, none, due) omega arith) (λ _. k))
 
     go_due : (life : Life) (o : Option DueBatch) → ((d : DueBatch) → o ≡ Some d → suc (count_ready s.times now s.window d.queue) ≤ count_ready s.times now s.window e.queue) → Counts s now e (on_transmit_due s e life o)
     go_due life None k = cond_both e.owes_ack _ _ (Counts s now e) (λ owes f q. rw owes omega arith) (λ _ f q. absurd (cc))
@@ -141,7 +141,7 @@ module _ (s : Settings) (now : ℕ) (t : IsTimes s.times) where
   frames_count zero e = omega arith
   frames_count (suc polls) e = frames_count_step polls e (frames_count polls (after_transmit s e now)) (frame_due s e now) refl
 
-  pub most_frames : (e : EndState) (polls : ℕ) → length (frames_polled s e now polls) ≤ s.window + 3
+  pub most_frames : (e : EndState) (polls : ℕ) → length (frames_polled s e now polls) ≤ s.window + 4
   most_frames e polls = omega (arith, frames_count polls e, count_due_most s now e)
 
 pub settled : (s : Settings) (e : EndState) (now polls : ℕ) → frame_due s e now ≡ None → after_polls s e now polls ≡ e
@@ -162,5 +162,5 @@ module _ (s : Settings) (now : ℕ) (t : IsTimes s.times) where
   none_after zero e le = none_yet e (frame_due s e now) refl le
   none_after (suc polls) e le = none_after_step polls e (none_after polls (after_transmit s e now)) (frame_due s e now) refl le
 
-pub none_left : (s : Settings) (e : EndState) (now polls : ℕ) → IsTimes s.times → s.window + 3 ≤ polls → frame_due s (after_polls s e now polls) now ≡ None
+pub none_left : (s : Settings) (e : EndState) (now polls : ℕ) → IsTimes s.times → s.window + 4 ≤ polls → frame_due s (after_polls s e now polls) now ≡ None
 none_left s e now polls t le = none_after s now t polls e (omega (arith, le, count_due_most s now e))

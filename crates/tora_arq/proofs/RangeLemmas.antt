@@ -410,8 +410,8 @@ module _ (s : Settings) where
 
   hello_kept : (e : EndState) (own heard now : ℕ) (other : Option FrameParts × EndState) → IsEndState s e → IsEndState s other.1 → IsEndState s (on_hello s e own heard now other).1
   hello_kept e own heard now other h k =
-      cond_both (is_hello_due s e now) _ _ (λ (r : Option FrameParts × EndState). IsEndState s r.1) (λ _. h) (λ _.
-      cond_both (is_old_hello_due e) _ _ (λ (r : Option FrameParts × EndState). IsEndState s r.1) (λ _. h) (λ _. k))
+      cond_both (is_old_hello_due e) _ _ (λ (r : Option FrameParts × EndState). IsEndState s r.1) (λ _. h) (λ _.
+      cond_both (is_hello_due s e now) _ _ (λ (r : Option FrameParts × EndState). IsEndState s r.1) (λ _. h) (λ _. k))
 
   pub transmit_kept : (e : EndState) (now : ℕ) → IsEndState s e → IsEndState s (on_transmit s e now).1
   unfolding on_transmit on_transmit_in

@@ -11,3 +11,4 @@ pub mod PeerUpdates
 pub mod Polls
 pub mod Texts
 pub mod Floods
+pub mod WorkedHellos

@@ -351,11 +351,11 @@ after_hello s e now = record e { owes_hello = false; owes_old_hello = is_two s.v
 abbrev pub after_old_hello : EndState → EndState
 after_old_hello e = record e { owes_old_hello = false }
 
--- a HELLO of the newest version or of version 1, where one is due, before the other frames
+-- a HELLO of version 1 behind one of version 2, or one of the newest version, where one is due, before the other frames
 abbrev pub on_hello : Settings → EndState → ℕ → ℕ → ℕ → Option FrameParts × EndState → Option FrameParts × EndState
 on_hello s e own heard now other =
-    if is_hello_due s e now then (Some (frame_sent s s.version own heard Hello), after_hello s e now)
-    else if is_old_hello_due e then (Some (frame_sent s One own heard Hello), after_old_hello e)
+    if is_old_hello_due e then (Some (frame_sent s One own heard Hello), after_old_hello e)
+    else if is_hello_due s e now then (Some (frame_sent s s.version own heard Hello), after_hello s e now)
     else other
 
 -- no HELLO is due: the first packets due, or an ACK where one is owed

@@ -2,9 +2,11 @@
 //!
 //! Each is said of one call, at any state, and of whole runs of calls from a new end on. They hold for a window of any
 //! size.
-ghost use Rattle.std.specs.Prelude.{◌≡◌, ◌≢◌, ℕ, ◌+◌, ◌^◌, ◌<◌, ◌≤◌, ◌⊎◌, false, List, [], ◌∷◌, ◌++◌, map, length, Contains, Some};
+ghost use Rattle.std.specs.Prelude.{◌≡◌, ◌≢◌, ℕ, ◌+◌, ◌^◌, ◌<◌, ◌≤◌, ◌⊎◌, true, false, List, [], ◌∷◌, ◌++◌, map, length, Contains, Some};
 ghost use Rattle.std.specs.List.{AllByRecursion};
 ghost use Rattle.tora_packet.specs.declared.Packet.{Packet};
+ghost use Rattle.tora_frame.specs.declared.parts.Body.TheVariants.{Hello};
+ghost use Rattle.tora_frame.specs.declared.parts.Version.TheVariants.{One, Two};
 ghost use Rattle.tora_frame.specs.FrameParts.{FrameParts};
 ghost use Rattle.tora_arq.specs.declared.Life.{Life};
 ghost use Rattle.tora_arq.specs.declared.Reason.TheVariants as Because;
@@ -15,12 +17,13 @@ ghost use Rattle.tora_arq.specs.declared.SubmitError.TheVariants as Refusal;
 ghost use Rattle.tora_arq.specs.declared.state.Phase.TheVariants.{Unbound, Bound};
 ghost use Rattle.tora_arq.specs.Settings.{Settings, IsTimes};
 ghost use Rattle.tora_arq.specs.SendQueue.{untried};
-ghost use Rattle.tora_arq.specs.LinkEnd.{EndState, first_end, bound_life, after_end, after_tick, submit_answer, after_submit, after_cut, frame_due, after_transmit, is_update_of_another, verdict_of, after_frame};
+ghost use Rattle.tora_arq.specs.LinkEnd.{EndState, first_end, bound_life, after_end, after_tick, submit_answer, after_submit, after_cut, frame_due, frame_sent, after_transmit, is_update_of_another, verdict_of, after_frame};
 ghost use Rattle.tora_arq.specs.LinkFacts.{LinkCall, EveryCall, frame_sent_by, event_given_by, events_left, events_queued, packet_submitted, IsEnd, OpensWith, StaysOrCloses, WasBoundOrBinds, WasUnboundOrOpens, IsFrameSent, IsQueueOf, IsBodyOf, IsPacketAt, AreHeld, CallTells, packets_delivered, DeliversNext, list_of, AreEventsBetween, Leads, AreOverByDown, AreRising, Acknowledges};
 ghost use Rattle.tora_arq.specs.LinkRuns.{EveryRun, EveryBoundRun, CameAt, CountCame, AreAllTold, times_bound, AreFromFirst, IsFrameOfRun, IsSameAtEachTry};
 ghost use Rattle.tora_arq.specs.PeerUpdates.{AreEventsOfPeer, IsOfPeer};
 ghost use Rattle.tora_arq.specs.Polls.{after_polls, frames_polled};
 ghost use Rattle.tora_arq.specs.Floods.{after_submits, IsIdle, flood_frame};
+ghost use Rattle.tora_arq.specs.WorkedHellos.{worked_settings, given_hello, behind_hello};
 
 /// Every call keeps of an end that what was transmitted was submitted, that no more is held than the window, and that
 /// nothing is left of a life that is over. Own profile.
@@ -139,16 +142,30 @@ pub fn refused_frames_change_nothing()
         → verdict_of s e frame now ≡ Is.Stale → after_frame s e frame now ≡ e }
 {}
 
-/// At one tick an end gives at most three frames more than its window, and then none: a HELLO of each version, at most a DATA
-/// frame for each packet within the window, and an ACK. Own profile.
+/// At one tick an end gives at most four frames more than its window, and then none: a HELLO of version 1 that was due behind an
+/// earlier one of version 2, a HELLO of each version, at most a DATA frame for each packet within the window, and an ACK. Own profile.
 pub fn polls_of_a_tick_end()
     // However often it is polled.
     ensures most { (s : Settings) (e : EndState) (now polls : ℕ) → IsTimes s.times
-        → length (frames_polled s e now polls) ≤ s.window + 3 }
-    ensures none { (s : Settings) (e : EndState) (now polls : ℕ) → IsTimes s.times → s.window + 3 ≤ polls
+        → length (frames_polled s e now polls) ≤ s.window + 4 }
+    ensures none { (s : Settings) (e : EndState) (now polls : ℕ) → IsTimes s.times → s.window + 4 ≤ polls
         → frame_due s (after_polls s e now polls) now ≡ None }
     // Once none is due, none is due at that tick.
     ensures settled { (s : Settings) (e : EndState) (now polls : ℕ) → frame_due s e now ≡ None → after_polls s e now polls ≡ e }
+{}
+
+/// Behind a HELLO of version 2 the next frame is the HELLO of version 1, while the peer is not known to speak version 2: also where
+/// another HELLO of version 2 is owed by then. Own profile.
+pub fn old_hello_comes_right_after()
+    ensures unbound { (s : Settings) (e : EndState) (own now : ℕ) → e.phase ≡ Unbound own → e.owes_old_hello ≡ true → e.speaks_two ≡ false
+        → frame_due s e now ≡ Some (frame_sent s One own e.heard Hello) }
+    ensures bound { (s : Settings) (e : EndState) (life : Life) (now : ℕ) → e.phase ≡ Bound life → e.owes_old_hello ≡ true → e.speaks_two ≡ false
+        → frame_due s e now ≡ Some (frame_sent s One life.own life.peer Hello) }
+    // An end gives its first HELLO, of version 2, and a HELLO of version 1 comes, so that another HELLO is owed: then it gives one of
+    // version 1, and one of each version.
+    ensures worked { map (λ f. f.header.version) (frames_polled worked_settings behind_hello 0 6) ≡ One ∷ Two ∷ One ∷ [] }
+    // Ten ticks after a HELLO behind which none of version 1 was given, likewise.
+    ensures worked_later { map (λ f. f.header.version) (frames_polled worked_settings given_hello 10 6) ≡ One ∷ Two ∷ One ∷ [] }
 {}
 
 /// Packets that are submitted at one tick, sixteen at most, go in one frame to a peer that is known to speak version 2, where

@@ -160,7 +160,7 @@ impl State {
         }
     }
 
-    /// A HELLO of the newest version, or of version 1, where one is due.
+    /// A HELLO of version 1 behind one of version 2, or one of the newest version, where one is due.
     fn poll_hello<'a>(
         &mut self,
         settings: &Settings,
@@ -176,11 +176,11 @@ impl State {
         ensures none { IfNone result ((is_hello_due (settings_in settings.now) (state_in self.old) now ≡ false) × (is_old_hello_due (state_in self.old) ≡ false)) }
         ensures same { IfNone result (self.new ≡ self.old) }
     {
-        if self.is_hello_due(settings, now) {
-            return Some(self.take_hello(settings, life, heard, now));
-        }
         if self.is_old_hello_due() {
             return Some(self.take_old_hello(settings, life, heard));
+        }
+        if self.is_hello_due(settings, now) {
+            return Some(self.take_hello(settings, life, heard, now));
         }
         None
     }

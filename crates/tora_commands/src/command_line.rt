@@ -112,6 +112,7 @@ Commands on standard input, each a line:
   need D             a route to destination D is needed
   show               prints the table
   quit               ends the node, as the end of the input does
+  help               tells the commands on standard error
 Another line is told on standard error and passed over.
 
 Exit statuses:
@@ -129,7 +130,7 @@ pub fn command<'a>(alloc: Global) -> Result<Command<'a>, AllocError> {
         .long("verbose")
         .action(ArgAction::SetTrue)
         .global(true)
-        .help("Says on standard error why a line is a fault, and why an event is refused");
+        .help("Says more on standard error: why an event is refused, and whose a life file is");
     let replay = Command::new(alloc, "replay")
         .about("Replays the inputs of one node, from standard input to standard output")
         .after_help(FORMATS);

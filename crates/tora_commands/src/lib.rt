@@ -23,7 +23,9 @@ pub mod traced_command;
 
 use clap::error::ErrorKind;
 pub use command_line::command;
-pub use flushing::{replay_and_flush, simulate_and_flush, simulate_told_and_flush};
+pub use flushing::{
+    replay_and_flush, simulate_and_flush, simulate_telling_and_flush, simulate_told_and_flush,
+};
 use std::process::ExitCode;
 use std::rt::Files;
 pub use times_word::asked_times;

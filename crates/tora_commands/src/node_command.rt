@@ -8,7 +8,6 @@ ghost use Rattle.tora_config.specs.NodeConfig.{IsNodeConfig};
 use crate::{INPUT, LIFE, MEMORY, SOCKET, stop};
 use log::Log;
 use std::alloc::Global;
-use std::fs;
 use std::fs::File;
 use std::io::{ErrorKind, Read, Write};
 use std::net::Net;
@@ -17,6 +16,7 @@ use std::rt::Files;
 use std::sync::Wait;
 use std::thread::Threads;
 use std::time::Clock;
+use std::{fs, io};
 use tora_config::{ConfigError, LinkConfig, NodeConfig, read_config};
 use tora_core::CoreError;
 use tora_height::Id;
@@ -37,15 +37,29 @@ pub enum Fault {
     Life,
 }
 
-/// Says why a node is not started, and ends with the status of the cause.
-fn refuse(rt: &impl Eprint, fault: Fault) -> ExitCode
+/// Says in one word on standard error why a node is not started. What says more stands behind it.
+fn say(rt: &impl Eprint, fault: Fault) -> Fault
+    ensures { result ≡ fault }
+{
+    let word = match fault {
+        Fault::Memory => "memory",
+        Fault::Config => "input",
+        Fault::Socket => "socket",
+        Fault::Life => "life",
+    };
+    let _ = rt.eprintln(format_args!("tora: {word}"));
+    fault
+}
+
+/// The exit status of a node that is not started.
+fn code_of(fault: Fault) -> ExitCode
     ensures { exit_status result ≡ status_of_fault fault }
 {
     match fault {
-        Fault::Memory => stop(rt, MEMORY, "memory"),
-        Fault::Config => stop(rt, INPUT, "input"),
-        Fault::Socket => stop(rt, SOCKET, "socket"),
-        Fault::Life => stop(rt, LIFE, "life"),
+        Fault::Memory => ExitCode::from(MEMORY),
+        Fault::Config => ExitCode::from(INPUT),
+        Fault::Socket => ExitCode::from(SOCKET),
+        Fault::Life => ExitCode::from(LIFE),
     }
 }
 
@@ -65,32 +79,45 @@ fn status(rt: &impl Eprint, ended: Result<Ended, NodeError>) -> ExitCode
     }
 }
 
-/// Reads the configuration at a path. With `is_verbose` what is wrong is said on standard error.
+/// Reads the configuration at a path. What is wrong is said on standard error.
 fn read<R: Files<File = File> + AllocGlobal + Eprint>(
     rt: &R,
     path: &str,
-    is_verbose: bool,
 ) -> Result<NodeConfig, Fault>
     ensures { IfOk result IsNodeConfig }
 {
     let text = match fs::read_to_string(rt, path) {
         Ok(text) => text,
-        Err(error) if error.kind() == ErrorKind::OutOfMemory => return Err(Fault::Memory),
+        Err(error) if error.kind() == ErrorKind::OutOfMemory => {
+            return Err(say(rt, Fault::Memory));
+        }
         Err(error) => {
-            let _ = rt.eprintln(format_args!("tora: {path}: {error}"));
-            return Err(Fault::Config);
+            let fault = say(rt, Fault::Config);
+            let _ = rt.eprintln(format_args!("tora: input: {path}: {error}"));
+            return Err(fault);
         }
     };
     match read_config(rt.alloc(), text.as_str()) {
         Ok(config) => Ok(config),
-        Err(ConfigError::Memory) => Err(Fault::Memory),
+        Err(ConfigError::Memory) => Err(say(rt, Fault::Memory)),
         Err(error) => {
-            if is_verbose {
-                let _ = rt.eprintln(format_args!("tora: {path}: {error}"));
-            }
-            Err(Fault::Config)
+            let fault = say(rt, Fault::Config);
+            let _ = rt.eprintln(format_args!("tora: input: {path}: {error}"));
+            Err(fault)
         }
     }
+}
+
+/// Says on standard error that a configuration is one, and of how many links and destinations.
+fn praise(rt: &impl Eprint, path: &str, config: &NodeConfig) {
+    let (links, dests) = (config.links.len(), config.dests.len());
+    let link = if links == 1 { "link" } else { "links" };
+    let destination = if dests == 1 {
+        "destination"
+    } else {
+        "destinations"
+    };
+    let _ = rt.eprintln(format_args!("tora: {path}: ok, {links} {link}, {dests} {destination}"));
 }
 
 /// Binds the socket of each link, by ascending neighbour.
@@ -105,18 +132,28 @@ fn bind<R: Net + Eprint>(
         match UdpWire::bind(rt, port, link.remote) {
             Ok(wire) => {
                 let Ok(()) = wires.push(wire) else {
-                    return Err(Fault::Memory);
+                    return Err(say(rt, Fault::Memory));
                 };
             }
             Err(error) => {
+                let fault = say(rt, Fault::Socket);
                 let _ = rt.eprintln(format_args!(
-                    "tora: port {port} of the link to {peer}: {error}"
+                    "tora: socket: port {port} of the link to {peer}: {error}"
                 ));
-                return Err(Fault::Socket);
+                return Err(fault);
             }
         }
     }
     Ok(wires)
+}
+
+/// Says on standard error why a life file can't be opened.
+fn tell_file(rt: &impl Eprint, path: &str, error: &io::Error) {
+    let _ = if error.kind() == ErrorKind::WouldBlock {
+        rt.eprintln(format_args!("tora: life: {path}: a node that runs has this file"))
+    } else {
+        rt.eprintln(format_args!("tora: life: {path}: {error}"))
+    };
 }
 
 /// Opens the file of each link, by ascending neighbour.
@@ -131,17 +168,18 @@ fn open<R: Files<File = File> + Eprint>(
     for link in links {
         let peer = link.peer;
         let Ok(path) = format!(in alloc; "{folder}/life-{peer}") else {
-            return Err(Fault::Memory);
+            return Err(say(rt, Fault::Memory));
         };
         match FileDisk::open(rt, path.as_str()) {
             Ok(disk) => {
                 let Ok(()) = disks.push(disk) else {
-                    return Err(Fault::Memory);
+                    return Err(say(rt, Fault::Memory));
                 };
             }
             Err(error) => {
-                let _ = rt.eprintln(format_args!("tora: {path}: {error}"));
-                return Err(Fault::Life);
+                let fault = say(rt, Fault::Life);
+                tell_file(rt, path.as_str(), &error);
+                return Err(fault);
             }
         }
     }
@@ -163,18 +201,19 @@ fn owner_in<R: Files<File = File>>(rt: &R, path: &str) -> Option<Owner> {
     }
 }
 
-/// Says on standard error what is wrong with the life file of the link to `peer`, and of a foreign one whose it is.
+/// Says on standard error what is wrong with the life file of the link to `peer`, and with `is_verbose` of a foreign one whose it is.
 fn tell_life<R: Files<File = File> + AllocGlobal + Eprint>(
     rt: &R,
     folder: &str,
     peer: Id,
     error: LifeError,
+    is_verbose: bool,
 ) {
     let Ok(path) = format!(in rt.alloc(); "{folder}/life-{peer}") else {
         return;
     };
-    let _ = rt.eprintln(format_args!("tora: {path}: {error}"));
-    if error != LifeError::Foreign {
+    let _ = rt.eprintln(format_args!("tora: life: {path}: {error}"));
+    if error != LifeError::Foreign || !is_verbose {
         return;
     }
     if let Some(owner) = owner_in(rt, path.as_str()) {
@@ -185,11 +224,33 @@ fn tell_life<R: Files<File = File> + AllocGlobal + Eprint>(
     }
 }
 
+/// Says on standard error why a node that ran has ended.
+fn tell_ended<R: Files<File = File> + AllocGlobal + Eprint>(
+    rt: &R,
+    folder: &str,
+    error: NodeError,
+    is_verbose: bool,
+) {
+    match error {
+        NodeError::Life(peer, error) => tell_life(rt, folder, peer, error, is_verbose),
+        NodeError::Wire(peer) => {
+            let _ = rt.eprintln(format_args!(
+                "tora: socket: the calls of the link to {peer} keep failing"
+            ));
+        }
+        NodeError::Output => {
+            let _ = rt.eprintln("tora: input: standard output can't be written");
+        }
+        NodeError::Memory | NodeError::Lane => {}
+    }
+}
+
 /// Reads the configuration, binds the sockets, opens the life files, and runs the node until its commands end it.
 ///
 /// The first fault ends it before a thread is started: the configuration (status 1), then a socket, by ascending
 /// neighbour (3), then a life file, likewise (4), memory at any point (5). With `is_check` it reads the
-/// configuration and ends. With `is_verbose` it says on standard error what is wrong with a life file.
+/// configuration, says that it is one, and ends. Standard error has the cause of a fault, and with `is_verbose` of a life file of
+/// another node whose it is.
 pub fn run<
     R: Files<File = File> + AllocGlobal + Eprint + Net + Threads + Wait + Sync + Clock + Log,
     Rd: Read,
@@ -198,37 +259,41 @@ pub fn run<
     ensures { EndsNode Ended is_check (exit_status result) }
 {
     let alloc = rt.alloc();
-    let config = match read(rt, path, is_verbose || is_check) {
+    let config = match read(rt, path) {
         Ok(config) => config,
-        Err(fault) => return refuse(rt, fault),
+        Err(fault) => return code_of(fault),
     };
     if is_check {
+        praise(rt, path, &config);
         return ExitCode::SUCCESS;
     }
     let wires = match bind(rt, alloc, config.links.as_slice()) {
         Ok(wires) => wires,
-        Err(fault) => return refuse(rt, fault),
+        Err(fault) => return code_of(fault),
     };
     let disks = match open(rt, alloc, config.life_dir.as_str(), config.links.as_slice()) {
         Ok(disks) => disks,
-        Err(fault) => return refuse(rt, fault),
+        Err(fault) => return code_of(fault),
     };
     let node = match node_of(alloc, &config) {
         Ok(node) => node,
-        Err(fault) => return refuse(rt, fault),
+        Err(fault) => return code_of(say(rt, fault)),
     };
     let count = node.peers().len();
     if wires.len() != count || disks.len() != count {
-        return refuse(rt, Fault::Config);
+        return code_of(say(rt, Fault::Config));
     }
     let clock = UnixClock::new(rt);
     let ended = run_node(rt, alloc, node, wires, disks, &clock, reader, writer);
-    if is_verbose {
-        if let Err(NodeError::Life(peer, error)) = &ended {
-            tell_life(rt, config.life_dir.as_str(), *peer, *error);
-        }
+    let cause = match &ended {
+        Ok(_) => None,
+        Err(error) => Some(*error),
+    };
+    let code = status(rt, ended);
+    if let Some(error) = cause {
+        tell_ended(rt, config.life_dir.as_str(), error, is_verbose);
     }
-    status(rt, ended)
+    code
 }
 
 /// The node of a configuration.

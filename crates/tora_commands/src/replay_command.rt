@@ -30,10 +30,12 @@ fn tell<T: AllocGlobal + Eprint, R: Read>(
     };
 }
 
-/// Replays, and then says why a line is a fault.
-fn replay_verbosely<T: AllocGlobal + Eprint, R: Read + Drop, W: Output>(
+/// Replays what a reader gives, and ends with a status: 0 at its end, 1 where a line is a fault or reading or writing
+/// failed, 5 where memory was refused. It says why a line is a fault and what failed, with `-v` and without.
+pub fn run<T: AllocGlobal + Eprint, R: Read + Drop, W: Output>(
     rt: &T,
     reader: R,
+    _is_verbose: bool,
     writer: &mut W,
 ) -> ExitCode
     ensures { EndsBy replay_rules W.contents W.did_flush (R.remaining reader) writer.old writer.new false (exit_status result) }
@@ -44,34 +46,4 @@ fn replay_verbosely<T: AllocGlobal + Eprint, R: Read + Drop, W: Output>(
     let code = status(rt, result);
     tell(rt, &reader, result);
     code
-}
-
-/// Replays, and says no more than the cause of a status.
-fn replay_quietly<T: AllocGlobal + Eprint, R: Read + Drop, W: Output>(
-    rt: &T,
-    reader: R,
-    writer: &mut W,
-) -> ExitCode
-    ensures { EndsBy replay_rules W.contents W.did_flush (R.remaining reader) writer.old writer.new false (exit_status result) }
-{
-    let mut reader = reader;
-    let result = replay_and_flush(rt.alloc(), &mut reader, writer);
-    status(rt, result)
-}
-
-/// Replays what a reader gives, and ends with a status: 0 at its end, 1 where a line is a fault or reading or writing
-/// failed, 5 where memory was refused.
-pub fn run<T: AllocGlobal + Eprint, R: Read + Drop, W: Output>(
-    rt: &T,
-    reader: R,
-    is_verbose: bool,
-    writer: &mut W,
-) -> ExitCode
-    ensures { EndsBy replay_rules W.contents W.did_flush (R.remaining reader) writer.old writer.new false (exit_status result) }
-{
-    if is_verbose {
-        replay_verbosely(rt, reader, writer)
-    } else {
-        replay_quietly(rt, reader, writer)
-    }
 }

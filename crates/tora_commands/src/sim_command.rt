@@ -5,7 +5,7 @@ ghost use Rattle.tora_commands.specs.Endings.{EndsBy, EndsFile};
 ghost use Rattle.tora_arq.specs.Settings.{IsTimes};
 ghost use Rattle.tora_script.specs.SimulationText.{simulation_rules};
 
-use crate::flushing::{simulate_and_flush, simulate_told_and_flush};
+use crate::flushing::simulate_telling_and_flush;
 use crate::{INPUT, MEMORY, status, stop};
 use std::io::{ErrorKind, Read};
 use std::process::ExitCode;
@@ -15,17 +15,15 @@ use tora_arq::Times;
 use tora_lines::{Ended, LONGEST_LINE, Output, Recent, ReplayError};
 use tora_script::{SimulationCause, Simulator, tell_cause};
 
-/// Says why there is no file, and ends with the status of the cause.
-pub fn refuse<R: Eprint>(rt: &R, path: &str, error: &io::Error, is_verbose: bool) -> ExitCode
+/// Says why there is no file, and ends with the status of the cause. The cause is said without `-v`, too.
+pub fn refuse<R: Eprint>(rt: &R, path: &str, error: &io::Error, _is_verbose: bool) -> ExitCode
     ensures { (exit_status result ≡ 1) ⊎ (exit_status result ≡ 5) }
 {
     if error.kind() == ErrorKind::OutOfMemory {
         return stop(rt, MEMORY, "memory");
     }
     let code = stop(rt, INPUT, "input");
-    if is_verbose {
-        let _ = rt.eprintln(format_args!("tora: {path}: {error}"));
-    }
+    let _ = rt.eprintln(format_args!("tora: input: {path}: {error}"));
     code
 }
 
@@ -45,46 +43,9 @@ pub fn tell<T: Eprint, R: Read>(rt: &T, reader: &Recent<R>, ended: Result<Ended,
     }
 }
 
-/// Simulates with these times of each link end, and says why events are refused, why a line is a fault, and what failed.
-fn simulate_verbosely<S: Simulator, T: AllocGlobal + Eprint, R: Read + Drop, W: Output>(
-    rt: &T,
-    times: Times,
-    reader: R,
-    writer: &mut W,
-) -> ExitCode
-    requires { IsTimes times }
-    ensures { EndsBy (simulation_rules times) W.contents W.did_flush (R.remaining reader) writer.old writer.new false (exit_status result) }
-{
-    let alloc = rt.alloc();
-    let mut reader = Recent::new(alloc, reader);
-    let result = simulate_told_and_flush::<S, T, Recent<R>, W>(
-        rt,
-        alloc,
-        times,
-        &mut reader,
-        writer,
-    );
-    tell(rt, &reader, result);
-    status(rt, result)
-}
-
-/// Simulates with these times of each link end, and says no more than the cause of a status.
-fn simulate_quietly<S: Simulator, T: AllocGlobal + Eprint, R: Read + Drop, W: Output>(
-    rt: &T,
-    times: Times,
-    reader: R,
-    writer: &mut W,
-) -> ExitCode
-    requires { IsTimes times }
-    ensures { EndsBy (simulation_rules times) W.contents W.did_flush (R.remaining reader) writer.old writer.new false (exit_status result) }
-{
-    let mut reader = reader;
-    let result = simulate_and_flush::<S, R, W>(rt.alloc(), times, &mut reader, writer);
-    status(rt, result)
-}
-
-/// Simulates the lines that a reader gives, with these times of each link end, and ends with a status: 0 at its end, 1 where a line is a fault or reading or
-/// writing failed, 5 where memory was refused.
+/// Simulates the lines that a reader gives, with these times of each link end, and ends with a status: 0 at its end, 1 where a line
+/// is a fault or reading or writing failed, 5 where memory was refused. It says why a line is a fault and what failed, and with
+/// `is_verbose` why events are refused.
 pub fn run_over<S: Simulator, T: AllocGlobal + Eprint, R: Read + Drop, W: Output>(
     rt: &T,
     times: Times,
@@ -95,11 +56,18 @@ pub fn run_over<S: Simulator, T: AllocGlobal + Eprint, R: Read + Drop, W: Output
     requires { IsTimes times }
     ensures { EndsBy (simulation_rules times) W.contents W.did_flush (R.remaining reader) writer.old writer.new false (exit_status result) }
 {
-    if is_verbose {
-        simulate_verbosely::<S, T, R, W>(rt, times, reader, writer)
-    } else {
-        simulate_quietly::<S, T, R, W>(rt, times, reader, writer)
-    }
+    let alloc = rt.alloc();
+    let mut reader = Recent::new(alloc, reader);
+    let result = simulate_telling_and_flush::<S, T, Recent<R>, W>(
+        rt,
+        alloc,
+        times,
+        &mut reader,
+        writer,
+        is_verbose,
+    );
+    tell(rt, &reader, result);
+    status(rt, result)
 }
 
 /// Simulates the lines of the file at a path, with these times of each link end, and ends with a status: that of `run_over` over the file, 1 where it can't be

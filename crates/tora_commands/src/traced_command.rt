@@ -9,7 +9,7 @@ ghost use Rattle.tora_traced.specs.TraceOuts.{IsHandedOn};
 
 use crate::sim_command::{refuse, tell};
 use crate::{INPUT, MEMORY, status, stop};
-use std::io::{BufWriter, Read};
+use std::io::{BufWriter, ErrorKind, Read};
 use std::process::ExitCode;
 use std::rt::Files;
 use std::{fs, io};
@@ -21,7 +21,12 @@ use tora_traced::{TraceOut, Watched, simulate_traced};
 fn refuse_trace<T: Eprint>(rt: &T, path: &str, error: &io::Error) -> ExitCode
     ensures { (exit_status result ≡ 1) ⊎ (exit_status result ≡ 5) }
 {
-    refuse(rt, path, error, true)
+    if error.kind() == ErrorKind::OutOfMemory {
+        return stop(rt, MEMORY, "memory");
+    }
+    let code = stop(rt, INPUT, "input");
+    let _ = rt.eprintln(format_args!("tora: {path}: {error}"));
+    code
 }
 
 /// Ends with the status of the simulation, or with 1 where that is 0 and the trace could not be written.
@@ -30,7 +35,6 @@ fn traced_status<T: Eprint, V: Output>(
     ended: Result<Ended, ReplayError>,
     out: &TraceOut<V>,
     path: &str,
-    is_verbose: bool,
 ) -> ExitCode
     ensures { exit_status result ≡ traced_status (is_some out.now.failure) ended }
 {
@@ -44,9 +48,7 @@ fn traced_status<T: Eprint, V: Output>(
         Err(ReplayError::Read) => stop(rt, INPUT, "input"),
         Err(ReplayError::Write) => stop(rt, INPUT, "input"),
     };
-    if is_verbose {
-        let _ = rt.eprintln(format_args!("tora: {path}: {error}"));
-    }
+    let _ = rt.eprintln(format_args!("tora: {path}: {error}"));
     code
 }
 
@@ -78,10 +80,8 @@ pub fn run_over<S: Watched, T: AllocGlobal + Eprint, R: Read + Drop, W: Output, 
     );
     let result = flushed(writer, result);
     out.flush();
-    if is_verbose {
-        tell(rt, &reader, result);
-    }
-    traced_status(rt, result, out, path, is_verbose)
+    tell(rt, &reader, result);
+    traced_status(rt, result, out, path)
 }
 
 /// Simulates the lines of the file at a path, with these times of each link end, and writes the trace to the file at another

@@ -35,5 +35,5 @@ pub use making::lanes;
 pub use node_lanes::Lanes;
 pub use out::{OutEnd, OutPut, OutTake, settle_out};
 pub use out_puts::OutPuts;
-pub use ports::{CorePort, Gone, InPort, Settled};
+pub use ports::{CorePort, Gone, InPort, Settled, Settling};
 pub use tora_seat::{Cargo, Item, What};

@@ -75,6 +75,27 @@ impl Model for CorePort {
     ghost invariant = { λ p. IsSeatAt (receives_on p.receiver) p.pass × (lane_view p.pass ≡ Core (length p.counts.items) (took_of (lane_view p.pass)) (known_of (lane_view p.pass))) × ((s : ℕ) → s < length p.counts.items → slice_index p.counts.items s ≡ length (items_of s (took_of (lane_view p.pass)))) };
 }
 
+/// What the core has taken, once its port has ended: seats can still be settled. Contracts see what they see of the port.
+#[derive(Drop)]
+pub struct Settling {
+    pass: LanePass,
+    counts: Vec<u64>,
+    gone: bool,
+}
+
+impl Model for Settling {
+    ghost use Rattle.std.specs.Prelude.{◌≡◌, ◌<◌, ℕ, [], length, slice_index};
+    ghost use Rattle.tora_lane.specs.declared.rule.LaneView.TheVariants.{Core};
+    ghost use Rattle.tora_lane.specs.LaneRule.{items_of};
+    ghost use Rattle.tora_lane.specs.Ports.{CoreEnd, lane_of, lane_view, took_of, known_of};
+
+    ghost Value = { CoreEnd };
+
+    ghost view = { λ p. record { lane = lane_of p.pass; seats = length p.counts.items; taken = took_of (lane_view p.pass); gone = p.gone } };
+
+    ghost invariant = { λ p. (p.pass.me.1 ≡ []) × (lane_view p.pass ≡ Core (length p.counts.items) (took_of (lane_view p.pass)) (known_of (lane_view p.pass))) × ((s : ℕ) → s < length p.counts.items → slice_index p.counts.items s ≡ length (items_of s (took_of (lane_view p.pass)))) };
+}
+
 /// What a seat has put, and what became of it. Own profile.
 #[derive(Clone, Copy, Debug, PartialEq, Eq, Hash)]
 pub struct Settled {
@@ -215,6 +236,46 @@ impl CorePort {
             put: count,
             taken,
             left: count - taken,
+        }
+    }
+
+    /// Ends the port: from now on nothing is taken, and a put that waits or comes is answered `Gone`. What was taken stays known.
+    pub fn end(self) -> Settling
+        ensures { result ≡ self }
+    {
+        let CorePort {
+            receiver: _,
+            pass,
+            counts,
+            gone,
+        } = self;
+        Settling { pass, counts, gone }
+    }
+}
+
+impl Settling {
+    /// Takes in the port of a seat once its thread has ended, and tells what became of its items.
+    pub fn settle(&mut self, port: InPort) -> Settled
+        requires { IsPortOf self.old port }
+        ensures same { self.new ≡ self.old }
+        ensures settled { (left : List Item) × (items_of port.seat self.old.taken ++ left ≡ port.put) × (result.seat ≡ port.seat) × (result.put ≡ length port.put) × (result.taken ≡ length (items_of port.seat self.old.taken)) × (result.left ≡ length left) }
+    {
+        let InPort {
+            sender,
+            pass,
+            seat,
+            count,
+            gone: _,
+        } = port;
+        sender.absorb::<Settles>(&mut self.pass, pass);
+        sender.learn_as::<Settles>(&mut self.pass);
+        let taken = self.counts[seat];
+        let left = count - taken;
+        Settled {
+            seat,
+            put: count,
+            taken,
+            left,
         }
     }
 }

@@ -14,7 +14,8 @@ use std::path::Path;
 ///
 /// It tells contracts no bytes. So clauses say of it which numbers are drawn, when each error comes and that each
 /// failed call is counted, and nothing of what a crash leaves. That the file keeps what was synced, and that
-/// nobody else writes it, are premises of the program.
+/// nobody else writes it, are premises of the program. The file is locked as long as its disk lives, so that no
+/// second node on this machine draws from it; a process that is killed leaves no lock behind.
 #[derive(Debug, Drop)]
 pub struct FileDisk {
     file: File,
@@ -35,7 +36,7 @@ impl FileDisk {
     ///
     /// # Errors
     ///
-    /// Those of the operating system.
+    /// Those of the operating system, and `WouldBlock` where another disk has the file, of this process or of another.
     pub fn open<R: Files<File = File>>(files: &R, path: &str) -> io::Result<FileDisk>
         ensures { IfOk result (λ disk. disk ≡ 0) }
     {
@@ -44,6 +45,7 @@ impl FileDisk {
             .write(true)
             .create(true)
             .open(files, path)?;
+        file.try_lock()?;
         file.sync_all()?;
         let folder = match Path::new(path).parent() {
             Some(folder) if folder.as_str() != "" => folder.as_str(),

@@ -1,5 +1,5 @@
 -- A turn out of its stages.
-use Rattle.std.proofs.Common.{◌≡◌, ℕ, ◌≤◌, Bool, false, List, [], ◌∷◌, ◌++◌, length, Option, None, Ok, Err, refl, sym, ap, ◌∙◌, subst, IsTrue}
+use Rattle.std.proofs.Common.{◌≡◌, ℕ, ◌≤◌, Bool, false, List, [], ◌∷◌, ◌++◌, length, Option, None, Result, Ok, Err, refl, sym, ap, ◌∙◌, subst, IsTrue}
 use Rattle.std.proofs.lemmas.List.{append-nil}
 use Rattle.std.specs.Prelude.{map}
 use Rattle.tora_frame.specs.FrameParts.{FrameParts}
@@ -12,15 +12,16 @@ use Rattle.tora_seat.specs.declared.Cargo.{Cargo}
 use Rattle.tora_neighbour.specs.declared.ending.BrokenAt.{BrokenAt}
 use Rattle.tora_neighbour.specs.declared.ending.BrokenAt.TheVariants.{Send, Receive}
 use Rattle.tora_neighbour.specs.declared.intake.Intake.{Intake}
+use Rattle.tora_neighbour.specs.declared.wire.WireError.{WireError}
 use Rattle.tora_neighbour.specs.Intake.{Reading}
-use Rattle.tora_neighbour.specs.Turns.{Turn, IsTurn, IsLastTurn, IsOpening, Tells, after_opening, after_cargoes, after_cut_of_bound}
+use Rattle.tora_neighbour.specs.Turns.{Turn, IsTurn, IsLastTurn, IsOpening, Tells, is_beat_due, after_opening, after_cargoes, after_cut_of_bound}
 use Rattle.tora_neighbour.specs.declared.ending.Ending.TheVariants.{Broken, Refused}
 use Rattle.tora_neighbour.specs.Traffic.{Outside, Traffic, Came, AreDrawn, entries_of}
 use Rattle.tora_neighbour.specs.Causes.{IsExchange}
 
-abbrev pub turn_of : ℕ → Option ℕ → List Cargo → List FrameParts → Option Reading → Option Intake → List LinkEvent → Option LinkEvent → Bool → Turn
-turn_of now opened cargoes sent came intake told refused beat =
-    record { now = now; opened = opened; cargoes = cargoes; sent = sent; came = came; intake = intake; told = told; refused = refused; beat = beat }
+abbrev pub turn_of : ℕ → Option ℕ → List Cargo → List FrameParts → List (Result (Unit {0}) WireError) → Option (Result (Option ℕ) WireError) → Option Reading → Option Intake → List LinkEvent → Option LinkEvent → Bool → Turn
+turn_of now opened cargoes sent answers answer came intake told refused beat =
+    record { now = now; opened = opened; cargoes = cargoes; sent = sent; answers = answers; answer = answer; came = came; intake = intake; told = told; refused = refused; beat = beat }
 
 -- the traffic of one turn
 pub traffic_of : (o n : Outside) (t : Turn)
@@ -42,11 +43,11 @@ traffic_of o n t drawn puts takes tells tries came = record {
 
 module _ (v one : LinkEndView) (now : ℕ) (opened : Option ℕ) (cargoes : List Cargo) (opening : IsOpening v.state opened) (most : length cargoes ≤ 256)
     (begun : one ≡ link_end_of v.settings (after_cargoes (after_tick v.settings (after_opening v.state opened now) now) cargoes)) where
-  pub whole_turn : (frames : List FrameParts) (came : Option Reading) (intake : Option Intake) (two after : EndState) (told : List LinkEvent) (beat : Bool)
+  pub whole_turn : (frames : List FrameParts) (answers : List (Result (Unit {0}) WireError)) (answer : Option (Result (Option ℕ) WireError)) (came : Option Reading) (intake : Option Intake) (two after : EndState) (told : List LinkEvent) (beat : Bool)
       → IsExchange one.settings one.state now frames came intake (Ok tt) two
       → Tells two told None after
-      → IsTurn v.settings v.state (turn_of now opened cargoes frames came intake told None beat) after
-  whole_turn frames came intake two after told beat exchanged tells =
+      → IsTurn v.settings v.state (turn_of now opened cargoes frames answers answer came intake told None beat) after
+  whole_turn frames answers answer came intake two after told beat exchanged tells =
       let x = subst (λ (u : LinkEndView). IsExchange u.settings u.state now frames came intake (Ok tt) two) begun exchanged in record {
         begins = record { opening = opening; most = most; due = x.0 };
         none_due = x.1;
@@ -55,29 +56,31 @@ module _ (v one : LinkEndView) (now : ℕ) (opened : Option ℕ) (cargoes : List
         accepted = refl;
       }
 
-  pub refused_turn : (frames : List FrameParts) (came : Option Reading) (intake : Option Intake) (two after : EndState) (told : List LinkEvent) (refused : Option LinkEvent)
+  pub refused_turn : (frames : List FrameParts) (answers : List (Result (Unit {0}) WireError)) (answer : Option (Result (Option ℕ) WireError)) (last_beat : Option ℕ) (came : Option Reading) (intake : Option Intake) (two after : EndState) (told : List LinkEvent) (refused : Option LinkEvent)
       → IsExchange one.settings one.state now frames came intake (Ok tt) two
       → Tells two told refused after
-      → IsLastTurn v.settings v.state (turn_of now opened cargoes frames came intake told refused false) Refused after
-  refused_turn frames came intake two after told refused exchanged tells =
+      → (refused ≡ None → IsTrue (is_beat_due last_beat now))
+      → IsLastTurn v.settings last_beat v.state (turn_of now opened cargoes frames answers answer came intake told refused false) Refused after
+  refused_turn frames answers answer last_beat came intake two after told refused exchanged tells due =
       let x = subst (λ (u : LinkEndView). IsExchange u.settings u.state now frames came intake (Ok tt) two) begun exchanged in record {
         begins = record { opening = opening; most = most; due = x.0 };
         none_due = x.1;
         heard = x.2;
         tells = subst (λ (e : EndState). Tells e told refused after) x.3 tells;
         no_beat = refl;
+        due = due;
       }
 
-  pub broken_turn : (at : BrokenAt) (frames : List FrameParts) (came : Option Reading) (intake : Option Intake) (two after : EndState) (told : List LinkEvent) (refused : Option LinkEvent)
+  pub broken_turn : (at : BrokenAt) (frames : List FrameParts) (answers : List (Result (Unit {0}) WireError)) (answer : Option (Result (Option ℕ) WireError)) (last_beat : Option ℕ) (came : Option Reading) (intake : Option Intake) (two after : EndState) (told : List LinkEvent) (refused : Option LinkEvent)
       → IsExchange one.settings one.state now frames came intake (Err at) two
       → Tells (after_cut_of_bound two (bound_life two)) told refused after
-      → IsLastTurn v.settings v.state (turn_of now opened cargoes frames came intake told refused false) (Broken at) after
-  broken_turn Send frames came intake two after told refused exchanged tells =
+      → IsLastTurn v.settings last_beat v.state (turn_of now opened cargoes frames answers answer came intake told refused false) (Broken at) after
+  broken_turn Send frames answers answer last_beat came intake two after told refused exchanged tells =
       let x = subst (λ (u : LinkEndView). IsExchange u.settings u.state now frames came intake (Err Send) two) begun exchanged in record {
         begins = record { opening = opening; most = most; due = x.0 };
         broken = record { nothing_came = x.1; nothing_heard = x.2; tells = subst (λ (e : EndState). Tells (after_cut_of_bound e (bound_life e)) told refused after) x.3 tells; no_beat = refl };
       }
-  broken_turn Receive frames came intake two after told refused exchanged tells =
+  broken_turn Receive frames answers answer last_beat came intake two after told refused exchanged tells =
       let x = subst (λ (u : LinkEndView). IsExchange u.settings u.state now frames came intake (Err Receive) two) begun exchanged in record {
         begins = record { opening = opening; most = most; due = x.0 };
         none_due = x.1;

@@ -24,13 +24,17 @@ TakesSome {H = H} take h (cargo ∷ cargoes) after = (between : H) × take h (So
 abbrev pub TakesAll : {H : Type 0} → (H → Option Cargo → H → Type 0) → H → List Cargo → H → Type 0
 TakesAll {H = H} take h cargoes after = (between : H) × TakesSome take h cargoes between × (take between None after ⊎ ((length cargoes ≡ 256) × (after ≡ between)))
 
--- these frames are sent, one after another
-abbrev pub SendsSome : {W : Type 0} → (W → List ℕ → Result (Unit {0}) WireError → W → Type 0) → W → List FrameParts → W → Type 0
-SendsSome send w [] after = after ≡ w
-SendsSome {W = W} send w (frame ∷ frames) after = (answer : Result (Unit {0}) WireError) × (between : W) × send w (frame_spelling frame) answer between × SendsSome send between frames after
+-- these frames are sent, one after another, with these answers
+abbrev pub SendsSome : {W : Type 0} → (W → List ℕ → Result (Unit {0}) WireError → W → Type 0) → W → List FrameParts → List (Result (Unit {0}) WireError) → W → Type 0
+SendsSome send w [] [] after = after ≡ w
+SendsSome send w [] (answer ∷ answers) after = ⊥
+SendsSome send w (frame ∷ frames) [] after = ⊥
+SendsSome {W = W} send w (frame ∷ frames) (answer ∷ answers) after = (between : W) × send w (frame_spelling frame) answer between × SendsSome send between frames answers after
 
-abbrev pub ReceivesOnce : {W : Type 0} → (W → Result (Option ℕ) WireError → List ℕ → W → Type 0) → W → W → Type 0
-ReceivesOnce receive w after = (answer : Result (Option ℕ) WireError) × (buffer : List ℕ) × receive w answer buffer after
+-- one receive, with this answer
+abbrev pub ReceivesOnce : {W : Type 0} → (W → Result (Option ℕ) WireError → List ℕ → W → Type 0) → W → Option (Result (Option ℕ) WireError) → W → Type 0
+ReceivesOnce receive w None after = ⊥
+ReceivesOnce receive w (Some answer) after = (buffer : List ℕ) × receive w answer buffer after
 
 -- these events are put, one after another
 abbrev pub PutsSome : {H : Type 0} → (H → ℕ → What → Result (Unit {0}) Gone → H → Type 0) → ℕ → H → List LinkEvent → H → Type 0
@@ -46,8 +50,8 @@ pub record TurnCalls {H W : Type 0} (take : H → Option Cargo → H → Type 0)
   pub sent : W
   pub told : H
   pub takes : TakesAll take h t.cargoes taken
-  pub sends : SendsSome send w t.sent sent
-  pub receives : ReceivesOnce receive sent w_after
+  pub sends : SendsSome send w t.sent t.answers sent
+  pub receives : ReceivesOnce receive sent t.answer w_after
   pub puts : PutsSome put t.now taken t.told told
   pub beat : PutsBeat put t.now t.beat told h_after
 
@@ -69,14 +73,14 @@ PutsNoMore {H = H} put now h told None after = (between : H) × PutsSome put now
 PutsNoMore put now h told (Some event) after = PutsUpTo put now h told (Some event) after
 
 -- the calls of a wire up to the one that breaks it
-abbrev pub ExchangesUpTo : {W : Type 0} → (W → List ℕ → Result (Unit {0}) WireError → W → Type 0) → (W → Result (Option ℕ) WireError → List ℕ → W → Type 0) → W → List FrameParts → BrokenAt → W → Type 0
-ExchangesUpTo send receive w frames Send after = SendsSome send w frames after
-ExchangesUpTo {W = W} send receive w frames Receive after = (sent : W) × SendsSome send w frames sent × ReceivesOnce receive sent after
+abbrev pub ExchangesUpTo : {W : Type 0} → (W → List ℕ → Result (Unit {0}) WireError → W → Type 0) → (W → Result (Option ℕ) WireError → List ℕ → W → Type 0) → W → List FrameParts → List (Result (Unit {0}) WireError) → Option (Result (Option ℕ) WireError) → BrokenAt → W → Type 0
+ExchangesUpTo send receive w frames answers answer Send after = SendsSome send w frames answers after × (answer ≡ None)
+ExchangesUpTo {W = W} send receive w frames answers answer Receive after = (sent : W) × SendsSome send w frames answers sent × ReceivesOnce receive sent answer after
 
 -- the calls of the last turn, by how it ends
 abbrev pub LastCalls : {H W : Type 0} → (H → Option Cargo → H → Type 0) → (H → ℕ → What → Result (Unit {0}) Gone → H → Type 0) → (W → List ℕ → Result (Unit {0}) WireError → W → Type 0) → (W → Result (Option ℕ) WireError → List ℕ → W → Type 0) → H → W → Turn → Ending → H → W → Type 0
 LastCalls take put send receive h w t (NoNumber error) h_after w_after = (h_after ≡ h) × (w_after ≡ w)
 LastCalls {H = H} take put send receive h w t (Broken at) h_after w_after =
-    (taken : H) × TakesAll take h t.cargoes taken × ExchangesUpTo send receive w t.sent at w_after × PutsUpTo put t.now taken t.told t.refused h_after
+    (taken : H) × TakesAll take h t.cargoes taken × ExchangesUpTo send receive w t.sent t.answers t.answer at w_after × PutsUpTo put t.now taken t.told t.refused h_after
 LastCalls {H = H} {W = W} take put send receive h w t Refused h_after w_after =
-    (taken : H) × (sent : W) × TakesAll take h t.cargoes taken × SendsSome send w t.sent sent × ReceivesOnce receive sent w_after × PutsNoMore put t.now taken t.told t.refused h_after
+    (taken : H) × (sent : W) × TakesAll take h t.cargoes taken × SendsSome send w t.sent t.answers sent × ReceivesOnce receive sent t.answer w_after × PutsNoMore put t.now taken t.told t.refused h_after

@@ -1,5 +1,6 @@
 -- What a neighbour's thread does with its link end, turn after turn.
-use Rattle.std.specs.Prelude.{◌≡◌, ℕ, ◌<◌, ◌≤◌, Bool, true, false, nat_le, if◌then◌else◌, List, [], ◌∷◌, ◌++◌, length, Option, Some, None, IsTrue, IsFalse}
+use Rattle.std.specs.Prelude.{◌≡◌, ℕ, suc, ◌<◌, ◌≤◌, Bool, true, false, nat_le, if◌then◌else◌, List, [], ◌∷◌, ◌++◌, length, map, Option, Some, None, Result, is_err, IsTrue, IsFalse}
+use Rattle.std.specs.List.{flat_map}
 use Rattle.tora_frame.specs.FrameParts.{FrameParts}
 use Rattle.tora_arq.specs.declared.LinkEvent.{LinkEvent}
 use Rattle.tora_arq.specs.Settings.{Settings, ticks_passed}
@@ -8,6 +9,7 @@ use Rattle.tora_arq.specs.LinkFacts.{list_of}
 use Rattle.tora_arq.specs.declared.Life.{Life}
 use Rattle.tora_neighbour.specs.declared.intake.Intake.{Intake}
 use Rattle.tora_neighbour.specs.declared.tally.Tally.{Tally}
+use Rattle.tora_neighbour.specs.declared.wire.WireError.{WireError}
 use Rattle.tora_neighbour.specs.Intake.{Reading, intake_in, after_came}
 use Rattle.tora_neighbour.specs.Tally.{counted_in}
 use Rattle.tora_neighbour.specs.declared.ending.Ending.{Ending}
@@ -22,6 +24,8 @@ pub record Turn : Type 0 where
   pub opened : Option ℕ  -- the life number that was drawn for a closed end
   pub cargoes : List Cargo  -- what was taken for the link
   pub sent : List FrameParts  -- the frames that the end gave to be sent
+  pub answers : List (Result (Unit {0}) WireError)  -- what the wire answered to each of them
+  pub answer : Option (Result (Option ℕ) WireError)  -- and to the receive, if one was made
   pub came : Option Reading  -- what the datagram that came spells, if one came
   pub intake : Option Intake  -- what the end made of it
   pub told : List LinkEvent  -- the events that the end gave and that were put
@@ -138,7 +142,7 @@ tally_after tally (t ∷ turns) = tally_after (counted_in t.intake tally) turns
 
 -- nothing came to the end, and it gave nothing
 abbrev pub idle_turn : ℕ → Turn
-idle_turn now = record { now = now; opened = None; cargoes = []; sent = []; came = None; intake = None; told = []; refused = None; beat = false }
+idle_turn now = record { now = now; opened = None; cargoes = []; sent = []; answers = []; answer = None; came = None; intake = None; told = []; refused = None; beat = false }
 
 -- no number: nothing else is done
 pub record EndsWithNoNumber (e : EndState) (t : Turn) (after : EndState) : Type 0 where
@@ -163,18 +167,48 @@ pub record EndsBrokenAtSend (s : Settings) (e : EndState) (t : Turn) (after : En
   pub broken : EndsBroken (when_sent s e t) t after
 
 -- an event is refused, or the beat behind all events
-pub record EndsRefused (s : Settings) (e : EndState) (t : Turn) (after : EndState) : Type 0 where
+pub record EndsRefused (s : Settings) (last_beat : Option ℕ) (e : EndState) (t : Turn) (after : EndState) : Type 0 where
   pub begins : Begins s e t
   pub none_due : frame_due s (when_sent s e t) t.now ≡ None
   pub heard : t.intake ≡ intake_in s (when_none_due s e t) t.now t.came
   pub tells : Tells (when_heard s e t) t.told t.refused after
   pub no_beat : IsFalse t.beat
+  pub due : t.refused ≡ None → IsTrue (is_beat_due last_beat t.now)
 
-abbrev pub IsLastTurn : Settings → EndState → Turn → Ending → EndState → Type 0
-IsLastTurn s e t (NoNumber error) after = EndsWithNoNumber e t after
-IsLastTurn s e t (Broken Send) after = EndsBrokenAtSend s e t after
-IsLastTurn s e t (Broken Receive) after = EndsBrokenAtReceive s e t after
-IsLastTurn s e t Refused after = EndsRefused s e t after
+-- the last turn, after the last beat that was put
+abbrev pub IsLastTurn : Settings → Option ℕ → EndState → Turn → Ending → EndState → Type 0
+IsLastTurn s last_beat e t (NoNumber error) after = EndsWithNoNumber e t after
+IsLastTurn s last_beat e t (Broken Send) after = EndsBrokenAtSend s e t after
+IsLastTurn s last_beat e t (Broken Receive) after = EndsBrokenAtReceive s e t after
+IsLastTurn s last_beat e t Refused after = EndsRefused s last_beat e t after
+
+-- ---- failures in a row
+
+-- which calls of the wire failed, in their order: the sends, and then the receive
+abbrev pub failed_receive : Option (Result (Option ℕ) WireError) → List Bool
+failed_receive None = []
+failed_receive (Some answer) = is_err answer ∷ []
+
+abbrev pub failed_calls : List (Result (Unit {0}) WireError) → Option (Result (Option ℕ) WireError) → List Bool
+failed_calls answers answer = map is_err answers ++ failed_receive answer
+
+abbrev pub calls_failed : List Turn → List Bool
+calls_failed turns = flat_map (λ t. failed_calls t.answers t.answer) turns
+
+-- how many calls in a row have failed after one more
+abbrev pub row_after : Bool → ℕ → ℕ
+row_after failed row = if failed then suc row else 0
+
+-- so many in a row have failed after these calls, and none was made once a hundred in a row had
+abbrev pub IsRow : ℕ → List Bool → ℕ → Type 0
+IsRow row [] after = after ≡ row
+IsRow row (failed ∷ calls) after = (row < 100) × IsRow (row_after failed row) calls after
+
+-- the last hundred calls have failed exactly where the wire is broken
+abbrev pub EndsInRow : Ending → ℕ → Type 0
+EndsInRow (NoNumber error) row = row < 100
+EndsInRow (Broken at) row = row ≡ 100
+EndsInRow Refused row = row < 100
 
 -- ---- runs
 
@@ -189,4 +223,7 @@ pub record IsTurnRun (s : Settings) (e : EndState) (turns : List Turn) (last : T
   pub turns_are : AreTurns s e turns before
   pub last_beat : Option ℕ
   pub beats_are : AreBeats None turns last_beat
-  pub last_is : IsLastTurn s before last ending after
+  pub last_is : IsLastTurn s last_beat before last ending after
+  pub row : ℕ
+  pub calls_are : IsRow 0 (calls_failed (turns ++ last ∷ [])) row
+  pub row_is : EndsInRow ending row

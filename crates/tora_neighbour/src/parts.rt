@@ -1,5 +1,5 @@
 //! The parts of a turn.
-ghost use Rattle.std.specs.Prelude.{◌≡◌, [], ◌∷◌, ◌++◌, ◌+◌, ℕ, ◌≤◌, ◌<◌, List, Option, Result, Some, None, length, map, true, false, IsTrue, IfErr, OnOk, OnErr};
+ghost use Rattle.std.specs.Prelude.{◌≡◌, [], ◌∷◌, ◌++◌, ◌+◌, ℕ, ◌≤◌, ◌<◌, List, Option, Result, Some, None, is_err, length, map, true, false, IsTrue, IfErr, OnOk, OnErr};
 ghost use Rattle.tora_frame.specs.FrameParts.{FrameParts};
 ghost use Rattle.tora_frame.specs.FrameGrammar.{frame_spelling};
 ghost use Rattle.tora_arq.specs.declared.LinkEvent.{LinkEvent};
@@ -9,7 +9,7 @@ ghost use Rattle.tora_seat.specs.declared.Cargo.{Cargo};
 ghost use Rattle.tora_neighbour.specs.Datagrams.{RoseBy};
 ghost use Rattle.tora_neighbour.specs.Intake.{Reading, intake_in, after_came};
 ghost use Rattle.tora_neighbour.specs.Tally.{counted_in};
-ghost use Rattle.tora_neighbour.specs.Turns.{after_opening, after_cargo, after_cargoes, after_frames, after_cut_of_bound, IsOpening, AreDue, Tells};
+ghost use Rattle.tora_neighbour.specs.Turns.{after_opening, after_cargo, after_cargoes, after_frames, after_cut_of_bound, IsOpening, AreDue, Tells, row_after, IsRow};
 ghost use Rattle.tora_neighbour.specs.Traffic.{AreDrawn, Came, entry_of, what_of};
 ghost use Rattle.tora_neighbour.specs.declared.wire.WireError.{WireError};
 ghost use Rattle.tora_neighbour.specs.Calls.{TakesAll, SendsSome, ReceivesOnce, PutsSome, PutsUpTo};
@@ -150,7 +150,7 @@ pub fn count_failure(row: &mut u64) -> Result<(), Broken>
 /// Sends a datagram, and counts where it fails.
 pub fn try_send<W: Wire>(wire: &mut W, row: &mut u64, bytes: &[u8]) -> Result<(), Broken>
     requires { row.old < 100 }
-    ensures call { (answer : Result (Unit {0}) WireError) × W.did_send wire.old bytes.now answer wire.new }
+    ensures call { (answer : Result (Unit {0}) WireError) × W.did_send wire.old bytes.now answer wire.new × (row.new ≡ row_after (is_err answer) row.old) }
     ensures tells { IsTrue (W.tells wire.new) → IsTrue (W.tells wire.old) }
     ensures tried { IsTrue (W.tells wire.new) → W.tries wire.new ≡ W.tries wire.old ++ bytes.now ∷ [] }
     ensures coming { IsTrue (W.tells wire.new) → W.coming wire.new ≡ W.coming wire.old }
@@ -181,8 +181,8 @@ pub fn send_frames<R: Wait, W: Wire>(
     ensures row { OnOk result (row.new < 100) }
     ensures broken { OnErr result (row.new ≡ 100) }
     ensures failures { (base : ℕ) → RoseBy row.old base (W.failures wire.old) → RoseBy row.new base (W.failures wire.new) }
-    ensures all { OnOk result ((frames : List FrameParts) × AreDue end.old.settings end.old.state now frames × (frame_due end.old.settings (after_frames end.old.settings end.old.state now frames) now ≡ None) × (end.new ≡ record end.old { state = after_transmit end.old.settings (after_frames end.old.settings end.old.state now frames) now }) × (IsTrue (W.tells wire.new) → W.tries wire.new ≡ W.tries wire.old ++ map frame_spelling frames) × SendsSome W.did_send wire.old frames wire.new) }
-    ensures some { OnErr result ((frames : List FrameParts) × AreDue end.old.settings end.old.state now frames × (end.new ≡ record end.old { state = after_frames end.old.settings end.old.state now frames }) × (IsTrue (W.tells wire.new) → W.tries wire.new ≡ W.tries wire.old ++ map frame_spelling frames) × SendsSome W.did_send wire.old frames wire.new) }
+    ensures all { OnOk result ((frames : List FrameParts) × (answers : List (Result (Unit {0}) WireError)) × AreDue end.old.settings end.old.state now frames × (frame_due end.old.settings (after_frames end.old.settings end.old.state now frames) now ≡ None) × (end.new ≡ record end.old { state = after_transmit end.old.settings (after_frames end.old.settings end.old.state now frames) now }) × (IsTrue (W.tells wire.new) → W.tries wire.new ≡ W.tries wire.old ++ map frame_spelling frames) × SendsSome W.did_send wire.old frames answers wire.new × IsRow row.old (map is_err answers) row.new) }
+    ensures some { OnErr result ((frames : List FrameParts) × (answers : List (Result (Unit {0}) WireError)) × AreDue end.old.settings end.old.state now frames × (end.new ≡ record end.old { state = after_frames end.old.settings end.old.state now frames }) × (IsTrue (W.tells wire.new) → W.tries wire.new ≡ W.tries wire.old ++ map frame_spelling frames) × SendsSome W.did_send wire.old frames answers wire.new × IsRow row.old (map is_err answers) row.new) }
 {
     let mut packets = Packets::new();
     let mut bytes = ArrayVec::<u8, LONGEST_FRAME>::new();
@@ -210,7 +210,7 @@ pub fn receive<W: Wire>(
     ensures row { OnOk result (row.new < 100) }
     ensures broken { OnErr result (row.new ≡ 100) }
     ensures failures { (base : ℕ) → RoseBy row.old base (W.failures wire.old) → RoseBy row.new base (W.failures wire.new) }
-    ensures asked { ReceivesOnce W.did_receive wire.old wire.new }
+    ensures asked { (answer : Result (Option ℕ) WireError) × ReceivesOnce W.did_receive wire.old (Some answer) wire.new × (row.new ≡ row_after (is_err answer) row.old) }
     ensures came { OnOk result ((came : Option Reading) × (end.new ≡ record end.old { state = after_came end.old.settings end.old.state now came }) × (tally.new ≡ counted_in (intake_in end.old.settings end.old.state now came) tally.old) × (IsTrue (W.tells wire.new) → Came (W.coming wire.old) (list_of came) (W.coming wire.new))) }
     ensures none { OnErr result ((end.new ≡ end.old) × (tally.new ≡ tally.old) × (IsTrue (W.tells wire.new) → W.coming wire.new ≡ W.coming wire.old)) }
 {

@@ -1,5 +1,5 @@
 //! The stages of a turn: it begins, exchanges datagrams, and tells its events.
-ghost use Rattle.std.specs.Prelude.{◌≡◌, [], ◌∷◌, ◌++◌, ◌+◌, ℕ, ◌≤◌, ◌<◌, List, Option, Err, Some, None, length, map, true, false, IsTrue, IfErr, OnOk, OnErr, if◌then◌else◌};
+ghost use Rattle.std.specs.Prelude.{◌≡◌, [], ◌∷◌, ◌++◌, ◌+◌, ℕ, ◌≤◌, ◌<◌, List, Option, Result, Err, Some, None, length, map, true, false, IsTrue, IfErr, OnOk, OnErr, if◌then◌else◌};
 ghost use Rattle.tora_frame.specs.FrameParts.{FrameParts};
 ghost use Rattle.tora_frame.specs.FrameGrammar.{frame_spelling};
 ghost use Rattle.tora_arq.specs.declared.LinkEvent.{LinkEvent};
@@ -9,10 +9,11 @@ ghost use Rattle.tora_seat.specs.declared.Cargo.{Cargo};
 ghost use Rattle.tora_seat.specs.declared.What.TheVariants as Says;
 ghost use Rattle.tora_lane.specs.declared.ports.Gone.{Gone as AnyGone};
 ghost use Rattle.tora_neighbour.specs.Datagrams.{RoseBy};
+ghost use Rattle.tora_neighbour.specs.declared.wire.WireError.{WireError};
 ghost use Rattle.tora_neighbour.specs.declared.intake.Intake.{Intake};
 ghost use Rattle.tora_neighbour.specs.Intake.{Reading};
 ghost use Rattle.tora_neighbour.specs.Tally.{counted_in};
-ghost use Rattle.tora_neighbour.specs.Turns.{after_opening, after_cargoes, after_cut_of_bound, IsOpening, Tells, is_beat_due};
+ghost use Rattle.tora_neighbour.specs.Turns.{after_opening, after_cargoes, after_cut_of_bound, IsOpening, Tells, is_beat_due, failed_calls, IsRow};
 ghost use Rattle.tora_neighbour.specs.Traffic.{AreDrawn, Came, entry_of, beat_of};
 ghost use Rattle.tora_neighbour.specs.Calls.{TakesAll, SendsSome, ReceivesOnce, PutsSome, PutsBeat, PutsUpTo, PutsNoMore, ExchangesUpTo};
 ghost use Rattle.tora_neighbour.specs.Causes.{IsReady, IsLifeCause, IsExchange};
@@ -70,7 +71,7 @@ pub fn exchange<R: Wait, W: Wire>(
     ensures broken { OnErr result (row.new ≡ 100) }
     ensures failures { (base : ℕ) → RoseBy row.old base (W.failures wire.old) → RoseBy row.new base (W.failures wire.new) }
     ensures last { OnOk result (end.new.state.last_life ≡ end.old.state.last_life) }
-    ensures exchange { (frames : List FrameParts) × (came : Option Reading) × (intake : Option Intake) × IsExchange end.old.settings end.old.state now frames came intake result end.new.state × (end.new.settings ≡ end.old.settings) × (tally.new ≡ counted_in intake tally.old) × (IsTrue (W.tells wire.new) → W.tries wire.new ≡ W.tries wire.old ++ map frame_spelling frames) × (IsTrue (W.tells wire.new) → Came (W.coming wire.old) (list_of came) (W.coming wire.new)) × OnOk result ((sent : W) × SendsSome W.did_send wire.old frames sent × ReceivesOnce W.did_receive sent wire.new) × IfErr result (λ at. ExchangesUpTo W.did_send W.did_receive wire.old frames at wire.new) }
+    ensures exchange { (frames : List FrameParts) × (came : Option Reading) × (intake : Option Intake) × (answers : List (Result (Unit {0}) WireError)) × (answer : Option (Result (Option ℕ) WireError)) × IsExchange end.old.settings end.old.state now frames came intake result end.new.state × (end.new.settings ≡ end.old.settings) × (tally.new ≡ counted_in intake tally.old) × (IsTrue (W.tells wire.new) → W.tries wire.new ≡ W.tries wire.old ++ map frame_spelling frames) × (IsTrue (W.tells wire.new) → Came (W.coming wire.old) (list_of came) (W.coming wire.new)) × OnOk result ((sent : W) × SendsSome W.did_send wire.old frames answers sent × ReceivesOnce W.did_receive sent answer wire.new) × IfErr result (λ at. ExchangesUpTo W.did_send W.did_receive wire.old frames answers answer at wire.new) × IsRow row.old (failed_calls answers answer) row.new }
 {
     lives_are_bound_once();
     if let Err(_) = send_frames(rt, end, wire, row, now) {
@@ -108,6 +109,7 @@ pub fn put_beat<R: Wait, H: Hub>(
     ensures call { OnOk result (PutsBeat H.did_put now (is_beat_due last_beat.old now) hub.old hub.new) }
     ensures refused { OnErr result (H.puts hub.new ≡ H.puts hub.old) }
     ensures last_call { OnErr result ((gone : AnyGone) × H.did_put hub.old now Says.Beat (Err gone) hub.new) }
+    ensures due { OnErr result (is_beat_due last_beat.old now ≡ true) }
     ensures gone { OnErr result (H.gone hub.new ≡ true) }
 {
     let due = match last_beat {
@@ -133,7 +135,7 @@ pub fn tell<R: Wait, H: Hub>(
     ensures takes { H.takes hub.new ≡ H.takes hub.old }
     ensures last { OnOk result (last_beat.new ≡ (if is_beat_due last_beat.old now then Some now else last_beat.old)) }
     ensures all { OnOk result ((told : List LinkEvent) × Tells end.old.state told None end.new.state × (H.puts hub.new ≡ H.puts hub.old ++ (map (entry_of now) told ++ beat_of (is_beat_due last_beat.old now) now)) × ((mid : H) × PutsSome H.did_put now hub.old told mid × PutsBeat H.did_put now (is_beat_due last_beat.old now) mid hub.new)) }
-    ensures some { OnErr result ((told : List LinkEvent) × (refused : Option LinkEvent) × Tells end.old.state told refused end.new.state × (H.puts hub.new ≡ H.puts hub.old ++ map (entry_of now) told) × PutsNoMore H.did_put now hub.old told refused hub.new) }
+    ensures some { OnErr result ((told : List LinkEvent) × (refused : Option LinkEvent) × Tells end.old.state told refused end.new.state × (H.puts hub.new ≡ H.puts hub.old ++ map (entry_of now) told) × PutsNoMore H.did_put now hub.old told refused hub.new × (refused ≡ None → IsTrue (is_beat_due last_beat.old now))) }
     ensures gone { OnErr result (H.gone hub.new ≡ true) }
 {
     if let Err(gone) = put_events(rt, end, hub, now) {

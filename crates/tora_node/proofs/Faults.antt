@@ -60,9 +60,9 @@ no_outcome ks os i e so = so ∙ ap (λ (l : List Outcome). first_link_fault (dr
 pub core_fault : (fault : Option NodeError) (xs : List ServedItem) (gone : Bool) → EndsSo fault xs gone → IsCoreFault fault
 core_fault None xs gone h = tt
 core_fault (Some Fault.Memory) xs gone h = tt
-core_fault (Some Fault.Lane) xs gone h = h.3
-core_fault (Some (Fault.Life peer error)) xs gone h = h.3
-core_fault (Some (Fault.Wire peer)) xs gone h = h.3
+core_fault (Some Fault.Lane) xs gone h = h.4
+core_fault (Some (Fault.Life peer error)) xs gone h = h.4
+core_fault (Some (Fault.Wire peer)) xs gone h = h.4
 core_fault (Some Fault.Output) xs gone h = tt
 
 at_index : (ks : List ℕ) (i : ℕ) → i < length ks → slice_get ks i ≡ Some (get_or ks i 0)

@@ -1,14 +1,15 @@
 -- Items that are served one after another.
-use Rattle.std.proofs.Common.{◌≡◌, ℕ, List, [], ◌∷◌, ◌++◌, refl, sym, ap, subst, ◌∙◌, append_assoc, append-nil, Option, Some, None}
+use Rattle.std.proofs.Common.{◌≡◌, ◌≢◌, ℕ, List, [], ◌∷◌, ◌++◌, refl, sym, ap, subst, ◌∙◌, append_assoc, append-nil, Option, Some, None}
 use Rattle.std.specs.Prelude.{Bool}
 use Rattle.std.specs.Io.KnownBytes.{Appends}
 use Rattle.tora_core.specs.declared.Input.{Input}
 use Rattle.tora_core.specs.CoreRun.{CoreView, core_after, core_after_all}
 use Rattle.tora_seat.specs.declared.Item.{Item}
 use Rattle.tora_seat.specs.declared.Cargo.{Cargo}
+use Rattle.tora_seat.specs.declared.What.TheVariants as Tells
 use Rattle.tora_seat.specs.Serving.{Answers, Offer, SeatState, Serving, serving_of}
 use Rattle.tora_seat.specs.Offers.{AreOffered, Follows}
-use Rattle.tora_node.specs.CoreRuns.{ServedItem, answers_told, serving_told, AreServed, items_served, offers_made, inputs_stepped, text_of, text_served}
+use Rattle.tora_node.specs.CoreRuns.{ServedItem, answers_told, serving_told, AreServed, items_served, offers_made, inputs_stepped, text_of, text_served, GoOn}
 use Rattle.tora_node.proofs.Told.{told_follows, offered_then}
 
 items_more : (xs : List ServedItem) (x : ServedItem) → items_served (xs ++ x ∷ []) ≡ items_served xs ++ x.item ∷ []
@@ -29,6 +30,10 @@ text_more ks s mid (y ∷ xs) x p =
     let t : Serving = serving_told ks s y in
     ap (λ (l : List ℕ). text_of y.item t ++ l) (text_more ks t.seat mid xs x p.1) ∙ sym (append_assoc (text_of y.item t) (text_served ks t.seat xs) (text_of x.item (serving_told ks mid x)))
 
+goes_more : (xs : List ServedItem) (x : ServedItem) → GoOn xs → x.item.what ≢ Tells.Quit → GoOn (xs ++ x ∷ [])
+goes_more [] x h other = (other, tt)
+goes_more (y ∷ xs) x h other = (h.0, goes_more xs x h.1 other)
+
 -- ---- a run: what was taken, offered and written since its start
 
 pub record Ran {O : Type 0} (did : O → ℕ → Cargo → Bool → O → Type 0) (ks : List ℕ) (s : SeatState) (outs : O) (taken : List Item) (old : Option (List ℕ))
@@ -38,6 +43,7 @@ pub record Ran {O : Type 0} (did : O → ℕ → Cargo → Bool → O → Type 0
   pub served : AreServed ks s xs now
   pub offered : AreOffered did ks outs (offers_made xs) outs_now
   pub written : Appends old new (text_served ks s xs)
+  pub goes : GoOn xs
 
 pub Appends-nil : (old : Option (List ℕ)) → Appends old old []
 Appends-nil None = tt
@@ -50,7 +56,7 @@ Appends-then (Some a) (Some b) None xs ys p q = absurd q
 Appends-then (Some a) (Some b) (Some c) xs ys p q = q ∙ ap (λ (t : List ℕ). t ++ ys) p ∙ append_assoc a xs ys
 
 abbrev pub nothing_ran : {O : Type 0} → (did : O → ℕ → Cargo → Bool → O → Type 0) (ks : List ℕ) (s : SeatState) (outs : O) (taken : List Item) (old : Option (List ℕ)) → Ran did ks s outs taken old s outs taken old
-nothing_ran did ks s outs taken old = record { xs = []; taken_is = sym (append-nil taken); served = refl; offered = refl; written = Appends-nil old }
+nothing_ran did ks s outs taken old = record { xs = []; taken_is = sym (append-nil taken); served = refl; offered = refl; written = Appends-nil old; goes = tt }
 
 -- one more item was taken and served, with these offers; what it asks for is still to be written
 pub record Done {O : Type 0} (did : O → ℕ → Cargo → Bool → O → Type 0) (ks : List ℕ) (s : SeatState) (outs : O) (taken : List Item) (old : Option (List ℕ))
@@ -58,6 +64,7 @@ pub record Done {O : Type 0} (did : O → ℕ → Cargo → Bool → O → Type 
   pub front : List ServedItem
   pub x : ServedItem
   pub item_is : x.item ≡ item
+  pub goes : GoOn front
   pub taken_is : taken_new ≡ taken ++ items_served (front ++ x ∷ [])
   pub served : AreServed ks s (front ++ x ∷ []) v.seat
   pub offered : AreOffered did ks outs (offers_made (front ++ x ∷ [])) outs_new
@@ -79,6 +86,7 @@ module _ {O : Type 0} (did : O → ℕ → Cargo → Bool → O → Type 0) (ks 
         front = r.xs;
         x = x;
         item_is = refl;
+        goes = r.goes;
         taken_is = e ∙ ap (λ (l : List Item). l ++ item ∷ []) r.taken_is ∙ append_assoc taken (items_served r.xs) (item ∷ []) ∙ ap (λ (l : List Item). taken ++ l) (sym (items_more r.xs x));
         served = subst (λ (w : Serving). AreServed ks s (r.xs ++ x ∷ []) w.seat) (served_as f) (served_more ks s mid r.xs x r.served (ap (λ (w : Serving). w.offers) (served_as f) ∙ same));
         offered = subst (λ (l : List Offer). AreOffered did ks outs l outs_new) (sym (offers_more r.xs x)) (offered_then did ks outs outs_mid outs_new (offers_made r.xs) offers r.offered a);
@@ -91,6 +99,10 @@ module _ {O : Type 0} (did : O → ℕ → Cargo → Bool → O → Type 0) (ks 
   -- the neighbours are those of the start
   pub done : (now : List ℕ) → now ≡ ks → taken_new ≡ taken_mid ++ item ∷ [] → AreOffered did now outs_mid offers outs_new → Agrees now → v.offers ≡ offers → Done did ks s outs taken old item v outs_new taken_new mid_text
   done now e t a f same = done_here t (subst (λ (l : List ℕ). AreOffered did l outs_mid offers outs_new) e a) (subst Agrees e f) same
+
+-- and where it is not Quit the run goes on
+pub goes_on : (front : List ServedItem) (x : ServedItem) (item : Item) → GoOn front → x.item ≡ item → item.what ≢ Tells.Quit → GoOn (front ++ x ∷ [])
+goes_on front x item h is other = goes_more front x h (λ quit. other (sym (ap (λ (i : Item). i.what) is) ∙ quit))
 
 -- ---- the core
 

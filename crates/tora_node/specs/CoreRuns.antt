@@ -1,5 +1,5 @@
 -- What the core's thread does: it serves the items that it takes, one after another, and prints what they ask for.
-use Rattle.std.specs.Prelude.{◌≡◌, ◌⊎◌, ℕ, Bool, true, false, List, [], ◌∷◌, ◌++◌, length, slice_get, codes, Option, Some, None}
+use Rattle.std.specs.Prelude.{◌≡◌, ◌≢◌, ◌⊎◌, ℕ, Bool, true, false, List, [], ◌∷◌, ◌++◌, length, slice_get, codes, Option, Some, None}
 use Rattle.std.specs.Fmt.{decimal}
 use Rattle.tora_core.specs.declared.Input.{Input}
 use Rattle.tora_core.specs.Errors.{step_error_number}
@@ -90,11 +90,16 @@ MayFail Fault.Lane what = ⊥
 MayFail (Fault.Life peer error) what = ⊥
 MayFail (Fault.Wire peer) what = ⊥
 
--- the last of the items is so
-abbrev pub EndsWith : (What → Type 0) → List ServedItem → Type 0
-EndsWith Is xs = (front : List ServedItem) × (x : ServedItem) × (xs ≡ front ++ x ∷ []) × Is x.item.what
+-- none of the items is Quit
+abbrev pub GoOn : List ServedItem → Type 0
+GoOn [] = Unit {0}
+GoOn (x ∷ xs) = (x.item.what ≢ Tells.Quit) × GoOn xs
 
--- without a fault only after Quit, or where the port has answered Gone
+-- the last of the items is so, and none before it is Quit
+abbrev pub EndsWith : (What → Type 0) → List ServedItem → Type 0
+EndsWith Is xs = (front : List ServedItem) × (x : ServedItem) × (xs ≡ front ++ x ∷ []) × GoOn front × Is x.item.what
+
+-- without a fault with the first Quit, or before any of them, where the port has answered Gone
 abbrev pub EndsSo : Option NodeError → List ServedItem → Bool → Type 0
-EndsSo None xs gone = EndsWith (λ what. what ≡ Tells.Quit) xs ⊎ (gone ≡ true)
+EndsSo None xs gone = EndsWith (λ what. what ≡ Tells.Quit) xs ⊎ (GoOn xs × (gone ≡ true))
 EndsSo (Some fault) xs gone = EndsWith (MayFail fault) xs

@@ -3,3 +3,4 @@ pub mod CommandText
 pub mod CommandRuns
 pub mod CommandSteps
 pub mod NodeRuns
+pub mod NewLinks

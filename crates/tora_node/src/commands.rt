@@ -7,7 +7,7 @@ ghost use Rattle.tora_node.specs.CommandSteps.{Holds, DidPut, PutsAll, PutsLast,
 
 use crate::words::{after, id, is_word};
 use arrayvec::ArrayVec;
-use log::{Log, warn};
+use log::{Log, info, warn};
 use std::io::{ErrorKind, Read};
 use std::sync::Wait;
 use tora_height::Id;
@@ -16,6 +16,9 @@ use tora_neighbour::Clock;
 
 /// The longest line that can be a command, in bytes without its end.
 pub const LONGEST_COMMAND: usize = 4096;
+
+/// What the log says of the commands.
+const COMMANDS: &str = "commands are `need D`, `show`, `quit` and `help`";
 
 /// How many bytes one read asks for at most.
 const CHUNK: usize = 512;
@@ -102,6 +105,21 @@ impl Line {
         }
     }
 
+    /// Logs the line where it is no command, with those that are, which `help` asks for.
+    fn tell<R: Log>(&self, rt: &R) {
+        let line = self.bytes.as_slice();
+        if self.is_too_long {
+            warn!(rt; "a line of more than {LONGEST_COMMAND} bytes is no command; {COMMANDS}");
+        } else if is_word(b"help", line) {
+            info!(rt; "{COMMANDS}");
+        } else if command_of(line) == Command::Unknown {
+            match str::from_utf8(line) {
+                Ok(text) => warn!(rt; "{text:?} is no command; {COMMANDS}"),
+                Err(_) => warn!(rt; "a line that is no text is no command; {COMMANDS}"),
+            }
+        }
+    }
+
     /// What the line asks; the next line begins.
     fn take(&mut self) -> Command
         ensures asked { (text : List ℕ) → Holds self.old text → result ≡ asked_in text }
@@ -131,10 +149,7 @@ fn put<R: Wait + Log, C: Clock>(
         Command::Need(d) => What::Need(d),
         Command::Show => What::Show,
         Command::Quit => What::Quit,
-        Command::Unknown => {
-            warn!(rt; "a line is no command");
-            return None;
-        }
+        Command::Unknown => return None,
     };
     match port.put(rt, clock.now(), what) {
         Err(_) => Some(CommandsEnd::Gone),
@@ -179,6 +194,7 @@ fn put_all<R: Wait + Log, C: Clock>(
 {
     for byte in bytes {
         if *byte == b'\n' {
+            line.tell(rt);
             let end = put(rt, clock, port, line.take());
             if end.is_some() {
                 return end;
@@ -200,6 +216,7 @@ fn put_last<R: Wait + Log, C: Clock>(
     ensures { (text : List ℕ) → Holds line.old text → PutsLast (C.did_tell clock.now) text port.old port.new result }
 {
     if !line.is_empty() {
+        line.tell(rt);
         let end = put(rt, clock, port, line.take());
         if end.is_some() {
             return end;
@@ -221,7 +238,7 @@ fn is_gone(end: Option<CommandsEnd>) -> bool
 /// Reads commands and puts what they ask, until `quit`, the end of the input, a read that fails, or `Gone`. Answers why it
 /// has ended.
 ///
-/// A line that is no command is logged and passed over. The end of the input and a failed read put `Quit`, and a last
+/// A line that is no command is logged and passed over; so is `help`, which logs the commands. The end of the input and a failed read put `Quit`, and a last
 /// line without its end counts. Each item has the tick of the moment when it is put. It may wait.
 pub fn run_commands<R: Wait + Log, Rd: Read, C: Clock>(
     rt: &R,

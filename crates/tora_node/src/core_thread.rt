@@ -1,5 +1,5 @@
 //! The core's thread.
-ghost use Rattle.std.specs.Prelude.{◌≡◌, ◌≤◌, ◌++◌, ◌∷◌, [], List, length, true, Err, Option, None, Some, IfErr, IfOk, OnOk, string_bytes};
+ghost use Rattle.std.specs.Prelude.{◌≡◌, ◌≢◌, ◌≤◌, ◌++◌, ◌∷◌, [], List, length, true, false, Err, Option, None, Some, IfErr, IfOk, OnOk, string_bytes};
 ghost use Rattle.std.specs.Io.KnownBytes.{Appends};
 ghost use Rattle.tora_core.specs.CoreRun.{core_after_all};
 ghost use Rattle.tora_core.specs.ShowText.{show_text};
@@ -84,7 +84,8 @@ fn reply<W: Write>(
 }
 
 fn is_quit(what: &What) -> bool
-    ensures { result ≡ true → what.now ≡ What.Quit }
+    ensures quit { result ≡ true → what.now ≡ What.Quit }
+    ensures other { result ≡ false → what.now ≢ What.Quit }
 {
     match what {
         What::Quit => true,

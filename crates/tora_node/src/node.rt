@@ -1,7 +1,7 @@
 //! A node and its threads.
 ghost use Rattle.std.specs.Prelude.{◌≡◌, ◌≢◌, ◌⊎◌, ◌<◌, ◌≤◌, ℕ, IfOk, IfErr, IfSome, length, map};
 ghost use Rattle.std.specs.Thread.{IsSync, IsSend};
-ghost use Rattle.tora_arq.specs.LinkEnd.{first_end};
+ghost use Rattle.tora_node.specs.NewLinks.{new_end, owner_of};
 ghost use Rattle.tora_neighbour.specs.declared.fault.NodeError.{NodeError};
 ghost use Rattle.tora_seat.specs.Rows.{SeatView, first_seat};
 ghost use Rattle.tora_node.specs.NodeRuns.{IsCoreRun, IsRunOf, IsNodeFault, tally_of, place_of, link_fault, fault_of_link, first_link_fault, first_fault};
@@ -28,21 +28,27 @@ use tora_life::{Disk, LifeError, LifeFile};
 use tora_neighbour::{Clock, LaneHub, Link, NodeError, Tally, Wire, run_neighbour};
 use tora_seat::CoreSeat;
 
-/// A link end that was never opened.
+/// A link end of version 2 with the standard times, that was never opened.
 #[derive(Drop)]
 struct NewEnd {
     end: LinkEnd,
-    ghost new: { end.state ≡ first_end },
+    ghost new: { end ≡ new_end end.settings.me end.settings.peer },
 }
 
-/// The work of a neighbour's thread: a link whose end was never opened, and its lanes.
+/// A link whose end was never opened, and whose life file was opened for the two nodes of that end.
+#[derive(Drop)]
+struct NewLink<D: Disk, W: Wire> {
+    link: Link<D, W>,
+    ghost new: { link.end ≡ new_end link.end.settings.me link.end.settings.peer },
+    ghost owner: { link.file.owner ≡ owner_of link.end.settings.me link.end.settings.peer },
+}
+
+/// The work of a neighbour's thread: a new link, and its lanes.
 #[derive(Drop)]
 struct Start<'a, D: Disk, W: Wire, C> {
-    peer: Id,
-    link: Link<D, W>,
+    new: NewLink<D, W>,
     hub: LaneHub,
     clock: &'a C,
-    ghost new: { link.end.state ≡ first_end },
 }
 
 /// Why the thread of a neighbour has ended though nobody told it to.
@@ -69,12 +75,9 @@ trait Task {
 
 impl<'a, D: Disk + Drop, W: Wire + Drop, C: Clock> Task for Start<'a, D, W, C> {
     fn run<R: Wait + Log>(self, rt: &R) -> Outcome {
-        let Start {
-            peer,
-            link,
-            hub,
-            clock,
-        } = self;
+        let Start { new, hub, clock } = self;
+        let NewLink { link } = new;
+        let peer = link.end.peer();
         let hub = LogHub { log: rt, peer, hub };
         let finished = run_neighbour(rt, link, clock, hub);
         let tally = finished.tally;
@@ -243,55 +246,68 @@ fn new_lanes<R: Wait>(rt: &R, alloc: Global, links: usize) -> Result<Lanes, Node
     }
 }
 
-/// Opens the life files, by ascending neighbour.
-#[tactic(auto, using(crate::proofs::Faults::is_neighbour))]
-fn open_files<D: Disk + Drop>(
+/// Opens the life files, by ascending neighbour, and puts the parts of each link together.
+fn new_links<D: Disk + Drop, W: Wire + Drop>(
     alloc: Global,
     core: &Core,
+    ends: Vec<NewEnd>,
     disks: Vec<D>,
-) -> Result<Vec<LifeFile<D>>, NodeError>
+    wires: Vec<W>,
+) -> Result<Vec<NewLink<D, W>>, NodeError>
     ensures { IfErr result (IsNodeFault core.now.neighbours) }
 {
-    let me = core.me();
-    let mut files = Vec::new(alloc);
+    let mut links = Vec::new(alloc);
+    let mut ends = ends.into_iter();
     let mut disks = disks.into_iter();
+    let mut wires = wires.into_iter();
     for peer in core.neighbours() {
+        let Some(new) = ends.next() else {
+            break;
+        };
         let Some(disk) = disks.next() else {
             break;
         };
-        match LifeFile::open(disk, me, *peer) {
-            Ok(file) => {
-                let Ok(()) = files.push(file) else {
+        let Some(wire) = wires.next() else {
+            break;
+        };
+        match new_link(new, disk, wire) {
+            Ok(link) => {
+                let Ok(()) = links.push(link) else {
                     return Err(NodeError::Memory);
                 };
             }
-            Err(fault) => return Err(NodeError::Life(*peer, fault.error)),
+            Err(error) => return Err(NodeError::Life(*peer, error)),
         }
     }
-    Ok(files)
+    Ok(links)
 }
 
-/// Puts the parts of each link together.
+/// Opens the life file of a link, and puts its parts together.
+fn new_link<D: Disk + Drop, W: Wire + Drop>(
+    new: NewEnd,
+    disk: D,
+    wire: W,
+) -> Result<NewLink<D, W>, LifeError> {
+    let NewEnd { end } = new;
+    match LifeFile::open(disk, end.me(), end.peer()) {
+        Ok(file) => Ok(NewLink {
+            link: Link { end, file, wire },
+        }),
+        Err(fault) => Err(fault.error),
+    }
+}
+
+/// Puts the work of each neighbour's thread together.
 fn new_starts<'a, D: Disk + Drop, W: Wire + Drop, C>(
     alloc: Global,
-    ends: Vec<NewEnd>,
-    files: Vec<LifeFile<D>>,
-    wires: Vec<W>,
+    links: Vec<NewLink<D, W>>,
     hubs: Vec<(InPort, OutTake)>,
     clock: &'a C,
 ) -> Option<Vec<Start<'a, D, W, C>>> {
     let mut starts = Vec::new(alloc);
-    for (((new, file), wire), (port, outs)) in ends.into_iter().zip(files).zip(wires).zip(hubs) {
-        let NewEnd { end } = new;
-        let peer = end.peer();
-        let link = Link { end, file, wire };
-        let start = Start {
-            peer,
-            link,
-            hub: LaneHub { port, outs },
-            clock,
-        };
-        let Ok(()) = starts.push(start) else {
+    for (new, (port, outs)) in links.into_iter().zip(hubs) {
+        let hub = LaneHub { port, outs };
+        let Ok(()) = starts.push(Start { new, hub, clock }) else {
             return None;
         };
     }
@@ -467,6 +483,7 @@ pub fn run_node<
     ensures core { IfOk result (λ ended. IsRunOf config ended.core) }
     // A fault of a link names one of the neighbours.
     ensures fault { IfErr result (IsNodeFault config.neighbours) }
+    ensures count { IfOk result (λ ended. (0 < length config.neighbours) × (length config.neighbours ≤ MOST_LINKS)) }
 {
     let core = config.into_core();
     let Some(ends) = new_ends(alloc, &core) else {
@@ -478,8 +495,8 @@ pub fn run_node<
         links,
         outs,
     } = new_lanes(rt, alloc, core.neighbours().len())?;
-    let files = open_files(alloc, &core, disks)?;
-    let Some(starts) = new_starts(alloc, ends, files, wires, links, clock) else {
+    let new = new_links(alloc, &core, ends, disks, wires)?;
+    let Some(starts) = new_starts(alloc, new, links, clock) else {
         return Err(NodeError::Memory);
     };
     let Some(core_task) = new_core_start(alloc, core, port, outs, writer) else {

@@ -16,6 +16,8 @@ pub enum Cause {
     Empty,
     #[error("it ends with a carriage return")]
     CarriageReturn,
+    #[error("it ends with a blank")]
+    TrailingBlank,
     #[error("the first line is `node I links LIST dests LIST`, with one blank between two words")]
     Header,
     #[error("a node's number is from 1 to 4294967295, without leading zeros; a list is such numbers between commas, or `-`")]
@@ -109,6 +111,9 @@ pub fn cause_of(alloc: Global, number: u64, line: Option<&[u8]>) -> Cause {
     }
     if line.ends_with(b"\r") {
         return Cause::CarriageReturn;
+    }
+    if line.ends_with(b" ") {
+        return Cause::TrailingBlank;
     }
     if number == 1 {
         first_cause(alloc, line)

@@ -1,11 +1,13 @@
 //! Why a line of a simulation file is a fault, in plain words.
 use crate::link_lines::LinkLines;
 use crate::parse::{old, simulation_line};
+use crate::rounds::is_same_pair;
 use crate::script_line::SimulationLine;
 use crate::simulating::is_linked;
 use crate::simulation::Stage;
 use thiserror::Error;
 use tora_core::CoreError;
+use tora_height::Id;
 use tora_lines::words;
 use tora_sim::topology_fault;
 
@@ -20,6 +22,8 @@ pub enum SimulationCause {
     Empty,
     #[error("it ends with a carriage return")]
     CarriageReturn,
+    #[error("it ends with a blank")]
+    TrailingBlank,
     #[error("the first line is `dests LIST`, the destinations")]
     Dests,
     #[error("a list is nodes' numbers, from 1 to 4294967295 without leading zeros, between commas, or `-`")]
@@ -30,6 +34,10 @@ pub enum SimulationCause {
     TooMany,
     #[error("the links and destinations are refused: a link, either way round, or a destination stands twice")]
     Repeated,
+    #[error("the links and destinations are refused: lines {0} and {1} have the same link, either way round")]
+    RepeatedLink(u64, u64),
+    #[error("the links and destinations are refused: the destination {0} stands twice in line 1")]
+    RepeatedDestination(Id),
     #[error("the links and destinations are refused: a link leads from a node to itself")]
     OwnLink,
     #[error("behind `old` stands one node's number, from 1 to 4294967295, without leading zeros")]
@@ -77,6 +85,9 @@ fn shape_cause(line: &[u8]) -> Option<SimulationCause> {
     }
     if line.ends_with(b"\r") {
         return Some(SimulationCause::CarriageReturn);
+    }
+    if line.ends_with(b" ") {
+        return Some(SimulationCause::TrailingBlank);
     }
     None
 }
@@ -132,12 +143,46 @@ fn line_cause(line: &[u8]) -> SimulationCause {
     }
 }
 
+/// The number of the line with the link at this place of the links: they stand behind the first line.
+fn line_of(place: usize) -> u64 {
+    (place as u64).saturating_add(2)
+}
+
+/// The lines of the first link that stands twice, either way round.
+fn repeated_link(links: &[(Id, Id)]) -> Option<SimulationCause> {
+    for (place, link) in links.iter().enumerate() {
+        for (before, other) in links.iter().enumerate() {
+            if before < place && is_same_pair(*link, *other) {
+                return Some(SimulationCause::RepeatedLink(line_of(before), line_of(place)));
+            }
+        }
+    }
+    None
+}
+
+/// The first destination that stands twice.
+fn repeated_destination(dests: &[Id]) -> Option<SimulationCause> {
+    for d in dests {
+        if dests.iter().filter(|other| **other == *d).count() > 1 {
+            return Some(SimulationCause::RepeatedDestination(*d));
+        }
+    }
+    None
+}
+
+/// Which link or destination stands twice.
+fn repeated_cause(lines: &LinkLines) -> SimulationCause {
+    repeated_link(&lines.links)
+        .or(repeated_destination(&lines.dests))
+        .unwrap_or(SimulationCause::Repeated)
+}
+
 /// Why there is no topology of the links and destinations, if there is none.
 fn topology_cause(lines: &LinkLines) -> Option<SimulationCause> {
     match topology_fault(&lines.links, &lines.dests) {
         None => None,
         Some(CoreError::TooMany) => Some(SimulationCause::TooMany),
-        Some(CoreError::Repeated) => Some(SimulationCause::Repeated),
+        Some(CoreError::Repeated) => Some(repeated_cause(lines)),
         Some(CoreError::OwnId) => Some(SimulationCause::OwnLink),
         Some(CoreError::Memory) => Some(SimulationCause::Other),
     }
@@ -166,7 +211,9 @@ fn link_cause(lines: &LinkLines, line: &[u8]) -> SimulationCause {
     }
     match topology_cause(lines) {
         Some(cause) => cause,
-        None if is_link && lines.olds.is_empty() => SimulationCause::Pair,
+        None if is_link && lines.olds.is_empty() => {
+            shape_cause(line).unwrap_or(SimulationCause::Pair)
+        }
         None => old_cause(lines, line),
     }
 }

@@ -30,4 +30,4 @@ pub use simulated::{simulate, simulate_with};
 pub use simulating::{simulate_in, simulation_fault_is_the_first};
 pub use simulation::{Simulation, Stage};
 pub use simulator::Simulator;
-pub use told::{Told, simulate_told, tell_cause};
+pub use told::{Told, simulate_telling, simulate_told, tell_cause};

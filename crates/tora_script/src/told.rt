@@ -7,18 +7,24 @@ ghost use Rattle.tora_script.specs.ToldView.{told_kind};
 ghost use Rattle.tora_script.specs.SimulationText.{first_simulation_fault, Simulates, IsSimulationBegun};
 
 use crate::causes::{SimulationCause, end_cause, simulation_cause};
+use crate::parse::simulation_line;
+use crate::running::has_number;
+use crate::script_line::SimulationLine;
 use crate::simulation::{Simulation, Stage};
 use crate::simulator::Simulator;
 use std::alloc::{AllocError, Global};
 use std::io::{Read, Write};
 use tora_arq::Times;
+use tora_height::Id;
 use tora_lines::words::LineError;
 use tora_lines::{Ended, FileKind, ReplayError, read_lines};
+use tora_world::Event;
 
-/// A simulation file, and where is told why an event is refused and why a line is a fault.
+/// A simulation file, and where is told why a line is a fault and, where it is verbose, why an event is refused.
 #[derive(Drop)]
 pub struct Told<'a, S, T> {
     pub rt: &'a T,
+    pub is_verbose: bool,
     /// The number of the last line.
     pub number: u64,
     pub state: Simulation<S>,
@@ -29,11 +35,25 @@ pub fn tell_cause<T: Eprint>(rt: &T, number: u64, cause: SimulationCause) {
     let _ = rt.eprintln(format_args!("tora: line {number}: {cause}"));
 }
 
-/// Tells why the event of a line was refused, if it was.
-fn tell_refusal<S, T: Eprint>(rt: &T, number: u64, stage: &Stage<S>) {
+/// Tells that a core refuses a need, where its destination is not in the list.
+fn tell_need<T: Eprint>(rt: &T, number: u64, line: &[u8], dests: &[Id]) {
+    if let Some(SimulationLine::Happens(Event::Need(n, d))) = simulation_line(line) {
+        if !has_number(d, dests) {
+            let _ = rt.eprintln(format_args!(
+                "tora: line {number}: the core of {n} refuses the need: {d} is not in the list of the first line"
+            ));
+        }
+    }
+}
+
+/// Tells why the event of a line was refused, if it was, and of a need that the core refuses.
+fn tell_refusal<S, T: Eprint>(rt: &T, number: u64, stage: &Stage<S>, line: &[u8]) {
     if let Stage::Runs(running) = stage {
-        if let Some(error) = running.refused {
-            let _ = rt.eprintln(format_args!("tora: line {number}: refused: {error}"));
+        match running.refused {
+            Some(error) => {
+                let _ = rt.eprintln(format_args!("tora: line {number}: refused: {error}"));
+            }
+            None => tell_need(rt, number, line, &running.dests),
         }
     }
 }
@@ -45,7 +65,10 @@ impl<S: Simulator, T: Eprint> FileKind for Told<'_, S, T> {
         self.number = self.number.saturating_add(1);
         let taken = self.state.take(alloc, line, text);
         match taken {
-            Ok(()) => tell_refusal(self.rt, self.number, &self.state.stage),
+            Ok(()) if self.is_verbose => {
+                tell_refusal(self.rt, self.number, &self.state.stage, line);
+            }
+            Ok(()) => {}
             Err(LineError::Fault) => {
                 let cause = simulation_cause(&self.state.stage, line);
                 tell_cause(self.rt, self.number, cause);
@@ -65,8 +88,35 @@ impl<S: Simulator, T: Eprint> FileKind for Told<'_, S, T> {
     }
 }
 
-/// Simulates with these times of each link end, and tells on standard error why an event is refused and why a line is a fault, unless it is too long.
+/// Simulates with these times of each link end, and tells on standard error why a line is a fault, unless it is too long, and
+/// where it is verbose, why an event is refused.
 #[tactic(auto, unfolding(tora_lines::specs::Engine::text_of))]
+pub fn simulate_telling<S: Simulator, T: Eprint, R: Read, W: Write>(
+    rt: &T,
+    alloc: Global,
+    times: Times,
+    reader: &mut R,
+    writer: &mut W,
+    is_verbose: bool,
+) -> Result<Ended, ReplayError>
+    requires { IsTimes times }
+    ensures whole { IfOk result (λ ended. IfSome (R.remaining reader.old) (λ input.
+        Simulates times input (W.contents writer.old) (W.contents writer.new) ended)) }
+    ensures at_end { result ≡ Ok Ended.Whole → IsAtEnd (R.remaining reader.new) }
+    ensures fault { IfOk result (λ ended. IfSome (R.remaining reader.old) (λ input. fault_of ended ≡ first_simulation_fault times input)) }
+    ensures begun { IfErr result (λ e. e ≢ ReplayError.Write →
+        IsSimulationBegun times (R.remaining reader.old) (R.remaining reader.new) (W.contents writer.old) (W.contents writer.new)) }
+{
+    let state: Told<'_, S, T> = Told {
+        rt,
+        is_verbose,
+        number: 0,
+        state: Simulation::new(times),
+    };
+    read_lines(alloc, state, reader, writer)
+}
+
+/// Simulates with these times of each link end, and tells on standard error why an event is refused and why a line is a fault, unless it is too long.
 pub fn simulate_told<S: Simulator, T: Eprint, R: Read, W: Write>(
     rt: &T,
     alloc: Global,
@@ -82,10 +132,5 @@ pub fn simulate_told<S: Simulator, T: Eprint, R: Read, W: Write>(
     ensures begun { IfErr result (λ e. e ≢ ReplayError.Write →
         IsSimulationBegun times (R.remaining reader.old) (R.remaining reader.new) (W.contents writer.old) (W.contents writer.new)) }
 {
-    let state: Told<'_, S, T> = Told {
-        rt,
-        number: 0,
-        state: Simulation::new(times),
-    };
-    read_lines(alloc, state, reader, writer)
+    simulate_telling::<S, T, R, W>(rt, alloc, times, reader, writer, true)
 }

@@ -2,6 +2,7 @@ pub mod Chains
 pub mod Places
 pub mod Goings
 mod CoreFollows
+mod ItemTicks
 pub mod Steps
 pub mod Seats
 pub mod Ups

@@ -5,3 +5,4 @@ pub mod Bodies
 pub mod SeatLaws
 pub mod Serves
 pub mod Texts
+pub mod WorkedDowns

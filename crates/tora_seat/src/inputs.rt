@@ -1,5 +1,7 @@
 //! What the inputs that a core accepted in an item make of it.
 ghost use Rattle.std.specs.Prelude.{◌≡◌, ℕ, List};
+ghost use Rattle.std.specs.List.{AllByRecursion};
+ghost use Rattle.tora_core.specs.declared.Input.{Input};
 ghost use Rattle.tora_core.specs.CoreRun.{core_after_all};
 ghost use Rattle.tora_seat.specs.Serving.{Answers, SeatState, serving_of};
 ghost use Rattle.tora_seat.specs.declared.Item.{Item};
@@ -8,4 +10,6 @@ ghost use Rattle.tora_seat.specs.declared.Item.{Item};
 pub fn accepted_inputs_make_the_core()
     ensures runs { (answers : Answers) (neighbours : List ℕ) (seat : SeatState) (item : Item)
         → (serving_of answers neighbours seat item).seat.core ≡ core_after_all seat.core (serving_of answers neighbours seat item).inputs }
+    ensures ticks { (answers : Answers) (neighbours : List ℕ) (seat : SeatState) (item : Item)
+        → AllByRecursion (λ (input : Input × ℕ). input.1 ≡ item.now) (serving_of answers neighbours seat item).inputs }
 {}

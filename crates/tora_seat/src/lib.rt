@@ -22,6 +22,7 @@ mod laws;
 mod relation;
 mod rows;
 mod seat;
+mod worked;
 
 pub use inputs::accepted_inputs_make_the_core;
 pub use lanes::OutLanes;
@@ -36,6 +37,13 @@ use tora_arq::{Life, Reason};
 use tora_core::StepError;
 use tora_height::Id;
 use tora_packet::Packet;
+pub use worked::worked_downs_hold;
+
+/// How many items the lane into a core holds. Own profile.
+pub const MOST_ITEMS: usize = 1024;
+
+/// How many cargoes the lane to a neighbour holds. Own profile.
+pub const MOST_CARGOES: usize = 256;
 
 /// What an item tells the core.
 #[derive(Clone, Copy, Debug, PartialEq, Eq, Hash)]

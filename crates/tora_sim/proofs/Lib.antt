@@ -32,3 +32,4 @@ pub mod Olds
 pub mod KeptFrames
 pub mod Walking
 pub mod NodeReads
+pub mod Resting

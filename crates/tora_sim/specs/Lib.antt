@@ -13,3 +13,4 @@ pub mod Firsts
 pub mod Lanes
 pub mod Turns
 pub mod Restarts
+pub mod Resting

@@ -23,6 +23,7 @@ mod links;
 mod nodes;
 mod possible;
 mod readers;
+mod rest;
 mod restarts;
 mod sim;
 mod topology;

@@ -22,10 +22,7 @@ use tora_frame::{BorrowedFrame, Packets, Version};
 use tora_height::Id;
 use tora_life::{DiskCall, MemDisk, Owner};
 use tora_packet::Packet;
-use tora_seat::Cargo;
-
-/// The most cargoes that wait in a lane.
-const MOST_CARGOES: usize = 256;
+use tora_seat::{Cargo, MOST_CARGOES};
 
 /// The end of a link at one node, with its life file and the lane from the node's core to it.
 #[derive(Drop)]

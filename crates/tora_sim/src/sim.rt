@@ -22,10 +22,7 @@ use tora_arq::{LinkEvent, Times, data_frames_are_what_was_submitted};
 use tora_frame::{BorrowedFrame, Packets};
 use tora_height::Id;
 use tora_life::DiskCall;
-use tora_seat::What;
-
-/// The most items that wait for a core.
-const MOST_ITEMS: usize = 1024;
+use tora_seat::{MOST_ITEMS, What};
 
 /// A simulated world.
 #[derive(Drop)]

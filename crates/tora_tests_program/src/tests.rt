@@ -542,6 +542,7 @@ fn causes_of_faults(rt: HostRuntime) {
     let rows = [
         ("", Cause::Empty),
         ("1 show\r", Cause::CarriageReturn),
+        ("1 show ", Cause::TrailingBlank),
         ("show", Cause::Time),
         ("01 show", Cause::Time),
         ("18446744073709551616 show", Cause::Time),

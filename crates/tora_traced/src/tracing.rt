@@ -22,12 +22,11 @@ use tora_lines::words::LineError;
 use tora_lines::{Ended, FileKind, Output, ReplayError, read_lines};
 use tora_script::{Running, Simulation, SimulationLine, Stage, Told, mend, part, simulation_line};
 
-/// A simulation file whose trace is written line by line; where it is verbose, why an event is refused and why a line is a
-/// fault is told.
+/// A simulation file whose trace is written line by line; why a line is a fault is told and, where it is verbose, why an event is
+/// refused.
 #[derive(Drop)]
 pub struct Tracing<'a, S, T, W> {
     told: Told<'a, Traced<S>, T>,
-    is_verbose: bool,
     out: &'a mut TraceOut<W>,
 }
 
@@ -84,26 +83,11 @@ fn tell<S: Watched, W: Output>(
     noted
 }
 
-impl<S: Watched, T: Eprint, W: Output> Tracing<'_, S, T, W> {
-    /// Takes a line.
-    fn take_line(&mut self, alloc: Global, line: &[u8], text: &mut String) -> Result<(), LineError>
-        requires short { length line.now ≤ 4096 }
-        requires empty { string_bytes text.old ≡ [] }
-        ensures { TakesLine (tracing_kind S.world) self.old line.now self.new (string_bytes text.new) result }
-    {
-        if self.is_verbose {
-            self.told.take(alloc, line, text)
-        } else {
-            self.told.state.take(alloc, line, text)
-        }
-    }
-}
-
 impl<S: Watched, T: Eprint, W: Output> FileKind for Tracing<'_, S, T, W> {
     ghost kind = { tracing_kind S.world };
 
     fn take(&mut self, alloc: Global, line: &[u8], text: &mut String) -> Result<(), LineError> {
-        match self.take_line(alloc, line, text) {
+        match self.told.take(alloc, line, text) {
             Ok(()) => {
                 let state = &mut self.told.state;
                 tell(&mut state.stage, line, self.out)?;
@@ -118,16 +102,12 @@ impl<S: Watched, T: Eprint, W: Output> FileKind for Tracing<'_, S, T, W> {
     }
 
     fn end(&self, alloc: Global, number: u64) -> Result<Option<u64>, AllocError> {
-        if self.is_verbose {
-            self.told.end(alloc, number)
-        } else {
-            self.told.state.end(alloc, number)
-        }
+        self.told.end(alloc, number)
     }
 }
 
-/// Simulates with these times of each link end, and writes the trace: of each line, what happened in it. Where it is verbose, it tells on standard error why an
-/// event is refused and why a line is a fault, unless it is too long.
+/// Simulates with these times of each link end, and writes the trace: of each line, what happened in it. It tells on standard error
+/// why a line is a fault, unless it is too long, and where it is verbose, why an event is refused.
 ///
 /// A trace that can't be written stops nothing; `out` says so then.
 #[tactic(auto, unfolding(tora_lines::specs::Engine::text_of))]
@@ -151,10 +131,10 @@ pub fn simulate_traced<S: Watched, T: Eprint, R: Read, W: Write, V: Output>(
     let state: Tracing<'_, S, T, V> = Tracing {
         told: Told {
             rt,
+            is_verbose,
             number: 0,
             state: Simulation::new(times),
         },
-        is_verbose,
         out,
     };
     read_lines(alloc, state, reader, writer)

@@ -81,12 +81,12 @@ at_in (x ∷ xs) (suc i) k e = ap (λ b. nat_eq x k || b) (at_in xs i k e) ∙ o
     or_true true = refl
     or_true false = refl
 
-module _ (cores : CoreLaws) (seats : SeatLaws) (n : ℕ) (ks : List ℕ) (answers : Answers) (Excuse : Type 0) where
+module _ (cores : CoreLaws) (seats : SeatLaws) (n : ℕ) (ks : List ℕ) (answers : Answers) (Excuse : StepError → Type 0) where
   -- a core whose link to each neighbour with a current life is up, and that has refused nothing without an excuse
   pub record Sound (v : Serving) : Type 0 where
     pub near : (j : ℕ) → has_number j ks ≡ true → has_number j v.seat.core.neighbours ≡ true
     pub up : (j : ℕ) (l : Life) → has_number j ks ≡ true → v.seat.current j ≡ Some l → has_number j v.seat.core.up ≡ true
-    pub silent : (e : StepError) → v.answer ≡ Says.Refused e → Excuse
+    pub silent : (e : StepError) → v.answer ≡ Says.Refused e → Excuse e
     pub agreed : (k : ℕ) → packets_accepted k v.inputs ≡ packets_in (stepped_from k v.steps)
     pub own : Each (IsOwnView n) v.seat.core.views
     pub sends : AreOffersOf n v.offers
@@ -166,7 +166,7 @@ module _ (cores : CoreLaws) (seats : SeatLaws) (n : ℕ) (ks : List ℕ) (answer
   -- what is asked where an input is stepped: all but the links up and the packets agreed
   record Ready (v : Serving) : Type 0 where
     near : (j : ℕ) → has_number j ks ≡ true → has_number j v.seat.core.neighbours ≡ true
-    silent : (e : StepError) → v.answer ≡ Says.Refused e → Excuse
+    silent : (e : StepError) → v.answer ≡ Says.Refused e → Excuse e
     own : Each (IsOwnView n) v.seat.core.views
     sends : AreOffersOf n v.offers
 
@@ -243,7 +243,7 @@ module _ (cores : CoreLaws) (seats : SeatLaws) (n : ℕ) (ks : List ℕ) (answer
   input_done v input now near h = record { sound = settling_sound (length ks) now (after_step answers ks input now v) h; settled = seats.none_left answers ks input now v near }
 
   -- a need may be refused
-  need_done : (v : Serving) (d now : ℕ) → Excuse → Sound v → Done (after_input answers ks (In.Need d) now v)
+  need_done : (v : Serving) (d now : ℕ) → ((e : StepError) → refusal_of v.seat.core (In.Need d) ≡ Some e → Excuse e) → Sound v → Done (after_input answers ks (In.Need d) now v)
   unfolding after_step
   need_done v d now excuse h = input_done v (In.Need d) now h.near (go (refusal_of v.seat.core (In.Need d)) refl)
     where
@@ -251,7 +251,7 @@ module _ (cores : CoreLaws) (seats : SeatLaws) (n : ℕ) (ks : List ℕ) (answer
       go None e = accepts v (In.Need d) now e (ready v h) (λ j l i c. ap (has_number j) (cores.at_need v.seat.core d now) ∙ h.up j l i c) (no_packet v (In.Need d) (λ j. refl) h.agreed)
       go (Some error) e =
           subst (λ r. Sound (after_answer answers ks (In.Need d) now v r)) (sym e)
-          (record { near = h.near; up = h.up; silent = λ x y. excuse; agreed = h.agreed; own = h.own; sends = h.sends })
+          (record { near = h.near; up = h.up; silent = λ x y. let q : error ≡ x = cc in subst Excuse q (excuse error e); agreed = h.agreed; own = h.own; sends = h.sends })
 
   -- the current life of a neighbour is over
   down_step : (v : Serving) (k now : ℕ) (l : Life) → has_number k ks ≡ true → v.seat.current k ≡ Some l → Sound v → Sound (after_step answers ks (In.LinkDown k) now (with_current v k None))
@@ -304,7 +304,7 @@ module _ (cores : CoreLaws) (seats : SeatLaws) (n : ℕ) (ks : List ℕ) (answer
       one false = refl
 
   link_item_done : (v : Serving) (k now : ℕ) (what : What) → has_number k ks ≡ true →
-      ((l : Life) (p : Packet) → what ≡ Tells.Packet l p → v.seat.current k ≡ Some l → is_from k p ≡ true) → ((d : ℕ) → what ≡ Tells.Need d → Excuse) → Done v → Done (after_link_item answers ks k now what v)
+      ((l : Life) (p : Packet) → what ≡ Tells.Packet l p → v.seat.current k ≡ Some l → is_from k p ≡ true) → ((d : ℕ) → what ≡ Tells.Need d → (e : StepError) → refusal_of v.seat.core (In.Need d) ≡ Some e → Excuse e) → Done v → Done (after_link_item answers ks k now what v)
   unfolding after_link_item
   link_item_done v k now (Tells.Up l) m from excuse d =
       let o = old_done v k now (v.seat.current k) m refl d in
@@ -324,7 +324,7 @@ module _ (cores : CoreLaws) (seats : SeatLaws) (n : ℕ) (ks : List ℕ) (answer
   link_item_done v k now Tells.Show m from excuse d = record { sound = record { near = d.sound.near; up = d.sound.up; silent = λ e q. absurd (cc); agreed = d.sound.agreed; own = d.sound.own; sends = d.sound.sends }; settled = λ j c. d.settled j (record { neighbour = c.neighbour; up = c.up; none = c.none }) }
   link_item_done v k now Tells.Quit m from excuse d = record { sound = record { near = d.sound.near; up = d.sound.up; silent = λ e q. absurd (cc); agreed = d.sound.agreed; own = d.sound.own; sends = d.sound.sends }; settled = λ j c. d.settled j (record { neighbour = c.neighbour; up = c.up; none = c.none }) }
 
-  other_item_done : (v : Serving) (now : ℕ) (what : What) → ((d : ℕ) → what ≡ Tells.Need d → Excuse) → Done v → Done (after_other_item answers ks now what v)
+  other_item_done : (v : Serving) (now : ℕ) (what : What) → ((d : ℕ) → what ≡ Tells.Need d → (e : StepError) → refusal_of v.seat.core (In.Need d) ≡ Some e → Excuse e) → Done v → Done (after_other_item answers ks now what v)
   unfolding after_other_item
   other_item_done v now (Tells.Need m) excuse d = need_done v m now (excuse m refl) d.sound
   other_item_done v now (Tells.Up l) excuse d = d
@@ -349,7 +349,7 @@ module _ (cores : CoreLaws) (seats : SeatLaws) (n : ℕ) (ks : List ℕ) (answer
   start_cuts seat (j ∷ js) v s = start_cuts seat js (after_cut_tried answers v j (v.seat.pending j)) (start_cut seat v j (v.seat.pending j) s)
 
   pub serving_done : (seat : SeatState) (item : Item) → Done (begin_serving seat) →
-      ((k : ℕ) (l : Life) (p : Packet) → slice_get ks item.seat ≡ Some k → item.what ≡ Tells.Packet l p → seat.current k ≡ Some l → is_from k p ≡ true) → ((d : ℕ) → item.what ≡ Tells.Need d → Excuse) → Done (serving_of answers ks seat item)
+      ((k : ℕ) (l : Life) (p : Packet) → slice_get ks item.seat ≡ Some k → item.what ≡ Tells.Packet l p → seat.current k ≡ Some l → is_from k p ≡ true) → ((d : ℕ) → item.what ≡ Tells.Need d → (e : StepError) → refusal_of seat.core (In.Need d) ≡ Some e → Excuse e) → Done (serving_of answers ks seat item)
   unfolding serving_of
   serving_done seat item d from excuse = go (slice_get ks item.seat) refl
     where
@@ -359,8 +359,11 @@ module _ (cores : CoreLaws) (seats : SeatLaws) (n : ℕ) (ks : List ℕ) (answer
       begun : Done (after_cuts_tried answers ks (begin_serving seat))
       begun = record { sound = cuts_sound ks (begin_serving seat) d.sound; settled = λ j c. d.settled j (record { neighbour = c.neighbour; up = ap (λ (x : CoreView). has_number j x.up) (sym s.core) ∙ c.up; none = ap (λ (f : ℕ → Option Life). f j) (sym s.current) ∙ c.none }) }
 
+      still : (d : ℕ) → item.what ≡ Tells.Need d → (e : StepError) → refusal_of (after_cuts_tried answers ks (begin_serving seat)).seat.core (In.Need d) ≡ Some e → Excuse e
+      still d what e r = excuse d what e (ap (λ (x : CoreView). refusal_of x (In.Need d)) (sym s.core) ∙ r)
+
       go : (o : Option ℕ) → slice_get ks item.seat ≡ o → Done (after_item_of answers ks o item.now item.what (after_cuts_tried answers ks (begin_serving seat)))
       go (Some k) e =
           link_item_done (after_cuts_tried answers ks (begin_serving seat)) k item.now item.what (at_in ks item.seat k e)
-          (λ l p w on. from k l p e w (sym (ap (λ (f : ℕ → Option Life). f k) s.current) ∙ on)) excuse begun
-      go None e = other_item_done (after_cuts_tried answers ks (begin_serving seat)) item.now item.what excuse begun
+          (λ l p w on. from k l p e w (sym (ap (λ (f : ℕ → Option Life). f k) s.current) ∙ on)) still begun
+      go None e = other_item_done (after_cuts_tried answers ks (begin_serving seat)) item.now item.what still begun

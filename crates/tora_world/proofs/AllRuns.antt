@@ -71,7 +71,7 @@ module _ (laws : LinkLaws) (lows : LifeLaws) where
         all_taken = tt;
         all_out = tt;
       };
-      arriving = record { latest = None; was_bound = tt; now = tt; comes = tt; rises = tt; older = tt; over = tt; chain = λ l. begins_nil [] };
+      arriving = record { latest = None; was_bound = tt; now = tt; comes = tt; rises = tt; older = tt; taken_before = tt; over = tt; chain = λ l. begins_nil [] };
       phase = tt;
     };
     tells = tt;
@@ -102,10 +102,10 @@ module _ (laws : LinkLaws) (lows : LifeLaws) where
     abbrev last : World
     last = after_schedule es (first_world t times)
 
-    abbrev all_steps : List MachineStep
+    abbrev pub all_steps : List MachineStep
     all_steps = machine_steps es (first_world t times) []
 
-    abbrev all_seen : Seen
+    abbrev pub all_seen : Seen
     all_seen = By (λ n k l c. c ≡ 0) es (first_world t times)
 
     pub all_follow : AllEndsFollow all_steps (end_views last) last.datagrams all_seen

@@ -182,12 +182,12 @@ below_on e e' file file' o h = go o.phase
     go (inl (inr (inr b))) = record { floor = h.floor; kept = o.floors h.floor h.kept; under = subst (λ x. Under x h.floor) (sym b.2) (subst (λ x. Under x h.floor) b.1 h.under) }
     go (inr b) = record { floor = b.0; kept = (b.2 h.floor h.kept).1; under = subst (λ x. Under x b.0) (sym b.1) (omega arith) }
 
-bound_to : (l : Life) (ph : Phase) → is_bound_to l ph ≡ true → ph ≡ Bound l
+pub bound_to : (l : Life) (ph : Phase) → is_bound_to l ph ≡ true → ph ≡ Bound l
 bound_to l Closed e = absurd (true≢false (sym e))
 bound_to l (Unbound own) e = absurd (true≢false (sym e))
 bound_to l (Bound j) e = ap Bound (sym (same_true l j e))
 
-not_bound_to : (l : Life) (ph : Phase) → ph ≢ Bound l → is_bound_to l ph ≡ false
+pub not_bound_to : (l : Life) (ph : Phase) → ph ≢ Bound l → is_bound_to l ph ≡ false
 not_bound_to l Closed n = refl
 not_bound_to l (Unbound own) n = refl
 not_bound_to l (Bound j) n = ⊎_elim (λ e. absurd (n (bound_to l (Bound j) e))) (λ e. e) (cases_Bool (is_same_life l j))

@@ -144,7 +144,7 @@ IsLatest latest (Some l) = latest ≡ Some l
 abbrev pub IsOver : Option Life → Option Life → Life → Type 0
 IsOver latest current l = (l.own ≤ number_of latest) × (current ≢ Some l)
 
--- what comes to the core: lives come up with rising numbers, above that of the last one; nothing was sent in a life yet to come up; a life
+-- what comes to the core: lives come up with rising numbers, above that of the last one; nothing was sent or taken in a life yet to come up; a life
 -- that is closed does not come up again; and of every life, what was taken and what is awaited begins what the other end has sent
 pub record Arriving (current : Option Life) (coming : List Arrival) (sent taken other : List Parcel) (bound closed : List Life) : Type 0 where
   pub latest : Option Life  -- the life that came up last at the core
@@ -153,6 +153,7 @@ pub record Arriving (current : Option Life) (coming : List Arrival) (sent taken 
   pub comes : ComesOf bound coming
   pub rises : AreRising (number_of latest) coming
   pub older : Each (λ x. x.life.own ≤ number_of latest) sent
+  pub taken_before : Each (λ x. x.life.own ≤ number_of latest) taken
   pub over : Each (IsOver latest current) closed
   pub chain : (l : Life) → Begins (packets_of l taken ++ awaited l (is_the_current l current) coming) (packets_of (reversed l) other)
 

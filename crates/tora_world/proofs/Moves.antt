@@ -54,6 +54,7 @@ grows v p xs ys done done' g d h = record {
     comes = h.arriving.comes;
     rises = h.arriving.rises;
     older = h.arriving.older;
+    taken_before = h.arriving.taken_before;
     over = h.arriving.over;
     chain = λ l. begins_trans _ _ _ (h.arriving.chain l) (g (reversed l));
   };
@@ -165,6 +166,7 @@ quiet_arriving current q r sent taken other bound closed k c f = record {
   comes = Comes_quiet bound q r k f.comes;
   rises = Rises_quiet (number_of f.latest) q r k f.rises;
   older = f.older;
+  taken_before = f.taken_before;
   over = f.over;
   chain = λ l. c l (f.chain l);
 }
@@ -354,6 +356,7 @@ module _ (laws : LinkLaws) (v : EndView) (p : MachineEnd) (other : List Parcel) 
         comes = Comes-append (l ∷ p.bound) v.coming (LifeComes l ∷ []) (Comes_more l p.bound v.coming h.arriving.comes) (inl refl, tt);
         rises = Rises_push (number_of h.arriving.latest) p.bound v.coming l (number_below l p.bound h.arriving.latest w.some w.above h.arriving.was_bound) w.above h.arriving.comes h.arriving.rises;
         older = h.arriving.older;
+        taken_before = h.arriving.taken_before;
         over = h.arriving.over;
         chain = λ j. subst (λ xs. Begins (packets_of j v.taken ++ xs) (packets_of (reversed j) other)) (sym (come j)) (h.arriving.chain j);
       } in
@@ -447,7 +450,7 @@ passes v p other done q e h =
     let f = coming_is e h in record {
       kept = h.kept;
       histories = h.histories;
-      arriving = record { latest = f.latest; was_bound = f.was_bound; now = f.now; comes = f.comes; rises = f.rises; older = f.older; over = f.over; chain = f.chain };
+      arriving = record { latest = f.latest; was_bound = f.was_bound; now = f.now; comes = f.comes; rises = f.rises; older = f.older; taken_before = f.taken_before; over = f.over; chain = f.chain };
       phase = phase_counted v p p other done v.current q v.taken refl refl (λ l c. counted_is v (OtherComes ∷ q) e l c) v.endpoint.phase h.phase;
     }
 
@@ -488,6 +491,7 @@ skips v p other done j x q e n h =
         comes = f.comes;
         rises = f.rises;
         older = f.older;
+        taken_before = f.taken_before;
         over = f.over;
         chain = λ l. subst (λ ys. Begins (packets_of l v.taken ++ ys) (packets_of (reversed l) other)) (none l) (f.chain l);
       };
@@ -508,21 +512,27 @@ ups v p other done l q e h =
         comes = f.comes.1;
         rises = f.rises.1;
         older = Each_mono (λ (x : Parcel). x.life.own ≤ number_of f.latest) (λ (x : Parcel). x.life.own ≤ l.own) (λ x le. omega (arith, le, f.rises.0)) v.sent f.older;
+        taken_before = Each_mono (λ (x : Parcel). x.life.own ≤ number_of f.latest) (λ (x : Parcel). x.life.own ≤ l.own) (λ x le. omega (arith, le, f.rises.0)) v.taken f.taken_before;
         over = Each_mono (IsOver f.latest v.current) (IsOver (Some l) (Some l)) (λ j o. (omega (arith, o.0, f.rises.0), λ e. let q : l ≡ j = cc in let n : l.own ≡ j.own = ap (λ (x : Life). x.own) q in absurd (omega (arith, n, o.0, f.rises.0)))) p.closed f.over;
         chain = f.chain;
       };
       phase = phase_counted v p p other done (Some l) q v.taken refl refl (λ j c. counted_is v (LifeComes l ∷ q) e j c) v.endpoint.phase h.phase;
     }
 
+-- nothing of a life above this
+none_above : (l : Life) (latest : ℕ) (xs : List Parcel) → latest < l.own → Each (λ x. x.life.own ≤ latest) xs → packets_of l xs ≡ []
+none_above l latest [] lt k = refl
+none_above l latest (x ∷ xs) lt k =
+    let n : l ≢ x.life = λ y. let o : l.own ≡ x.life.own = ap (λ (j : Life). j.own) y in absurd (omega (arith, o, k.0, lt)) in
+    ap (λ ys. ys ++ packets_of l xs) (only_other l x n) ∙ none_above l latest xs lt k.1
+
 -- nothing was sent in a life that comes
 pub comes_new : (v : EndView) (p : MachineEnd) (other : List Parcel) (done : Life → ℕ → Type 0) (l : Life) (q : List Arrival) → v.coming ≡ LifeComes l ∷ q → FollowsMachine v p other done → packets_of l v.sent ≡ []
-comes_new v p other done l q e h = go v.sent (coming_is e h).older
-  where
-    go : (xs : List Parcel) → Each (λ x. x.life.own ≤ number_of (coming_is e h).latest) xs → packets_of l xs ≡ []
-    go [] k = refl
-    go (x ∷ xs) k =
-        let n : l ≢ x.life = λ y. let o : l.own ≡ x.life.own = ap (λ (j : Life). j.own) y in absurd (omega (arith, o, k.0, (coming_is e h).rises.0)) in
-        ap (λ ys. ys ++ packets_of l xs) (only_other l x n) ∙ go xs k.1
+comes_new v p other done l q e h = let f = coming_is e h in none_above l (number_of f.latest) v.sent f.rises.0 f.older
+
+-- nor was anything taken in it
+pub comes_untaken : (v : EndView) (p : MachineEnd) (other : List Parcel) (done : Life → ℕ → Type 0) (l : Life) (q : List Arrival) → v.coming ≡ LifeComes l ∷ q → FollowsMachine v p other done → packets_of l v.taken ≡ []
+comes_untaken v p other done l q e h = let f = coming_is e h in none_above l (number_of f.latest) v.taken f.rises.0 f.taken_before
 
 is_of_now : (bound : List Life) (latest : Option Life) (l : Life) → IsOf bound latest → latest ≡ Some l → IsIn l bound
 is_of_now bound latest l o e = subst (IsOf bound) e o
@@ -541,6 +551,10 @@ taken_front j l x t ys =
 all_push : (ls : List Life) (xs : List Parcel) (y : Parcel) → AllOf ls xs → IsIn y.life ls → AllOf ls (xs ++ y ∷ [])
 all_push ls [] y a i = (i, tt)
 all_push ls (x ∷ xs) y a i = (a.0, all_push ls xs y a.1 i)
+
+each_push : (P : Parcel → Type 0) (xs : List Parcel) (y : Parcel) → Each P xs → P y → Each P (xs ++ y ∷ [])
+each_push P [] y a i = (i, tt)
+each_push P (x ∷ xs) y a i = (a.0, each_push P xs y a.1 i)
 
 pub current_bound : (v : EndView) (p : MachineEnd) (other : List Parcel) (done : Life → ℕ → Type 0) (l : Life) → v.current ≡ Some l → FollowsMachine v p other done → IsIn l p.bound
 current_bound v p other done l on h = is_of_now p.bound h.arriving.latest l h.arriving.was_bound (subst (IsLatest h.arriving.latest) on h.arriving.now)
@@ -573,6 +587,7 @@ takes v p other done l x q e on h =
         comes = f.comes;
         rises = f.rises;
         older = f.older;
+        taken_before = each_push (λ z. z.life.own ≤ number_of f.latest) v.taken y f.taken_before (let late : f.latest ≡ Some l = subst (IsLatest f.latest) on f.now in let n : number_of f.latest ≡ l.own = ap number_of late in omega (arith, n));
         over = f.over;
         chain = λ j. subst (λ ys. Begins ys (packets_of (reversed j) other)) (sym (same_all j)) (f.chain j);
       };
@@ -615,7 +630,7 @@ closes v p other done life on h =
         all_taken = h.histories.all_taken;
         all_out = h.histories.all_out;
       };
-      arriving = record { latest = h.arriving.latest; was_bound = h.arriving.was_bound; now = tt; comes = h.arriving.comes; rises = h.arriving.rises; older = h.arriving.older; over = ((last_own, λ e. cc), over_none h.arriving.latest v.current p.closed h.arriving.over); chain = less };
+      arriving = record { latest = h.arriving.latest; was_bound = h.arriving.was_bound; now = tt; comes = h.arriving.comes; rises = h.arriving.rises; older = h.arriving.older; taken_before = h.arriving.taken_before; over = ((last_own, λ e. cc), over_none h.arriving.latest v.current p.closed h.arriving.over); chain = less };
       phase = phase_counted v p (closing p life) other done None v.coming v.taken refl refl (λ l c. count_of l c (cases_Bool (is_the_current l v.current))) v.endpoint.phase h.phase;
     }
   where
@@ -653,10 +668,6 @@ phase_puts v p other done x (Bound l) h = record {
   told = h.told;
 }
 
-each_push : (P : Parcel → Type 0) (xs : List Parcel) (y : Parcel) → Each P xs → P y → Each P (xs ++ y ∷ [])
-each_push P [] y a i = (i, tt)
-each_push P (x ∷ xs) y a i = (a.0, each_push P xs y a.1 i)
-
 pub puts : (v : EndView) (p : MachineEnd) (other : List Parcel) (done : Life → ℕ → Type 0) (x : Parcel) → v.current ≡ Some x.life → FollowsMachine v p other done →
     FollowsMachine (record v { sent = v.sent ++ x ∷ []; out = v.out ++ x ∷ [] }) (sending p x) other done
 puts v p other done x e h =
@@ -683,6 +694,7 @@ puts v p other done x e h =
         comes = h.arriving.comes;
         rises = h.arriving.rises;
         older = each_push (λ y. y.life.own ≤ number_of h.arriving.latest) v.sent x h.arriving.older (let n = ap number_of late in omega (arith, n));
+        taken_before = h.arriving.taken_before;
         over = h.arriving.over;
         chain = h.arriving.chain;
       };
@@ -721,6 +733,7 @@ restarts laws v p p' other done file more f h = record {
     comes = tt;
     rises = tt;
     older = h.arriving.older;
+    taken_before = h.arriving.taken_before;
     over = Each_mono (λ l. (v.current ≡ Some l) ⊎ IsIn l p.closed) (IsOver h.arriving.latest None) (λ l o. (⊎_elim (current_own l) (λ i. (Each_at (IsOver h.arriving.latest v.current) p.closed l h.arriving.over i).0) o, λ e. cc)) p'.closed more.closed;
     chain = λ j. subst (λ ys. Begins ys (packets_of (reversed j) other)) (sym (append-nil (packets_of j v.taken))) (begins_front (packets_of j v.taken) (awaited j (is_the_current j v.current) v.coming) (packets_of (reversed j) other) (h.arriving.chain j));
   };

@@ -9,8 +9,11 @@ use Rattle.tora_arq.specs.declared.Times.{Times}
 use Rattle.tora_arq.specs.declared.LinkEvent.{LinkEvent}
 use Rattle.tora_arq.specs.LinkEnd.{frame_due, after_frame, after_transmit, first_event}
 use Rattle.tora_core.specs.declared.Input.{Input}
+use Rattle.tora_core.specs.declared.Input.TheVariants as In
+use Rattle.tora_core.specs.declared.errors.StepError.{StepError}
+use Rattle.tora_core.specs.declared.errors.StepError.TheVariants as Fault
 use Rattle.tora_core.specs.Numbers.{has_number, ascending}
-use Rattle.tora_core.specs.CoreRun.{is_from}
+use Rattle.tora_core.specs.CoreRun.{is_from, refusal_of, has_destination}
 use Rattle.tora_seat.specs.declared.What.{What}
 use Rattle.tora_seat.specs.declared.What.TheVariants as Tells
 use Rattle.tora_seat.specs.declared.Item.{Item}
@@ -28,7 +31,7 @@ use Rattle.tora_world.specs.MachineRun.{steps_by}
 use Rattle.tora_world.specs.World.{World, Choice, settings, neighbours, datagram, first_seat, first_world, refusal_by, with_end, after_pull, after_sending, after_receiving, after_pump, after_serving, after_turn, after_arming, after_restart, effect_by, world_by}
 use Rattle.tora_world.specs.FreeWorld.{Schedule, after_schedule}
 use Rattle.tora_world.specs.Law.{HasAccepted}
-use Rattle.tora_world.specs.Refusals.{OnlyNeedsAreRefused, packets_accepted, packets_in, SteppedAreAccepted}
+use Rattle.tora_world.specs.Refusals.{OnlyNeedsAreRefused, packets_accepted, packets_in, stepped_by, stepped_after, stepped_at_restart, SteppedAreAccepted}
 use Rattle.tora_world.specs.Layers.{LinkLaws, LifeLaws, CoreLaws, SeatLaws}
 use Rattle.tora_world.proofs.Invariant.{arrival_of, AllEndsFollow, Seen, seen_at_other}
 use Rattle.tora_world.proofs.Invariant.Arrival.{PacketComes}
@@ -43,11 +46,11 @@ use Rattle.tora_world.proofs.Accepted.{IsCargoWith, IsCargoOf, put_of, accepted-
 -- ---- one node
 
 -- a core between two items: its link to a neighbour is up just where a life of it is current
-record IsSeat (n : ℕ) (ks : List ℕ) (seat : SeatState) : Type 0 where
-  near : (j : ℕ) → has_number j ks ≡ true → has_number j seat.core.neighbours ≡ true
-  up : (j : ℕ) (l : Life) → has_number j ks ≡ true → seat.current j ≡ Some l → has_number j seat.core.up ≡ true
-  own : Each (IsOwnView n) seat.core.views
-  settled : (j : ℕ) → ¬ IsCut ks seat j
+pub record IsSeat (n : ℕ) (ks : List ℕ) (seat : SeatState) : Type 0 where
+  pub near : (j : ℕ) → has_number j ks ≡ true → has_number j seat.core.neighbours ≡ true
+  pub up : (j : ℕ) (l : Life) → has_number j ks ≡ true → seat.current j ≡ Some l → has_number j seat.core.up ≡ true
+  pub own : Each (IsOwnView n) seat.core.views
+  pub settled : (j : ℕ) → ¬ IsCut ks seat j
 
 first_is : CoreLaws → (t : Topology) (n : ℕ) → IsSeat n (neighbours_of t n) (first_seat t n)
 first_is cores t n = record {
@@ -57,7 +60,7 @@ first_is cores t n = record {
   settled = λ j c. true≢false (sym c.up);
 }
 
-begun : (cores : CoreLaws) (seats : SeatLaws) (n : ℕ) (ks : List ℕ) (answers : Answers) (Excuse : Type 0) (seat : SeatState) → IsSeat n ks seat → Done cores seats n ks answers Excuse (begin_serving seat)
+begun : (cores : CoreLaws) (seats : SeatLaws) (n : ℕ) (ks : List ℕ) (answers : Answers) (Excuse : StepError → Type 0) (seat : SeatState) → IsSeat n ks seat → Done cores seats n ks answers Excuse (begin_serving seat)
 begun cores seats n ks answers Excuse seat h = record {
   sound = record { near = h.near; up = h.up; silent = λ e q. absurd (cc); agreed = λ k. refl; own = h.own; sends = tt };
   settled = h.settled;
@@ -65,10 +68,10 @@ begun cores seats n ks answers Excuse seat h = record {
 
 -- ---- all nodes
 
-record AreNodes (w : World) : Type 0 where
-  seats : (n : ℕ) → IsSeat n (neighbours w n) (w.seats n)
-  put : (n k : ℕ) → Each (IsCargoOf n) (w.put n k)
-  agreed : SteppedAreAccepted w
+pub record AreNodes (earlier : ℕ → ℕ → List Packet) (w : World) : Type 0 where
+  pub seats : (n : ℕ) → IsSeat n (neighbours w n) (w.seats n)
+  pub put : (n k : ℕ) → Each (IsCargoOf n) (w.put n k)
+  pub agreed : (n k : ℕ) → earlier n k ++ packets_accepted k (w.inputs n) ≡ packets_in (w.steps n k)
 
 pub each_both : {A : Type 0} (P : A → Type 0) (xs ys : List A) → Each P xs → Each P ys → Each P (xs ++ ys)
 each_both P [] ys a b = b
@@ -109,31 +112,37 @@ taken_is_put steps w seen g n item items q k l p seat what on =
     )
 
 -- so it was sent by the neighbour
-taken_from : (steps : List MachineStep) (w : World) (seen : Seen) → AllEndsFollow steps (end_views w) w.datagrams seen → AreNodes w → (n : ℕ) (item : Item) (items : List Item) → w.items n ≡ item ∷ items →
+pub taken_from : (steps : List MachineStep) (w : World) (seen : Seen) → AllEndsFollow steps (end_views w) w.datagrams seen → ((n k : ℕ) → Each (IsCargoOf n) (w.put n k)) → (n : ℕ) (item : Item) (items : List Item) → w.items n ≡ item ∷ items →
     (k : ℕ) (l : Life) (p : Packet) → slice_get (neighbours w n) item.seat ≡ Some k → item.what ≡ Tells.Packet l p → (w.seats n).current k ≡ Some l → is_from k p ≡ true
-taken_from steps w seen g a n item items q k l p seat what on =
+taken_from steps w seen g were_put n item items q k l p seat what on =
     let x = taken_is_put steps w seen g n item items q k l p seat what on in
-    packet_put (IsSentBy k) (reversed l) (w.put k n) x.0 p (a.put k n) x.1
+    packet_put (IsSentBy k) (reversed l) (w.put k n) x.0 p (were_put k n) x.1
 
 -- nothing of this changes
-same_nodes : (w w' : World) → w'.topology ≡ w.topology → w'.seats ≡ w.seats → w'.put ≡ w.put → w'.inputs ≡ w.inputs → w'.steps ≡ w.steps → AreNodes w → AreNodes w'
-same_nodes w w' a b c d e h = record {
+same_nodes : {earlier : ℕ → ℕ → List Packet} (w w' : World) → w'.topology ≡ w.topology → w'.seats ≡ w.seats → w'.put ≡ w.put → w'.inputs ≡ w.inputs → w'.steps ≡ w.steps → AreNodes earlier w → AreNodes earlier w'
+same_nodes {earlier} w w' a b c d e h = record {
   seats = λ n. subst (λ t. IsSeat n (neighbours_of t n) (w'.seats n)) (sym a) (subst (λ (f : ℕ → SeatState). IsSeat n (neighbours w n) (f n)) (sym b) (h.seats n));
   put = λ n k. subst (λ (f : ℕ → ℕ → List Cargo). Each (IsCargoOf n) (f n k)) (sym c) (h.put n k);
-  agreed = λ n k. ((h.agreed n k).0, ap (λ (f : ℕ → List (Input × ℕ)). (h.agreed n k).0 ++ packets_accepted k (f n)) d ∙ (h.agreed n k).1 ∙ ap (λ (f : ℕ → ℕ → List Parcel). packets_in (f n k)) (sym e));
+  agreed = λ n k. ap (λ (f : ℕ → List (Input × ℕ)). earlier n k ++ packets_accepted k (f n)) d ∙ h.agreed n k ∙ ap (λ (f : ℕ → ℕ → List Parcel). packets_in (f n k)) (sym e);
 }
 
-module _ (cores : CoreLaws) (seats : SeatLaws) (steps : List MachineStep) (w : World) (seen : Seen) (g : AllEndsFollow steps (end_views w) w.datagrams seen) (h : AreNodes w) where
+module _ (cores : CoreLaws) (seats : SeatLaws) (steps : List MachineStep) (w : World) (seen : Seen) (g : AllEndsFollow steps (end_views w) w.datagrams seen) (earlier : ℕ → ℕ → List Packet) (h : AreNodes earlier w) where
   -- an item is served
-  served : (n : ℕ) (answers : Answers) (Excuse : Type 0) (item : Item) (items : List Item) → w.items n ≡ item ∷ items → ((d : ℕ) → item.what ≡ Tells.Need d → Excuse) →
+  served : (n : ℕ) (answers : Answers) (Excuse : StepError → Type 0) (item : Item) (items : List Item) → w.items n ≡ item ∷ items → ((d : ℕ) → item.what ≡ Tells.Need d → (e : StepError) → refusal_of (w.seats n).core (In.Need d) ≡ Some e → Excuse e) →
       Done cores seats n (neighbours w n) answers Excuse (serving_of answers (neighbours w n) (w.seats n) item)
   served n answers Excuse item items q excuse =
-      serving_done cores seats n (neighbours w n) answers Excuse (w.seats n) item (begun cores seats n (neighbours w n) answers Excuse (w.seats n) (h.seats n)) (taken_from steps w seen g h n item items q) excuse
+      serving_done cores seats n (neighbours w n) answers Excuse (w.seats n) item (begun cores seats n (neighbours w n) answers Excuse (w.seats n) (h.seats n)) (taken_from steps w seen g h.put n item items q) excuse
 
   only_needs : OnlyNeedsAreRefused w
-  only_needs n answers item items error q e = (served n answers ((d : ℕ) × (item.what ≡ Tells.Need d)) item items q (λ d x. (d, x))).sound.silent error e
+  only_needs n answers item items error q e =
+      (served n answers (λ fault. (d : ℕ) × (item.what ≡ Tells.Need d) × (has_destination d (w.seats n).core.views ≡ false) × (fault ≡ Fault.UnknownDestination)) item items q
+      (λ d x fault r. let u = unknown (has_destination d (w.seats n).core.views) fault r in (d, x, u.0, u.1))).sound.silent error e
+    where
+      unknown : (b : Bool) (fault : StepError) → (if b then None else Some Fault.UnknownDestination) ≡ Some fault → (b ≡ false) × (fault ≡ Fault.UnknownDestination)
+      unknown true fault r = absurd (cc)
+      unknown false fault r = let s : Fault.UnknownDestination ≡ fault = cc in (refl, sym s)
 
-  serving_nodes : (n : ℕ) (answers : Answers) (items : List Item) (v : Serving) → Done cores seats n (neighbours w n) answers (Unit {0}) v → AreNodes (after_serving w n items v)
+  serving_nodes : (n : ℕ) (answers : Answers) (items : List Item) (v : Serving) → Done cores seats n (neighbours w n) answers (λ fault. Unit {0}) v → AreNodes earlier (after_serving w n items v)
   serving_nodes n answers items v d = record {
     seats = λ a. seat_at a (cases_Bool (nat_eq a n));
     put = λ a k. cargoes_at a k (cases_Bool (nat_eq a n));
@@ -152,26 +161,24 @@ module _ (cores : CoreLaws) (seats : SeatLaws) (steps : List MachineStep) (w : W
           (subst (λ m. Each (IsCargoOf m) (w.put n k ++ put_to k v.offers)) (sym (eqb-true a n t)) (each_both (IsCargoOf n) (w.put n k) (put_to k v.offers) (h.put n k) (put_of n k v.offers d.sound.sends)))
       cargoes_at a k (inr t) = subst (λ x. Each (IsCargoOf a) ((if x then (λ k. w.put n k ++ put_to k v.offers) else w.put a) k)) (sym t) (h.put a k)
 
-      more : (k : ℕ) → (earlier : List Packet) × (earlier ++ packets_accepted k (w.inputs n ++ v.inputs) ≡ packets_in (w.steps n k ++ stepped_from k v.steps))
+      more : (k : ℕ) → earlier n k ++ packets_accepted k (w.inputs n ++ v.inputs) ≡ packets_in (w.steps n k ++ stepped_from k v.steps)
       more k =
-          let x = h.agreed n k in (
-            x.0,
-            ap (λ xs. x.0 ++ xs) (accepted-append k (w.inputs n) v.inputs) ∙ sym (append_assoc x.0 (packets_accepted k (w.inputs n)) (packets_accepted k v.inputs))
-                ∙ ap₂ (λ xs ys. xs ++ ys) x.1 (d.sound.agreed k) ∙ sym (map-append (λ (y : Parcel). y.packet) (w.steps n k) (stepped_from k v.steps)),
-          )
+          ap (λ xs. earlier n k ++ xs) (accepted-append k (w.inputs n) v.inputs) ∙ sym (append_assoc (earlier n k) (packets_accepted k (w.inputs n)) (packets_accepted k v.inputs))
+          ∙ ap₂ (λ xs ys. xs ++ ys) (h.agreed n k) (d.sound.agreed k) ∙ sym (map-append (λ (y : Parcel). y.packet) (w.steps n k) (stepped_from k v.steps))
 
       agreed_at : (a k : ℕ) → (nat_eq a n ≡ true) ⊎ (nat_eq a n ≡ false) →
-          (earlier : List Packet) × (earlier ++ packets_accepted k (if nat_eq a n then w.inputs n ++ v.inputs else w.inputs a) ≡ packets_in ((if nat_eq a n then (λ k. w.steps n k ++ stepped_from k v.steps) else w.steps a) k))
+          earlier a k ++ packets_accepted k (if nat_eq a n then w.inputs n ++ v.inputs else w.inputs a) ≡ packets_in ((if nat_eq a n then (λ k. w.steps n k ++ stepped_from k v.steps) else w.steps a) k)
       agreed_at a k (inl t) =
-          subst (λ x. (earlier : List Packet) × (earlier ++ packets_accepted k (if x then w.inputs n ++ v.inputs else w.inputs a) ≡ packets_in ((if x then (λ k. w.steps n k ++ stepped_from k v.steps) else w.steps a) k))) (sym t) (more k)
+          subst (λ x. earlier a k ++ packets_accepted k (if x then w.inputs n ++ v.inputs else w.inputs a) ≡ packets_in ((if x then (λ k. w.steps n k ++ stepped_from k v.steps) else w.steps a) k)) (sym t)
+          (ap (λ m. earlier m k ++ packets_accepted k (w.inputs n ++ v.inputs)) (eqb-true a n t) ∙ more k)
       agreed_at a k (inr t) =
-          subst (λ x. (earlier : List Packet) × (earlier ++ packets_accepted k (if x then w.inputs n ++ v.inputs else w.inputs a) ≡ packets_in ((if x then (λ k. w.steps n k ++ stepped_from k v.steps) else w.steps a) k))) (sym t) (h.agreed a k)
+          subst (λ x. earlier a k ++ packets_accepted k (if x then w.inputs n ++ v.inputs else w.inputs a) ≡ packets_in ((if x then (λ k. w.steps n k ++ stepped_from k v.steps) else w.steps a) k)) (sym t) (h.agreed a k)
 
-  turn_nodes : (c : Choice) (n : ℕ) (items : List Item) → w.items n ≡ items → AreNodes (after_turn w c n items)
+  turn_nodes : (c : Choice) (n : ℕ) (items : List Item) → w.items n ≡ items → AreNodes earlier (after_turn w c n items)
   turn_nodes c n [] q = h
-  turn_nodes c n (item ∷ items) q = serving_nodes n c.answers items (serving_of c.answers (neighbours w n) (w.seats n) item) (served n c.answers (Unit {0}) item items q (λ d x. tt))
+  turn_nodes c n (item ∷ items) q = serving_nodes n c.answers items (serving_of c.answers (neighbours w n) (w.seats n) item) (served n c.answers (λ fault. Unit {0}) item items q (λ d x fault r. tt))
 
-  restart_nodes : (n : ℕ) (torn : Option (List ℕ)) → AreNodes (after_restart w n torn)
+  restart_nodes : (n : ℕ) (torn : Option (List ℕ)) → AreNodes (λ a k. stepped_by w a k (Restart n torn) (earlier a k)) (after_restart w n torn)
   restart_nodes n torn = record {
     seats = λ a. seat_at a (cases_Bool (nat_eq a n));
     put = h.put;
@@ -184,41 +191,41 @@ module _ (cores : CoreLaws) (seats : SeatLaws) (steps : List MachineStep) (w : W
           (subst (λ m. IsSeat m (neighbours w m) (first_seat w.topology n)) (sym (eqb-true a n t)) (first_is cores w.topology n))
       seat_at a (inr t) = subst (λ x. IsSeat a (neighbours w a) (if x then first_seat w.topology n else w.seats a)) (sym t) (h.seats a)
 
-      agreed_at : (a k : ℕ) → (nat_eq a n ≡ true) ⊎ (nat_eq a n ≡ false) → (earlier : List Packet) × (earlier ++ packets_accepted k (if nat_eq a n then [] else w.inputs a) ≡ packets_in (w.steps a k))
-      agreed_at a k (inl t) = subst (λ x. (earlier : List Packet) × (earlier ++ packets_accepted k (if x then [] else w.inputs a) ≡ packets_in (w.steps a k))) (sym t) (packets_in (w.steps a k), append-nil (packets_in (w.steps a k)))
-      agreed_at a k (inr t) = subst (λ x. (earlier : List Packet) × (earlier ++ packets_accepted k (if x then [] else w.inputs a) ≡ packets_in (w.steps a k))) (sym t) (h.agreed a k)
+      agreed_at : (a k : ℕ) → (nat_eq a n ≡ true) ⊎ (nat_eq a n ≡ false) → (if nat_eq a n then packets_in (w.steps a k) else earlier a k) ++ packets_accepted k (if nat_eq a n then [] else w.inputs a) ≡ packets_in (w.steps a k)
+      agreed_at a k (inl t) = subst (λ x. (if x then packets_in (w.steps a k) else earlier a k) ++ packets_accepted k (if x then [] else w.inputs a) ≡ packets_in (w.steps a k)) (sym t) (append-nil (packets_in (w.steps a k)))
+      agreed_at a k (inr t) = subst (λ x. (if x then packets_in (w.steps a k) else earlier a k) ++ packets_accepted k (if x then [] else w.inputs a) ≡ packets_in (w.steps a k)) (sym t) (h.agreed a k)
 
-  effect_nodes : (c : Choice) (event : Event) → AreNodes (effect_by c w event)
+  effect_nodes : (c : Choice) (event : Event) → AreNodes (λ a k. stepped_by w a k event (earlier a k)) (effect_by c w event)
   unfolding effect_by
   effect_nodes c (Need m d) = same_nodes w (effect_by c w (Need m d)) refl refl refl refl refl h
   effect_nodes c Tick = same_nodes w (effect_by c w Tick) refl refl refl refl refl h
   effect_nodes c (Open m j) = same_nodes w (effect_by c w (Open m j)) refl refl refl refl refl h
   effect_nodes c (Pull m j) = go (w.cargoes m j)
     where
-      go : (cs : List Cargo) → AreNodes (after_pull w m j cs)
+      go : (cs : List Cargo) → AreNodes earlier (after_pull w m j cs)
       go [] = h
       go (x ∷ cs) = same_nodes w (after_pull w m j (x ∷ cs)) refl refl refl refl refl h
   effect_nodes c (Transmit m j) = go (frame_due (settings w m j) (w.ends m j) (c.now m j))
     where
-      go : (r : Option FrameParts) → AreNodes (after_sending w m j (after_transmit (settings w m j) (w.ends m j) (c.now m j)) r)
+      go : (r : Option FrameParts) → AreNodes earlier (after_sending w m j (after_transmit (settings w m j) (w.ends m j) (c.now m j)) r)
       go None = h
       go (Some f) = same_nodes w (after_sending w m j (after_transmit (settings w m j) (w.ends m j) (c.now m j)) (Some f)) refl refl refl refl refl h
   effect_nodes c (Deliver i) = go (datagram w i)
     where
-      go : (r : Option FrameParts) → AreNodes (after_receiving w c r)
+      go : (r : Option FrameParts) → AreNodes earlier (after_receiving w c r)
       go None = h
-      go (Some f) = cond_both (w.arms f.header.receiver).receive _ _ AreNodes
+      go (Some f) = cond_both (w.arms f.header.receiver).receive _ _ (AreNodes earlier)
           (λ _. same_nodes w (record w { arms = put_one w.arms f.header.receiver (record (w.arms f.header.receiver) { receive = false }) }) refl refl refl refl refl h)
           (λ _. same_nodes w (with_end w f.header.receiver f.header.sender (after_frame (settings w f.header.receiver f.header.sender) (w.ends f.header.receiver f.header.sender) f (c.now f.header.receiver f.header.sender))) refl refl refl refl refl h)
   effect_nodes c (Pump m j) = go (first_event (w.ends m j))
     where
-      go : (r : Option LinkEvent) → AreNodes (after_pump w c m j r)
+      go : (r : Option LinkEvent) → AreNodes earlier (after_pump w c m j r)
       go None = h
       go (Some event) = same_nodes w (after_pump w c m j (Some event)) refl refl refl refl refl h
   effect_nodes c (CoreTurn m) = turn_nodes c m (w.items m) refl
   effect_nodes c (Arm m call) = go call
     where
-      go : (x : Call) → AreNodes (after_arming w m x)
+      go : (x : Call) → AreNodes earlier (after_arming w m x)
       go Fails.SendLost = same_nodes w (after_arming w m Fails.SendLost) refl refl refl refl refl h
       go Fails.SendGone = same_nodes w (after_arming w m Fails.SendGone) refl refl refl refl refl h
       go Fails.Receive = same_nodes w (after_arming w m Fails.Receive) refl refl refl refl refl h
@@ -227,36 +234,41 @@ module _ (cores : CoreLaws) (seats : SeatLaws) (steps : List MachineStep) (w : W
       go Fails.Sync = same_nodes w (after_arming w m Fails.Sync) refl refl refl refl refl h
   effect_nodes c (Restart m torn) = restart_nodes m torn
 
-  world_nodes : (c : Choice) (event : Event) → AreNodes (world_by c w event)
+  pub world_nodes : (c : Choice) (event : Event) → AreNodes (λ a k. stepped_after c w a k event (earlier a k)) (world_by c w event)
   unfolding world_by
-  world_nodes c event = cond_both (is_some (refusal_by c w event)) _ _ AreNodes (λ _. h) (λ _. effect_nodes c event)
+  world_nodes c event = go (is_some (refusal_by c w event))
+    where
+      go : (b : Bool) → AreNodes (λ a k. if b then earlier a k else stepped_by w a k event (earlier a k)) (if b then w else effect_by c w event)
+      go true = h
+      go false = effect_nodes c event
 
 -- ---- runs
 
-record Ended (w : World) : Type 0 where
+record Ended (earlier : ℕ → ℕ → List Packet) (w : World) : Type 0 where
   refused : OnlyNeedsAreRefused w
-  agreed : SteppedAreAccepted w
+  agreed : (n k : ℕ) → earlier n k ++ packets_accepted k (w.inputs n) ≡ packets_in (w.steps n k)
 
 module _ (laws : LinkLaws) (lows : LifeLaws) (cores : CoreLaws) (seats : SeatLaws) where
-  run_ends : (es : Schedule) (steps : List MachineStep) (w : World) (seen : Seen) → ((a b : ℕ) (l : Life) → seen a b l 0) → AllEndsFollow steps (end_views w) w.datagrams seen → AreNodes w → Ended (after_schedule es w)
+  run_ends : (es : Schedule) (steps : List MachineStep) (w : World) (seen : Seen) (earlier : ℕ → ℕ → List Packet) → ((a b : ℕ) (l : Life) → seen a b l 0) → AllEndsFollow steps (end_views w) w.datagrams seen → AreNodes earlier w →
+      Ended (λ n k. stepped_at_restart n k es w (earlier n k)) (after_schedule es w)
   unfolding after_schedule
-  run_ends [] steps w seen z g h = record { refused = only_needs cores seats steps w seen g h; agreed = h.agreed }
-  run_ends (e ∷ es) steps w seen z g h =
+  run_ends [] steps w seen earlier z g h = record { refused = only_needs cores seats steps w seen g earlier h; agreed = h.agreed }
+  run_ends (e ∷ es) steps w seen earlier z g h =
       let now : Seen = λ a b l c. seen a b l c ⊎ HasAccepted a b l c w in
       let w' : World = world_by e.1 w e.0 in
       let steps' : List MachineStep = made (steps_by e.1 w e.0) steps in
       let g' : AllEndsFollow steps' (end_views w') w'.datagrams now =
       world_follows laws lows steps w now (λ a b l. inl (z a b l)) (λ a b l j. inr (record { bound = j; accepted = omega arith })) e.1 e.0 (more_seen steps (end_views w) w.datagrams seen now (λ a b l c x. inl x) g) in
-      run_ends es steps' w' now (λ a b l. inl (z a b l)) g' (world_nodes cores seats steps w seen g h e.1 e.0)
+      run_ends es steps' w' now (λ a k. stepped_after e.1 w a k e.0 (earlier a k)) (λ a b l. inl (z a b l)) g' (world_nodes cores seats steps w seen g earlier h e.1 e.0)
 
-  first_nodes : (t : Topology) (times : Times) → AreNodes (first_world t times)
-  first_nodes t times = record { seats = λ n. first_is cores t n; put = λ n k. tt; agreed = λ n k. ([], refl) }
+  pub first_nodes : (t : Topology) (times : Times) → AreNodes (λ n k. []) (first_world t times)
+  first_nodes t times = record { seats = λ n. first_is cores t n; put = λ n k. tt; agreed = λ n k. refl }
 
-  ends : (t : Topology) (times : Times) (es : Schedule) → Ended (after_schedule es (first_world t times))
-  ends t times es = run_ends es [] (first_world t times) (λ a b l c. c ≡ 0) (λ a b l. refl) (first_follows laws lows t times) (first_nodes t times)
+  ends : (t : Topology) (times : Times) (es : Schedule) → Ended (λ n k. stepped_at_restart n k es (first_world t times) []) (after_schedule es (first_world t times))
+  ends t times es = run_ends es [] (first_world t times) (λ a b l c. c ≡ 0) (λ n k. []) (λ a b l. refl) (first_follows laws lows t times) (first_nodes t times)
 
   pub refused_in_run : (t : Topology) (times : Times) (es : Schedule) → OnlyNeedsAreRefused (after_schedule es (first_world t times))
   refused_in_run t times es = (ends t times es).refused
 
-  pub agreed_in_run : (t : Topology) (times : Times) (es : Schedule) → SteppedAreAccepted (after_schedule es (first_world t times))
+  pub agreed_in_run : (t : Topology) (times : Times) (es : Schedule) → SteppedAreAccepted (first_world t times) es (after_schedule es (first_world t times))
   agreed_in_run t times es = (ends t times es).agreed

@@ -20,7 +20,7 @@ use Rattle.tora_world.proofs.ExactEntries.{itself}
 
 -- ---- the walk of at most so many hops
 
-walk_found : (w : World) (d hops n : ℕ) (after : List ℕ) → LeadsOn w d n after → length after ≤ hops → walk_within hops w n d ≡ Some (n ∷ after)
+pub walk_found : (w : World) (d hops n : ℕ) (after : List ℕ) → LeadsOn w d n after → length after ≤ hops → walk_within hops w n d ≡ Some (n ∷ after)
 walk_found w d zero n [] is le = ap (λ b. if b then Some (n ∷ []) else None) (eq-eqb n d is)
 walk_found w d zero n (k ∷ after) is le = absurd (omega arith)
 walk_found w d (suc hops) n [] is le = ap (λ b. if b then Some (n ∷ []) else elim (hop_at w n d) [ None ↦ None | Some k ↦ option_map (λ nodes. n ∷ nodes) (walk_within hops w k d) ]) (eq-eqb n d is)
@@ -78,17 +78,17 @@ walks_computed w n d nodes = (
 
 -- ---- how many nodes are lower than a height
 
-abbrev one_where : Bool → ℕ
+abbrev pub one_where : Bool → ℕ
 one_where true = 1
 one_where false = 0
 
-abbrev is_under : Quintuple → Option (Option Quintuple) → Bool
+abbrev pub is_under : Quintuple → Option (Option Quintuple) → Bool
 is_under h None = false
 is_under h (Some None) = false
 is_under h (Some (Some g)) = is_lt (height_cmp g h)
 
 -- how many of these nodes have a lower height
-abbrev under : World → ℕ → Quintuple → List ℕ → ℕ
+abbrev pub under : World → ℕ → Quintuple → List ℕ → ℕ
 under w d h [] = 0
 under w d h (n ∷ nodes) = one_where (is_under h (height_at w n d)) + under w d h nodes
 
@@ -96,7 +96,7 @@ one_most : (b : Bool) → one_where b ≤ 1
 one_most true = omega arith
 one_most false = omega arith
 
-under_most : (w : World) (d : ℕ) (h : Quintuple) (nodes : List ℕ) → under w d h nodes ≤ length nodes
+pub under_most : (w : World) (d : ℕ) (h : Quintuple) (nodes : List ℕ) → under w d h nodes ≤ length nodes
 under_most w d h [] = omega arith
 under_most w d h (n ∷ nodes) = let a = one_most (is_under h (height_at w n d)) in let b = under_most w d h nodes in omega arith
 
@@ -122,7 +122,7 @@ module _ (rules : RuleLaws) where
     fewer (n ∷ nodes) = let a = one_weaker (is_under low (height_at w n d)) (is_under high (height_at w n d)) (under_both low high l (height_at w n d)) in let b = fewer nodes in omega arith
 
     -- the node of the lower height itself is one less
-    one_less : (k : ℕ) → height_at w k d ≡ Some (Some low) → (nodes : List ℕ) → has_number k nodes ≡ true → under w d low nodes < under w d high nodes
+    pub one_less : (k : ℕ) → height_at w k d ≡ Some (Some low) → (nodes : List ℕ) → has_number k nodes ≡ true → under w d low nodes < under w d high nodes
     one_less k is [] there = absurd cc
     one_less k is (n ∷ nodes) there = go (nat_eq n k) refl there (one_less k is nodes)
       where

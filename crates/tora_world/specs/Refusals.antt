@@ -1,20 +1,26 @@
 -- What the cores of the world refuse.
-use Rattle.std.specs.Prelude.{◌≡◌, ℕ, ◌==◌, if◌then◌else◌, List, [], ◌∷◌, ◌++◌, map}
+use Rattle.std.specs.Prelude.{◌≡◌, ℕ, ◌==◌, false, is_some, if◌then◌else◌, List, [], ◌∷◌, ◌++◌, map}
 use Rattle.tora_packet.specs.declared.Packet.{Packet}
 use Rattle.tora_core.specs.declared.Input.{Input}
 use Rattle.tora_core.specs.declared.Input.TheVariants as In
 use Rattle.tora_core.specs.declared.errors.StepError.{StepError}
+use Rattle.tora_core.specs.declared.errors.StepError.TheVariants as Fault
+use Rattle.tora_core.specs.CoreRun.{has_destination}
 use Rattle.tora_seat.specs.declared.What.TheVariants as Tells
 use Rattle.tora_seat.specs.declared.Item.{Item}
 use Rattle.tora_seat.specs.declared.Answer.TheVariants as Says
 use Rattle.tora_seat.specs.Serving.{Parcel, Answers, serving_of}
-use Rattle.tora_world.specs.World.{World, neighbours}
+use Rattle.tora_world.specs.declared.Event.{Event}
+use Rattle.tora_world.specs.declared.Event.TheVariants.{Need, Tick, Open, Pull, Transmit, Deliver, Pump, CoreTurn, Arm, Restart}
+use Rattle.tora_world.specs.World.{World, Choice, neighbours, refusal_by, world_by}
+use Rattle.tora_world.specs.FreeWorld.{Schedule}
 
--- the next item of a core's lane is answered by a refusal only where it is a need, whatever is answered for its cargoes
+-- the next item of a core's lane is answered by a refusal only where it is the need of a destination that is not in the core's table, and for that cause, whatever is answered for its cargoes
 abbrev pub OnlyNeedsAreRefused : World → Type 0
 OnlyNeedsAreRefused w =
     (n : ℕ) (answers : Answers) (item : Item) (items : List Item) (error : StepError) → w.items n ≡ item ∷ items
-    → (serving_of answers (neighbours w n) (w.seats n) item).answer ≡ Says.Refused error → (d : ℕ) × (item.what ≡ Tells.Need d)
+    → (serving_of answers (neighbours w n) (w.seats n) item).answer ≡ Says.Refused error
+    → (d : ℕ) × (item.what ≡ Tells.Need d) × (has_destination d (w.seats n).core.views ≡ false) × (error ≡ Fault.UnknownDestination)
 
 -- the packet of an input, where it is one of this neighbour
 abbrev pub packet_in : ℕ → Input → List Packet
@@ -30,6 +36,27 @@ packets_accepted k ((input, now) ∷ inputs) = packet_in k input ++ packets_acce
 abbrev pub packets_in : List Parcel → List Packet
 packets_in parcels = map (λ x. x.packet) parcels
 
--- of the packets of a neighbour that were ever stepped, the last ones are those that the core has accepted since its node's last restart
-abbrev pub SteppedAreAccepted : World → Type 0
-SteppedAreAccepted w = (n k : ℕ) → (earlier : List Packet) × (earlier ++ packets_accepted k (w.inputs n) ≡ packets_in (w.steps n k))
+-- the packets of a neighbour that a node had stepped when it was restarted last, once this event has happened
+abbrev pub stepped_by : World → ℕ → ℕ → Event → List Packet → List Packet
+stepped_by w n k (Restart m torn) earlier = if n == m then packets_in (w.steps n k) else earlier
+stepped_by w n k (Need m d) earlier = earlier
+stepped_by w n k Tick earlier = earlier
+stepped_by w n k (Open m j) earlier = earlier
+stepped_by w n k (Pull m j) earlier = earlier
+stepped_by w n k (Transmit m j) earlier = earlier
+stepped_by w n k (Deliver i) earlier = earlier
+stepped_by w n k (Pump m j) earlier = earlier
+stepped_by w n k (CoreTurn m) earlier = earlier
+stepped_by w n k (Arm m call) earlier = earlier
+
+abbrev pub stepped_after : Choice → World → ℕ → ℕ → Event → List Packet → List Packet
+stepped_after c w n k event earlier = if is_some (refusal_by c w event) then earlier else stepped_by w n k event earlier
+
+-- and after a run
+abbrev pub stepped_at_restart : ℕ → ℕ → Schedule → World → List Packet → List Packet
+stepped_at_restart n k [] w earlier = earlier
+stepped_at_restart n k (e ∷ es) w earlier = stepped_at_restart n k es (world_by e.1 w e.0) (stepped_after e.1 w n k e.0 earlier)
+
+-- the packets of a neighbour that were ever stepped are those stepped up to the node's last restart, and then those that its core has accepted since
+abbrev pub SteppedAreAccepted : World → Schedule → World → Type 0
+SteppedAreAccepted first es w = (n k : ℕ) → stepped_at_restart n k es first [] ++ packets_accepted k (w.inputs n) ≡ packets_in (w.steps n k)

@@ -21,6 +21,7 @@ use Rattle.tora_seat.specs.declared.Item.{Item}
 use Rattle.tora_seat.specs.declared.Cargo.{Cargo}
 use Rattle.tora_seat.specs.declared.Cargo.TheVariants as Gives
 use Rattle.tora_seat.specs.Serving.{SeatState, Parcel, Answers, Serving, put_one, serving_of, put_to, stepped_from}
+use Rattle.tora_seat.specs.declared.TheConstants.{MOST_ITEMS, MOST_CARGOES}
 use Rattle.tora_world.specs.declared.Event.{Event}
 use Rattle.tora_world.specs.declared.Event.TheVariants.{Need, Tick, Open, Pull, Transmit, Deliver, Pump, CoreTurn, Arm, Restart}
 use Rattle.tora_world.specs.declared.Call.{Call}
@@ -93,6 +94,10 @@ settings w n k = settings_of (version_at w.topology n) n k w.times
 abbrev pub neighbours : World → ℕ → List ℕ
 neighbours w n = neighbours_of w.topology n
 
+-- the commands have the seat behind those of the links
+abbrev pub command_seat : World → ℕ → ℕ
+command_seat w n = length (neighbours w n)
+
 -- the place of a number in a list, or the length of the list where it is not there
 abbrev pub place_of : ℕ → List ℕ → ℕ
 place_of k [] = 0
@@ -119,7 +124,7 @@ is_empty (x ∷ xs) = false
 
 -- there is room for one more item
 abbrev pub has_room : World → ℕ → Bool
-has_room w n = nat_lt (length (w.items n)) 1024
+has_room w n = nat_lt (length (w.items n)) MOST_ITEMS
 
 abbrev pub unless_possible : Bool → Option SimError
 unless_possible possible = if possible then None else Some Refused.NotPossible
@@ -281,7 +286,7 @@ after_restart w n torn = record w {
 
 -- an event that is not refused
 unfoldable pub effect_by : Choice → World → Event → World
-effect_by c w (Need n d) = with_item w n (length (neighbours w n)) c.stamp (Tells.Need d)
+effect_by c w (Need n d) = with_item w n (command_seat w n) c.stamp (Tells.Need d)
 effect_by c w Tick = record w { clock = c.clock; ends = λ n k. after_tick (settings w n k) (w.ends n k) (c.now n k) }
 effect_by c w (Open n k) = after_opening w c n k
 effect_by c w (Pull n k) = after_pull w n k (w.cargoes n k)
@@ -296,10 +301,10 @@ effect_by c w (Restart n torn) = after_restart w n torn
 unfoldable pub world_by : Choice → World → Event → World
 world_by c w event = if is_some (refusal_by c w event) then w else effect_by c w event
 
--- ---- the simulator's own choice: its clock everywhere, and a cargo is put where fewer than 256 wait
+-- ---- the simulator's own choice: its clock everywhere, and a cargo is put where its lane has room
 
 abbrev pub own_answers : World → ℕ → Answers
-own_answers w n offers k = nat_lt (length (w.cargoes n k ++ put_to k offers)) 256
+own_answers w n offers k = nat_lt (length (w.cargoes n k ++ put_to k offers)) MOST_CARGOES
 
 abbrev pub node_of : Event → ℕ
 node_of (CoreTurn n) = n

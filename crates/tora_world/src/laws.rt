@@ -34,7 +34,7 @@ use tora_seat::{accepted_inputs_make_the_core, cut_links_go_down};
 
 /// What heights, the link end, the life file, the core and its seat promise. A law of theirs is the contract of a function that does nothing, so a
 /// law that rests on it calls that function: the call brings its clauses in.
-fn layers_keep_their_laws()
+pub(crate) fn layers_keep_their_laws()
     ensures links { LinkLaws }
     ensures files { LifeLaws }
     ensures cores { CoreLaws }
@@ -102,11 +102,12 @@ pub fn no_gap_law()
 /// Only a need is ever refused by a core of the world: every link that comes up or goes down, and every packet, is
 /// accepted where it is stepped. So the packets taken are the packets accepted.
 pub fn only_needs_are_refused()
-    // The next turn of a core is answered by a refusal only where its item is a need.
+    // The next turn of a core is answered by a refusal only where its item is the need of a destination that is not in
+    // the core's table, and that is the cause.
     ensures refused { EveryRun (λ first es w. OnlyNeedsAreRefused w) }
-    // Of the packets that were ever taken from a neighbour, the last ones are those that the core has accepted from it
-    // since its node's last restart.
-    ensures accepted { EveryRun (λ first es w. SteppedAreAccepted w) }
+    // The packets that were ever taken from a neighbour are those that were taken up to the node's last restart, and
+    // then those that the core has accepted from it since.
+    ensures accepted { EveryRun (λ first es w. SteppedAreAccepted first es w) }
 {
     layers_keep_their_laws();
 }

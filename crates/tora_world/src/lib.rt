@@ -5,11 +5,17 @@ ghost use Rattle.std.specs.Prelude.{◌≡◌};
 ghost use Rattle.tora_world.specs.Errors.{sim_error_number};
 
 mod laws;
+mod rest;
+mod table;
 
 pub use laws::{
     exact_entries_give_walks, no_gap_law, only_needs_are_refused, prefix_law,
     simulator_runs_are_free_runs, worked_events_hold, worked_schedules_hold,
 };
+pub use rest::{
+    entries_at_rest_are_heights, rest_is_computed, routes_at_rest_arrive, walks_at_rest_go_down,
+};
+pub use table::{events_run_out, steps_are_the_table, worked_rows_of_the_table_hold};
 use thiserror::Error;
 use tora_height::Id;
 

@@ -223,6 +223,19 @@ fn hellos_of_both_versions_until_the_peer_is_known(rt: HostRuntime) -> Result<()
 }
 
 #[test]
+fn hello_of_version_one_comes_right_after_its_hello_of_version_two(
+    rt: HostRuntime,
+) -> Result<(), Fail> {
+    let mut one = end_of(&rt, rt.alloc(), Version::Two, 1, 2, 5);
+    let mut old = end_of(&rt, rt.alloc(), Version::One, 2, 1, 9);
+    let _first = due(&rt, &mut one, Version::Two, &Body::Hello);
+    greets(&rt, &mut old, &mut one, Version::One, Verdict::Accepted);
+    let due_now = [Version::One, Version::Two, Version::One];
+    greets_in(&rt, &mut one, 0, &due_now);
+    Ok(())
+}
+
+#[test]
 fn frame_of_version_two_is_foreign_to_an_old_end(rt: HostRuntime) -> Result<(), Fail> {
     let Link { mut one, .. } = new_link(&rt, rt.alloc());
     let mut old = end_of(&rt, rt.alloc(), Version::One, 2, 1, 9);

@@ -440,7 +440,7 @@ fn an_end_is_printed(rt: HostRuntime) -> Result<(), Fail> {
 
 /// Hands the frames due at tick 0 from one end to the other.
 fn exchange(from: &mut LinkEnd, to: &mut LinkEnd) {
-    for _ in 0..35 {
+    for _ in 0..36 {
         match from.poll_transmit(0) {
             Some(frame) => {
                 let _verdict = to.on_frame(&frame, 0);

@@ -14,6 +14,7 @@ use tora_packet::{Packet, Update};
 use tora_sim::{Event, Sim, SimError, Topology, topology_fault};
 
 mod memory;
+mod rest;
 
 /// Whether no number in links is 0.
 fn are_links(links: &[(Id, Id)]) -> bool

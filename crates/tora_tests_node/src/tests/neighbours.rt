@@ -84,7 +84,7 @@ fn file_of(rt: &impl Abort, disk: MemDisk) -> LifeFile<MemDisk> {
 }
 
 // How many datagrams were counted.
-fn total(tally: &Tally) -> u64 {
+pub(super) fn total(tally: &Tally) -> u64 {
     let mut sum = 0u64;
     for verdict in [
         Verdict::Accepted,

@@ -1,6 +1,7 @@
 //! Nodes of several threads, in one process.
 ghost use Rattle.std.specs.Prelude.{◌<◌, ◌≤◌};
 
+use super::neighbours::total;
 use std::alloc::Global;
 use std::io::{Read, Write};
 use std::net::Net;
@@ -12,8 +13,9 @@ use std::thread::Threads;
 use std::time::Duration;
 use std::{io, thread, time};
 use tora_core::CoreError;
+use tora_height::Id;
 use tora_life::{Disk, DiskError, LifeError};
-use tora_neighbour::{MemWire, NodeError, Tally, UdpWire, UnixClock, Wire, WireError};
+use tora_neighbour::{MemWire, NodeError, UdpWire, UnixClock, Wire, WireError};
 use tora_node::*;
 
 /// The line of a core that has found its route.
@@ -514,15 +516,28 @@ fn run_in_memory<R: Threads + Wait + Sync + time::Clock + log::Log>(
     run_node(rt, alloc, config, wires, disks, &clock, &mut reader, page)
 }
 
+/// The node has a link to this peer, of which nothing was counted; or it has none.
+fn counted_nothing(rt: &impl Abort, ended: &Ended, peer: Id, is_link: bool) {
+    match ended.tally(peer) {
+        Some(tally) => assert!(rt; is_link && total(&tally) == 0),
+        None => assert!(rt; !is_link),
+    }
+}
+
+/// The core is that of node 1 with neighbours 2 and 3.
+fn is_core_of_1(rt: &impl Abort, ended: &Ended) {
+    assert_eq!(rt; ended.core().me(), 1);
+    assert_eq!(rt; ended.core().neighbours(), [2, 3].as_slice());
+}
+
 #[test]
 fn want_of_memory_ends_a_node(rt: HostRuntime) {
-    let alloc = rt.alloc();
     let mut page = Page {
         bytes: [0; 256],
         length: 0,
     };
     let commands = b"need 9\nhello\nshow\nneed 0\nquit\nshow\n";
-    match run_in_memory(&rt, alloc, commands, &mut page) {
+    match run_in_memory(&rt, rt.alloc(), commands, &mut page) {
         Err(error) => {
             // What was printed before stands whole.
             assert_eq!(&rt; error, NodeError::Memory);
@@ -533,12 +548,10 @@ fn want_of_memory_ends_a_node(rt: HostRuntime) {
                 &page.bytes[..page.length],
                 b"refused 5\nto 4 height - flag 0 hop -\n".as_slice()
             );
-            assert_eq!(&rt; ended.core().me(), 1);
-            assert_eq!(&rt; ended.core().neighbours(), [2, 3].as_slice());
-            assert_eq!(&rt; ended.tally(2), Some(Tally::new()));
-            assert_eq!(&rt; ended.tally(3), Some(Tally::new()));
-            assert_eq!(&rt; ended.tally(1), None);
-            assert_eq!(&rt; ended.tally(4), None);
+            is_core_of_1(&rt, &ended);
+            for (peer, is_link) in [(2, true), (3, true), (1, false), (4, false)] {
+                counted_nothing(&rt, &ended, peer, is_link);
+            }
         }
     }
 }

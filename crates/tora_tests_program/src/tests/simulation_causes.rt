@@ -41,6 +41,7 @@ fn causes_of_faults_before_a_simulation_runs(rt: HostRuntime) {
     let rows = [
         ("", SimulationCause::Empty),
         ("dests 4\r", SimulationCause::CarriageReturn),
+        ("dests 4 ", SimulationCause::TrailingBlank),
         ("link 1 2", SimulationCause::Dests),
         ("dests", SimulationCause::Dests),
         ("dests 0", SimulationCause::List),
@@ -51,14 +52,19 @@ fn causes_of_faults_before_a_simulation_runs(rt: HostRuntime) {
     }
     let rows = [
         ("tick", SimulationCause::NoLink),
+        ("link 1 2 ", SimulationCause::TrailingBlank),
         ("link 1", SimulationCause::Pair),
         ("link 1 0", SimulationCause::Pair),
     ];
     for (line, cause) in rows {
         expect_cause(&rt, rt.alloc(), &["dests 4"], line, cause);
     }
-    let twice = ["dests 4", "link 1 2", "link 2 1"];
-    expect_cause(&rt, rt.alloc(), &twice, "tick", SimulationCause::Repeated);
+    let twice = ["dests 4", "link 1 2", "link 3 2", "link 2 1", "link 2 3"];
+    let repeated = SimulationCause::RepeatedLink(2, 4);
+    expect_cause(&rt, rt.alloc(), &twice, "tick", repeated);
+    let again = ["dests 4,5,6,5,4", "link 1 2"];
+    let repeated = SimulationCause::RepeatedDestination(4);
+    expect_cause(&rt, rt.alloc(), &again, "tick", repeated);
     let own = ["dests 4", "link 1 1"];
     expect_cause(&rt, rt.alloc(), &own, "tick", SimulationCause::OwnLink);
     let many = [
@@ -72,6 +78,8 @@ fn causes_of_faults_before_a_simulation_runs(rt: HostRuntime) {
     expect_cause(&rt, rt.alloc(), &many, "tick", SimulationCause::TooMany);
     let three = ["dests 4", "link 1 2", "link 2 3"];
     expect_cause(&rt, rt.alloc(), &three, "link 3", SimulationCause::Pair);
+    let blank = SimulationCause::TrailingBlank;
+    expect_cause(&rt, rt.alloc(), &three, "link 3 4 ", blank);
     expect_cause(&rt, rt.alloc(), &three, "turns", SimulationCause::Word);
 }
 
@@ -119,6 +127,8 @@ fn causes_of_faults_of_a_simulation(rt: HostRuntime) {
     let rows = [
         ("", SimulationCause::Empty),
         ("tick\r", SimulationCause::CarriageReturn),
+        ("tick ", SimulationCause::TrailingBlank),
+        (" ", SimulationCause::TrailingBlank),
         ("1 show", SimulationCause::Word),
         ("need 1", SimulationCause::Pair),
         ("open 1 0", SimulationCause::Pair),

@@ -6,7 +6,7 @@ use Rattle.tora_neighbour.specs.Tally.{first_tally}
 use Rattle.tora_neighbour.specs.Causes.{fault_of, IsEndOf}
 use Rattle.tora_neighbour.proofs.Ends.{end_cause}
 use Rattle.tora_neighbour.specs.Turns.{IsTurn, IsLastTurn}
-use Rattle.tora_neighbour.proofs.Chains.{calls_more}
+use Rattle.tora_neighbour.proofs.Chains.{calls_more, row_turns}
 use Rattle.tora_neighbour.proofs.Runs.{turns_more, beats_more, tally_more, traffic_more, told_more, no_traffic}
 use Rattle.tora_neighbour.proofs.neighbour.run_neighbour.Goals as goal
 
@@ -18,7 +18,7 @@ loop-init g c = record {
   failed = refl;
   disk = refl;
   failures = omega arith;
-  so_far = ([], refl, refl, c.new.ensures, no_traffic _, (refl, refl), tt);
+  so_far = ([], refl, refl, c.new.ensures, no_traffic _, (refl, refl), tt, refl);
 }
 
 pub loop-preserved : goal.loop-preserved
@@ -39,6 +39,7 @@ loop-preserved g c =
         traffic_more _ _ _ h.so_far.0 (t.0 ∷ []) h.so_far.4 t.5,
         calls_more g.H.Hub.did_take g.H.Hub.did_put g.W.Wire.did_send g.W.Wire.did_receive c.args.hub c.args.link.wire h.so_far.0 c.loop.hub c.loop.link.wire t.0 c.turn.new.hub c.turn.new.link.wire h.so_far.5 t.6,
         told_more (g.C.Clock.did_tell c.args.clock.now) h.so_far.0 t.0 h.so_far.6 (subst (g.C.Clock.did_tell c.args.clock.now) (sym t.7) c.now-now.ensures),
+        row_turns 0 c.loop.course.row c.turn.new.course.row h.so_far.0 t.0 h.so_far.7 t.8,
       );
     }
 
@@ -55,7 +56,10 @@ returns-in-Err-clause-turns g c =
         turns_are = h.so_far.1;
         last_beat = c.loop.course.last_beat;
         beats_are = h.so_far.2;
-        last_is = subst (λ (s : Settings). IsLastTurn s c.loop.link.end.state t.0 c.in-Err.ending c.turn.new.link.end.state) h.settings t.1;
+        last_is = subst (λ (s : Settings). IsLastTurn s c.loop.course.last_beat c.loop.link.end.state t.0 c.in-Err.ending c.turn.new.link.end.state) h.settings t.1;
+        row = c.turn.new.course.row;
+        calls_are = row_turns 0 c.loop.course.row c.turn.new.course.row h.so_far.0 t.0 h.so_far.7 t.6;
+        row_is = t.7;
       },
       traffic_more _ _ _ h.so_far.0 (t.0 ∷ []) h.so_far.4 t.3,
       tally_more first_tally h.so_far.0 c.loop.course.tally t.0 _ h.so_far.3 t.2,

@@ -17,6 +17,8 @@ returns-in-Err-clause-last g c =
           (λ yes. record { given = []; coming_is = refl; readings_are = refl }),
       (h.3, refl),
       refl,
+      refl,
+      c.requires.row,
     )
 
 pub returns-in-Err-exchange-clause-last : goal.returns-in-Err-exchange-clause-last
@@ -24,15 +26,17 @@ returns-in-Err-exchange-clause-last g c =
     let b = c.in_default.ensures.begun in
     let x = c.in-Err-exchange.ensures.exchange in
     let w = c.give_up.ensures.told in
-    let t = turn_of c.args.now b.0 b.1 x.0 x.1 x.2 w.0 w.1 false in (
+    let t = turn_of c.args.now b.0 b.1 x.0 x.3 x.4 x.1 x.2 w.0 w.1 false in (
       t,
-      broken_turn c.args.link.now.end c.begin.new.end c.args.now b.0 b.1 b.2 b.3 b.4 c.in-Err-exchange.at x.0 x.1 x.2 c.exchange.new.end.state c.give_up.new.end.state w.0 w.1 x.3 w.2,
-      x.5,
+      broken_turn c.args.link.now.end c.begin.new.end c.args.now b.0 b.1 b.2 b.3 b.4 c.in-Err-exchange.at x.0 x.3 x.4 c.args.course.now.last_beat x.1 x.2 c.exchange.new.end.state c.give_up.new.end.state w.0 w.1 x.5 w.2,
+      x.7,
       traffic_of _ _ t b.5
           (w.3 ∙ ap (λ ps. ps ++ map (entry_of c.args.now) w.0) c.begin.ensures.puts ∙ ap (λ ps. g.H.Hub.puts c.args.hub.now ++ ps) (sym (append-nil (map (entry_of c.args.now) w.0))))
-          (c.give_up.ensures.takes ∙ b.6) c.exchange.ensures.tells x.6 x.7,
-      (c.begin.new.hub, b.7, x.9, w.4),
+          (c.give_up.ensures.takes ∙ b.6) c.exchange.ensures.tells x.8 x.9,
+      (c.begin.new.hub, b.7, x.11, w.4),
       refl,
+      x.12,
+      c.in-Err-exchange.ensures.broken,
     )
 
 pub returns-in-Err-tell-clause-last : goal.returns-in-Err-tell-clause-last
@@ -40,15 +44,17 @@ returns-in-Err-tell-clause-last g c =
     let b = c.in_default.ensures.begun in
     let x = c.in_default-exchange.ensures.exchange in
     let w = c.in-Err-tell.ensures.some in
-    let t = turn_of c.args.now b.0 b.1 x.0 x.1 x.2 w.0 w.1 false in (
+    let t = turn_of c.args.now b.0 b.1 x.0 x.3 x.4 x.1 x.2 w.0 w.1 false in (
       t,
-      refused_turn c.args.link.now.end c.begin.new.end c.args.now b.0 b.1 b.2 b.3 b.4 x.0 x.1 x.2 c.exchange.new.end.state c.tell.new.end.state w.0 w.1 x.3 w.2,
-      x.5,
+      refused_turn c.args.link.now.end c.begin.new.end c.args.now b.0 b.1 b.2 b.3 b.4 x.0 x.3 x.4 c.args.course.now.last_beat x.1 x.2 c.exchange.new.end.state c.tell.new.end.state w.0 w.1 x.5 w.2 w.5,
+      x.7,
       traffic_of _ _ t b.5
           (w.3 ∙ ap (λ ps. ps ++ map (entry_of c.args.now) w.0) c.begin.ensures.puts ∙ ap (λ ps. g.H.Hub.puts c.args.hub.now ++ ps) (sym (append-nil (map (entry_of c.args.now) w.0))))
-          (c.tell.ensures.takes ∙ b.6) c.exchange.ensures.tells x.6 x.7,
-      (c.begin.new.hub, x.8.0, b.7, x.8.1, x.8.2, w.4),
+          (c.tell.ensures.takes ∙ b.6) c.exchange.ensures.tells x.8 x.9,
+      (c.begin.new.hub, x.10.0, b.7, x.10.1, x.10.2, w.4),
       refl,
+      x.12,
+      c.in_default-exchange.ensures.row,
     )
 
 pub returns-clause-turn : goal.returns-clause-turn
@@ -57,13 +63,14 @@ returns-clause-turn g c =
     let x = c.in_default-exchange.ensures.exchange in
     let w = c.in_default-tell.ensures.all in
     let beat = is_beat_due c.args.course.now.last_beat c.args.now in
-    let t = turn_of c.args.now b.0 b.1 x.0 x.1 x.2 w.0 None beat in (
+    let t = turn_of c.args.now b.0 b.1 x.0 x.3 x.4 x.1 x.2 w.0 None beat in (
       t,
-      whole_turn c.args.link.now.end c.begin.new.end c.args.now b.0 b.1 b.2 b.3 b.4 x.0 x.1 x.2 c.exchange.new.end.state c.tell.new.end.state w.0 beat x.3 w.1,
+      whole_turn c.args.link.now.end c.begin.new.end c.args.now b.0 b.1 b.2 b.3 b.4 x.0 x.3 x.4 x.1 x.2 c.exchange.new.end.state c.tell.new.end.state w.0 beat x.5 w.1,
       refl,
       c.in_default-tell.ensures.last,
-      x.5,
-      traffic_of _ _ t b.5 (w.2 ∙ ap (λ ps. ps ++ (map (entry_of c.args.now) w.0 ++ beat_of beat c.args.now)) c.begin.ensures.puts) (c.tell.ensures.takes ∙ b.6) c.exchange.ensures.tells x.6 x.7,
-      record { taken = c.begin.new.hub; sent = x.8.0; told = w.3.0; takes = b.7; sends = x.8.1; receives = x.8.2; puts = w.3.1; beat = w.3.2 },
+      x.7,
+      traffic_of _ _ t b.5 (w.2 ∙ ap (λ ps. ps ++ (map (entry_of c.args.now) w.0 ++ beat_of beat c.args.now)) c.begin.ensures.puts) (c.tell.ensures.takes ∙ b.6) c.exchange.ensures.tells x.8 x.9,
+      record { taken = c.begin.new.hub; sent = x.10.0; told = w.3.0; takes = b.7; sends = x.10.1; receives = x.10.2; puts = w.3.1; beat = w.3.2 },
       refl,
+      x.12,
     )

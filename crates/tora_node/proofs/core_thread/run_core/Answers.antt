@@ -5,7 +5,7 @@ use Rattle.tora_seat.specs.Rows.{state_of, serving_at}
 use Rattle.tora_seat.specs.declared.Answer.{Answer}
 use Rattle.tora_seat.specs.declared.What.{What}
 use Rattle.tora_node.specs.CoreRuns.{reply_text, MayFail}
-use Rattle.tora_node.proofs.Served.{Appends-nil, nothing_ran, done, core_is}
+use Rattle.tora_node.proofs.Served.{Appends-nil, nothing_ran, done, goes_on, core_is}
 use Rattle.tora_node.proofs.core_thread.run_core.Goals as goal
 
 pub loop-init : goal.loop-init
@@ -28,7 +28,7 @@ returns-in-Err g c =
         r.offered,
         core_is c.accepted_inputs_make_the_core.ensures.runs ks (state_of c.args.seat) (state_of c.loop.seat) r.xs r.served,
         (λ none. r.written),
-        inr gone.1,
+        inr (r.goes, gone.1),
       );
       neighbours = c.loop.invariant.neighbours;
     }
@@ -42,7 +42,7 @@ returns-then-is_quit g c =
     let d = done g.O.OutLanes.did_offer ks (state_of c.args.seat) c.args.outs c.args.port.taken (g.W.Write.contents c.args.writer.now)
     (state_of c.loop.seat) c.loop.outs c.loop.port.taken (g.W.Write.contents c.loop.writer) h.ran
     c.in-Ok.item t.0 c.serve-answer.new.outs c.take.new.self.taken v c.loop.seat.core.neighbours h.neighbours c.in-Ok.ensures.taken.0 t.1 t.2 refl in
-    let quit = c.is_quit.ensures c.if-is_quit.true in
+    let quit = c.is_quit.ensures.quit c.if-is_quit.true in
     let text = g.W.Write.contents c.loop.writer in
     record {
       runs = (
@@ -52,7 +52,7 @@ returns-then-is_quit g c =
         d.offered,
         core_is c.accepted_inputs_make_the_core.ensures.runs ks (state_of c.args.seat) (state_of c.serve-answer.new.self) (d.front ++ d.x ∷ []) d.served,
         (λ none. d.written text (subst (λ (w : What). Appends text text (reply_text w v.answer v.seat.core)) (sym quit) (Appends-nil text))),
-        inl (d.front, d.x, refl, ap (λ (i : Item). i.what) d.item_is ∙ quit),
+        inl (d.front, d.x, refl, d.goes, ap (λ (i : Item). i.what) d.item_is ∙ quit),
       );
       neighbours = c.serve-answer.ensures.neighbours ∙ h.neighbours;
     }
@@ -74,7 +74,7 @@ returns-in-Err-reply g c =
         d.offered,
         core_is c.accepted_inputs_make_the_core.ensures.runs ks (state_of c.args.seat) (state_of c.serve-answer.new.self) (d.front ++ d.x ∷ []) d.served,
         (λ none. absurd (cc)),
-        (d.front, d.x, refl, subst (λ (i : Item). MayFail c.in-Err-reply.fault i.what) (sym d.item_is) c.in-Err-reply.ensures.err),
+        (d.front, d.x, refl, d.goes, subst (λ (i : Item). MayFail c.in-Err-reply.fault i.what) (sym d.item_is) c.in-Err-reply.ensures.err),
       );
       neighbours = c.serve-answer.ensures.neighbours ∙ h.neighbours;
     }
@@ -100,5 +100,6 @@ loop-preserved g c =
         served = d.served;
         offered = d.offered;
         written = d.written new (subst (λ (a : Answer). Appends (g.W.Write.contents c.loop.writer) new (reply_text c.in-Ok.item.what a v.seat.core)) c.serve-answer.ensures.answer c.in-Ok-reply.ensures.ok);
+        goes = goes_on d.front d.x c.in-Ok.item d.goes d.item_is (c.is_quit.ensures.other c.if-is_quit.false);
       };
     }

@@ -1,5 +1,6 @@
 //! Life files in a real folder.
 use std::fs::{self, File, Files};
+use std::io::ErrorKind;
 use std::test::Fail;
 use tora_life::{Disk, DiskError, FileDisk, LifeError, LifeFile};
 
@@ -10,6 +11,10 @@ const PATH: &str = "tora_life_test/life-2";
 const OTHER_FOLDER: &str = "tora_life_places_test";
 
 const OTHER_PATH: &str = "tora_life_places_test/life-3";
+
+const LOCKED_FOLDER: &str = "tora_life_locked_test";
+
+const LOCKED_PATH: &str = "tora_life_locked_test/life-2";
 
 fn opened<R: Files<File = File>>(rt: &R) -> Result<LifeFile<FileDisk>, Fail> {
     Ok(LifeFile::open(FileDisk::open(rt, PATH)?, 1, 2)?)
@@ -62,5 +67,30 @@ fn a_file_is_read_and_written_at_places(rt: HostRuntime) -> Result<(), Fail> {
     assert_eq!(&rt; fault.error, LifeError::Damaged);
     assert!(&rt; FileDisk::open(&rt, "tora_life_places_test/none/life-3").is_err());
     fs::remove_dir_all(&rt, OTHER_FOLDER)?;
+    Ok(())
+}
+
+/// Whether a file is opened; it is let go at once.
+fn is_free<R: Files<File = File>>(rt: &R) -> Result<bool, Fail> {
+    match FileDisk::open(rt, LOCKED_PATH) {
+        Ok(_) => Ok(true),
+        Err(error) if error.kind() == ErrorKind::WouldBlock => Ok(false),
+        Err(error) => Err(error.into()),
+    }
+}
+
+// A file is locked as long as its disk lives, and by nobody behind that.
+#[test]
+fn a_life_file_is_locked_by_its_disk(rt: HostRuntime) -> Result<(), Fail> {
+    let _ = fs::remove_dir_all(&rt, LOCKED_FOLDER);
+    fs::create_dir(&rt, LOCKED_FOLDER)?;
+    assert!(&rt; is_free(&rt)?);
+    let mut disk = FileDisk::open(&rt, LOCKED_PATH)?;
+    assert!(&rt; !is_free(&rt)?);
+    assert_eq!(&rt; disk.sync(), Ok(()));
+    assert!(&rt; !is_free(&rt)?);
+    drop(disk);
+    assert!(&rt; is_free(&rt)?);
+    fs::remove_dir_all(&rt, LOCKED_FOLDER)?;
     Ok(())
 }

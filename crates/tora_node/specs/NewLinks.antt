@@ -1,0 +1,16 @@
+-- The links of a node as they are made.
+use Rattle.std.specs.Prelude.{ℕ}
+use Rattle.tora_arq.specs.EndRange.{LinkEndView, link_end_of}
+use Rattle.tora_arq.specs.LinkEnd.{first_end}
+use Rattle.tora_arq.specs.Settings.{settings_of}
+use Rattle.tora_arq.specs.declared.TheConstants.Times.{STANDARD}
+use Rattle.tora_frame.specs.declared.parts.Version.TheVariants.{Two}
+use Rattle.tora_life.specs.declared.tags.Owner.{Owner}
+
+-- the end of a node's link to this peer: of version 2, with the standard times, never opened
+abbrev pub new_end : ℕ → ℕ → LinkEndView
+new_end me peer = link_end_of (settings_of Two me peer STANDARD) first_end
+
+-- the life file of this node for its link to this peer
+abbrev pub owner_of : ℕ → ℕ → Owner
+owner_of me peer = record { node = me; peer = peer }

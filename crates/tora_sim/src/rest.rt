@@ -1,0 +1,188 @@
+//! Whether the world is at rest.
+ghost use Rattle.std.specs.Prelude.{◌≡◌, None, MatchOption, slice_get};
+ghost use Rattle.std.specs.List.{list_all};
+ghost use Rattle.tora_arq.specs.LinkEnd.{bound_life};
+ghost use Rattle.tora_seat.specs.Rows.{current_of};
+ghost use Rattle.tora_seat.specs.Serving.{is_current};
+ghost use Rattle.tora_world.specs.Topology.{neighbours_of};
+ghost use Rattle.tora_world.specs.World.{is_empty};
+ghost use Rattle.tora_world.specs.Rest.{life_at, is_idle_end, is_one_life, is_link_at_rest, is_node_at_rest, rests};
+ghost use Rattle.tora_sim.specs.Links.{waiting};
+ghost use Rattle.tora_sim.specs.Store.{world_of};
+ghost use Rattle.tora_sim.specs.Resting.{is_idle};
+
+use crate::links::{LinkSlot, place};
+use crate::nodes::{NodeSlot, place as node_place};
+use crate::sim::Sim;
+use tora_arq::Life;
+use tora_height::Id;
+
+impl Sim {
+    /// Whether nothing is under way: no item waits for a core, no cargo in a lane and no event in a link end; all packets
+    /// that were submitted are acknowledged; and each link is up at both cores in one life, in which both its ends are
+    /// bound, or at neither.
+    ///
+    /// Frames may go on that say HELLO or repeat an ACK, datagrams may lie about, and a need may come at any time. In a world
+    /// at rest each entry is NULL, or the height of its neighbour, or the neighbour has no height, and walks go down, as
+    /// `tora_world::entries_at_rest_are_heights` and `tora_world::walks_at_rest_go_down` have it.
+    ///
+    /// ```rust
+    /// let topology = Topology::new(alloc, &[(1, 2)], &[2])?;
+    /// let mut sim = Sim::new(alloc, &topology)?;
+    /// assert!(rt; sim.is_at_rest()); // no link is up
+    /// sim.step(&Event::Need(1, 2))?;
+    /// assert!(rt; !sim.is_at_rest()); // an item waits for the core of node 1
+    /// ```
+    pub fn is_at_rest(&self) -> bool
+        ensures { result ≡ rests (world_of self.now) }
+    {
+        let nodes = self.topology.nodes();
+        nodes.as_slice().iter().all(|n| self.is_node_at_rest(*n))
+    }
+
+    /// Whether no item waits for the core of a node, and its ends of its links are at rest.
+    fn is_node_at_rest(&self, n: Id) -> bool
+        ensures { result ≡ is_node_at_rest (world_of self.now) n }
+    {
+        self.has_no_item(n) && self.are_links_at_rest(n)
+    }
+
+    /// Whether the ends of a node are at rest.
+    fn are_links_at_rest(&self, n: Id) -> bool
+        ensures { result ≡ list_all (is_link_at_rest (world_of self.now) n) (neighbours_of self.now.topology n) }
+    {
+        let neighbours = self.topology.neighbours(n);
+        neighbours
+            .as_slice()
+            .iter()
+            .all(|k| self.is_link_at_rest(n, *k))
+    }
+
+    /// Whether no item waits for the core of a node.
+    fn has_no_item(&self, n: Id) -> bool
+        ensures { result ≡ is_empty ((world_of self.now).items n) }
+    {
+        self.first_item(n).is_none()
+    }
+
+    /// Whether nothing waits at the end of `n` towards `k`, and the link is up at both in one life or at neither.
+    fn is_link_at_rest(&self, n: Id, k: Id) -> bool
+        ensures { result ≡ is_link_at_rest (world_of self.now) n k }
+    {
+        let idle = self.is_idle_end(n, k);
+        let here = self.life_at(n, k);
+        let there = self.life_at(k, n);
+        let bound = self.bound_life(n, k);
+        let one = is_one_life(here, there, bound);
+        idle && one
+    }
+
+    /// Whether nothing waits at the end of `n` towards `k`.
+    fn is_idle_end(&self, n: Id, k: Id) -> bool
+        ensures { result ≡ is_idle_end (world_of self.now) n k }
+    {
+        match place(&self.links, &self.hints, n, k) {
+            Some(at) => self.links[at].is_idle(),
+            None => true,
+        }
+    }
+
+    /// The life that the end of `n` towards `k` is bound in.
+    fn bound_life(&self, n: Id, k: Id) -> Option<Life>
+        ensures { result ≡ bound_life ((world_of self.now).ends n k) }
+    {
+        match place(&self.links, &self.hints, n, k) {
+            Some(at) => self.links[at].life(),
+            None => None,
+        }
+    }
+
+    /// The life in which the link to `k` is up at the core of `n`.
+    fn life_at(&self, n: Id, k: Id) -> Option<Life>
+        ensures { result ≡ life_at (world_of self.now) n k }
+    {
+        match place(&self.links, &self.hints, n, k) {
+            Some(end) => {
+                let seat = self.links[end].seat();
+                match node_place(&self.nodes, &self.hints, n) {
+                    Some(at) => self.nodes[at].current(seat),
+                    None => None,
+                }
+            }
+            None => None,
+        }
+    }
+}
+
+/// Whether the life of one core is that of the other and the end is bound in it, or there is none at either.
+fn is_one_life(here: Option<Life>, there: Option<Life>, bound: Option<Life>) -> bool
+    ensures { result ≡ is_one_life here there bound }
+{
+    match here {
+        Some(life) => match there {
+            Some(other) => {
+                life.own == other.peer && life.peer == other.own && is_life(life, bound)
+            }
+            None => false,
+        },
+        None => there.is_none(),
+    }
+}
+
+/// Whether this is the life.
+fn is_life(life: Life, bound: Option<Life>) -> bool
+    ensures { result ≡ is_current life bound }
+{
+    match bound {
+        Some(other) => life.own == other.own && life.peer == other.peer,
+        None => false,
+    }
+}
+
+impl LinkSlot {
+    /// Whether nothing waits in the lane or the end, and all that was submitted is acknowledged.
+    fn is_idle(&self) -> bool
+        ensures { result ≡ is_idle self.now }
+    {
+        self.has_no_cargo() && self.has_no_event() && self.has_no_packet()
+    }
+
+    /// Whether no cargo waits in the lane.
+    #[tactic(auto, using(crate::proofs::Resting::empty_lane))]
+    fn has_no_cargo(&self) -> bool
+        ensures { result ≡ is_empty (waiting self.now) }
+    {
+        !self.has_cargo()
+    }
+
+    /// Whether no event waits in the end.
+    fn has_no_event(&self) -> bool
+        ensures { result ≡ is_empty self.now.state.events }
+    {
+        self.end.next_event().is_none()
+    }
+
+    /// Whether all packets that were submitted are acknowledged.
+    #[tactic(auto, using(crate::proofs::Resting::none_waits))]
+    fn has_no_packet(&self) -> bool
+        ensures { result ≡ is_empty self.now.state.queue }
+    {
+        self.end.waiting() == 0
+    }
+
+    /// The life that the end is bound in.
+    fn life(&self) -> Option<Life>
+        ensures { result ≡ bound_life self.now.state }
+    {
+        self.end.life()
+    }
+}
+
+impl NodeSlot {
+    /// The life that is current for the neighbour at a place.
+    fn current(&self, seat: usize) -> Option<Life>
+        ensures { MatchOption (slice_get self.now.seat.core.neighbours seat) (result ≡ None) (λ k. result ≡ current_of self.now.seat.rows k) }
+    {
+        self.seat.current(seat)
+    }
+}

@@ -1,0 +1,108 @@
+-- Worlds at rest: nothing is under way. What entries, next hops and walks are then.
+use Rattle.std.specs.Prelude.{◌≡◌, ◌≢◌, ◌⊎◌, ℕ, ◌≤◌, ◌&&◌, Bool, true, false, if◌then◌else◌, List, [], ◌∷◌, length, Option, Some, None, option_map}
+use Rattle.std.specs.List.{list_all}
+use Rattle.tora_height.specs.Height.{Quintuple}
+use Rattle.tora_arq.specs.declared.Life.{Life}
+use Rattle.tora_arq.specs.Lives.{is_same_life}
+use Rattle.tora_arq.specs.LinkEnd.{bound_life}
+use Rattle.tora_seat.specs.Serving.{is_current}
+use Rattle.tora_world.specs.Topology.{nodes_in, neighbours_of, is_node, is_link}
+use Rattle.tora_world.specs.Lists.{reversed}
+use Rattle.tora_world.specs.World.{World, is_empty}
+use Rattle.tora_world.specs.Walks.{height_at, hop_at, entry_at, IsBelow}
+
+-- ---- at rest
+
+-- the life in which a link is up at the core of n; None where it is not up, or where there is no such link
+abbrev pub life_at : World → ℕ → ℕ → Option Life
+life_at w n k = if is_link w.topology n k then (w.seats n).current k else None
+
+-- of one end of a link: nothing waits in the lane to it or in it, and all that was submitted to it was acknowledged
+pub record IsIdleEnd (w : World) (n k : ℕ) : Type 0 where
+  pub cargoes : w.cargoes n k ≡ []
+  pub events : (w.ends n k).events ≡ []
+  pub queue : (w.ends n k).queue ≡ []
+
+-- the link is up at both cores in one life, in which the end is bound, or at neither
+pub record IsInOneLife (w : World) (n k : ℕ) : Type 0 where
+  pub same : life_at w n k ≡ option_map reversed (life_at w k n)
+  pub bound : (life : Life) → life_at w n k ≡ Some life → bound_life (w.ends n k) ≡ Some life
+
+-- no item, cargo or event waits, nothing that was submitted is unacknowledged, and each link is up at both ends or at neither.
+-- Frames may go on that say HELLO or repeat an ACK, and datagrams may lie about.
+pub record IsAtRest (w : World) : Type 0 where
+  pub items : (n : ℕ) → is_node w.topology n ≡ true → w.items n ≡ []
+  pub idle : (n k : ℕ) → is_link w.topology n k ≡ true → IsIdleEnd w n k
+  pub lives : (n k : ℕ) → is_link w.topology n k ≡ true → IsInOneLife w n k
+
+-- ---- the same, computed
+
+abbrev pub is_idle_end : World → ℕ → ℕ → Bool
+is_idle_end w n k = is_empty (w.cargoes n k) && is_empty (w.ends n k).events && is_empty (w.ends n k).queue
+
+-- the life of one core is that of the other, and the end is bound in it; or there is none at either
+abbrev pub is_one_life : Option Life → Option Life → Option Life → Bool
+is_one_life None None bound = true
+is_one_life None (Some other) bound = false
+is_one_life (Some life) None bound = false
+is_one_life (Some life) (Some other) bound = is_same_life life (reversed other) && is_current life bound
+
+abbrev pub is_link_at_rest : World → ℕ → ℕ → Bool
+is_link_at_rest w n k = is_idle_end w n k && is_one_life (life_at w n k) (life_at w k n) (bound_life (w.ends n k))
+
+abbrev pub is_node_at_rest : World → ℕ → Bool
+is_node_at_rest w n = is_empty (w.items n) && list_all (is_link_at_rest w n) (neighbours_of w.topology n)
+
+-- every node and each of its links is looked at
+abbrev pub rests : World → Bool
+rests w = list_all (is_node_at_rest w) (nodes_in w.topology.links)
+
+-- ---- what entries are then
+
+-- a node has no height
+abbrev pub LacksHeight : World → ℕ → ℕ → Type 0
+LacksHeight w k d = height_at w k d ≡ Some None
+
+-- an entry for a neighbour whose link is up is NULL, or the neighbour's height, or the neighbour has no height
+abbrev pub EntriesAreHeights : World → Type 0
+EntriesAreHeights w = (n k d : ℕ) (entry : Quintuple) → entry_at w n k d ≡ Some (Some entry) → (height_at w k d ≡ Some (Some entry)) ⊎ LacksHeight w k d
+
+-- ---- next hops
+
+-- these nodes come after node n, each the next hop of the one before it
+abbrev pub FollowsHops : World → ℕ → ℕ → List ℕ → Type 0
+FollowsHops w d n [] = Unit {0}
+FollowsHops w d n (k ∷ nodes) = (n ≢ d) × (hop_at w n d ≡ Some k) × FollowsHops w d k nodes
+
+-- the same, and each is lower than the one before it, up to the destination or to a node that has no height
+abbrev pub GoesDown : World → ℕ → ℕ → List ℕ → Type 0
+GoesDown w d n [] = n ≡ d
+GoesDown w d n (k ∷ nodes) = (n ≢ d) × (hop_at w n d ≡ Some k) × ((IsBelow w d k n × GoesDown w d k nodes) ⊎ (LacksHeight w k d × (nodes ≡ [])))
+
+-- the next hop of a node: a node with a lower height, or one that has none
+pub record HopsDown (w : World) (d n : ℕ) : Type 0 where
+  pub hop : ℕ
+  pub next : hop_at w n d ≡ Some hop
+  pub lower : IsBelow w d hop n ⊎ LacksHeight w hop d
+
+-- the hops from n come to the destination or to a node without a height, within as many hops as there are nodes
+pub record ComesDown (w : World) (n d : ℕ) : Type 0 where
+  pub after : List ℕ
+  pub goes : GoesDown w d n after
+  pub within : length after ≤ length (nodes_in w.topology.links)
+
+-- each of these nodes has a height
+abbrev pub HaveHeights : World → ℕ → List ℕ → Type 0
+HaveHeights w d [] = Unit {0}
+HaveHeights w d (k ∷ nodes) = (LacksHeight w k d → ⊥) × HaveHeights w d nodes
+
+abbrev pub last_of : ℕ → List ℕ → ℕ
+last_of n [] = n
+last_of n (k ∷ nodes) = last_of k nodes
+
+-- ---- components
+
+-- the nodes that links lead to from n, each up at the node that it leads from
+pub data IsReached (w : World) (d n : ℕ) : ℕ → Type 0 where
+  itself : IsReached w d n n
+  further : {j k : ℕ} {entry : Option Quintuple} → IsReached w d n j → entry_at w j k d ≡ Some entry → IsReached w d n k

@@ -1,0 +1,36 @@
+# Completion of the command `tora` for bash: ./tora install puts it where bash-completion finds it; or: source tools/completion/tora.bash
+
+_tora() {
+  local word=${COMP_WORDS[COMP_CWORD]} before=${COMP_WORDS[COMP_CWORD - 1]} command='' words='-v --verbose -h --help' at files=''
+  COMPREPLY=()
+  for ((at = 1; at < COMP_CWORD; at++)); do
+    case ${COMP_WORDS[at]} in
+      --times | --trace) at=$((at + 1)) ;;
+      -*) ;;
+      *) command=${COMP_WORDS[at]} && break ;;
+    esac
+  done
+  case $before in
+    --times) return ;;
+    --trace) mapfile -t COMPREPLY < <(compgen -f -- "$word") && return ;;
+  esac
+  case $command in
+    '')
+      words+=' -V --version replay sim node help'
+      # the launcher at the top of the repository has words of its own
+      if [ -f "$(dirname "${COMP_WORDS[0]}")/tools/build.py" ]; then words+=' build test install uninstall'; fi
+      ;;
+    sim) words+=' --times --trace' files='*.sim' ;;
+    node) words+=' --check' files='*.toml' ;;
+    help) words='replay sim node' ;;
+    install | uninstall) words='-h --help' files='*/' ;;
+    build | test) words='-h --help --jobs' ;;
+  esac
+  mapfile -t COMPREPLY < <(compgen -W "$words" -- "$word")
+  [[ $word != -* && -n $files ]] || return 0
+  mapfile -t -O "${#COMPREPLY[@]}" COMPREPLY < <(
+    compgen -d -- "$word"
+    [ "$files" = '*/' ] || compgen -f -X "!$files" -- "$word"
+  )
+}
+complete -o filenames -F _tora tora
