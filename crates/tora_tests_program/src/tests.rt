@@ -19,6 +19,7 @@ mod mixed_networks;
 mod simulation_causes;
 mod simulation_streams;
 mod simulations;
+mod table_rows;
 mod traces;
 
 /// A reader that gives a few bytes at a time, and fails at one of its calls, counted from 1.
