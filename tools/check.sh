@@ -1,15 +1,14 @@
 #!/usr/bin/env bash
 # Checks the tools on stored scenarios: a small study, whose CSV, summary, loops and pictures (as .dot) are compared with
-# Checks the tools on stored scenarios: a small study, whose CSV, summary, loops and pictures (as .dot) are compared with
 # stored ones, the data in pages that play the runs, the reading of movement files, and the refusals of bad input. Beside
 # them the dissector, the completion, what ./tora install puts where, and that the manual page and the help have the lines of
 # docs/formats.md.
 # usage: tools/check.sh [--store]
 #   --store   write what comes out to tools/stored in place of comparing; for a change that is meant to change it
-# Where a simulator with --trace is there, the stored simulations are run, too. The stored traces are those of a second,
-# unverified simulator, which knows version 1 of frames alone: with a line `old N` for every node the trace has to be the
-# stored one byte for byte, and without these lines in all but its records of datagrams. The simulator is TORA_SIM where
-# that is set, else the program that stands in crates/tora/out; nothing is built.
+# Where a simulator with --trace is there, the stored simulations are run, too, and twelve random networks (tools/rest.py). The
+# stored traces are those of a second, unverified simulator, which knows version 1 of frames alone: with a line `old N` for
+# every node the trace has to be the stored one byte for byte, and without these lines in all but its records of datagrams.
+# The simulator is TORA_SIM where that is set, else the program that stands in crates/tora/out; nothing is built.
 # The dissector tools/tora.lua is tried on a stored capture, where there is a tshark (package tshark). Else python3 is enough.
 set -eu
 here=$(cd "$(dirname "$0")" && pwd)
@@ -114,6 +113,7 @@ check_simulator() {
   holds 'a simulation file that play.py runs' python3 ../agree.py --page "$work/sim.html" "$work/trace"
   printf 'dests 1\nlink 1 2\nrounds 3\nround 3\n' >"$work/s"
   TORA_SIM="${command[*]}" refuses 1 "$work/s:4: the simulator calls this line a fault" python3 ../play.py --sim "$work/s" -o "$work/refused.html"
+  TORA_SIM="${command[*]}" holds 'the laws of worlds at rest in random networks' python3 ../rest.py --networks 12
 }
 
 check_study() {

@@ -61,6 +61,8 @@ orders:
                      neighbours are theirs, else `exact 0`
   walk N D           prints `walk LIST`, the nodes from N to D by next hops,
                      or `walk -` where they don't lead there
+  rest               prints `rest yes` where nothing is under way, else
+                     `rest no`
   sent A B X Y       prints `count C`: packets that A's core sent to B in the
                      life that A's end writes {X, Y}
   taken B A Y X      prints `count C`: packets that B's core took from A in the

@@ -14,7 +14,7 @@ use Rattle.tora_world.specs.declared.Event.TheVariants.{Need, Tick, Open, Pull, 
 use Rattle.tora_world.specs.declared.Call.{Call}
 use Rattle.tora_world.specs.declared.Call.TheVariants as Fails
 use Rattle.tora_script.specs.declared.script_line.SimulationLine.{SimulationLine}
-use Rattle.tora_script.specs.declared.script_line.SimulationLine.TheVariants.{Happens, Rounds, Part, Mend, Heights, Sent, Taken, Exact, Walk}
+use Rattle.tora_script.specs.declared.script_line.SimulationLine.TheVariants.{Happens, Rounds, Part, Mend, Heights, Sent, Taken, Exact, Walk, Rest}
 use Rattle.tora_lines.specs.Words.{cut, number_of, id_of, list_of, is_dash}
 use Rattle.tora_lines.specs.Fronts.{after, or_else, ◌>>=◌}
 use Rattle.tora_lines.specs.WordGrammar.{SpellsId}
@@ -313,17 +313,30 @@ or_mend text = or_else (after (codes "mend ") text) (for_pair Mend) (or_heights 
 abbrev or_part : List ℕ → Option SimulationLine
 or_part text = or_else (after (codes "part ") text) (for_pair Part) (or_mend text)
 
-or_walk_found : (text : List ℕ) (o : SimulationLine) → or_else (after (codes "walk ") text) (for_pair Walk) None ≡ Some o → SpellsSimulationLine text o
+abbrev or_rest : List ℕ → Option SimulationLine
+or_rest text = cond (is_word (codes "rest") text) (Some Rest) None
+
+abbrev or_walk : List ℕ → Option SimulationLine
+or_walk text = or_else (after (codes "walk ") text) (for_pair Walk) (or_rest text)
+
+rest_found : (text : List ℕ) (o : SimulationLine) → or_rest text ≡ Some o → SpellsSimulationLine text o
+rest_found text o h =
+    elim (is_word (codes "rest") text) as (λ b. is_word (codes "rest") text ≡ b → cond b (Some Rest) None ≡ Some o → SpellsSimulationLine text o) [
+      | true ↦ λ e g. rw (← some_is Rest o g) (word_found (codes "rest") text e)
+      | false ↦ λ e g. absurd cc
+    ] refl h
+
+or_walk_found : (text : List ℕ) (o : SimulationLine) → or_walk text ≡ Some o → SpellsSimulationLine text o
 or_walk_found text o h =
-    elim (or_else_some (codes "walk ") text (for_pair Walk) None o h) [
+    elim (or_else_some (codes "walk ") text (for_pair Walk) (or_rest text) o h) [
       | inl p ↦ let q = pair_spelled Walk (codes "walk ") text p.0 o p.1 p.2 in rw (← q.2) q.1
-      | inr g ↦ absurd cc
+      | inr g ↦ rest_found text o g
     ]
 
 walk_line_found : (text : List ℕ) (o : SimulationLine) → walk_line_of text ≡ Some o → SpellsSimulationLine text o
 unfolding walk_line_of
 walk_line_found text o h =
-    elim (or_else_some (codes "exact ") text (for_id Exact) (or_else (after (codes "walk ") text) (for_pair Walk) None) o h) [
+    elim (or_else_some (codes "exact ") text (for_id Exact) (or_walk text) o h) [
       | inl p ↦ let q = id_spelled Exact (codes "exact ") text p.0 o p.1 p.2 in rw (← q.2) q.1
       | inr g ↦ or_walk_found text o g
     ]

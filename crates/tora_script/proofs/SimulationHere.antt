@@ -10,7 +10,7 @@ use Rattle.tora_world.specs.declared.Event.TheVariants.{Need, Tick, Open, Pull, 
 use Rattle.tora_world.specs.declared.Call.{Call}
 use Rattle.tora_world.specs.declared.Call.TheVariants as Fails
 use Rattle.tora_script.specs.declared.script_line.SimulationLine.{SimulationLine}
-use Rattle.tora_script.specs.declared.script_line.SimulationLine.TheVariants.{Happens, Rounds, Part, Mend, Heights, Sent, Taken, Exact, Walk}
+use Rattle.tora_script.specs.declared.script_line.SimulationLine.TheVariants.{Happens, Rounds, Part, Mend, Heights, Sent, Taken, Exact, Walk, Rest}
 use Rattle.tora_lines.specs.Fronts.{after}
 use Rattle.tora_script.specs.SimulationLines.{is_word, pair_of, life_number_of, life_of, lane_of, call_of, torn_of, rounds_of, for_pair, for_lane, for_id, deliver_of, arm_of, restart_of, end_event_of, node_event_of, walk_line_of, order_line_of, simulation_line_of, dests_of, link_of, old_of}
 use Rattle.tora_script.specs.SimulationGrammar.{IsLifeNumber, call_text, SpellsTorn, SpellsEvent, SpellsSimulationLine, SpellsDests, SpellsLink, SpellsOld}
@@ -166,6 +166,10 @@ walk_reads rest line h =
     let other : after (codes "tick") (codes "walk " ++ rest) ≡ None = refl in
     rw (not_word (codes "tick") (codes "walk " ++ rest) other, h) refl
 
+rest_here : simulation_line_of (codes "rest") ≡ Some Rest
+unfolding simulation_line_of end_event_of node_event_of order_line_of walk_line_of is_word after
+rest_here = refl
+
 -- ---- what each reader makes of its words
 
 for_pair_here : {A : Type 0} (make : ℕ → ℕ → A) (n k : ℕ) → IsId n → IsId k → for_pair make (decimal n ++ 32 ∷ decimal k) ≡ Some (make n k)
@@ -220,6 +224,7 @@ simulation_line_here text (Heights d) s = ap simulation_line_of s.text_is ∙ he
 simulation_line_here text (Sent a b life) s = ap simulation_line_of s.text_is ∙ sent_reads _ _ (for_lane_here Sent a b life s.first s.second s.own s.peer)
 simulation_line_here text (Exact d) s = ap simulation_line_of s.text_is ∙ exact_reads _ _ (for_id_here Exact d s.id)
 simulation_line_here text (Walk n d) s = ap simulation_line_of s.text_is ∙ walk_reads _ _ (for_pair_here Walk n d s.first s.second)
+simulation_line_here text Rest s = ap simulation_line_of s ∙ rest_here
 simulation_line_here text (Taken b a life) s = ap simulation_line_of s.text_is ∙ taken_reads _ _ (for_lane_here Taken b a life s.first s.second s.own s.peer)
 
 pub dests_here : (text dests : List ℕ) → SpellsDests text dests → dests_of text ≡ Some dests

@@ -9,7 +9,7 @@ use Rattle.tora_world.specs.declared.Event.TheVariants.{Need, Tick, Open, Pull, 
 use Rattle.tora_world.specs.declared.Call.{Call}
 use Rattle.tora_world.specs.declared.Call.TheVariants as Fails
 use Rattle.tora_script.specs.declared.script_line.SimulationLine.{SimulationLine}
-use Rattle.tora_script.specs.declared.script_line.SimulationLine.TheVariants.{Happens, Rounds, Part, Mend, Heights, Sent, Taken, Exact, Walk}
+use Rattle.tora_script.specs.declared.script_line.SimulationLine.TheVariants.{Happens, Rounds, Part, Mend, Heights, Sent, Taken, Exact, Walk, Rest}
 use Rattle.tora_lines.specs.WordGrammar.{SpellsId, list_text}
 
 -- a word and two nodes' numbers
@@ -81,6 +81,7 @@ SpellsSimulationLine text (Sent a b life) = SpellsLane (codes "sent ") text a b 
 SpellsSimulationLine text (Taken b a life) = SpellsLane (codes "taken ") text b a life
 SpellsSimulationLine text (Exact d) = SpellsId (codes "exact ") text d
 SpellsSimulationLine text (Walk n d) = SpellsPair (codes "walk ") text n d
+SpellsSimulationLine text Rest = text ≡ codes "rest"
 
 -- `dests LIST`
 pub record SpellsDests (text dests : List ℕ) : Type 0 where

@@ -8,7 +8,7 @@ use Rattle.tora_world.specs.declared.Event.TheVariants.{Need, Tick, Open, Pull, 
 use Rattle.tora_world.specs.declared.Call.{Call}
 use Rattle.tora_world.specs.declared.Call.TheVariants as Fails
 use Rattle.tora_script.specs.declared.script_line.SimulationLine.{SimulationLine}
-use Rattle.tora_script.specs.declared.script_line.SimulationLine.TheVariants.{Happens, Rounds, Part, Mend, Heights, Sent, Taken, Exact, Walk}
+use Rattle.tora_script.specs.declared.script_line.SimulationLine.TheVariants.{Happens, Rounds, Part, Mend, Heights, Sent, Taken, Exact, Walk, Rest}
 use Rattle.tora_lines.specs.Words.{cut, number_of, id_of, list_of, is_dash}
 use Rattle.tora_lines.specs.Fronts.{after, or_else, ◌>>=◌}
 
@@ -129,11 +129,12 @@ node_event_of text =
 unfoldable pub rounds_of : List ℕ → Option SimulationLine
 rounds_of text = number_of text >>= rounds_from
 
--- `exact D` or `walk N D`
+-- `exact D`, `walk N D` or `rest`
 unfoldable pub walk_line_of : List ℕ → Option SimulationLine
 walk_line_of text =
     or_else (after (codes "exact ") text) (for_id Exact)
-    (or_else (after (codes "walk ") text) (for_pair Walk) None)
+    (or_else (after (codes "walk ") text) (for_pair Walk)
+    (if is_word (codes "rest") text then Some Rest else None))
 
 -- `rounds R`, `part A B`, `mend A B`, `heights D`, `sent A B X Y`, `taken B A Y X`, or one of walks
 unfoldable pub order_line_of : List ℕ → Option SimulationLine

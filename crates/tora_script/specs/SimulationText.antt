@@ -16,12 +16,13 @@ use Rattle.tora_lines.specs.Engine.{IsWholeText, IsFrontOfText}
 use Rattle.tora_script.specs.SimulationLines.{dests_of, link_of, old_of, simulation_line_of}
 use Rattle.tora_script.specs.Rounds.{is_same_pair, is_parted, rounds}
 use Rattle.tora_world.specs.Walks.{height_at, hop_at, exact_in, walk_of}
+use Rattle.tora_world.specs.Rest.{rests}
 use Rattle.tora_sim.specs.Readers.{ends_in}
 use Rattle.tora_sim.specs.Topologies.{with_old}
 use Rattle.tora_script.specs.Simulator.{has_topology, started, nodes_of}
 use Rattle.tora_lines.specs.declared.ended.Ended.{Ended}
 use Rattle.tora_script.specs.declared.script_line.SimulationLine.{SimulationLine}
-use Rattle.tora_script.specs.declared.script_line.SimulationLine.TheVariants.{Happens, Rounds, Part, Mend, Heights, Sent, Taken, Exact, Walk}
+use Rattle.tora_script.specs.declared.script_line.SimulationLine.TheVariants.{Happens, Rounds, Part, Mend, Heights, Sent, Taken, Exact, Walk, Rest}
 
 -- ---- what is kept between two lines
 
@@ -120,6 +121,13 @@ walk_text walk = nodes_text (unwrap_or walk [])
 abbrev pub walk_reply : RunningView → ℕ → ℕ → Option Reply
 walk_reply s n d = if has_number n s.nodes && has_number d s.dests then Some (s, walk_text (walk_of s.world n d)) else None
 
+-- `rest yes` where the world is at rest, else `rest no`
+abbrev pub at_rest_text : Bool → List ℕ
+at_rest_text is_at_rest = (if is_at_rest then codes "rest yes" else codes "rest no") ++ 10 ∷ []
+
+abbrev pub at_rest_reply : RunningView → Reply
+at_rest_reply s = (s, at_rest_text (rests s.world))
+
 unfoldable pub running_reply : RunningView → SimulationLine → Option Reply
 running_reply s (Happens event) = Some (event_reply s event)
 running_reply s (Rounds r) = Some (record s { world = after_rounds r s }, [])
@@ -130,6 +138,7 @@ running_reply s (Sent a b life) = where_linked s a b (s, count_text (length (sen
 running_reply s (Taken b a life) = where_linked s b a (s, count_text (length (taken_packets s.world b a life)))
 running_reply s (Exact d) = exact_reply s d
 running_reply s (Walk n d) = walk_reply s n d
+running_reply s Rest = Some (at_rest_reply s)
 
 abbrev pub line_reply : RunningView → List ℕ → Option Reply
 line_reply s line = option_and_then (running_reply s) (simulation_line_of line)

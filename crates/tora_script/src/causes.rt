@@ -46,7 +46,7 @@ pub enum SimulationCause {
     NoSuchNode,
     #[error("a node is old right behind the links, before any other line")]
     LateOld,
-    #[error("its first word is none of `need`, `tick`, `open`, `pull`, `transmit`, `deliver`, `pump`, `turn`, `arm`, `restart`, `rounds`, `part`, `mend`, `heights`, `sent`, `taken`, `exact` and `walk`")]
+    #[error("its first word is none of `need`, `tick`, `open`, `pull`, `transmit`, `deliver`, `pump`, `turn`, `arm`, `restart`, `rounds`, `part`, `mend`, `heights`, `sent`, `taken`, `exact`, `walk` and `rest`")]
     Word,
     #[error("behind this word stand two nodes' numbers, from 1 to 4294967295, without leading zeros")]
     Pair,
@@ -54,6 +54,8 @@ pub enum SimulationCause {
     Id,
     #[error("nothing stands behind `tick`")]
     Tick,
+    #[error("nothing stands behind `rest`")]
+    Rest,
     #[error("behind `deliver` stands the number of a datagram, below 2^64, without leading zeros")]
     Deliver,
     #[error("behind `arm` stand a node's number and `send-lost`, `send-gone`, `receive`, `read`, `write` or `sync`")]
@@ -110,6 +112,7 @@ fn word_cause(line: &[u8]) -> SimulationCause {
         }
         b"turn" | b"heights" | b"exact" => SimulationCause::Id,
         b"tick" => SimulationCause::Tick,
+        b"rest" => SimulationCause::Rest,
         b"deliver" => SimulationCause::Deliver,
         b"arm" => SimulationCause::Arm,
         b"restart" => SimulationCause::Restart,
@@ -139,7 +142,9 @@ fn line_cause(line: &[u8]) -> SimulationCause {
             SimulationCause::NoSuchDestination
         }
         Some(SimulationLine::Walk(_, _)) => SimulationCause::NoSuchWalk,
-        Some(SimulationLine::Happens(_) | SimulationLine::Rounds(_)) => SimulationCause::Other,
+        Some(SimulationLine::Happens(_) | SimulationLine::Rounds(_) | SimulationLine::Rest) => {
+            SimulationCause::Other
+        }
     }
 }
 

@@ -199,7 +199,7 @@ fn rounds(text: &[u8]) -> Option<SimulationLine>
     }
 }
 
-/// `exact D` or `walk N D`.
+/// `exact D`, `walk N D` or `rest`.
 #[tactic(auto, unfolding(crate::specs::SimulationLines::walk_line_of, crate::specs::SimulationLines::for_pair, crate::specs::SimulationLines::for_id))]
 fn walk_line(text: &[u8]) -> Option<SimulationLine>
     ensures { result ≡ walk_line_of text.now }
@@ -207,8 +207,15 @@ fn walk_line(text: &[u8]) -> Option<SimulationLine>
     if let Some(rest) = after(b"exact ", text) {
         return Some(SimulationLine::Exact(words::id(rest)?));
     }
-    let (n, d) = pair(after(b"walk ", text)?)?;
-    Some(SimulationLine::Walk(n, d))
+    if let Some(rest) = after(b"walk ", text) {
+        let (n, d) = pair(rest)?;
+        return Some(SimulationLine::Walk(n, d));
+    }
+    if is_word(b"rest", text) {
+        Some(SimulationLine::Rest)
+    } else {
+        None
+    }
 }
 
 /// `rounds R`, `part A B`, `mend A B`, `heights D`, `sent A B X Y`, `taken B A Y X`, or a line of walks.

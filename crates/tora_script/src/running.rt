@@ -7,7 +7,7 @@ ghost use Rattle.tora_lines.specs.LineText.{numbered, TakesReply};
 ghost use Rattle.tora_world.specs.World.{sent_packets, taken_packets};
 ghost use Rattle.tora_script.specs.Simulator.{ArePairs, AreIds, started};
 ghost use Rattle.tora_script.specs.RunningView.{running_view};
-ghost use Rattle.tora_script.specs.SimulationText.{begun_in, has_end, with_parted, without_parted, node_line, heights_text, heights_reply, count_text, exact_reply, rest_text, nodes_text, walk_text, walk_reply, running_reply, line_reply, event_reply, after_rounds, where_linked, known_height};
+ghost use Rattle.tora_script.specs.SimulationText.{begun_in, has_end, with_parted, without_parted, node_line, heights_text, heights_reply, count_text, exact_reply, rest_text, nodes_text, walk_text, walk_reply, at_rest_text, at_rest_reply, running_reply, line_reply, event_reply, after_rounds, where_linked, known_height};
 
 use crate::parse::simulation_line;
 use crate::rounds::{is_parted, is_same_pair, make_rounds};
@@ -131,6 +131,17 @@ fn write_walk(out: &mut String, walk: Option<Vec<Id>>) -> Result<(), AllocError>
     match walk {
         None => write_nodes(out, &[]),
         Some(nodes) => write_nodes(out, &nodes),
+    }
+}
+
+/// Puts `rest yes` behind a text, or `rest no`.
+fn write_at_rest(out: &mut String, is_at_rest: bool) -> Result<(), AllocError>
+    ensures { OnOk result (string_bytes out.new ≡ string_bytes out.old ++ at_rest_text is_at_rest) }
+{
+    if is_at_rest {
+        writeln!(out, "rest yes")
+    } else {
+        writeln!(out, "rest no")
     }
 }
 
@@ -279,6 +290,13 @@ impl<S: Simulator> Running<S> {
         Ok(())
     }
 
+    fn at_rest(&self, out: &mut String) -> Result<(), AllocError>
+        requires { string_bytes out.old ≡ [] }
+        ensures { OnOk result (((running_view S.world self.now), string_bytes out.new) ≡ at_rest_reply (running_view S.world self.now)) }
+    {
+        write_at_rest(out, self.sim.is_at_rest())
+    }
+
     /// Does what a line asks for, and puts what is printed for it behind an empty text.
     #[tactic(auto, unfolding(crate::specs::SimulationText::running_reply))]
     fn answer(&mut self, line: SimulationLine, out: &mut String) -> Result<(), LineError>
@@ -301,6 +319,10 @@ impl<S: Simulator> Running<S> {
             SimulationLine::Taken(b, a, life) => self.taken(b, a, life, out),
             SimulationLine::Exact(d) => self.exact(d, out),
             SimulationLine::Walk(n, d) => self.walk(n, d, out),
+            SimulationLine::Rest => {
+                self.at_rest(out)?;
+                Ok(())
+            }
         }
     }
 

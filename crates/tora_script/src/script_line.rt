@@ -26,4 +26,6 @@ pub enum SimulationLine {
     Exact(Id),
     /// The walk from a node to a destination is to be printed.
     Walk(Id, Id),
+    /// Whether the world is at rest is to be printed.
+    Rest,
 }

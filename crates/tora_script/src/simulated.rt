@@ -111,6 +111,10 @@ impl Simulator for Sim {
             Err(_) => Err(AllocError),
         }
     }
+
+    fn is_at_rest(&self) -> bool {
+        Sim::is_at_rest(self)
+    }
 }
 
 /// Reads the lines of a simulation file to the end of the input or to the first line that is a fault, and writes what is

@@ -5,6 +5,7 @@ ghost use Rattle.tora_arq.specs.Settings.{IsTimes};
 ghost use Rattle.tora_script.specs.Simulator.{ArePairs, AreIds, Starts, nodes_of};
 ghost use Rattle.tora_sim.specs.Readers.{ends_in};
 ghost use Rattle.tora_world.specs.Walks.{height_at, hop_at, exact_in, walk_of};
+ghost use Rattle.tora_world.specs.Rest.{rests};
 
 use std::alloc::{AllocError, Global};
 use tora_arq::{Life, Times};
@@ -84,4 +85,8 @@ pub trait Simulator: Drop {
     /// The walk from a node to a destination, if there is one. It is asked of a node and a destination of the world.
     fn walk(&self, alloc: Global, n: Id, d: Id) -> Result<Option<Vec<Id>>, AllocError>
         ensures { IfOk result (λ walk. option_map (λ v. v.items) walk ≡ walk_of (world self.now) n d) };
+
+    /// Whether the world is at rest: nothing is under way in it.
+    fn is_at_rest(&self) -> bool
+        ensures { result ≡ rests (world self.now) };
 }

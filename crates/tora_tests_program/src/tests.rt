@@ -16,6 +16,7 @@ use tora_sim::Sim;
 mod commands;
 mod each_call;
 mod mixed_networks;
+mod rest_lines;
 mod simulation_causes;
 mod simulation_streams;
 mod simulations;

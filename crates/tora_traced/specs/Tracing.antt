@@ -15,7 +15,7 @@ use Rattle.tora_trace.specs.Trace.{TraceState, Tells as TellsOf, with_text, with
 use Rattle.tora_script.specs.Rounds.{is_parted}
 use Rattle.tora_script.specs.SimulationText.{with_parted, without_parted}
 use Rattle.tora_script.specs.declared.script_line.SimulationLine.{SimulationLine}
-use Rattle.tora_script.specs.declared.script_line.SimulationLine.TheVariants.{Happens, Rounds, Part, Mend, Heights, Sent, Taken, Exact, Walk}
+use Rattle.tora_script.specs.declared.script_line.SimulationLine.TheVariants.{Happens, Rounds, Part, Mend, Heights, Sent, Taken, Exact, Walk, Rest}
 use Rattle.tora_traced.specs.declared.traced.Before.{Before}
 
 -- the life that an item tells to be up
@@ -103,6 +103,7 @@ after_line t (Some (Sent a b life)) trace = trace
 after_line t (Some (Taken b a life)) trace = trace
 after_line t (Some (Exact d)) trace = trace
 after_line t (Some (Walk n d)) trace = trace
+after_line t (Some Rest) trace = trace
 
 -- and the pairs of nodes whose link is parted
 abbrev pub parted_after : Option SimulationLine → List (ℕ × ℕ) → List (ℕ × ℕ)
@@ -116,3 +117,4 @@ parted_after (Some (Sent a b life)) parted = parted
 parted_after (Some (Taken b a life)) parted = parted
 parted_after (Some (Exact d)) parted = parted
 parted_after (Some (Walk n d)) parted = parted
+parted_after (Some Rest) parted = parted

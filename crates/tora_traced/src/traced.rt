@@ -227,4 +227,8 @@ impl<S: Watched> Simulator for Traced<S> {
     fn walk(&self, alloc: Global, n: Id, d: Id) -> Result<Option<Vec<Id>>, AllocError> {
         self.sim.walk(alloc, n, d)
     }
+
+    fn is_at_rest(&self) -> bool {
+        self.sim.is_at_rest()
+    }
 }

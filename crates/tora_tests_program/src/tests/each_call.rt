@@ -84,6 +84,10 @@ impl Simulator for Recorder {
     fn walk(&self, alloc: Global, n: Id, d: Id) -> Result<Option<Vec<Id>>, AllocError> {
         <Sim as Simulator>::walk(&self.sim, alloc, n, d)
     }
+
+    fn is_at_rest(&self) -> bool {
+        self.sim.is_at_rest()
+    }
 }
 
 /// A line of four nodes.
