@@ -2,6 +2,7 @@
 use super::*;
 use std::alloc::AllocError;
 use tora_arq::{Life, Times};
+use tora_core::CoreError;
 use tora_height::{Entry, Height, Id};
 use tora_script::{Simulator, make_rounds};
 use tora_sim::{Sim, Topology};

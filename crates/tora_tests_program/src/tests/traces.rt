@@ -10,6 +10,31 @@ fn records(until_failure: u64, keeps: bool) -> ArrayWriter {
     writer
 }
 
+/// Simulates once.
+fn traced_once<T: AllocGlobal + Eprint>(
+    rt: &T,
+    (front, end): (&str, &str),
+    writer: &mut ArrayWriter,
+    out: &mut TraceOut<ArrayWriter>,
+    is_verbose: bool,
+) -> Result<Ended, ReplayError> {
+    let mut input = front.as_bytes().chain(end.as_bytes());
+    simulate_traced::<Sim, T, _, _, _>(
+        rt,
+        rt.alloc(),
+        Times::STANDARD,
+        &mut input,
+        writer,
+        out,
+        is_verbose,
+    )
+}
+
+/// Hands the trace on.
+fn flush(out: &mut TraceOut<ArrayWriter>) {
+    out.flush();
+}
+
 /// Simulates the front of an input and its end, and hands the trace on. Where memory was refused it is simulated again,
 /// since one refusal is no reason for a second.
 fn traced<T: AllocGlobal + Eprint>(
@@ -19,34 +44,36 @@ fn traced<T: AllocGlobal + Eprint>(
     (until_failure, keeps): (u64, bool),
     is_verbose: bool,
 ) -> (Result<Ended, ReplayError>, TraceOut<ArrayWriter>) {
-    let alloc = rt.alloc();
     let mut out = TraceOut::new(records(until_failure, keeps));
-    let mut input = front.as_bytes().chain(end.as_bytes());
-    let mut found = simulate_traced::<Sim, T, _, _, _>(
-        rt,
-        alloc,
-        Times::STANDARD,
-        &mut input,
-        writer,
-        &mut out,
-        is_verbose,
-    );
-    if found == Err(ReplayError::Memory) {
+    let mut found = traced_once(rt, (front, end), writer, &mut out, is_verbose);
+    if is_memory(found) {
         *writer = ArrayWriter::new(0);
         out = TraceOut::new(records(until_failure, keeps));
-        let mut input = front.as_bytes().chain(end.as_bytes());
-        found = simulate_traced::<Sim, T, _, _, _>(
-            rt,
-            alloc,
-            Times::STANDARD,
-            &mut input,
-            writer,
-            &mut out,
-            is_verbose,
-        );
+        found = traced_once(rt, (front, end), writer, &mut out, is_verbose);
     }
-    out.flush();
+    flush(&mut out);
     (found, out)
+}
+
+/// The records of a trace.
+fn text_of(out: &TraceOut<ArrayWriter>) -> &str {
+    str::from_utf8(out.writer.text()).unwrap_or("")
+}
+
+/// The front of a simulation and its end print this text, have this trace, and end so, with `-v` or without.
+fn expect_trace_so<T: AllocGlobal + Eprint + Abort>(
+    rt: &T,
+    (front, end): (&str, &str),
+    (text, trace): (&str, &str),
+    ended: Ended,
+    is_verbose: bool,
+) {
+    let mut writer = ArrayWriter::new(0);
+    let (found, out) = traced(rt, (front, end), &mut writer, (0, false), is_verbose);
+    expect_ended(rt, (front, end), found, Ok(ended));
+    expect_written(rt, (front, end), writer.text(), text);
+    assert!(rt; out.failure().is_none(), "at {front:?} {end:?}");
+    expect_written(rt, (front, end), text_of(&out).as_bytes(), trace);
 }
 
 /// The front of a simulation and its end have this trace, print the text, and end so.
@@ -57,15 +84,8 @@ fn expect_trace<T: AllocGlobal + Eprint + Abort>(
     trace: &str,
     ended: Ended,
 ) {
-    for is_verbose in [false, true] {
-        let mut writer = ArrayWriter::new(0);
-        let (found, out) = traced(rt, (front, end), &mut writer, (0, false), is_verbose);
-        assert_eq!(rt; found, Ok(ended), "at {front:?} {end:?}");
-        assert_eq!(rt; writer.text(), text.as_bytes(), "at {front:?} {end:?}");
-        assert!(rt; out.failure().is_none(), "at {front:?} {end:?}");
-        let records = str::from_utf8(out.writer.text()).unwrap_or("");
-        assert_eq!(rt; records, trace, "at {front:?} {end:?}");
-    }
+    expect_trace_so(rt, (front, end), (text, trace), ended, false);
+    expect_trace_so(rt, (front, end), (text, trace), ended, true);
 }
 
 /// The words of a line; those behind the last are empty.
@@ -108,7 +128,7 @@ fn tells(trace: &[u8], line: &[u8], d: &[u8]) -> bool {
 fn expect_told<T: AllocGlobal + Eprint + Abort>(rt: &T, lines: &str, heights: &str, count: usize) {
     let mut writer = ArrayWriter::new(0);
     let (found, out) = traced(rt, (lines, heights), &mut writer, (0, false), false);
-    assert_eq!(rt; found, Ok(Ended::Whole), "at {lines:?}");
+    expect_ended(rt, (lines, heights), found, Ok(Ended::Whole));
     assert!(rt; out.failure().is_none(), "at {lines:?}");
     let d = heights.trim_start_matches("heights ").trim_end().as_bytes();
     let trace = out.writer.text();
@@ -138,8 +158,8 @@ fn trace_of_two_nodes(rt: HostRuntime) {
     let mut writer = ArrayWriter::new(0);
     let lines = ("dests 2\nlink 1 2\nneed 1 2\n", "rounds 1\nheights 2\n");
     let (found, out) = traced(&rt, lines, &mut writer, (0, false), false);
-    assert_eq!(&rt; found, Ok(Ended::Whole));
-    let records = str::from_utf8(out.writer.text()).unwrap_or("");
+    expect_ended(&rt, lines, found, Ok(Ended::Whole));
+    let records = text_of(&out);
     let bound = "0 need 1 2\n0 qry 1 2 0\n1 up 1 2 1 1\n1 upd 1 2 1 (0,0,0,1,1)\n\
         1 route 1 2 (0,0,0,1,1) 2\n1 up 2 1 1 1\n1 frames ";
     assert!(&rt; records.starts_with(bound), "{records}");
@@ -176,24 +196,26 @@ fn trace_of_single_events(rt: HostRuntime) {
     );
 }
 
+/// Simulations of four nodes in a line.
+const RUNS: &[&str] = &[
+    "dests 4\nlink 1 2\nlink 2 3\nlink 3 4\nneed 1 4\n",
+    "dests 4\nlink 1 2\nlink 2 3\nlink 3 4\nneed 1 4\nrounds 1\n",
+    "dests 4\nlink 1 2\nlink 2 3\nlink 3 4\nneed 1 4\nrounds 3\n",
+    "dests 4\nlink 1 2\nlink 2 3\nlink 3 4\nneed 1 4\nrounds 3\npart 3 4\nrounds 50\n",
+    "dests 4\nlink 1 2\nlink 2 3\nlink 3 4\nneed 1 4\nrounds 3\npart 3 4\nrounds 60\n",
+    "dests 4\nlink 1 2\nlink 2 3\nlink 3 4\nneed 1 4\nrounds 3\npart 3 4\nrounds 60\nmend 3 4\n\
+        need 1 4\nrounds 3\n",
+    "dests 4\nlink 1 2\nlink 2 3\nlink 3 4\nneed 1 4\nrounds 3\nrestart 2 -\n",
+    "dests 4\nlink 1 2\nlink 2 3\nlink 3 4\nneed 1 4\nrounds 3\nrestart 2 -\nrounds 1\n",
+    "dests 4\nlink 1 2\nlink 2 3\nlink 3 4\nneed 1 4\nrounds 3\nrestart 2 -\nneed 1 4\nrounds 9\n",
+    "dests 4\nlink 1 2\nlink 2 3\nlink 3 4\nneed 1 4\nrounds 3\nrestart 4 -\nrounds 3\n",
+];
+
 /// Traces folded to every height that is printed: a route is found, lost and found again.
 #[test]
 fn trace_tells_each_height(rt: HostRuntime) {
-    let runs = [
-        "dests 4\nlink 1 2\nlink 2 3\nlink 3 4\nneed 1 4\n",
-        "dests 4\nlink 1 2\nlink 2 3\nlink 3 4\nneed 1 4\nrounds 1\n",
-        "dests 4\nlink 1 2\nlink 2 3\nlink 3 4\nneed 1 4\nrounds 3\n",
-        "dests 4\nlink 1 2\nlink 2 3\nlink 3 4\nneed 1 4\nrounds 3\npart 3 4\nrounds 50\n",
-        "dests 4\nlink 1 2\nlink 2 3\nlink 3 4\nneed 1 4\nrounds 3\npart 3 4\nrounds 60\n",
-        "dests 4\nlink 1 2\nlink 2 3\nlink 3 4\nneed 1 4\nrounds 3\npart 3 4\nrounds 60\nmend 3 4\n\
-            need 1 4\nrounds 3\n",
-        "dests 4\nlink 1 2\nlink 2 3\nlink 3 4\nneed 1 4\nrounds 3\nrestart 2 -\n",
-        "dests 4\nlink 1 2\nlink 2 3\nlink 3 4\nneed 1 4\nrounds 3\nrestart 2 -\nrounds 1\n",
-        "dests 4\nlink 1 2\nlink 2 3\nlink 3 4\nneed 1 4\nrounds 3\nrestart 2 -\nneed 1 4\nrounds 9\n",
-        "dests 4\nlink 1 2\nlink 2 3\nlink 3 4\nneed 1 4\nrounds 3\nrestart 4 -\nrounds 3\n",
-    ];
-    for run in runs {
-        expect_told(&rt, run, "heights 4\n", 4);
+    for run in RUNS {
+        expect_told(&rt, *run, "heights 4\n", 4);
     }
     expect_told(
         &rt,
@@ -204,24 +226,34 @@ fn trace_tells_each_height(rt: HostRuntime) {
     );
 }
 
+/// A route that is found and lost.
+const LOST: (&str, &str) = (
+    "dests 4\nlink 1 2\nlink 2 3\nlink 3 4\nneed 1 4\nrounds 3\nheights 4\npart 3 4\nrounds 60\n",
+    "heights 4\n",
+);
+
+const LOST_TEXT: &str = "node 1 (0,0,0,3,1) hop 2\nnode 2 (0,0,0,2,2) hop 3\n\
+    node 3 (0,0,0,1,3) hop 4\nnode 4 (0,0,0,0,4) hop -\n\
+    node 1 - hop -\nnode 2 - hop -\nnode 3 - hop -\nnode 4 (0,0,0,0,4) hop -\n";
+
+/// With a trace that fails so, or does not, all is printed.
+fn expect_printed<T: AllocGlobal + Eprint + Abort>(rt: &T, until_failure: u64, keeps: bool) {
+    let mut writer = ArrayWriter::new(0);
+    let (found, out) = traced(rt, LOST, &mut writer, (until_failure, keeps), false);
+    expect_ended(rt, LOST, found, Ok(Ended::Whole));
+    expect_written(rt, LOST, writer.text(), LOST_TEXT);
+    let fails = keeps || until_failure > 0;
+    assert_eq!(rt; out.failure().is_some(), fails, "at {until_failure}");
+}
+
 /// A trace that can't be written, or not handed on, changes nothing of what is printed.
 #[test]
 fn trace_that_fails_stops_nothing(rt: HostRuntime) {
-    let lines = (
-        "dests 4\nlink 1 2\nlink 2 3\nlink 3 4\nneed 1 4\nrounds 3\nheights 4\npart 3 4\nrounds 60\n",
-        "heights 4\n",
-    );
-    let printed = "node 1 (0,0,0,3,1) hop 2\nnode 2 (0,0,0,2,2) hop 3\n\
-        node 3 (0,0,0,1,3) hop 4\nnode 4 (0,0,0,0,4) hop -\n\
-        node 1 - hop -\nnode 2 - hop -\nnode 3 - hop -\nnode 4 (0,0,0,0,4) hop -\n";
-    for (until_failure, keeps) in [(0, false), (0, true), (1, false), (2, false), (3, false)] {
-        let mut writer = ArrayWriter::new(0);
-        let (found, out) = traced(&rt, lines, &mut writer, (until_failure, keeps), false);
-        assert_eq!(&rt; found, Ok(Ended::Whole), "at {until_failure}");
-        assert_eq!(&rt; writer.text(), printed.as_bytes(), "at {until_failure}");
-        let fails = keeps || until_failure > 0;
-        assert_eq!(&rt; out.failure().is_some(), fails, "at {until_failure}");
-    }
+    expect_printed(&rt, 0, false);
+    expect_printed(&rt, 0, true);
+    expect_printed(&rt, 1, false);
+    expect_printed(&rt, 2, false);
+    expect_printed(&rt, 3, false);
 }
 
 /// A simulation that stops leaves the records of what happened.
@@ -250,7 +282,7 @@ fn trace_of_a_simulation_that_stops(rt: HostRuntime) {
         "heights 2\nneed 1 2\n",
     );
     let (found, out) = traced(&rt, lines, &mut writer, (0, false), false);
-    assert_eq!(&rt; found, Err(ReplayError::Write));
-    let records = str::from_utf8(out.writer.text()).unwrap_or("");
-    assert_eq!(&rt; records, "0 need 1 2\n0 qry 1 2 0\n");
+    expect_ended(&rt, lines, found, Err(ReplayError::Write));
+    let records = text_of(&out);
+    expect_written(&rt, lines, records.as_bytes(), "0 need 1 2\n0 qry 1 2 0\n");
 }

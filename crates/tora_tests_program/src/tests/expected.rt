@@ -1,0 +1,37 @@
+//! What every test of a run expects: how it ends, and what is written. An assertion that compares and formats is proved once, here.
+use std::process::Abort;
+use std::test::*;
+use tora_lines::{Ended, ReplayError};
+
+/// A run of lines, in two parts, ends as it should.
+pub fn expect_ended(
+    rt: &impl Abort,
+    lines: (&str, &str),
+    found: Result<Ended, ReplayError>,
+    wanted: Result<Ended, ReplayError>,
+) {
+    assert_eq!(rt; found, wanted, "at {lines:?}");
+}
+
+/// A run of lines, in two parts, wrote what it should.
+pub fn expect_written(rt: &impl Abort, lines: (&str, &str), written: &[u8], text: &str) {
+    assert_eq!(rt; written, text.as_bytes(), "at {lines:?}");
+}
+
+/// Memory was refused once at most: a run of the tests makes one allocation fail.
+pub fn expect_few_refusals(rt: &impl Abort, refused: u64) {
+    assert!(rt;
+        refused <= 1,
+        "one refusal of memory at most, not {refused}"
+    );
+}
+
+/// Whether memory was refused.
+pub fn is_memory(found: Result<Ended, ReplayError>) -> bool {
+    matches!(found, Err(ReplayError::Memory))
+}
+
+/// Whether a run ends so.
+pub fn is_end(found: Result<Ended, ReplayError>, wanted: Result<Ended, ReplayError>) -> bool {
+    found == wanted
+}
