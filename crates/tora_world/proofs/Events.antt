@@ -90,7 +90,7 @@ module _ (v : EndView) (p : MachineEnd) (other : List Parcel) (done : Life → �
   transmit_call : (now : ℕ) → AllOf p.bound v.out → IsCall v p other done (Transmits now) v.out
   transmit_call now a = record { possible = tt; not_open = λ x o. o; tells = λ l. tt; counts = λ l c o. absurd o; outs = λ l e e'. refl; all_out = a }
 
-  cut_call : (life : Life) → AllOf p.bound v.out → IsCall v p other done (Cuts life) v.out
+  pub cut_call : (life : Life) → AllOf p.bound v.out → IsCall v p other done (Cuts life) v.out
   cut_call life a = record { possible = tt; not_open = λ x o. o; tells = λ l. tt; counts = λ l c o. absurd o; outs = λ l e e'. refl; all_out = a }
 
   -- the front packet of the lane is submitted in its life, or not at all
@@ -147,7 +147,7 @@ module _ (laws : LinkLaws) (lows : LifeLaws) (steps : List MachineStep) (w : Wor
   WorldFollowsBy ss w = AllEndsFollow (made ss steps) (end_views w) w.datagrams seen
 
   -- an end changes by a call that polls nothing
-  end_changes : (n k : ℕ) (call : LinkCall) → IsPossible (w.ends n k) call → events_left (w.ends n k) call ≡ (w.ends n k).events →
+  pub end_changes : (n k : ℕ) (call : LinkCall) → IsPossible (w.ends n k) call → events_left (w.ends n k) call ≡ (w.ends n k).events →
       Changes (end_views w) (end_views (with_end w n k (after_call (settings w n k) (w.ends n k) call))) n k (end_views w n k) (called (end_views w n k) call (end_views w n k).out)
   end_changes n k call ok left =
       let e : EndState = after_call (settings w n k) (w.ends n k) call in
