@@ -26,6 +26,10 @@ TellsNoLife Tells.Quit = Unit {0}
 abbrev pub ForgetsNothing : (LifeDisk → LifeDisk) → Type 0
 ForgetsNothing change = (n : ℕ) (disk : LifeDisk) → IsFloor n disk → IsFloor n (change disk)
 
+-- some such change makes this file that one
+abbrev pub MayBecome : LifeDisk → LifeDisk → Type 0
+MayBecome before after = (change : LifeDisk → LifeDisk) × ForgetsNothing change × (change before ≡ after)
+
 -- an event of the simulator, or what only threads do
 pub data FreeEvent : Type 0 where
   Happens : Event → FreeEvent

@@ -8,7 +8,8 @@ ghost use Rattle.tora_world.specs.Layers.{LinkLaws, LifeLaws, CoreLaws, SeatLaws
 ghost use Rattle.tora_world.specs.Topology.{Topology, nodes_in};
 ghost use Rattle.tora_world.specs.Walks.{EveryWorld, height_at, IsExact, exact_in, IsWalk, walk_of, Arrives};
 ghost use Rattle.tora_world.specs.World.{World, first_world, world_after_all, sent_packets, taken_packets};
-ghost use Rattle.tora_world.specs.FreeWorld.{after_schedule, own_schedule};
+ghost use Rattle.tora_life.specs.LifeRun.{LifeDisk, LifeEvent, IsFloor, MayHappen, after_event};
+ghost use Rattle.tora_world.specs.FreeWorld.{MayBecome, after_schedule, own_schedule};
 ghost use Rattle.tora_world.specs.MachineRun.{machine_steps};
 ghost use Rattle.tora_world.specs.Law.{EveryRun, TakenBeginsSent, IsOfMachine, CoresFollow, BindsOnce, AcknowledgedIsAccepted};
 ghost use Rattle.tora_world.specs.Refusals.{OnlyNeedsAreRefused, SteppedAreAccepted};
@@ -139,6 +140,17 @@ pub fn simulator_runs_are_free_runs()
     ensures { (t : Topology) (times : Times) (events : List Event)
         → world_after_all (first_world t times) events ≡ after_schedule (own_schedule events (first_world t times)) (first_world t times) }
 {}
+
+/// What a life file of the free world may become: any file after which no number is drawn that was not to be drawn before,
+/// so whatever its calls, those that fail among them, and crashes make of it.
+pub fn life_files_become_what_crashes_leave()
+    // The change is one that forgets nothing of any file, as `ChangesFile` asks.
+    ensures any { (before after : LifeDisk) → ((n : ℕ) → IsFloor n before → IsFloor n after) → MayBecome before after }
+    // A crash may leave any image of what was written and not synced.
+    ensures events { (event : LifeEvent) (disk : LifeDisk) → MayHappen event disk → MayBecome disk (after_event event disk) }
+{
+    layers_keep_their_laws();
+}
 
 /// Two nodes and some forty events, computed: neither law is empty.
 pub fn worked_schedules_hold()
