@@ -16,7 +16,7 @@ use Rattle.tora_arq.specs.declared.state.Phase.TheVariants.{Bound}
 use Rattle.tora_arq.specs.Lives.{is_same_life}
 use Rattle.tora_arq.specs.Settings.{Settings}
 use Rattle.tora_arq.specs.SendQueue.{DueBatch}
-use Rattle.tora_arq.specs.LinkEnd.{EndState, first_end, count_of, is_foreign, is_busy, after_acknowledgement, after_delivery, after_release, after_hold, after_packet, after_packets, on_data, on_matched, on_frame_in, on_frame, after_frame, is_silent, after_tick_in, after_tick, on_submit_in, on_submit, after_submit, after_cut_in, after_cut, is_hello_due, is_old_hello_due, on_transmit_due, due_of, on_transmit_in, on_transmit, after_transmit, frame_due, first_event, after_poll_event}
+use Rattle.tora_arq.specs.LinkEnd.{EndState, first_end, count_of, is_foreign, is_busy, after_acknowledgement, after_delivery, after_release, after_hold, after_packet, after_packets, on_data, on_matched, on_frame_in, on_frame, after_frame, is_silent, after_tick_in, after_tick, on_submit_in, on_submit, after_submit, after_cut_in, after_cut, is_hello_due, is_old_hello_due, on_transmit_due, due_of, on_transmit_in, on_transmit, after_transmit, frame_due, bound_life, first_event, after_poll_event}
 use Rattle.tora_life.specs.LifeRun.{drawn_by}
 use Rattle.tora_life.specs.LifeRun.LifeEvent.{Draw as DrawsNumber}
 use Rattle.tora_seat.specs.declared.Item.{Item}
@@ -27,10 +27,11 @@ use Rattle.tora_world.specs.declared.Event.{Event}
 use Rattle.tora_world.specs.declared.Event.TheVariants.{Need, Tick, Open, Pull, Transmit, Deliver, Pump, CoreTurn, Arm, Restart}
 use Rattle.tora_world.specs.declared.Call.{Call}
 use Rattle.tora_world.specs.declared.Call.TheVariants as Fails
-use Rattle.tora_world.specs.Topology.{Topology}
+use Rattle.tora_world.specs.Topology.{Topology, is_link}
 use Rattle.tora_world.specs.LinkMachine.{put_at}
 use Rattle.tora_world.specs.World.{World, Choice, settings, datagram, with_end, first_world, refusal_by, open_with, after_cargo, after_pull, after_sending, after_receiving, after_pump, after_turn, after_arming, effect_by, world_by}
-use Rattle.tora_world.specs.FreeWorld.{Schedule, after_schedule}
+use Rattle.tora_world.specs.FreeWorld.{FreeEvent, after_cut_of_bound, free_by, Schedule, after_schedule}
+use Rattle.tora_world.specs.FreeWorld.FreeEvent.{Happens, TicksEnd, PumpsOver, Puts, CutsBound, ChangesFile, StartsAnew}
 use Rattle.tora_world.specs.Law.{Sometime, HasAccepted, is_bound_to, times_bound}
 use Rattle.tora_world.specs.Layers.{LinkLaws, LifeLaws}
 use Rattle.tora_world.proofs.PacketLists.{put_here, put_there, by_pair, same_refl}
@@ -148,6 +149,14 @@ module _ (l : Life) where
         (subst (λ (z : EndState). Grows (w.ends n k) z) (sym (put_here w.ends n k e)) grows)
         (λ x y o. subst (λ (z : EndState). Grows (w.ends x y) z) (sym (put_there w.ends n k e x y o)) (λ j j'. omega arith)) a b)
 
+    grows_pump : (c : Choice) (n k : ℕ) (o : Option LinkEvent) → GrowsTo (after_pump w c n k o)
+    grows_pump c n k None = grows_still w refl
+    grows_pump c n k (Some event) = grows_one n k (after_poll_event (w.ends n k)) (after_pump w c n k (Some event)) refl (λ j j'. omega arith)
+
+    grows_cut_of_bound : (n k : ℕ) (o : Option Life) → GrowsTo (with_end w n k (after_cut_of_bound (w.ends n k) o))
+    grows_cut_of_bound n k None = grows_one n k (w.ends n k) (with_end w n k (w.ends n k)) refl (λ j j'. omega arith)
+    grows_cut_of_bound n k (Some life) = grows_one n k (after_cut (w.ends n k) life) (with_end w n k (after_cut (w.ends n k) life)) refl (grows_cut (w.ends n k) life)
+
     grows_effect : (c : Choice) (event : Event) → GrowsTo (effect_by c w event)
     unfolding effect_by
     grows_effect c (Need n d) = grows_still (effect_by c w (Need n d)) refl
@@ -173,11 +182,7 @@ module _ (l : Life) where
             (λ _. let e' : EndState = after_frame (settings w f.header.receiver f.header.sender) (w.ends f.header.receiver f.header.sender) f (c.now f.header.receiver f.header.sender) in
             grows_one f.header.receiver f.header.sender e' (with_end w f.header.receiver f.header.sender e') refl
             (grows_frame (settings w f.header.receiver f.header.sender) (w.ends f.header.receiver f.header.sender) f (c.now f.header.receiver f.header.sender)))
-    grows_effect c (Pump n k) = go (first_event (w.ends n k))
-      where
-        go : (o : Option LinkEvent) → GrowsTo (after_pump w c n k o)
-        go None = grows_still w refl
-        go (Some event) = grows_one n k (after_poll_event (w.ends n k)) (after_pump w c n k (Some event)) refl (λ j j'. omega arith)
+    grows_effect c (Pump n k) = grows_pump c n k (first_event (w.ends n k))
     grows_effect c (CoreTurn n) = go (w.items n)
       where
         go : (is : List Item) → GrowsTo (after_turn w c n is)
@@ -198,6 +203,15 @@ module _ (l : Life) where
     unfolding world_by
     grows_world c event = cond_both (is_some (refusal_by c w event)) _ _ GrowsTo (λ _. grows_still w refl) (λ _. grows_effect c event)
 
+    grows_free : (c : Choice) (event : FreeEvent) → GrowsTo (free_by c w event)
+    grows_free c (Happens event) = grows_world c event
+    grows_free c (TicksEnd n k) = grows_one n k (after_tick (settings w n k) (w.ends n k) (c.now n k)) (free_by c w (TicksEnd n k)) refl (grows_tick (settings w n k) (w.ends n k) (c.now n k))
+    grows_free c (PumpsOver n k) = cond_both (is_link w.topology n k) _ _ GrowsTo (λ _. grows_pump c n k (first_event (w.ends n k))) (λ _. grows_still w refl)
+    grows_free c (Puts n seat what silent) = grows_still (free_by c w (Puts n seat what silent)) refl
+    grows_free c (CutsBound n k) = grows_cut_of_bound n k (bound_life (w.ends n k))
+    grows_free c (ChangesFile n k change kept) = grows_still (free_by c w (ChangesFile n k change kept)) refl
+    grows_free c (StartsAnew n) = grows_world c (Restart n None)
+
   -- ---- runs
 
   module _ (n k : ℕ) where
@@ -211,38 +225,38 @@ module _ (l : Life) where
     bound_later : (es : Schedule) (w : World) → phase_at w ≢ Bound l → phase_at (after_schedule es w) ≡ Bound l → 1 ≤ times_bound n k l es w
     unfolding after_schedule
     bound_later [] w off on = absurd (off on)
-    bound_later (e ∷ es) w off on = go (is_bound_to l (phase_at (world_by e.1 w e.0))) refl (bound_later es (world_by e.1 w e.0))
+    bound_later (e ∷ es) w off on = go (is_bound_to l (phase_at (free_by e.1 w e.0))) refl (bound_later es (free_by e.1 w e.0))
       where
-        go : (b : Bool) → is_bound_to l (phase_at (world_by e.1 w e.0)) ≡ b →
-            (phase_at (world_by e.1 w e.0) ≢ Bound l → phase_at (after_schedule es (world_by e.1 w e.0)) ≡ Bound l → 1 ≤ times_bound n k l es (world_by e.1 w e.0)) →
-            1 ≤ (if b && not (is_bound_to l (phase_at w)) then 1 else 0) + times_bound n k l es (world_by e.1 w e.0)
-        go true is again = subst (λ (x : Bool). 1 ≤ (if true && not x then 1 else 0) + times_bound n k l es (world_by e.1 w e.0)) (sym (not_bound_to l (phase_at w) off)) (omega arith)
+        go : (b : Bool) → is_bound_to l (phase_at (free_by e.1 w e.0)) ≡ b →
+            (phase_at (free_by e.1 w e.0) ≢ Bound l → phase_at (after_schedule es (free_by e.1 w e.0)) ≡ Bound l → 1 ≤ times_bound n k l es (free_by e.1 w e.0)) →
+            1 ≤ (if b && not (is_bound_to l (phase_at w)) then 1 else 0) + times_bound n k l es (free_by e.1 w e.0)
+        go true is again = subst (λ (x : Bool). 1 ≤ (if true && not x then 1 else 0) + times_bound n k l es (free_by e.1 w e.0)) (sym (not_bound_to l (phase_at w) off)) (omega arith)
         go false is again = let z = again (λ j. true≢false (sym (ap (is_bound_to l) j ∙ same_refl l) ∙ is)) on in omega (arith, z)
 
     -- how often it is bound from the next world on, where it is bound now and in the end and no more in between
-    record StaysBound (e : Event × Choice) (es : Schedule) (w : World) : Type 0 where
-      now : phase_at (world_by e.1 w e.0) ≡ Bound l
-      none : times_bound n k l es (world_by e.1 w e.0) ≡ 0
+    record StaysBound (e : FreeEvent × Choice) (es : Schedule) (w : World) : Type 0 where
+      now : phase_at (free_by e.1 w e.0) ≡ Bound l
+      none : times_bound n k l es (free_by e.1 w e.0) ≡ 0
 
-    stays_bound : (e : Event × Choice) (es : Schedule) (w : World) → phase_at w ≡ Bound l → times_bound n k l (e ∷ es) w ≡ 0 → phase_at (after_schedule es (world_by e.1 w e.0)) ≡ Bound l → StaysBound e es w
-    stays_bound e es w j none on = go (cases_Bool (is_bound_to l (phase_at (world_by e.1 w e.0))))
+    stays_bound : (e : FreeEvent × Choice) (es : Schedule) (w : World) → phase_at w ≡ Bound l → times_bound n k l (e ∷ es) w ≡ 0 → phase_at (after_schedule es (free_by e.1 w e.0)) ≡ Bound l → StaysBound e es w
+    stays_bound e es w j none on = go (cases_Bool (is_bound_to l (phase_at (free_by e.1 w e.0))))
       where
         more : ℕ
-        more = if is_bound_to l (phase_at (world_by e.1 w e.0)) && not (is_bound_to l (phase_at w)) then 1 else 0
+        more = if is_bound_to l (phase_at (free_by e.1 w e.0)) && not (is_bound_to l (phase_at w)) then 1 else 0
 
-        go : (is_bound_to l (phase_at (world_by e.1 w e.0)) ≡ true) ⊎ (is_bound_to l (phase_at (world_by e.1 w e.0)) ≡ false) → StaysBound e es w
-        go (inl is) = record { now = bound_to l (phase_at (world_by e.1 w e.0)) is; none = let z : more + times_bound n k l es (world_by e.1 w e.0) ≡ 0 = none in omega (arith, z) }
+        go : (is_bound_to l (phase_at (free_by e.1 w e.0)) ≡ true) ⊎ (is_bound_to l (phase_at (free_by e.1 w e.0)) ≡ false) → StaysBound e es w
+        go (inl is) = record { now = bound_to l (phase_at (free_by e.1 w e.0)) is; none = let z : more + times_bound n k l es (free_by e.1 w e.0) ≡ 0 = none in omega (arith, z) }
         go (inr is) =
-            let later = bound_later es (world_by e.1 w e.0) (λ q. true≢false (sym (ap (is_bound_to l) q ∙ same_refl l) ∙ is)) on in
-            absurd (let z : more + times_bound n k l es (world_by e.1 w e.0) ≡ 0 = none in omega (arith, z, later))
+            let later = bound_later es (free_by e.1 w e.0) (λ q. true≢false (sym (ap (is_bound_to l) q ∙ same_refl l) ∙ is)) on in
+            absurd (let z : more + times_bound n k l es (free_by e.1 w e.0) ≡ 0 = none in omega (arith, z, later))
 
     count_grows : (es : Schedule) (w : World) → phase_at w ≡ Bound l → times_bound n k l es w ≡ 0 → phase_at (after_schedule es w) ≡ Bound l → count_at w ≤ count_at (after_schedule es w)
     unfolding after_schedule
     count_grows [] w j none on = omega arith
     count_grows (e ∷ es) w j none on =
         let s = stays_bound e es w j none on in
-        let one : count_at w ≤ count_at (world_by e.1 w e.0) = grows_world w n k e.1 e.0 j s.now in
-        let rest : count_at (world_by e.1 w e.0) ≤ count_at (after_schedule es (world_by e.1 w e.0)) = count_grows es (world_by e.1 w e.0) s.now s.none on in
+        let one : count_at w ≤ count_at (free_by e.1 w e.0) = grows_free w n k e.1 e.0 j s.now in
+        let rest : count_at (free_by e.1 w e.0) ≤ count_at (after_schedule es (free_by e.1 w e.0)) = count_grows es (free_by e.1 w e.0) s.now s.none on in
         omega (arith, one, rest)
 
     seen_while_bound : (count : ℕ) (es : Schedule) (w : World) → phase_at w ≡ Bound l → times_bound n k l es w ≡ 0 → phase_at (after_schedule es w) ≡ Bound l → Sometime (HasAccepted n k l count) es w → count ≤ count_at (after_schedule es w)
@@ -251,24 +265,24 @@ module _ (l : Life) where
     seen_while_bound count (e ∷ es) w j none on (inl h) =
         let s = stays_bound e es w j none on in
         let first : count ≤ count_at w = h.accepted in
-        let one : count_at w ≤ count_at (world_by e.1 w e.0) = grows_world w n k e.1 e.0 j s.now in
-        let rest : count_at (world_by e.1 w e.0) ≤ count_at (after_schedule es (world_by e.1 w e.0)) = count_grows es (world_by e.1 w e.0) s.now s.none on in
+        let one : count_at w ≤ count_at (free_by e.1 w e.0) = grows_free w n k e.1 e.0 j s.now in
+        let rest : count_at (free_by e.1 w e.0) ≤ count_at (after_schedule es (free_by e.1 w e.0)) = count_grows es (free_by e.1 w e.0) s.now s.none on in
         omega (arith, first, one, rest)
-    seen_while_bound count (e ∷ es) w j none on (inr h) = let s = stays_bound e es w j none on in seen_while_bound count es (world_by e.1 w e.0) s.now s.none on h
+    seen_while_bound count (e ∷ es) w j none on (inr h) = let s = stays_bound e es w j none on in seen_while_bound count es (free_by e.1 w e.0) s.now s.none on h
 
     seen_before : (count : ℕ) (es : Schedule) (w : World) → phase_at w ≢ Bound l → times_bound n k l es w ≤ 1 → phase_at (after_schedule es w) ≡ Bound l → Sometime (HasAccepted n k l count) es w → count ≤ count_at (after_schedule es w)
     unfolding after_schedule
     seen_before count [] w off once on h = h.accepted
     seen_before count (e ∷ es) w off once on (inl h) = absurd (off h.bound)
-    seen_before count (e ∷ es) w off once on (inr h) = go (is_bound_to l (phase_at (world_by e.1 w e.0))) refl once (λ x y. seen_before count es (world_by e.1 w e.0) x y on h)
+    seen_before count (e ∷ es) w off once on (inr h) = go (is_bound_to l (phase_at (free_by e.1 w e.0))) refl once (λ x y. seen_before count es (free_by e.1 w e.0) x y on h)
       where
-        go : (b : Bool) → is_bound_to l (phase_at (world_by e.1 w e.0)) ≡ b → (if b && not (is_bound_to l (phase_at w)) then 1 else 0) + times_bound n k l es (world_by e.1 w e.0) ≤ 1 →
-            (phase_at (world_by e.1 w e.0) ≢ Bound l → times_bound n k l es (world_by e.1 w e.0) ≤ 1 → count ≤ count_at (after_schedule es (world_by e.1 w e.0))) → count ≤ count_at (after_schedule es (world_by e.1 w e.0))
+        go : (b : Bool) → is_bound_to l (phase_at (free_by e.1 w e.0)) ≡ b → (if b && not (is_bound_to l (phase_at w)) then 1 else 0) + times_bound n k l es (free_by e.1 w e.0) ≤ 1 →
+            (phase_at (free_by e.1 w e.0) ≢ Bound l → times_bound n k l es (free_by e.1 w e.0) ≤ 1 → count ≤ count_at (after_schedule es (free_by e.1 w e.0))) → count ≤ count_at (after_schedule es (free_by e.1 w e.0))
         go true is le again =
-            let now : phase_at (world_by e.1 w e.0) ≡ Bound l = bound_to l (phase_at (world_by e.1 w e.0)) is in
-            let one : 1 + times_bound n k l es (world_by e.1 w e.0) ≤ 1 = subst (λ (x : Bool). (if true && not x then 1 else 0) + times_bound n k l es (world_by e.1 w e.0) ≤ 1) (not_bound_to l (phase_at w) off) le in
-            seen_while_bound count es (world_by e.1 w e.0) now (omega (arith, one)) on h
-        go false is le again = again (λ j. true≢false (sym (ap (is_bound_to l) j ∙ same_refl l) ∙ is)) (let z : 0 + times_bound n k l es (world_by e.1 w e.0) ≤ 1 = le in omega (arith, z))
+            let now : phase_at (free_by e.1 w e.0) ≡ Bound l = bound_to l (phase_at (free_by e.1 w e.0)) is in
+            let one : 1 + times_bound n k l es (free_by e.1 w e.0) ≤ 1 = subst (λ (x : Bool). (if true && not x then 1 else 0) + times_bound n k l es (free_by e.1 w e.0) ≤ 1) (not_bound_to l (phase_at w) off) le in
+            seen_while_bound count es (free_by e.1 w e.0) now (omega (arith, one)) on h
+        go false is le again = again (λ j. true≢false (sym (ap (is_bound_to l) j ∙ same_refl l) ∙ is)) (let z : 0 + times_bound n k l es (free_by e.1 w e.0) ≤ 1 = le in omega (arith, z))
 
 -- a count of a life that was seen in some world of a run holds in the end, where the life is bound then
 pub seen_now : LinkLaws → LifeLaws → (t : Topology) (times : Times) (es : Schedule) (n k : ℕ) (l : Life) (count : ℕ) → ((after_schedule es (first_world t times)).ends n k).phase ≡ Bound l →

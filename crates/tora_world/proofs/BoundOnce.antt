@@ -10,7 +10,7 @@ use Rattle.tora_arq.specs.declared.state.Phase.{Phase}
 use Rattle.tora_arq.specs.declared.state.Phase.TheVariants.{Closed, Unbound, Bound}
 use Rattle.tora_arq.specs.Lives.{is_same_life}
 use Rattle.tora_arq.specs.Settings.{Settings}
-use Rattle.tora_arq.specs.LinkEnd.{EndState, first_end, after_frame, after_transmit, frame_due, first_event, after_poll_event}
+use Rattle.tora_arq.specs.LinkEnd.{EndState, first_end, after_frame, after_tick, after_cut, after_transmit, frame_due, bound_life, first_event, after_poll_event}
 use Rattle.tora_arq.specs.LinkFacts.{LinkCall, IsPossible, after_call, OpensWith}
 use Rattle.tora_arq.specs.LinkFacts.LinkCall.{Frame as Hears, Tick as Ticks, Submit as Submits, Transmit as Transmits, Cut as Cuts}
 use Rattle.tora_life.specs.declared.state.DiskCall.{DiskCall}
@@ -27,10 +27,11 @@ use Rattle.tora_world.specs.declared.Event.{Event}
 use Rattle.tora_world.specs.declared.Event.TheVariants.{Need, Tick, Open, Pull, Transmit, Deliver, Pump, CoreTurn, Arm, Restart}
 use Rattle.tora_world.specs.declared.Call.{Call}
 use Rattle.tora_world.specs.declared.Call.TheVariants as Fails
-use Rattle.tora_world.specs.Topology.{Topology}
+use Rattle.tora_world.specs.Topology.{Topology, is_link}
 use Rattle.tora_world.specs.LinkMachine.{put_at}
 use Rattle.tora_world.specs.World.{owner_of, World, Choice, settings, datagram, with_end, first_world, refusal_by, open_with, after_opening, after_cargo, after_pull, after_sending, after_receiving, after_pump, after_turn, is_file_of, with_armed_files, after_arming, reopened, effect_by, world_by}
-use Rattle.tora_world.specs.FreeWorld.{Schedule}
+use Rattle.tora_world.specs.FreeWorld.{FreeEvent, after_cut_of_bound, free_by, Schedule}
+use Rattle.tora_world.specs.FreeWorld.FreeEvent.{Happens, TicksEnd, PumpsOver, Puts, CutsBound, ChangesFile, StartsAnew}
 use Rattle.tora_world.specs.Law.{is_bound_to, times_bound, BindsOnce}
 use Rattle.tora_world.specs.Layers.{LinkLaws, LifeLaws}
 use Rattle.tora_world.proofs.PacketLists.{put_here, put_there, by_pair, same_true, same_refl}
@@ -109,6 +110,25 @@ module _ (laws : LinkLaws) (lows : LifeLaws) where
       phase = inl (inl refl);
     }
 
+    pumped_between : (c : Choice) (n k : ℕ) (o : Option LinkEvent) → Between w (after_pump w c n k o) a b
+    pumped_between c n k None = still
+    pumped_between c n k (Some event) = one_end n k (after_poll_event (w.ends n k)) (after_pump w c n k (Some event)) refl refl (inl refl)
+
+    cut_between : (n k : ℕ) (o : Option Life) → Between w (with_end w n k (after_cut_of_bound (w.ends n k) o)) a b
+    cut_between n k None = one_end n k (w.ends n k) (with_end w n k (w.ends n k)) refl refl (inl refl)
+    cut_between n k (Some l) = one_end n k (after_cut (w.ends n k) l) (with_end w n k (after_cut (w.ends n k) l)) refl refl (call_phase (settings w n k) (w.ends n k) (Cuts l) tt (λ x o. o))
+
+    changed_between : (n k : ℕ) (file : LifeDisk) → ((m : ℕ) → IsFloor m (w.files n k) → IsFloor m file) → Between w (record w { files = put_at w.files n k file }) a b
+    changed_between n k file kept = record {
+      floors = λ m. by_pair (λ x y. IsFloor m (w.files x y) → IsFloor m (put_at w.files n k file x y)) n k
+          (λ f. subst (IsFloor m) (sym (put_here w.files n k file)) (kept m f))
+          (λ x y o f. subst (IsFloor m) (sym (put_there w.files n k file x y o)) f) a b;
+      phase = inl (inl refl);
+    }
+
+    anew_phase : (n : ℕ) → To (w.ends a b).phase (if nat_eq a n then first_end else w.ends a b).phase
+    anew_phase n = cond_both (nat_eq a n) first_end (w.ends a b) (λ (e : EndState). To (w.ends a b).phase e.phase) (λ _. inr (inl refl)) (λ _. inl refl)
+
     onward : (c : Choice) (event : Event) → Between w (effect_by c w event) a b
     unfolding effect_by
     onward c (Need n d) = same_ends (effect_by c w (Need n d)) refl refl
@@ -133,11 +153,7 @@ module _ (laws : LinkLaws) (lows : LifeLaws) where
             (λ _. same_ends (record w { arms = put_one w.arms f.header.receiver (record (w.arms f.header.receiver) { receive = false }) }) refl refl)
             (λ _. one_end f.header.receiver f.header.sender (after_frame (settings w f.header.receiver f.header.sender) (w.ends f.header.receiver f.header.sender) f (c.now f.header.receiver f.header.sender)) (with_end w f.header.receiver f.header.sender (after_frame (settings w f.header.receiver f.header.sender) (w.ends f.header.receiver f.header.sender) f (c.now f.header.receiver f.header.sender))) refl refl
             (call_phase (settings w f.header.receiver f.header.sender) (w.ends f.header.receiver f.header.sender) (Hears f (c.now f.header.receiver f.header.sender)) tt (λ x o. o)))
-    onward c (Pump n k) = go (first_event (w.ends n k))
-      where
-        go : (o : Option LinkEvent) → Between w (after_pump w c n k o) a b
-        go None = still
-        go (Some event) = one_end n k (after_poll_event (w.ends n k)) (after_pump w c n k (Some event)) refl refl (inl refl)
+    onward c (Pump n k) = pumped_between c n k (first_event (w.ends n k))
     onward c (CoreTurn n) = go (w.items n)
       where
         go : (is : List Item) → Between w (after_turn w c n is) a b
@@ -154,12 +170,28 @@ module _ (laws : LinkLaws) (lows : LifeLaws) where
         go Fails.Sync = armed_between n Disk.Sync
     onward c (Restart n torn) = record {
       floors = λ m f. cond_both (is_file_of w n a b) (reopened torn (w.files a b)) (w.files a b) (IsFloor m) (λ _. lows.keep m (OpensAnew (after_crash torn (state_in (w.files a b)))) (w.files a b) f (lows.crash m torn (w.files a b) f)) (λ _. f);
-      phase = inl (cond_both (nat_eq a n) first_end (w.ends a b) (λ (e : EndState). To (w.ends a b).phase e.phase) (λ _. inr (inl refl)) (λ _. inl refl));
+      phase = inl (anew_phase n);
     }
 
     onward_world : (c : Choice) (event : Event) → Between w (world_by c w event) a b
     unfolding world_by
     onward_world c event = cond_both (is_some (refusal_by c w event)) _ _ (λ (x : World). Between w x a b) (λ _. still) (λ _. onward c event)
+
+    -- the life files stay
+    started_between : (c : Choice) (n : ℕ) → Between w (free_by c w (StartsAnew n)) a b
+    unfolding world_by effect_by
+    started_between c n =
+        cond_both (is_some (refusal_by c w (Restart n None))) _ _ (λ (x : World). Between w (record x { files = w.files }) a b) (λ _. record { floors = λ m f. f; phase = inl (inl refl) })
+        (λ _. record { floors = λ m f. f; phase = inl (anew_phase n) })
+
+    onward_free : (c : Choice) (event : FreeEvent) → Between w (free_by c w event) a b
+    onward_free c (Happens event) = onward_world c event
+    onward_free c (TicksEnd n k) = one_end n k (after_tick (settings w n k) (w.ends n k) (c.now n k)) (free_by c w (TicksEnd n k)) refl refl (call_phase (settings w n k) (w.ends n k) (Ticks (c.now n k)) tt (λ x o. o))
+    onward_free c (PumpsOver n k) = cond_both (is_link w.topology n k) _ _ (λ (x : World). Between w x a b) (λ _. pumped_between c n k (first_event (w.ends n k))) (λ _. still)
+    onward_free c (Puts n seat what silent) = same_ends (free_by c w (Puts n seat what silent)) refl refl
+    onward_free c (CutsBound n k) = cut_between n k (bound_life (w.ends n k))
+    onward_free c (ChangesFile n k change kept) = changed_between n k (change (w.files n k)) (λ m. kept m (w.files n k))
+    onward_free c (StartsAnew n) = started_between c n
 
 -- the number of an end is not above this
 abbrev Under : Phase → ℕ → Type 0
@@ -248,16 +280,16 @@ module _ (laws : LinkLaws) (lows : LifeLaws) (n k : ℕ) (l : Life) where
   past_none : (es : Schedule) (w : World) → Past l (w.ends n k) (w.files n k) → times_bound n k l es w ≡ 0
   past_none [] w p = refl
   past_none (e ∷ es) w p =
-      let w' : World = world_by e.1 w e.0 in
-      let p' = past_on l (w.ends n k) (w'.ends n k) (w.files n k) (w'.files n k) (onward_world laws lows w n k e.1 e.0) p in
+      let w' : World = free_by e.1 w e.0 in
+      let p' = past_on l (w.ends n k) (w'.ends n k) (w.files n k) (w'.files n k) (onward_free laws lows w n k e.1 e.0) p in
       let z : times_bound n k l es w' ≡ 0 = past_none es w' p' in
       ap (λ b. (if b && not (is_bound_to l (w.ends n k).phase) then 1 else 0) + times_bound n k l es w') (not_bound_to l (w'.ends n k).phase p'.left) ∙ omega arith
 
   bound_none : (es : Schedule) (w : World) → (w.ends n k).phase ≡ Bound l → Below (w.ends n k) (w.files n k) → times_bound n k l es w ≡ 0
   bound_none [] w j h = refl
   bound_none (e ∷ es) w j h =
-      let w' : World = world_by e.1 w e.0 in
-      let o = onward_world laws lows w n k e.1 e.0 in
+      let w' : World = free_by e.1 w e.0 in
+      let o = onward_free laws lows w n k e.1 e.0 in
       ap (λ ph. (if is_bound_to l (w'.ends n k).phase && not (is_bound_to l ph) then 1 else 0) + times_bound n k l es w') j
       ∙ ap (λ b. (if is_bound_to l (w'.ends n k).phase && not b then 1 else 0) + times_bound n k l es w') (same_refl l)
       ∙ ap (λ (b : Bool). (if b then 1 else 0) + times_bound n k l es w') (and_off (is_bound_to l (w'.ends n k).phase))
@@ -267,18 +299,18 @@ module _ (laws : LinkLaws) (lows : LifeLaws) (n k : ℕ) (l : Life) where
       and_off true = refl
       and_off false = refl
 
-      go : Between w (world_by e.1 w e.0) n k → (((world_by e.1 w e.0).ends n k).phase ≡ Bound l → times_bound n k l es (world_by e.1 w e.0) ≡ 0) →
-          (is_bound_to l ((world_by e.1 w e.0).ends n k).phase ≡ true) ⊎ (is_bound_to l ((world_by e.1 w e.0).ends n k).phase ≡ false) → 0 + times_bound n k l es (world_by e.1 w e.0) ≡ 0
-      go o again (inl t) = let z = again (bound_to l ((world_by e.1 w e.0).ends n k).phase t) in omega (arith, z)
+      go : Between w (free_by e.1 w e.0) n k → (((free_by e.1 w e.0).ends n k).phase ≡ Bound l → times_bound n k l es (free_by e.1 w e.0) ≡ 0) →
+          (is_bound_to l ((free_by e.1 w e.0).ends n k).phase ≡ true) ⊎ (is_bound_to l ((free_by e.1 w e.0).ends n k).phase ≡ false) → 0 + times_bound n k l es (free_by e.1 w e.0) ≡ 0
+      go o again (inl t) = let z = again (bound_to l ((free_by e.1 w e.0).ends n k).phase t) in omega (arith, z)
       go o again (inr t) =
-          let z = past_none es (world_by e.1 w e.0) (leaves_on l (w.ends n k) ((world_by e.1 w e.0).ends n k) (w.files n k) ((world_by e.1 w e.0).files n k) o j h
+          let z = past_none es (free_by e.1 w e.0) (leaves_on l (w.ends n k) ((free_by e.1 w e.0).ends n k) (w.files n k) ((free_by e.1 w e.0).files n k) o j h
           (λ q. true≢false (sym (same_refl l) ∙ ap (is_bound_to l) (sym q) ∙ t))) in omega (arith, z)
 
   at_most_once : (es : Schedule) (w : World) → Below (w.ends n k) (w.files n k) → times_bound n k l es w ≤ 1
   at_most_once [] w h = omega arith
   at_most_once (e ∷ es) w h =
-      let w' : World = world_by e.1 w e.0 in
-      let h' = below_on (w.ends n k) (w'.ends n k) (w.files n k) (w'.files n k) (onward_world laws lows w n k e.1 e.0) h in
+      let w' : World = free_by e.1 w e.0 in
+      let h' = below_on (w.ends n k) (w'.ends n k) (w.files n k) (w'.files n k) (onward_free laws lows w n k e.1 e.0) h in
       let rest : times_bound n k l es w' ≤ 1 = at_most_once es w' h' in
       cond_both (is_bound_to l (w'.ends n k).phase && not (is_bound_to l (w.ends n k).phase)) 1 0 (λ x. x + times_bound n k l es w' ≤ 1)
       (λ t. let j : (w'.ends n k).phase ≡ Bound l = bound_to l (w'.ends n k).phase (and_parts _ _ t).0 in

@@ -17,9 +17,10 @@ use Rattle.tora_world.specs.declared.Call.{Call}
 use Rattle.tora_world.specs.declared.Call.TheVariants as Fails
 use Rattle.tora_world.specs.Topology.{Topology, new_core}
 use Rattle.tora_world.specs.World.{World, Choice, settings, neighbours, datagram, first_seat, first_world, refusal_by, after_pull, after_sending, after_receiving, after_pump, after_serving, after_turn, after_arming, effect_by, world_by}
-use Rattle.tora_world.specs.FreeWorld.{Schedule, after_schedule}
+use Rattle.tora_world.specs.FreeWorld.{FreeEvent, free_by, Schedule, after_schedule}
 use Rattle.tora_world.specs.Law.{CoresFollow}
 use Rattle.tora_world.specs.Layers.{SeatLaws}
+use Rattle.tora_world.proofs.FreeEvents.{free_cases}
 
 pub core_after-push : (c : CoreView) (is : List (Input × ℕ)) (input : Input) (now : ℕ) → core_after_all c (is ++ (input, now) ∷ []) ≡ core_after (core_after_all c is) input now
 core_after-push c [] input now = refl
@@ -114,10 +115,14 @@ module _ (seats : SeatLaws) (t : Topology) (w : World) (h : AllFollow t w) where
   unfolding world_by
   world_follows c event = cond_both (is_some (refusal_by c w event)) _ _ (AllFollow t) (λ _. h) (λ _. effect_follows c event)
 
+  free_follows : (c : Choice) (event : FreeEvent) → AllFollow t (free_by c w event)
+  free_follows c event = free_cases w (λ of after. AllFollow t after) c (λ e. world_follows c e) (λ after l. same_cores t w after l.topology l.seats l.inputs h)
+      (λ of after k. same_cores t after (record after { files = w.files }) refl refl refl k) event
+
 run_follows : SeatLaws → (t : Topology) (es : Schedule) (w : World) → AllFollow t w → AllFollow t (after_schedule es w)
 unfolding after_schedule
 run_follows seats t [] w h = h
-run_follows seats t (e ∷ es) w h = run_follows seats t es (world_by e.1 w e.0) (world_follows seats t w h e.1 e.0)
+run_follows seats t (e ∷ es) w h = run_follows seats t es (free_by e.1 w e.0) (free_follows seats t w h e.1 e.0)
 
 pub cores_follow : SeatLaws → (t : Topology) (times : Times) (es : Schedule) → CoresFollow t (after_schedule es (first_world t times))
 cores_follow seats t times es = (run_follows seats t es (first_world t times) (record { topology = refl; each = λ n. refl })).each

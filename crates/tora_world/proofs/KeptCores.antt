@@ -36,15 +36,16 @@ use Rattle.tora_world.specs.declared.Call.TheVariants as Fails
 use Rattle.tora_world.specs.Topology.{Topology, neighbours_of, new_core}
 use Rattle.tora_world.specs.Lists.{reversed, parcel_of, Each}
 use Rattle.tora_world.specs.LinkMachine.{MachineStep, made}
-use Rattle.tora_world.specs.MachineRun.{steps_by}
+use Rattle.tora_world.specs.MachineRun.{free_steps_by}
 use Rattle.tora_world.specs.World.{World, Choice, settings, neighbours, datagram, first_seat, first_world, refusal_by, with_end, after_pull, after_sending, after_receiving, after_pump, after_serving, after_turn, after_arming, after_restart, effect_by, world_by}
-use Rattle.tora_world.specs.FreeWorld.{Schedule, after_schedule}
+use Rattle.tora_world.specs.FreeWorld.{FreeEvent, free_by, Schedule, after_schedule}
 use Rattle.tora_world.specs.Law.{HasAccepted}
 use Rattle.tora_world.specs.Layers.{LinkLaws, LifeLaws}
 use Rattle.tora_world.proofs.Invariant.{AllEndsFollow, Seen}
 use Rattle.tora_world.proofs.AllEnds.{more_seen}
 use Rattle.tora_world.proofs.EndViews.{end_views}
-use Rattle.tora_world.proofs.AllRuns.{world_follows, first_follows}
+use Rattle.tora_world.proofs.AllRuns.{free_follows, first_follows}
+use Rattle.tora_world.proofs.FreeEvents.{free_cases}
 use Rattle.tora_world.proofs.Cores.{core_after-push}
 use Rattle.tora_world.proofs.Accepted.{IsCargoWith, put_with, each_push, current_is, at_in}
 use Rattle.tora_world.proofs.Refused.{each_both, packet_put, taken_is_put}
@@ -339,6 +340,10 @@ module _ (t : Topology) (keeping : IsKeeping t) (steps : List MachineStep) (w : 
   unfolding world_by
   world_kept c event = cond_both (is_some (refusal_by c w event)) _ _ (AreKept t) (λ _. h) (λ _. effect_kept c event)
 
+  free_kept : (c : Choice) (event : FreeEvent) → AreKept t (free_by c w event)
+  free_kept c event = free_cases w (λ of after. AreKept t after) c (λ e. world_kept c e) (λ after l. same_kept t w after l.topology l.seats l.put h)
+      (λ of after k. same_kept t after (record after { files = w.files }) refl refl refl k) event
+
 -- ---- runs
 
 module _ (laws : LinkLaws) (lows : LifeLaws) (t : Topology) (keeping : IsKeeping t) where
@@ -347,11 +352,11 @@ module _ (laws : LinkLaws) (lows : LifeLaws) (t : Topology) (keeping : IsKeeping
   run_kept [] steps w seen z g h = h
   run_kept (e ∷ es) steps w seen z g h =
       let now : Seen = λ a b l c. seen a b l c ⊎ HasAccepted a b l c w in
-      let w' : World = world_by e.1 w e.0 in
-      let steps' : List MachineStep = made (steps_by e.1 w e.0) steps in
+      let w' : World = free_by e.1 w e.0 in
+      let steps' : List MachineStep = made (free_steps_by e.1 w e.0) steps in
       let g' : AllEndsFollow steps' (end_views w') w'.datagrams now =
-      world_follows laws lows steps w now (λ a b l. inl (z a b l)) (λ a b l j. inr (record { bound = j; accepted = omega arith })) e.1 e.0 (more_seen steps (end_views w) w.datagrams seen now (λ a b l c x. inl x) g) in
-      run_kept es steps' w' now (λ a b l. inl (z a b l)) g' (world_kept t keeping steps w seen g h e.1 e.0)
+      free_follows laws lows steps w now (λ a b l. inl (z a b l)) (λ a b l j. inr (record { bound = j; accepted = omega arith })) e.1 e.0 (more_seen steps (end_views w) w.datagrams seen now (λ a b l c x. inl x) g) in
+      run_kept es steps' w' now (λ a b l. inl (z a b l)) g' (free_kept t keeping steps w seen g h e.1 e.0)
 
   kept : (times : Times) (es : Schedule) → AreKept t (after_schedule es (first_world t times))
   kept times es =

@@ -424,7 +424,7 @@ polls laws v p other done h = record {
 -- ---- the core's seat
 
 -- what comes may change where it is counted as before
-phase_counted : (v : EndView) (p p' : MachineEnd) (other : List Parcel) (done : Life → ℕ → Type 0) (now : Option Life) (q : List Arrival) (t : List Parcel) → p.bound ≡ p'.bound → p.drawn ≡ p'.drawn → ((l : Life) → Counted l v.endpoint.accepted v.current v.coming v.taken → Counted l v.endpoint.accepted now q t) →
+pub phase_counted : (v : EndView) (p p' : MachineEnd) (other : List Parcel) (done : Life → ℕ → Type 0) (now : Option Life) (q : List Arrival) (t : List Parcel) → p.bound ≡ p'.bound → p.drawn ≡ p'.drawn → ((l : Life) → Counted l v.endpoint.accepted v.current v.coming v.taken → Counted l v.endpoint.accepted now q t) →
     (ph : Phase) → InPhase ph v p other done → InPhase ph (record v { current = now; coming = q; taken = t }) p' other done
 phase_counted v p p' other done now q t b d c Closed h = tt
 phase_counted v p p' other done now q t b d c (Unbound own) h = record { last = subst (IsLast own) d h.last; above = subst (Each (λ l. l.own < own)) b h.above; some = h.some }
@@ -438,10 +438,10 @@ phase_counted v p p' other done now q t b d c (Bound l) h = record {
 }
 
 -- the core's seat at the sign that comes next
-coming_is : {v : EndView} {p : MachineEnd} {other : List Parcel} {done : Life → ℕ → Type 0} {q : List Arrival} → v.coming ≡ q → FollowsMachine v p other done → Arriving v.current q v.sent v.taken other p.bound p.closed
+pub coming_is : {v : EndView} {p : MachineEnd} {other : List Parcel} {done : Life → ℕ → Type 0} {q : List Arrival} → v.coming ≡ q → FollowsMachine v p other done → Arriving v.current q v.sent v.taken other p.bound p.closed
 coming_is {v} {p} {other} {done} e h = subst (λ q. Arriving v.current q v.sent v.taken other p.bound p.closed) e h.arriving
 
-counted_is : (v : EndView) (q : List Arrival) → v.coming ≡ q → (l : Life) → Counted l v.endpoint.accepted v.current v.coming v.taken → Counted l v.endpoint.accepted v.current q v.taken
+pub counted_is : (v : EndView) (q : List Arrival) → v.coming ≡ q → (l : Life) → Counted l v.endpoint.accepted v.current v.coming v.taken → Counted l v.endpoint.accepted v.current q v.taken
 counted_is v q e l c = subst (λ r. Counted l v.endpoint.accepted v.current r v.taken) e c
 
 -- it passes over what is no packet, and no life that comes

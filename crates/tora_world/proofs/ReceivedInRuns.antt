@@ -21,9 +21,9 @@ use Rattle.tora_world.specs.declared.Call.TheVariants as Fails
 use Rattle.tora_world.specs.Topology.{Topology, new_core}
 use Rattle.tora_world.specs.Lists.{packets_of}
 use Rattle.tora_world.specs.LinkMachine.{MachineStep, machine_after, made}
-use Rattle.tora_world.specs.MachineRun.{steps_by}
+use Rattle.tora_world.specs.MachineRun.{free_steps_by}
 use Rattle.tora_world.specs.World.{World, Choice, settings, neighbours, datagram, first_seat, first_world, refusal_by, with_end, after_pull, after_sending, after_receiving, after_pump, after_serving, after_turn, after_arming, after_restart, effect_by, world_by}
-use Rattle.tora_world.specs.FreeWorld.{Schedule, after_schedule}
+use Rattle.tora_world.specs.FreeWorld.{FreeEvent, free_by, Schedule, after_schedule}
 use Rattle.tora_world.specs.Law.{HasAccepted}
 use Rattle.tora_world.specs.Layers.{LinkLaws, LifeLaws, CoreLaws, SeatLaws}
 use Rattle.tora_world.proofs.Invariant.{arrival_of, AllEndsFollow, Seen, seen_at_other}
@@ -31,10 +31,11 @@ use Rattle.tora_world.proofs.Invariant.Arrival.{LifeComes}
 use Rattle.tora_world.proofs.Moves.{comes_untaken}
 use Rattle.tora_world.proofs.AllEnds.{more_seen}
 use Rattle.tora_world.proofs.EndViews.{arrivals_in, arrivals_of, end_views}
-use Rattle.tora_world.proofs.AllRuns.{world_follows, first_follows}
+use Rattle.tora_world.proofs.AllRuns.{free_follows, first_follows}
+use Rattle.tora_world.proofs.FreeEvents.{free_cases}
 use Rattle.tora_packet.specs.declared.Packet.{Packet}
-use Rattle.tora_world.specs.Refusals.{stepped_after}
-use Rattle.tora_world.proofs.Refused.{AreNodes, taken_from, world_nodes, first_nodes}
+use Rattle.tora_world.specs.Refusals.{free_stepped_after}
+use Rattle.tora_world.proofs.Refused.{AreNodes, taken_from, free_nodes, first_nodes}
 use Rattle.tora_world.proofs.Received.{received_from, Received, serving_received}
 
 -- of each node
@@ -153,6 +154,10 @@ module _ (cores : CoreLaws) (seats : SeatLaws) (t : Topology) (steps : List Mach
   unfolding world_by
   world_at c event = cond_both (is_some (refusal_by c w event)) _ _ (AreReceived t) (λ _. h) (λ _. effect_at c event)
 
+  free_at : (c : Choice) (event : FreeEvent) → AreReceived t (free_by c w event)
+  free_at c event = free_cases w (λ of after. AreReceived t after) c (λ e. world_at c e) (λ after l. same_received t w after l.topology l.seats l.inputs l.steps h)
+      (λ of after k. same_received t after (record after { files = w.files }) refl refl refl refl k) event
+
 -- ---- runs
 
 -- what a run leaves of its nodes
@@ -167,11 +172,11 @@ module _ (laws : LinkLaws) (lows : LifeLaws) (cores : CoreLaws) (seats : SeatLaw
   run_at [] steps w seen earlier z g a h = record { earlier = earlier; nodes = a; received = h }
   run_at (e ∷ es) steps w seen earlier z g a h =
       let now : Seen = λ a b l c. seen a b l c ⊎ HasAccepted a b l c w in
-      let w' : World = world_by e.1 w e.0 in
-      let steps' : List MachineStep = made (steps_by e.1 w e.0) steps in
+      let w' : World = free_by e.1 w e.0 in
+      let steps' : List MachineStep = made (free_steps_by e.1 w e.0) steps in
       let g' : AllEndsFollow steps' (end_views w') w'.datagrams now =
-      world_follows laws lows steps w now (λ a b l. inl (z a b l)) (λ a b l j. inr (record { bound = j; accepted = omega arith })) e.1 e.0 (more_seen steps (end_views w) w.datagrams seen now (λ a b l c x. inl x) g) in
-      run_at es steps' w' now (λ n k. stepped_after e.1 w n k e.0 (earlier n k)) (λ a b l. inl (z a b l)) g' (world_nodes cores seats steps w seen g earlier a e.1 e.0) (world_at cores seats t steps w seen g earlier a h e.1 e.0)
+      free_follows laws lows steps w now (λ a b l. inl (z a b l)) (λ a b l j. inr (record { bound = j; accepted = omega arith })) e.1 e.0 (more_seen steps (end_views w) w.datagrams seen now (λ a b l c x. inl x) g) in
+      run_at es steps' w' now (λ n k. free_stepped_after e.1 w n k e.0 (earlier n k)) (λ a b l. inl (z a b l)) g' (free_nodes cores seats steps w seen g earlier a e.1 e.0) (free_at cores seats t steps w seen g earlier a h e.1 e.0)
 
   pub nodes_end : (times : Times) (es : Schedule) → NodesEnd t (after_schedule es (first_world t times))
   nodes_end times es =

@@ -27,18 +27,19 @@ use Rattle.tora_world.specs.declared.Call.TheVariants as Fails
 use Rattle.tora_world.specs.Topology.{Topology, neighbours_of}
 use Rattle.tora_world.specs.Lists.{reversed, packets_of, parcels_in, Each}
 use Rattle.tora_world.specs.LinkMachine.{MachineStep, machine_after, made}
-use Rattle.tora_world.specs.MachineRun.{steps_by}
+use Rattle.tora_world.specs.MachineRun.{free_steps_by}
 use Rattle.tora_world.specs.World.{World, Choice, settings, neighbours, datagram, first_seat, first_world, refusal_by, with_end, after_pull, after_sending, after_receiving, after_pump, after_serving, after_turn, after_arming, after_restart, effect_by, world_by}
-use Rattle.tora_world.specs.FreeWorld.{Schedule, after_schedule}
+use Rattle.tora_world.specs.FreeWorld.{FreeEvent, free_by, Schedule, after_schedule}
 use Rattle.tora_world.specs.Law.{HasAccepted}
-use Rattle.tora_world.specs.Refusals.{OnlyNeedsAreRefused, packets_accepted, packets_in, stepped_by, stepped_after, stepped_at_restart, SteppedAreAccepted}
+use Rattle.tora_world.specs.Refusals.{OnlyNeedsAreRefused, packets_accepted, packets_in, stepped_by, stepped_after, free_stepped_after, stepped_at_restart, SteppedAreAccepted}
 use Rattle.tora_world.specs.Layers.{LinkLaws, LifeLaws, CoreLaws, SeatLaws}
 use Rattle.tora_world.proofs.Invariant.{arrival_of, AllEndsFollow, Seen, seen_at_other}
 use Rattle.tora_world.proofs.Invariant.Arrival.{PacketComes}
 use Rattle.tora_world.proofs.Moves.{takes_next}
 use Rattle.tora_world.proofs.AllEnds.{more_seen}
 use Rattle.tora_world.proofs.EndViews.{arrivals_in, arrivals_of, end_views, map-append}
-use Rattle.tora_world.proofs.AllRuns.{world_follows, first_follows}
+use Rattle.tora_world.proofs.AllRuns.{free_follows, first_follows}
+use Rattle.tora_world.proofs.FreeEvents.{free_cases}
 use Rattle.tora_seat.specs.Serves.{IsCut}
 use Rattle.tora_world.proofs.OwnHeights.{IsOwnView, IsSentBy, first_own}
 use Rattle.tora_world.proofs.Accepted.{IsCargoWith, IsCargoOf, put_of, accepted-append, Done, serving_done}
@@ -234,13 +235,18 @@ module _ (cores : CoreLaws) (seats : SeatLaws) (steps : List MachineStep) (w : W
       go Fails.Sync = same_nodes w (after_arming w m Fails.Sync) refl refl refl refl refl h
   effect_nodes c (Restart m torn) = restart_nodes m torn
 
-  pub world_nodes : (c : Choice) (event : Event) → AreNodes (λ a k. stepped_after c w a k event (earlier a k)) (world_by c w event)
+  world_nodes : (c : Choice) (event : Event) → AreNodes (λ a k. stepped_after c w a k event (earlier a k)) (world_by c w event)
   unfolding world_by
   world_nodes c event = go (is_some (refusal_by c w event))
     where
       go : (b : Bool) → AreNodes (λ a k. if b then earlier a k else stepped_by w a k event (earlier a k)) (if b then w else effect_by c w event)
       go true = h
       go false = effect_nodes c event
+
+  pub free_nodes : (c : Choice) (event : FreeEvent) → AreNodes (λ a k. free_stepped_after c w a k event (earlier a k)) (free_by c w event)
+  free_nodes c event =
+      free_cases w (λ of after. AreNodes (λ a k. of (List Packet) (λ e. stepped_after c w a k e (earlier a k)) (earlier a k)) after) c (λ e. world_nodes c e)
+      (λ after l. same_nodes w after l.topology l.seats l.put l.inputs l.steps h) (λ of after k. same_nodes after (record after { files = w.files }) refl refl refl refl refl k) event
 
 -- ---- runs
 
@@ -255,11 +261,11 @@ module _ (laws : LinkLaws) (lows : LifeLaws) (cores : CoreLaws) (seats : SeatLaw
   run_ends [] steps w seen earlier z g h = record { refused = only_needs cores seats steps w seen g earlier h; agreed = h.agreed }
   run_ends (e ∷ es) steps w seen earlier z g h =
       let now : Seen = λ a b l c. seen a b l c ⊎ HasAccepted a b l c w in
-      let w' : World = world_by e.1 w e.0 in
-      let steps' : List MachineStep = made (steps_by e.1 w e.0) steps in
+      let w' : World = free_by e.1 w e.0 in
+      let steps' : List MachineStep = made (free_steps_by e.1 w e.0) steps in
       let g' : AllEndsFollow steps' (end_views w') w'.datagrams now =
-      world_follows laws lows steps w now (λ a b l. inl (z a b l)) (λ a b l j. inr (record { bound = j; accepted = omega arith })) e.1 e.0 (more_seen steps (end_views w) w.datagrams seen now (λ a b l c x. inl x) g) in
-      run_ends es steps' w' now (λ a k. stepped_after e.1 w a k e.0 (earlier a k)) (λ a b l. inl (z a b l)) g' (world_nodes cores seats steps w seen g earlier h e.1 e.0)
+      free_follows laws lows steps w now (λ a b l. inl (z a b l)) (λ a b l j. inr (record { bound = j; accepted = omega arith })) e.1 e.0 (more_seen steps (end_views w) w.datagrams seen now (λ a b l c x. inl x) g) in
+      run_ends es steps' w' now (λ a k. free_stepped_after e.1 w a k e.0 (earlier a k)) (λ a b l. inl (z a b l)) g' (free_nodes cores seats steps w seen g earlier h e.1 e.0)
 
   pub first_nodes : (t : Topology) (times : Times) → AreNodes (λ n k. []) (first_world t times)
   first_nodes t times = record { seats = λ n. first_is cores t n; put = λ n k. tt; agreed = λ n k. refl }

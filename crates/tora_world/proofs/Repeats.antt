@@ -15,7 +15,7 @@ use Rattle.tora_world.specs.declared.Event.{Event}
 use Rattle.tora_world.specs.declared.Event.TheVariants.{Pull, Transmit, Pump, CoreTurn}
 use Rattle.tora_world.specs.declared.SimError.{SimError}
 use Rattle.tora_world.specs.World.{World, Choice, own_choice, own_answers, settings, neighbours, place_of, is_empty, has_room, what_of, after_pull, after_sending, after_pump, after_turn, refusal_of, effect_by, world_by, world_after, world_after_all}
-use Rattle.tora_world.specs.FreeWorld.{Schedule, after_schedule}
+use Rattle.tora_world.specs.FreeWorld.{happening, after_schedule}
 use Rattle.tora_world.specs.Frames.{ChangesAt, ChangesAtEnd}
 use Rattle.tora_world.specs.Table.{IsStepBy, refused, needed, ticked, opened, stays_closed, packet_pulled, cut_pulled, sent, send_lost, send_gone, received, receive_failed, pumped, turned, send_lost_armed, send_gone_armed, receive_armed, read_armed, write_armed, sync_armed, restarted}
 use Rattle.tora_world.specs.Repeats.{HappensAtMost}
@@ -81,7 +81,7 @@ module _ (c : Choice) (w : World) where
   items_within (sync_armed there files h) all n = subst (λ (f : ℕ → List Item). IsLane (f n)) (sym h.items) (all n)
   items_within (restarted {n = m} there seats ends items counts cargoes inputs files h) all n = at_each IsLane m [] w.items _ items (omega arith) all n
 
-pub items_in_run : (es : Schedule) (w : World) → ((n : ℕ) → IsLane (w.items n)) → (n : ℕ) → IsLane ((after_schedule es w).items n)
+pub items_in_run : (es : List (Event × Choice)) (w : World) → ((n : ℕ) → IsLane (w.items n)) → (n : ℕ) → IsLane ((after_schedule (happening es) w).items n)
 unfolding after_schedule
 items_in_run [] w all n = all n
 items_in_run (e ∷ es) w all n = items_in_run es (world_by e.1 w e.0) (items_within e.1 w (step_holds e.1 w e.0) all) n

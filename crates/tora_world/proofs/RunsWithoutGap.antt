@@ -23,11 +23,11 @@ use Rattle.tora_world.specs.declared.Call.TheVariants as Fails
 use Rattle.tora_world.specs.Topology.{Topology, neighbours_of, new_core, is_link}
 use Rattle.tora_world.specs.Lists.{packets_of, parcels_in, Begins}
 use Rattle.tora_world.specs.LinkMachine.{MachineStep, machine_after, made}
-use Rattle.tora_world.specs.MachineRun.{steps_by}
+use Rattle.tora_world.specs.MachineRun.{free_steps_by}
 use Rattle.tora_world.specs.World.{World, Choice, settings, neighbours, datagram, first_seat, first_world, refusal_by, with_end, after_pull, after_sending, after_receiving, after_pump, after_serving, after_turn, after_arming, after_restart, effect_by, world_by, sent_packets}
-use Rattle.tora_world.specs.FreeWorld.{Schedule, after_schedule}
+use Rattle.tora_world.specs.FreeWorld.{FreeEvent, free_by, Schedule, after_schedule}
 use Rattle.tora_world.specs.Law.{Sometime, HasAccepted}
-use Rattle.tora_world.specs.Gaps.{broadcast_from, broadcast_packets, life_told, life_taken, life_by, life_after, latest_life, IsCut, HasNoGap, IsWithoutGap, SendsInLatest}
+use Rattle.tora_world.specs.Gaps.{broadcast_from, broadcast_packets, life_told, life_taken, life_by, life_after, free_life_after, latest_life, IsCut, HasNoGap, IsWithoutGap, SendsInLatest}
 use Rattle.tora_world.specs.Layers.{LinkLaws, LifeLaws, CoreLaws, SeatLaws}
 use Rattle.tora_world.proofs.PacketLists.{begins_refl}
 use Rattle.tora_world.proofs.Invariant.{arrival_of, AllEndsFollow, Seen, seen_at_other}
@@ -35,7 +35,8 @@ use Rattle.tora_world.proofs.Invariant.Arrival.{LifeComes}
 use Rattle.tora_world.proofs.Moves.{comes_new}
 use Rattle.tora_world.proofs.AllEnds.{more_seen}
 use Rattle.tora_world.proofs.EndViews.{arrivals_in, arrivals_of, end_views}
-use Rattle.tora_world.proofs.AllRuns.{world_follows, first_follows}
+use Rattle.tora_world.proofs.AllRuns.{free_follows, first_follows}
+use Rattle.tora_world.proofs.FreeEvents.{free_cases}
 use Rattle.tora_seat.specs.Serves.{IsCut as IsCutLink}
 use Rattle.tora_world.proofs.ServedWithoutGap.{Now, Fits, Done, serving_done}
 
@@ -233,6 +234,12 @@ module _ (cores : CoreLaws) (seats : SeatLaws) (t : Topology) (n k : ℕ) (apart
       go true = same_parts Was o w w refl refl refl refl h
       go false = effect_at Was o w c event fresh h
 
+  free_at : (Was : Life → Type 0) (o : Option Life) (w : World) (c : Choice) (event : FreeEvent) → Fresh w → AtWorld Was o w → Left Was (free_life_after c w n k event o) w (free_by c w event)
+  free_at Was o w c event fresh h =
+      free_cases w (λ of after. Left Was (of (Option Life) (λ e. life_after c w n k e o) o) w after) c (λ e. world_at Was o w c e fresh h)
+      (λ after l. same_parts Was o w after l.topology l.seats l.inputs l.put h)
+      (λ of after k. record { world = record { topology = k.world.topology; parts = k.world.parts }; others = k.others }) event
+
   fresh_of : (steps : List MachineStep) (w : World) (seen : Seen) → w.topology ≡ t → AllEndsFollow steps (end_views w) w.datagrams seen → Fresh w
   fresh_of steps w seen top g item items q l seat what =
       let come : (end_views w n k).coming ≡ LifeComes l ∷ (arrivals_of (neighbours w n) k items ++ map arrival_of (w.ends n k).events) =
@@ -252,13 +259,13 @@ module _ (cores : CoreLaws) (seats : SeatLaws) (t : Topology) (n k : ℕ) (apart
   -- what a run leaves, and what the next event leaves then
   record Ended (laws : LinkLaws) (lows : LifeLaws) (Was : Life → Type 0) (o : Option Life) (w : World) : Type 0 where
     world : AtWorld Was o w
-    next : (c : Choice) (event : Event) → Left Was (life_after c w n k event o) w (world_by c w event)
+    next : (c : Choice) (event : FreeEvent) → Left Was (free_life_after c w n k event o) w (free_by c w event)
 
   ended_more : (laws : LinkLaws) (lows : LifeLaws) (Was Was' : Life → Type 0) (o : Option Life) (w : World) → ((l : Life) → Was l → Was' l) → Ended laws lows Was o w → Ended laws lows Was' o w
   ended_more laws lows Was Was' o w f r = record {
     world = at_more Was Was' o w f r.world;
     next = λ c event. let x = r.next c event in record {
-      world = at_more (λ l. Was l ⊎ IsCut n k l (world_by c w event)) (λ l. Was' l ⊎ IsCut n k l (world_by c w event)) (life_after c w n k event o) (world_by c w event) (λ l y. ⊎_elim (λ q. inl (f l q)) (λ q. inr q) y) x.world;
+      world = at_more (λ l. Was l ⊎ IsCut n k l (free_by c w event)) (λ l. Was' l ⊎ IsCut n k l (free_by c w event)) (free_life_after c w n k event o) (free_by c w event) (λ l y. ⊎_elim (λ q. inl (f l q)) (λ q. inr q) y) x.world;
       others = x.others;
     };
   }
@@ -268,15 +275,15 @@ module _ (cores : CoreLaws) (seats : SeatLaws) (t : Topology) (n k : ℕ) (apart
   unfolding after_schedule
   run_at laws lows [] steps w o Was seen z g h =
       let h' : AtWorld (λ l. Was l ⊎ IsCut n k l w) o w = at_more Was (λ l. Was l ⊎ IsCut n k l w) o w (λ l x. inl x) h in
-      record { world = h'; next = λ c event. world_at (λ l. Was l ⊎ IsCut n k l w) o w c event (fresh_of steps w seen h.topology g) h' }
+      record { world = h'; next = λ c event. free_at (λ l. Was l ⊎ IsCut n k l w) o w c event (fresh_of steps w seen h.topology g) h' }
   run_at laws lows (e ∷ es) steps w o Was seen z g h =
       let now : Seen = λ a b l c. seen a b l c ⊎ HasAccepted a b l c w in
-      let w' : World = world_by e.1 w e.0 in
-      let o' : Option Life = life_after e.1 w n k e.0 o in
-      let steps' : List MachineStep = made (steps_by e.1 w e.0) steps in
+      let w' : World = free_by e.1 w e.0 in
+      let o' : Option Life = free_life_after e.1 w n k e.0 o in
+      let steps' : List MachineStep = made (free_steps_by e.1 w e.0) steps in
       let g' : AllEndsFollow steps' (end_views w') w'.datagrams now =
-      world_follows laws lows steps w now (λ a b l. inl (z a b l)) (λ a b l j. inr (record { bound = j; accepted = omega arith })) e.1 e.0 (more_seen steps (end_views w) w.datagrams seen now (λ a b l c x. inl x) g) in
-      let r = run_at laws lows es steps' w' o' (λ l. Was l ⊎ IsCut n k l w') now (λ a b l. inl (z a b l)) g' (world_at Was o w e.1 e.0 (fresh_of steps w seen h.topology g) h).world in
+      free_follows laws lows steps w now (λ a b l. inl (z a b l)) (λ a b l j. inr (record { bound = j; accepted = omega arith })) e.1 e.0 (more_seen steps (end_views w) w.datagrams seen now (λ a b l c x. inl x) g) in
+      let r = run_at laws lows es steps' w' o' (λ l. Was l ⊎ IsCut n k l w') now (λ a b l. inl (z a b l)) g' (free_at Was o w e.1 e.0 (fresh_of steps w seen h.topology g) h).world in
       let more : (l : Life) → (Was l ⊎ IsCut n k l w') ⊎ Sometime (IsCut n k l) es w' → Was l ⊎ Sometime (IsCut n k l) (e ∷ es) w =
       λ l x. ⊎_elim (λ y. ⊎_elim (λ q. inl q) (λ q. inr (inr (sometime_now (IsCut n k l) es w' q))) y) (λ y. inr (inr y)) x in
       ended_more laws lows (λ l. (Was l ⊎ IsCut n k l w') ⊎ Sometime (IsCut n k l) es w') (λ l. Was l ⊎ Sometime (IsCut n k l) (e ∷ es) w) (latest_life n k es w' o') (after_schedule es w') more r

@@ -1,21 +1,99 @@
--- The world with any ticks and any answers.
-use Rattle.std.specs.Prelude.{◌≡◌, List, [], ◌∷◌}
+-- The free world: the events of the simulator with any ticks and any answers, and what the threads of a running node do beside them.
+use Rattle.std.specs.Prelude.{◌≡◌, ℕ, if◌then◌else◌, List, [], ◌∷◌, Option, Some, None}
+use Rattle.tora_arq.specs.declared.Life.{Life}
+use Rattle.tora_arq.specs.LinkEnd.{EndState, bound_life, after_tick, after_cut, first_event}
+use Rattle.tora_life.specs.LifeRun.{LifeDisk, IsFloor}
+use Rattle.tora_seat.specs.declared.What.{What}
+use Rattle.tora_seat.specs.declared.What.TheVariants as Tells
 use Rattle.tora_world.specs.declared.Event.{Event}
-use Rattle.tora_world.specs.World.{World, Choice, world_by, own_choice, world_after}
+use Rattle.tora_world.specs.declared.Event.TheVariants.{Restart}
+use Rattle.tora_world.specs.Topology.{is_link}
+use Rattle.tora_world.specs.LinkMachine.{put_at}
+use Rattle.tora_world.specs.World.{World, Choice, settings, with_end, with_item, after_pump, world_by, own_choice, world_after}
+
+-- ---- what happens
+
+-- an item that brings no life up or down and no packet
+abbrev pub TellsNoLife : What → Type 0
+TellsNoLife (Tells.Up life) = ⊥
+TellsNoLife (Tells.Packet life packet) = ⊥
+TellsNoLife (Tells.Down life reason) = ⊥
+TellsNoLife Tells.Beat = Unit {0}
+TellsNoLife (Tells.Need d) = Unit {0}
+TellsNoLife Tells.Show = Unit {0}
+TellsNoLife Tells.Quit = Unit {0}
+
+-- a change of a life file after which no number is drawn that was not to be drawn before it
+abbrev pub ForgetsNothing : (LifeDisk → LifeDisk) → Type 0
+ForgetsNothing change = (n : ℕ) (disk : LifeDisk) → IsFloor n disk → IsFloor n (change disk)
+
+-- some such change makes this file that one
+abbrev pub MayBecome : LifeDisk → LifeDisk → Type 0
+MayBecome before after = (change : LifeDisk → LifeDisk) × ForgetsNothing change × (change before ≡ after)
+
+-- an event of the simulator, or what only threads do
+pub data FreeEvent : Type 0 where
+  Happens : Event → FreeEvent
+  -- one end is handed a tick, whatever the others are handed
+  TicksEnd : (n k : ℕ) → FreeEvent
+  -- an event of an end goes into the lane, however many items wait there
+  PumpsOver : (n k : ℕ) → FreeEvent
+  -- an item of any seat that tells no life goes into the lane
+  Puts : (n seat : ℕ) (what : What) → TellsNoLife what → FreeEvent
+  -- the bound life is cut, as where a wire is broken
+  CutsBound : (n k : ℕ) → FreeEvent
+  -- a life file is another one than before: calls of it failed, or a crash in the middle of a call left it so
+  ChangesFile : (n k : ℕ) (change : LifeDisk → LifeDisk) → ForgetsNothing change → FreeEvent
+  -- core, ends and lanes of a node are made anew, as by a Restart, and its life files are as they are
+  StartsAnew : (n : ℕ) → FreeEvent
+
+-- of an event of the simulator what the function says, of a start what it says of a Restart, and of all else that only threads do the value
+abbrev pub if_happens : {A : Type 0} → (Event → A) → A → FreeEvent → A
+if_happens f value (Happens event) = f event
+if_happens f value (TicksEnd n k) = value
+if_happens f value (PumpsOver n k) = value
+if_happens f value (Puts n seat what silent) = value
+if_happens f value (CutsBound n k) = value
+if_happens f value (ChangesFile n k change kept) = value
+if_happens f value (StartsAnew n) = f (Restart n None)
+
+-- ---- what it does
+
+-- the bound life is cut, where there is one
+abbrev pub after_cut_of_bound : EndState → Option Life → EndState
+after_cut_of_bound e None = e
+after_cut_of_bound e (Some life) = after_cut e life
+
+-- the event, handed the ticks and answers of this choice
+abbrev pub free_by : Choice → World → FreeEvent → World
+free_by c w (Happens event) = world_by c w event
+free_by c w (TicksEnd n k) = with_end w n k (after_tick (settings w n k) (w.ends n k) (c.now n k))
+free_by c w (PumpsOver n k) = if is_link w.topology n k then after_pump w c n k (first_event (w.ends n k)) else w
+free_by c w (Puts n seat what silent) = with_item w n seat c.stamp what
+free_by c w (CutsBound n k) = with_end w n k (after_cut_of_bound (w.ends n k) (bound_life (w.ends n k)))
+free_by c w (ChangesFile n k change kept) = record w { files = put_at w.files n k (change (w.files n k)) }
+free_by c w (StartsAnew n) = record (world_by c w (Restart n None)) { files = w.files }
 
 -- the event leaves this world, whatever ticks its calls are handed and whatever is answered for its cargoes
-abbrev pub MayHappen : World → Event → World → Type 0
-MayHappen w event after = (c : Choice) × (after ≡ world_by c w event)
+abbrev pub MayHappen : World → FreeEvent → World → Type 0
+MayHappen w event after = (c : Choice) × (after ≡ free_by c w event)
+
+-- ---- schedules
 
 -- events, each with the ticks and answers of its calls
 abbrev pub Schedule : Type 0
-Schedule = List (Event × Choice)
+Schedule = List (FreeEvent × Choice)
 
 unfoldable pub after_schedule : Schedule → World → World
 after_schedule [] w = w
-after_schedule (e ∷ es) w = after_schedule es (world_by e.1 w e.0)
+after_schedule (e ∷ es) w = after_schedule es (free_by e.1 w e.0)
+
+-- events of the simulator alone, with any ticks and answers
+abbrev pub happening : List (Event × Choice) → Schedule
+happening [] = []
+happening (e ∷ es) = (Happens e.0, e.1) ∷ happening es
 
 -- the events as the simulator runs them
 abbrev pub own_schedule : List Event → World → Schedule
 own_schedule [] w = []
-own_schedule (event ∷ events) w = (event, own_choice w event) ∷ own_schedule events (world_after w event)
+own_schedule (event ∷ events) w = (Happens event, own_choice w event) ∷ own_schedule events (world_after w event)

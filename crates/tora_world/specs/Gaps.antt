@@ -14,8 +14,8 @@ use Rattle.tora_world.specs.declared.Event.{Event}
 use Rattle.tora_world.specs.declared.Event.TheVariants.{Need, Tick, Open, Pull, Transmit, Deliver, Pump, CoreTurn, Arm, Restart}
 use Rattle.tora_world.specs.Topology.{Topology, topology_fault, new_core, is_link}
 use Rattle.tora_world.specs.Lists.{Begins}
-use Rattle.tora_world.specs.World.{World, Choice, first_world, neighbours, refusal_by, world_by, sent_packets}
-use Rattle.tora_world.specs.FreeWorld.{Schedule, after_schedule}
+use Rattle.tora_world.specs.World.{World, Choice, first_world, neighbours, refusal_by, sent_packets}
+use Rattle.tora_world.specs.FreeWorld.{FreeEvent, if_happens, free_by, Schedule, after_schedule}
 use Rattle.tora_world.specs.Law.{Sometime}
 
 abbrev pub is_link_up : ℕ → Input → Bool
@@ -70,9 +70,13 @@ life_by w n k (Arm m call) life = life
 abbrev pub life_after : Choice → World → ℕ → ℕ → Event → Option Life → Option Life
 life_after c w n k event life = if is_some (refusal_by c w event) then life else life_by w n k event life
 
+-- a start forgets it as a Restart does, and all else that only threads do takes no life from the lane
+abbrev pub free_life_after : Choice → World → ℕ → ℕ → FreeEvent → Option Life → Option Life
+free_life_after c w n k event life = if_happens (λ e. life_after c w n k e life) life event
+
 abbrev pub latest_life : ℕ → ℕ → Schedule → World → Option Life → Option Life
 latest_life n k [] w life = life
-latest_life n k (e ∷ es) w life = latest_life n k es (world_by e.1 w e.0) (life_after e.1 w n k e.0 life)
+latest_life n k (e ∷ es) w life = latest_life n k es (free_by e.1 w e.0) (free_life_after e.1 w n k e.0 life)
 
 -- ---- no gap
 
@@ -94,7 +98,7 @@ pub record IsWithoutGap (t : Topology) (first : World) (es : Schedule) (w : Worl
 -- an event sends in no other life than the one that came up last
 abbrev pub SendsInLatest : World → Schedule → World → ℕ → ℕ → Type 0
 SendsInLatest first es w n k =
-    (event : Event) (c : Choice) (life : Life) → (life_after c w n k event (latest_life n k es first None) ≡ Some life → ⊥) → sent_packets (world_by c w event) n k life ≡ sent_packets w n k life
+    (event : FreeEvent) (c : Choice) (life : Life) → (free_life_after c w n k event (latest_life n k es first None) ≡ Some life → ⊥) → sent_packets (free_by c w event) n k life ≡ sent_packets w n k life
 
 -- this holds of every link end of every run over a topology that is not refused
 abbrev pub EveryEnd : (Topology → World → Schedule → World → ℕ → ℕ → Type 0) → Type 0

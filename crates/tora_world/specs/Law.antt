@@ -9,8 +9,8 @@ use Rattle.tora_core.specs.CoreRun.{core_after_all}
 use Rattle.tora_world.specs.Topology.{Topology, new_core}
 use Rattle.tora_world.specs.Lists.{reversed, parcels_in, Begins}
 use Rattle.tora_world.specs.LinkMachine.{MachineStep, machine_after, IsMachineRun}
-use Rattle.tora_world.specs.World.{World, first_world, world_by, sent_packets, taken_packets}
-use Rattle.tora_world.specs.FreeWorld.{Schedule, after_schedule}
+use Rattle.tora_world.specs.World.{World, first_world, sent_packets, taken_packets}
+use Rattle.tora_world.specs.FreeWorld.{Schedule, free_by, after_schedule}
 
 -- this holds of every run from the first world on: of the topology, the schedule, and the world after it
 abbrev pub EveryRun : (World → Schedule → World → Type 0) → Type 0
@@ -29,7 +29,7 @@ pub record IsOfMachine (steps : List MachineStep) (w : World) : Type 0 where
 -- in some world of the run
 abbrev pub Sometime : (World → Type 0) → Schedule → World → Type 0
 Sometime P [] w = P w
-Sometime P (e ∷ es) w = P w ⊎ Sometime P es (world_by e.1 w e.0)
+Sometime P (e ∷ es) w = P w ⊎ Sometime P es (free_by e.1 w e.0)
 
 -- the end of n towards k, bound in this life, has accepted so many packets or more
 pub record HasAccepted (n k : ℕ) (life : Life) (count : ℕ) (w : World) : Type 0 where
@@ -51,8 +51,8 @@ is_bound_to life (Bound other) = is_same_life life other
 abbrev pub times_bound : ℕ → ℕ → Life → Schedule → World → ℕ
 times_bound n k life [] w = 0
 times_bound n k life (e ∷ es) w =
-    (if is_bound_to life ((world_by e.1 w e.0).ends n k).phase && not (is_bound_to life (w.ends n k).phase) then 1 else 0)
-    + times_bound n k life es (world_by e.1 w e.0)
+    (if is_bound_to life ((free_by e.1 w e.0).ends n k).phase && not (is_bound_to life (w.ends n k).phase) then 1 else 0)
+    + times_bound n k life es (free_by e.1 w e.0)
 
 -- each end binds each pair of numbers at most once
 abbrev pub BindsOnce : World → Schedule → Type 0

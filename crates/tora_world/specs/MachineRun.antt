@@ -15,8 +15,8 @@ use Rattle.tora_world.specs.declared.Event.{Event}
 use Rattle.tora_world.specs.declared.Event.TheVariants.{Need, Tick, Open, Pull, Transmit, Deliver, Pump, CoreTurn, Arm, Restart}
 use Rattle.tora_world.specs.LinkMachine.{MachineStep, made}
 use Rattle.tora_world.specs.LinkMachine.MachineStep.{Draw, Bind, Send, Take, Close}
-use Rattle.tora_world.specs.World.{World, Choice, settings, neighbours, datagram, refusal_by, world_by}
-use Rattle.tora_world.specs.FreeWorld.{Schedule}
+use Rattle.tora_world.specs.World.{World, Choice, settings, neighbours, datagram, refusal_by}
+use Rattle.tora_world.specs.FreeWorld.{FreeEvent, if_happens, free_by, Schedule}
 
 -- an Open that draws a number: Draw
 abbrev pub steps_of_opening : ℕ → ℕ → List ℕ → List MachineStep
@@ -94,7 +94,11 @@ steps_of_effect c w (Arm n call) = []
 abbrev pub steps_by : Choice → World → Event → List MachineStep
 steps_by c w event = if is_some (refusal_by c w event) then [] else steps_of_effect c w event
 
+-- a start makes the steps of a Restart, and all else that only threads do is no step
+abbrev pub free_steps_by : Choice → World → FreeEvent → List MachineStep
+free_steps_by c w event = if_happens (λ e. steps_by c w e) [] event
+
 -- all steps of a run behind those before it, the last step standing first
 abbrev pub machine_steps : Schedule → World → List MachineStep → List MachineStep
 machine_steps [] w before = before
-machine_steps (e ∷ es) w before = machine_steps es (world_by e.1 w e.0) (made (steps_by e.1 w e.0) before)
+machine_steps (e ∷ es) w before = machine_steps es (free_by e.1 w e.0) (made (free_steps_by e.1 w e.0) before)

@@ -12,8 +12,8 @@ use Rattle.tora_seat.specs.declared.Answer.TheVariants as Says
 use Rattle.tora_seat.specs.Serving.{Parcel, Answers, serving_of}
 use Rattle.tora_world.specs.declared.Event.{Event}
 use Rattle.tora_world.specs.declared.Event.TheVariants.{Need, Tick, Open, Pull, Transmit, Deliver, Pump, CoreTurn, Arm, Restart}
-use Rattle.tora_world.specs.World.{World, Choice, neighbours, refusal_by, world_by}
-use Rattle.tora_world.specs.FreeWorld.{Schedule}
+use Rattle.tora_world.specs.World.{World, Choice, neighbours, refusal_by}
+use Rattle.tora_world.specs.FreeWorld.{FreeEvent, if_happens, free_by, Schedule}
 
 -- the next item of a core's lane is answered by a refusal only where it is the need of a destination that is not in the core's table, and for that cause, whatever is answered for its cargoes
 abbrev pub OnlyNeedsAreRefused : World → Type 0
@@ -52,10 +52,14 @@ stepped_by w n k (Arm m call) earlier = earlier
 abbrev pub stepped_after : Choice → World → ℕ → ℕ → Event → List Packet → List Packet
 stepped_after c w n k event earlier = if is_some (refusal_by c w event) then earlier else stepped_by w n k event earlier
 
+-- a start is a Restart here, and nothing else that only threads do restarts a node
+abbrev pub free_stepped_after : Choice → World → ℕ → ℕ → FreeEvent → List Packet → List Packet
+free_stepped_after c w n k event earlier = if_happens (λ e. stepped_after c w n k e earlier) earlier event
+
 -- and after a run
 abbrev pub stepped_at_restart : ℕ → ℕ → Schedule → World → List Packet → List Packet
 stepped_at_restart n k [] w earlier = earlier
-stepped_at_restart n k (e ∷ es) w earlier = stepped_at_restart n k es (world_by e.1 w e.0) (stepped_after e.1 w n k e.0 earlier)
+stepped_at_restart n k (e ∷ es) w earlier = stepped_at_restart n k es (free_by e.1 w e.0) (free_stepped_after e.1 w n k e.0 earlier)
 
 -- the packets of a neighbour that were ever stepped are those stepped up to the node's last restart, and then those that its core has accepted since
 abbrev pub SteppedAreAccepted : World → Schedule → World → Type 0

@@ -10,7 +10,7 @@ use Rattle.tora_world.specs.Topology.{Topology}
 use Rattle.tora_world.specs.LinkMachine.{MachineStep}
 use Rattle.tora_world.specs.LinkMachine.MachineStep.{Draw, Bind, Send, Take, Close}
 use Rattle.tora_world.specs.World.{World, Choice, first_world}
-use Rattle.tora_world.specs.FreeWorld.{Schedule, after_schedule, own_schedule}
+use Rattle.tora_world.specs.FreeWorld.{Happens, Schedule, after_schedule, own_schedule}
 
 -- nodes 1 and 2, their link, and the destination 2
 abbrev pub pair : Topology
@@ -73,7 +73,7 @@ abbrev pub refusing : Choice
 refusing = record { clock = 0; now = λ n k. 0; stamp = 0; answers = λ offers k. false }
 
 abbrev pub refusal : Schedule
-refusal = own_schedule binding start ++ (CoreTurn 1, refusing) ∷ []
+refusal = own_schedule binding start ++ (Happens (CoreTurn 1), refusing) ∷ []
 
 abbrev pub handed_back : World
 handed_back = after_schedule refusal start

@@ -8,7 +8,8 @@ ghost use Rattle.tora_world.specs.Layers.{LinkLaws, LifeLaws, CoreLaws, SeatLaws
 ghost use Rattle.tora_world.specs.Topology.{Topology, nodes_in};
 ghost use Rattle.tora_world.specs.Walks.{EveryWorld, height_at, IsExact, exact_in, IsWalk, walk_of, Arrives};
 ghost use Rattle.tora_world.specs.World.{World, first_world, world_after_all, sent_packets, taken_packets};
-ghost use Rattle.tora_world.specs.FreeWorld.{after_schedule, own_schedule};
+ghost use Rattle.tora_life.specs.LifeRun.{LifeDisk, LifeEvent, IsFloor, MayHappen, after_event};
+ghost use Rattle.tora_world.specs.FreeWorld.{MayBecome, after_schedule, own_schedule};
 ghost use Rattle.tora_world.specs.MachineRun.{machine_steps};
 ghost use Rattle.tora_world.specs.Law.{EveryRun, TakenBeginsSent, IsOfMachine, CoresFollow, BindsOnce, AcknowledgedIsAccepted};
 ghost use Rattle.tora_world.specs.Refusals.{OnlyNeedsAreRefused, SteppedAreAccepted};
@@ -16,7 +17,9 @@ ghost use Rattle.tora_world.specs.Gaps.{EveryEnd, IsWithoutGap, SendsInLatest, b
 ghost use Rattle.tora_world.specs.LinkMachine.MachineStep.{Draw, Bind, Send, Take, Close};
 ghost use Rattle.tora_world.specs.Lists.{reversed};
 ghost use Rattle.tora_world.specs.WorkedEvents.{ArmedCalls, Lanes, AreRefused, StartsAnew};
-ghost use Rattle.tora_world.specs.Worked.{pair, start, life, update, meeting, met, bound_steps, restart, ending, ended_steps, second_life, meeting_again, met_again, asking, start_elsewhere, refusal, handed_back};
+ghost use Rattle.tora_world.specs.FreeWorld.FreeEvent.{TicksEnd};
+ghost use Rattle.tora_world.specs.WorkedFreeEvents.{left, TicksOne, PumpsOverOne, PutsBeats, CutsOne, ChangesOne, StartsOne};
+ghost use Rattle.tora_world.specs.Worked.{pair, start, life, update, binding, meeting, met, bound_steps, restart, ending, ended_steps, second_life, meeting_again, met_again, asking, start_elsewhere, refusal, handed_back};
 
 use tora_arq::{
     acknowledged_counts_come_from_the_peer, calls_keep_an_end, data_frames_are_what_was_submitted,
@@ -67,8 +70,8 @@ pub(crate) fn layers_keep_their_laws()
 /// those that the neighbour's core sent in that life, in order, each once; and each core is what TORA's rules make of
 /// what it took.
 ///
-/// It holds for every topology, every list of events (datagrams lost, repeated and in any order, failing calls, turns
-/// and restarts), every tick that a link end or an item is handed, and every answer of a lane.
+/// It holds for every topology, every list of events (datagrams lost, repeated and in any order, failing calls, turns and
+/// restarts, and what only threads do), every tick that a link end or an item is handed, and every answer of a lane.
 pub fn prefix_law()
     // What was taken in a life begins what was sent in it.
     ensures prefix { EveryRun (λ first es w. TakenBeginsSent w) }
@@ -138,6 +141,17 @@ pub fn simulator_runs_are_free_runs()
         → world_after_all (first_world t times) events ≡ after_schedule (own_schedule events (first_world t times)) (first_world t times) }
 {}
 
+/// What a life file of the free world may become: any file after which no number is drawn that was not to be drawn before,
+/// so whatever its calls, those that fail among them, and crashes make of it.
+pub fn life_files_become_what_crashes_leave()
+    // The change is one that forgets nothing of any file, as `ChangesFile` asks.
+    ensures any { (before after : LifeDisk) → ((n : ℕ) → IsFloor n before → IsFloor n after) → MayBecome before after }
+    // A crash may leave any image of what was written and not synced.
+    ensures events { (event : LifeEvent) (disk : LifeDisk) → MayHappen event disk → MayBecome disk (after_event event disk) }
+{
+    layers_keep_their_laws();
+}
+
 /// Two nodes and some forty events, computed: neither law is empty.
 pub fn worked_schedules_hold()
     // The core of node 1 broadcasts one update and sends it in the life of its link; the core of node 2 takes it.
@@ -182,4 +196,21 @@ pub fn worked_events_hold()
     ensures refused { AreRefused }
     // A restart makes core, link ends and lanes anew, and keeps what was sent and taken.
     ensures anew { StartsAnew }
+{}
+
+/// What only threads do, computed: each event of the free world that the simulator has not does something that can be
+/// seen, so that no law is said of less than it seems.
+pub fn worked_free_events_hold()
+    // A tick of one end reaches no other.
+    ensures ticks { TicksOne (left binding 50 (TicksEnd 1 2 ∷ [])) }
+    // An event goes into a lane in which 1,024 items wait, where a pump of the simulator is refused.
+    ensures pumps { PumpsOverOne }
+    // A beat of a link waits in the lane, and the core takes it.
+    ensures puts { PutsBeats }
+    // The bound life is cut: its end goes down, and then its link at the core.
+    ensures cuts { CutsOne }
+    // After a change of its life file an end is opened with another number.
+    ensures changes { ChangesOne }
+    // A node starts anew: its core, ends and lanes are those of a restart, and its life files are as they were.
+    ensures starts { StartsOne }
 {}

@@ -9,8 +9,9 @@ mod rest;
 mod table;
 
 pub use laws::{
-    exact_entries_give_walks, no_gap_law, only_needs_are_refused, prefix_law,
-    simulator_runs_are_free_runs, worked_events_hold, worked_schedules_hold,
+    exact_entries_give_walks, life_files_become_what_crashes_leave, no_gap_law,
+    only_needs_are_refused, prefix_law, simulator_runs_are_free_runs, worked_events_hold,
+    worked_free_events_hold, worked_schedules_hold,
 };
 pub use rest::{
     entries_at_rest_are_heights, rest_is_computed, routes_at_rest_arrive, walks_at_rest_go_down,

@@ -3,7 +3,7 @@ ghost use Rattle.std.specs.Prelude.{◌≡◌, ◌↔◌, ◌≤◌, ℕ, List, 
 ghost use Rattle.tora_arq.specs.Settings.{IsTimes};
 ghost use Rattle.tora_arq.specs.declared.Times.{Times};
 ghost use Rattle.tora_seat.specs.declared.TheConstants.{MOST_CARGOES, MOST_ITEMS};
-ghost use Rattle.tora_world.specs.Law.{EveryRun};
+ghost use Rattle.tora_world.specs.FreeWorld.{after_schedule, happening};
 ghost use Rattle.tora_world.specs.Repeats.{HappensAtMost};
 ghost use Rattle.tora_world.specs.Table.{IsRefused, IsRefusedBy, IsStep, IsStepBy};
 ghost use Rattle.tora_world.specs.Topology.{Topology};
@@ -48,8 +48,9 @@ pub fn worked_rows_of_the_table_hold()
 /// No event happens again and again without end: a turn takes an item of a lane, a pull a cargo of a lane, a pump fills a lane, and an end
 /// gives so many frames at one tick. So a round, which repeats an event up to 1,024 times, leaves none of them possible where it repeats it.
 pub fn events_run_out()
-    // A lane into a core has at most 1,024 items, with any ticks and answers.
-    ensures lanes_in { EveryRun (λ first es w. (n : ℕ) → length (w.items n) ≤ MOST_ITEMS) }
+    // A lane into a core has at most 1,024 items after any events of the simulator, with any ticks and answers.
+    ensures lanes_in { (t : Topology) (times : Times) (es : List (Event × Choice)) (n : ℕ)
+        → length ((after_schedule (happening es) (first_world t times)).items n) ≤ MOST_ITEMS }
     // A lane out of a core has at most 256 cargoes in the simulator.
     ensures lanes_out { (t : Topology) (times : Times) (events : List Event) (n k : ℕ)
         → length ((world_after_all (first_world t times) events).cargoes n k) ≤ MOST_CARGOES }
