@@ -305,13 +305,11 @@ fn refusals_change_nothing(rt: HostRuntime) -> Result<(), Fail> {
 #[test]
 fn sends_are_listed_by_destination(rt: HostRuntime) -> Result<(), Fail> {
     let mut core = Core::new(rt.alloc(), 3, &[2, 4], &[5, 4])?;
-    let query_for_five = query_for(&rt, 5);
     sends(&rt, &mut core, 1, Input::LinkUp(2), None);
-    sends(&rt, &mut core, 1, Input::Need(5), Some(query_for_five));
+    sends(&rt, &mut core, 1, Input::Need(5), Some(query_for(&rt, 5)));
     sends(&rt, &mut core, 1, Input::Need(4), Some(query(&rt)));
-    let joined = update(&rt, 0, 0, 0, 1, 3);
     let sent = core.step(Input::LinkUp(4), 2)?;
-    let expected = [joined, query_for_five];
+    let expected = [update(&rt, 0, 0, 0, 1, 3), query_for(&rt, 5)];
     same(&rt, &sent.as_slice(), &expected.as_slice(), "the packets");
     Ok(())
 }

@@ -105,19 +105,17 @@ fn query_and_clear(rt: &impl Abort) -> Packets
 
 /// The frames of the vectors, in their order.
 fn frames(rt: &impl Abort) -> [Frame; 10] {
-    let query = query_for(rt, 4);
-    let update = update(rt, 7, 3, 1, -1, 2);
     [
         Frame::hello(FIRST),
         Frame::hello(FROM_TWO),
-        Frame::one(FROM_ONE, 1, 0, query),
+        Frame::one(FROM_ONE, 1, 0, query_for(rt, 4)),
         Frame::ack(FROM_TWO, 1),
-        Frame::one(FROM_ONE, 2, 3, update),
+        Frame::one(FROM_ONE, 2, 3, update(rt, 7, 3, 1, -1, 2)),
         Frame::one(FROM_TWO, 7, 1, clear(rt, 7, 3)),
         Frame::data(NEW_FROM_ONE, 1, 0, query_and_clear(rt)),
         Frame::hello(NEW_FIRST),
         Frame::ack(NEW_FROM_TWO, 1),
-        Frame::one(NEW_FROM_ONE, 2, 3, update),
+        Frame::one(NEW_FROM_ONE, 2, 3, update(rt, 7, 3, 1, -1, 2)),
     ]
 }
 
