@@ -91,6 +91,16 @@ fn end_of(rt: &impl Abort, alloc: Global, version: Version, me: Id, peer: Id, li
     end
 }
 
+/// The end of node 1 of the link to 2, opened with 5.
+fn first_end(rt: &impl Abort, alloc: Global, version: Version) -> LinkEnd {
+    end_of(rt, alloc, version, 1, 2, 5)
+}
+
+/// The end of node 2 of the link to 1, opened with 9.
+fn second_end(rt: &impl Abort, alloc: Global, version: Version) -> LinkEnd {
+    end_of(rt, alloc, version, 2, 1, 9)
+}
+
 /// Two ends, bound to {5, 9} and {9, 5} at tick 0; nothing is owed and all events are polled.
 #[derive(Drop)]
 struct Link {
@@ -110,8 +120,8 @@ fn bound(rt: &impl Abort, mut one: LinkEnd, mut two: LinkEnd) -> Link {
 /// Both speak version 2, and each knows it of the other.
 fn new_link(rt: &impl Abort, alloc: Global) -> Link {
     let (new, old) = (Version::Two, Version::One);
-    let mut one = end_of(rt, alloc, new, 1, 2, 5);
-    let mut two = end_of(rt, alloc, new, 2, 1, 9);
+    let mut one = first_end(rt, alloc, new);
+    let mut two = second_end(rt, alloc, new);
     greets(rt, &mut one, &mut two, new, Verdict::Accepted);
     greets(rt, &mut one, &mut two, old, Verdict::Accepted);
     greets(rt, &mut two, &mut one, new, Verdict::Accepted);
@@ -122,8 +132,8 @@ fn new_link(rt: &impl Abort, alloc: Global) -> Link {
 /// The second speaks version 1, to which the frames of version 2 are foreign.
 fn link_with_an_old_peer(rt: &impl Abort, alloc: Global) -> Link {
     let (new, old) = (Version::Two, Version::One);
-    let mut one = end_of(rt, alloc, new, 1, 2, 5);
-    let mut two = end_of(rt, alloc, old, 2, 1, 9);
+    let mut one = first_end(rt, alloc, new);
+    let mut two = second_end(rt, alloc, old);
     greets(rt, &mut one, &mut two, new, Verdict::Foreign);
     greets(rt, &mut one, &mut two, old, Verdict::Accepted);
     greets(rt, &mut two, &mut one, old, Verdict::Accepted);
@@ -132,16 +142,16 @@ fn link_with_an_old_peer(rt: &impl Abort, alloc: Global) -> Link {
     bound(rt, one, two)
 }
 
-/// Submits the queries for 1 to 20.
-fn submits_twenty(rt: &impl Abort, end: &mut LinkEnd) {
-    for number in 1..=20 {
+/// Submits the queries for 1 to a number.
+fn submits_up_to(rt: &impl Abort, end: &mut LinkEnd, last: u64) {
+    for number in 1..=last {
         submits(rt, end, number);
     }
 }
 
-/// Polls the events, and sees that they deliver just the queries for 1 to 20.
-fn tells_twenty(rt: &impl Abort, end: &mut LinkEnd) {
-    for number in 1..=20 {
+/// Polls the events, and sees that they deliver just the queries for 1 to a number.
+fn tells_up_to(rt: &impl Abort, end: &mut LinkEnd, last: u64) {
+    for number in 1..=last {
         delivers(rt, end, number);
     }
     polls(rt, end, None);
@@ -150,14 +160,14 @@ fn tells_twenty(rt: &impl Abort, end: &mut LinkEnd) {
 #[test]
 fn batches_of_sixteen_and_four(rt: HostRuntime) -> Result<(), Fail> {
     let Link { mut one, mut two } = new_link(&rt, rt.alloc());
-    submits_twenty(&rt, &mut one);
+    submits_up_to(&rt, &mut one, 20);
     let sixteen = due(&rt, &mut one, Version::Two, &batch(&rt, 1, 16));
     let four = due(&rt, &mut one, Version::Two, &batch(&rt, 17, 20));
     owes_nothing(&rt, &mut one, 0);
     hears(&rt, &mut two, &four, Verdict::Ahead);
     polls(&rt, &mut two, None);
     hears(&rt, &mut two, &sixteen, Verdict::Accepted);
-    tells_twenty(&rt, &mut two);
+    tells_up_to(&rt, &mut two, 20);
     let ack = due(&rt, &mut two, Version::Two, &Body::Ack(20));
     hears(&rt, &mut two, &sixteen, Verdict::Repeated);
     polls(&rt, &mut two, None);
@@ -166,65 +176,85 @@ fn batches_of_sixteen_and_four(rt: HostRuntime) -> Result<(), Fail> {
     Ok(())
 }
 
+/// The frame that is due at tick 0, whose packets go into a list that is kept.
+fn due_into(rt: &impl Abort, end: &mut LinkEnd, packets: &mut Packets) -> Frame {
+    let frame = end.poll_transmit_into(0, packets).expect(rt, "a frame");
+    frame.to_frame()
+}
+
+/// Sees that no frame is due at tick 0.
+fn owes_nothing_into(rt: &impl Abort, end: &mut LinkEnd, packets: &mut Packets) {
+    let is_all = end.poll_transmit_into(0, packets).is_none();
+    sees(rt, is_all, "no second frame");
+}
+
+/// Hands a frame in as its bytes, which are read into a list of their own; it is accepted.
+fn hears_bytes(rt: &impl Abort, end: &mut LinkEnd, bytes: &[u8]) {
+    let mut packets = Packets::new();
+    let read = decode_into(bytes, &mut packets).expect(rt, "a frame");
+    let verdict = end.on_borrowed_frame(&read, 0);
+    same(rt, &verdict, &Verdict::Accepted, "the datagram's verdict");
+}
+
 #[test]
 fn flood_of_sixteen_queries_is_one_datagram(rt: HostRuntime) -> Result<(), Fail> {
     let Link { mut one, mut two } = new_link(&rt, rt.alloc());
-    for number in 1..=16 {
-        submits(&rt, &mut one, number);
-    }
-    let (mut there, mut here) = (Packets::new(), Packets::new());
-    let frame = one.poll_transmit_into(0, &mut there).expect(&rt, "a frame");
-    let owned = frame.to_frame();
+    submits_up_to(&rt, &mut one, 16);
+    let mut packets = Packets::new();
+    let sixteen = due_into(&rt, &mut one, &mut packets);
     same(
         &rt,
-        owned.body(),
+        sixteen.body(),
         &batch(&rt, 1, 16),
         "the queries for 1 to 16",
     );
-    let datagram = encode(&owned);
+    let datagram = encode(&sixteen);
     same(&rt, &datagram.len(), &(48 + 16 * 8), "the length");
-    let is_all = one.poll_transmit_into(0, &mut there).is_none();
-    sees(&rt, is_all, "no second frame");
-    let read = decode_into(datagram.as_slice(), &mut here).expect(&rt, "a frame");
-    let verdict = two.on_borrowed_frame(&read, 0);
-    same(&rt, &verdict, &Verdict::Accepted, "the datagram's verdict");
-    for number in 1..=16 {
-        delivers(&rt, &mut two, number);
-    }
-    polls(&rt, &mut two, None);
+    owes_nothing_into(&rt, &mut one, &mut packets);
+    hears_bytes(&rt, &mut two, datagram.as_slice());
+    tells_up_to(&rt, &mut two, 16);
     Ok(())
+}
+
+/// Hands over a frame of version 1 for each of the queries for 1 to a number.
+fn hands_each(rt: &impl Abort, one: &mut LinkEnd, two: &mut LinkEnd, last: u64) {
+    for number in 1..=last {
+        let data = due(rt, one, Version::One, &batch(rt, number, number));
+        hears(rt, two, &data, Verdict::Accepted);
+    }
 }
 
 #[test]
 fn old_peer_gets_a_frame_for_each_packet(rt: HostRuntime) -> Result<(), Fail> {
     let Link { mut one, mut two } = link_with_an_old_peer(&rt, rt.alloc());
-    submits_twenty(&rt, &mut one);
-    for number in 1..=20 {
-        let data = due(&rt, &mut one, Version::One, &batch(&rt, number, number));
-        hears(&rt, &mut two, &data, Verdict::Accepted);
-    }
+    submits_up_to(&rt, &mut one, 20);
+    hands_each(&rt, &mut one, &mut two, 20);
     owes_nothing(&rt, &mut one, 0);
-    tells_twenty(&rt, &mut two);
+    tells_up_to(&rt, &mut two, 20);
     let ack = due(&rt, &mut two, Version::One, &Body::Ack(20));
     hears(&rt, &mut one, &ack, Verdict::Accepted);
     Ok(())
 }
 
+/// Sees that a frame with the queries for these numbers is due at tick 5.
+fn due_again(rt: &impl Abort, end: &mut LinkEnd, first: u64, last: u64) {
+    let frame = first_due(rt, end, 5);
+    let packets = batch(rt, first, last);
+    same_at(rt, frame.body(), &packets, "the packets due again", &first);
+}
+
 #[test]
 fn lost_packets_of_a_batch_are_due_together(rt: HostRuntime) -> Result<(), Fail> {
     let Link { mut one, mut two } = new_link(&rt, rt.alloc());
-    submits_twenty(&rt, &mut one);
+    submits_up_to(&rt, &mut one, 20);
     let _lost = due(&rt, &mut one, Version::Two, &batch(&rt, 1, 16));
     let four = due(&rt, &mut one, Version::Two, &batch(&rt, 17, 20));
     hears(&rt, &mut two, &four, Verdict::Ahead);
     let ack = due(&rt, &mut two, Version::Two, &Body::Ack(0));
     hears(&rt, &mut one, &ack, Verdict::Repeated);
     owes_nothing(&rt, &mut one, 4);
-    for number in [1, 17] {
-        let frame = first_due(&rt, &mut one, 5);
-        let batch = batch(&rt, number, (number + 15).min(20));
-        same_at(&rt, frame.body(), &batch, "the packets due again", &number);
-    }
+    due_again(&rt, &mut one, 1, 16);
+    due_again(&rt, &mut one, 17, 20);
     owes_nothing(&rt, &mut one, 5);
     Ok(())
 }
@@ -242,9 +272,9 @@ fn greets_in(rt: &impl Abort, end: &mut LinkEnd, now: u64, versions: &[Version])
 #[test]
 fn hellos_of_both_versions_until_the_peer_is_known(rt: HostRuntime) -> Result<(), Fail> {
     let both = [Version::Two, Version::One];
-    let mut one = end_of(&rt, rt.alloc(), Version::Two, 1, 2, 5);
-    let mut two = end_of(&rt, rt.alloc(), Version::Two, 2, 1, 9);
-    let mut old = end_of(&rt, rt.alloc(), Version::One, 2, 1, 9);
+    let mut one = first_end(&rt, rt.alloc(), Version::Two);
+    let mut two = second_end(&rt, rt.alloc(), Version::Two);
+    let mut old = second_end(&rt, rt.alloc(), Version::One);
     greets_in(&rt, &mut one, 0, &both);
     greets_in(&rt, &mut one, 9, &[]);
     greets_in(&rt, &mut one, 10, &both);
@@ -260,8 +290,8 @@ fn hellos_of_both_versions_until_the_peer_is_known(rt: HostRuntime) -> Result<()
 fn hello_of_version_one_comes_right_after_its_hello_of_version_two(
     rt: HostRuntime,
 ) -> Result<(), Fail> {
-    let mut one = end_of(&rt, rt.alloc(), Version::Two, 1, 2, 5);
-    let mut old = end_of(&rt, rt.alloc(), Version::One, 2, 1, 9);
+    let mut one = first_end(&rt, rt.alloc(), Version::Two);
+    let mut old = second_end(&rt, rt.alloc(), Version::One);
     let _first = due(&rt, &mut one, Version::Two, &Body::Hello);
     greets(&rt, &mut old, &mut one, Version::One, Verdict::Accepted);
     let due_now = [Version::One, Version::Two, Version::One];
@@ -272,8 +302,8 @@ fn hello_of_version_one_comes_right_after_its_hello_of_version_two(
 #[test]
 fn frame_of_version_two_is_foreign_to_an_old_end(rt: HostRuntime) -> Result<(), Fail> {
     let Link { mut one, .. } = new_link(&rt, rt.alloc());
-    let mut old = end_of(&rt, rt.alloc(), Version::One, 2, 1, 9);
-    submits_twenty(&rt, &mut one);
+    let mut old = second_end(&rt, rt.alloc(), Version::One);
+    submits_up_to(&rt, &mut one, 20);
     let data = due(&rt, &mut one, Version::Two, &batch(&rt, 1, 16));
     hears(&rt, &mut old, &data, Verdict::Foreign);
     Ok(())

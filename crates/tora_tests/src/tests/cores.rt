@@ -101,6 +101,24 @@ fn after_a_foreign_reflection(rt: &impl Abort, alloc: Global) -> Core {
     core
 }
 
+/// The cores of the line 1 - 2 - 3 - 4, with all their links up.
+#[derive(Drop)]
+struct Line {
+    one: Core,
+    two: Core,
+    three: Core,
+    four: Core,
+}
+
+fn line_of_four(rt: &impl Abort, alloc: Global) -> Line {
+    Line {
+        one: linked(rt, alloc, 1, &[2]),
+        two: linked(rt, alloc, 2, &[1, 3]),
+        three: linked(rt, alloc, 3, &[2, 4]),
+        four: linked(rt, alloc, 4, &[3]),
+    }
+}
+
 /// The line 1 - 2 - 3 - 4, where node 1 needs 4.
 fn join_line(rt: &impl Abort, one: &mut Core, two: &mut Core, three: &mut Core, four: &mut Core) {
     sends(rt, one, 2, Input::Need(4), Some(query(rt)));
@@ -184,10 +202,12 @@ fn erase_line(rt: &impl Abort, one: &mut Core, two: &mut Core, three: &mut Core)
 
 #[test]
 fn line_of_four_joins(rt: HostRuntime) -> Result<(), Fail> {
-    let mut one = linked(&rt, rt.alloc(), 1, &[2]);
-    let mut two = linked(&rt, rt.alloc(), 2, &[1, 3]);
-    let mut three = linked(&rt, rt.alloc(), 3, &[2, 4]);
-    let mut four = linked(&rt, rt.alloc(), 4, &[3]);
+    let Line {
+        mut one,
+        mut two,
+        mut three,
+        mut four,
+    } = line_of_four(&rt, rt.alloc());
     join_line(&rt, &mut one, &mut two, &mut three, &mut four);
     is_at(&rt, &one, Some(height(&rt, 0, 0, 0, 3, 1)), Some(2));
     is_at(&rt, &two, Some(height(&rt, 0, 0, 0, 2, 2)), Some(3));
@@ -198,10 +218,12 @@ fn line_of_four_joins(rt: HostRuntime) -> Result<(), Fail> {
 
 #[test]
 fn line_of_four_detects_a_partition(rt: HostRuntime) -> Result<(), Fail> {
-    let mut one = linked(&rt, rt.alloc(), 1, &[2]);
-    let mut two = linked(&rt, rt.alloc(), 2, &[1, 3]);
-    let mut three = linked(&rt, rt.alloc(), 3, &[2, 4]);
-    let mut four = linked(&rt, rt.alloc(), 4, &[3]);
+    let Line {
+        mut one,
+        mut two,
+        mut three,
+        mut four,
+    } = line_of_four(&rt, rt.alloc());
     join_line(&rt, &mut one, &mut two, &mut three, &mut four);
     part_line(&rt, &mut one, &mut two, &mut three, &mut four);
     erase_line(&rt, &mut one, &mut two, &mut three);
@@ -404,25 +426,18 @@ fn want_of_memory_is_answered(rt: HostRuntime) -> Result<(), Fail> {
     Ok(())
 }
 
-/// Sees that a core has this error.
-fn fails(rt: &impl Abort, made: Result<Core, CoreError>, error: CoreError, what: &str) {
-    same(rt, &made.err(), &Some(error), what);
-}
-
 #[test]
 fn numbers_of_the_errors(rt: HostRuntime) -> Result<(), Fail> {
     let alloc = rt.alloc();
-    let many = Core::new(alloc, 1, &[2; 33], &[4]);
-    fails(&rt, many, CoreError::TooMany, "33 neighbours");
-    let many = Core::new(alloc, 1, &[2], &[4; 65]);
-    fails(&rt, many, CoreError::TooMany, "65 destinations");
-    let twice = Core::new(alloc, 1, &[1, 2, 2], &[4]);
-    fails(&rt, twice, CoreError::Repeated, "a neighbour twice");
-    let twice = Core::new(alloc, 1, &[2, 1], &[4, 4]);
-    fails(&rt, twice, CoreError::Repeated, "a destination twice");
-    let own = Core::new(alloc, 1, &[2, 1], &[1]);
-    fails(&rt, own, CoreError::OwnId, "the node itself");
-    sees(&rt, Core::new(alloc, 1, &[], &[]).is_ok(), "an empty core");
+    let many = Some(CoreError::TooMany);
+    let twice = Some(CoreError::Repeated);
+    let own = Some(CoreError::OwnId);
+    makes(&rt, alloc, &[2; 33], &[4], many, "33 neighbours");
+    makes(&rt, alloc, &[2], &[4; 65], many, "65 destinations");
+    makes(&rt, alloc, &[1, 2, 2], &[4], twice, "a neighbour twice");
+    makes(&rt, alloc, &[2, 1], &[4, 4], twice, "a destination twice");
+    makes(&rt, alloc, &[2, 1], &[1], own, "the node itself");
+    makes(&rt, alloc, &[], &[], None, "an empty core");
     Ok(())
 }
 
@@ -693,7 +708,7 @@ fn a_list_of_packets_holds_one_for_each_destination(rt: HostRuntime) -> Result<(
     let table = numbers(rt.alloc(), 2, 64)?;
     let mut core = core_of(&rt, rt.alloc(), &[70, 71], &table)?;
     for d in &table {
-        core.step(Input::Need(*d), 1)?;
+        is_taken(&rt, &mut core, Input::Need(*d));
     }
     let sends = core.step(Input::LinkUp(70), 2)?;
     same(&rt, &sends.len(), &64, "how many packets");
@@ -703,6 +718,27 @@ fn a_list_of_packets_holds_one_for_each_destination(rt: HostRuntime) -> Result<(
     Ok(())
 }
 
+/// Every link comes up.
+fn all_up(rt: &impl Abort, core: &mut Core, neighbours: &[Id]) {
+    for k in neighbours {
+        is_taken(rt, core, Input::LinkUp(*k));
+    }
+}
+
+/// An input at time 1, which is taken.
+fn is_taken(rt: &impl Abort, core: &mut Core, input: Input) {
+    sees(rt, core.step(input, 1).is_ok(), "an input that is taken");
+}
+
+/// Sees how many lines a text has, and the first and the last of them.
+fn has_lines(rt: &impl Abort, text: &str, count: usize, first: &str, last: &str) {
+    same(rt, &text.lines().count(), &count, "how many lines");
+    let found = text.lines().next().expect(rt, "a first line");
+    same_text(rt, found, first, "the first line");
+    let found = text.lines().last().expect(rt, "a last line");
+    same_text(rt, found, last, "the last line");
+}
+
 // 32 neighbours that are up and 64 destinations, one of them the node itself: each destination has a line for itself and one
 // for each neighbour.
 #[test]
@@ -710,19 +746,9 @@ fn largest_table_is_shown(rt: HostRuntime) -> Result<(), Fail> {
     let neighbours = numbers(rt.alloc(), 2, 32)?;
     let table = numbers(rt.alloc(), 1, 64)?;
     let mut core = core_of(&rt, rt.alloc(), &neighbours, &table)?;
-    for k in &neighbours {
-        core.step(Input::LinkUp(*k), 1)?;
-    }
+    all_up(&rt, &mut core, &neighbours);
     let text = core.show(rt.alloc())?;
-    same(&rt, &text.lines().count(), &(64 * 33), "how many lines");
-    let first = text.lines().next().expect(&rt, "a first line");
-    same_text(
-        &rt,
-        first,
-        "to 1 height (0,0,0,0,1) flag 0 hop -",
-        "the first line",
-    );
-    let last = text.lines().last().expect(&rt, "a last line");
-    same_text(&rt, last, "via 33 - none", "the last line");
+    let first = "to 1 height (0,0,0,0,1) flag 0 hop -";
+    has_lines(&rt, text.as_str(), 64 * 33, first, "via 33 - none");
     Ok(())
 }

@@ -148,6 +148,16 @@ fn end_of(rt: &impl Abort, alloc: Global, me: Id, peer: Id, life: u64) -> LinkEn
     end_with(rt, alloc, me, peer, life, Times::STANDARD)
 }
 
+/// Node 1's end of the link to 2, opened with 5.
+fn first_end(rt: &impl Abort, alloc: Global) -> LinkEnd {
+    end_of(rt, alloc, 1, 2, 5)
+}
+
+/// Node 2's end of the link to 1, opened with 9.
+fn second_end(rt: &impl Abort, alloc: Global) -> LinkEnd {
+    end_of(rt, alloc, 2, 1, 9)
+}
+
 fn end_with(rt: &impl Abort, alloc: Global, me: Id, peer: Id, life: u64, times: Times) -> LinkEnd
     requires me { 0 < me }
     requires peer { 0 < peer }
@@ -165,7 +175,7 @@ fn end_with(rt: &impl Abort, alloc: Global, me: Id, peer: Id, life: u64, times: 
 
 /// Node 1's end of the link to 2, bound to the life {5, 9} at tick 0; its HELLO is sent and its event is polled.
 fn bound_end(rt: &impl Abort, alloc: Global) -> LinkEnd {
-    let mut end = end_of(rt, alloc, 1, 2, 5);
+    let mut end = first_end(rt, alloc);
     takes(rt, &mut end, &[(9, 5, Sent::Hello, Verdict::Accepted)]);
     tells(rt, &mut end, &[LinkEvent::Up(LIFE)]);
     sends(rt, &mut end, 0, &[Body::Hello]);
@@ -183,8 +193,8 @@ fn greets(rt: &impl Abort, from: &mut LinkEnd, to: &mut LinkEnd, life: u64, hear
 
 #[test]
 fn three_hellos_bind_both_ends(rt: HostRuntime) -> Result<(), Fail> {
-    let mut one = end_of(&rt, rt.alloc(), 1, 2, 5);
-    let mut two = end_of(&rt, rt.alloc(), 2, 1, 9);
+    let mut one = first_end(&rt, rt.alloc());
+    let mut two = second_end(&rt, rt.alloc());
     greets(&rt, &mut one, &mut two, 5, 0);
     lives_in(&rt, &one, None);
     greets(&rt, &mut two, &mut one, 9, 5);
@@ -488,7 +498,7 @@ fn clock_that_goes_back_counts_as_no_time(rt: HostRuntime) -> Result<(), Fail> {
 
 #[test]
 fn an_end_is_printed(rt: HostRuntime) -> Result<(), Fail> {
-    let end = end_of(&rt, rt.alloc(), 1, 2, 5);
+    let end = first_end(&rt, rt.alloc());
     let text = format!(in rt.alloc(); "{end:?}")?;
     let start = "LinkEnd { settings: Settings { version: One, me: 1, peer: 2,";
     sees(&rt, text.as_str().starts_with(start), "the end's text");
@@ -511,8 +521,8 @@ fn exchange(from: &mut LinkEnd, to: &mut LinkEnd) {
 
 #[test]
 fn example_of_the_documentation(rt: HostRuntime) -> Result<(), Fail> {
-    let mut one = end_of(&rt, rt.alloc(), 1, 2, 5);
-    let mut two = end_of(&rt, rt.alloc(), 2, 1, 9);
+    let mut one = first_end(&rt, rt.alloc());
+    let mut two = second_end(&rt, rt.alloc());
     for _ in 0..2 {
         exchange(&mut one, &mut two);
         exchange(&mut two, &mut one);

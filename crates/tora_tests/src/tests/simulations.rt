@@ -472,18 +472,23 @@ fn old_node_is_met(rt: HostRuntime) -> Result<(), Fail> {
 /// The link ends of nodes 1 to 4 in a row.
 const ENDS: [(Id, Id); 6] = [(1, 2), (2, 1), (2, 3), (3, 2), (3, 4), (4, 3)];
 
+/// Lets an event happen where it is possible; whether it was.
+fn tries(sim: &mut Sim, event: Event) -> bool {
+    sim.step(&event).is_ok()
+}
+
 /// Lets happen once, at each end, what is possible there, and hands over each datagram at once.
 fn pass(sim: &mut Sim) {
     for end in ENDS.iter() {
         let (n, k) = *end;
-        let _ = sim.step(&Event::Open(n, k));
-        let _ = sim.step(&Event::Pull(n, k));
-        if sim.step(&Event::Transmit(n, k)).is_ok() {
+        tries(sim, Event::Open(n, k));
+        tries(sim, Event::Pull(n, k));
+        if tries(sim, Event::Transmit(n, k)) {
             let sent = sim.datagrams();
-            let _ = sim.step(&Event::Deliver(sent));
+            tries(sim, Event::Deliver(sent));
         }
-        let _ = sim.step(&Event::Pump(n, k));
-        let _ = sim.step(&Event::CoreTurn(n));
+        tries(sim, Event::Pump(n, k));
+        tries(sim, Event::CoreTurn(n));
     }
 }
 

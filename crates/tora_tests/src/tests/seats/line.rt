@@ -35,11 +35,15 @@ impl Node {
 
     // The place of a neighbour.
     fn place(&self, rt: &impl Abort, k: Id) -> usize {
-        let neighbours = self.seat.core().neighbours();
-        neighbours
-            .iter()
-            .position(|n| *n == k)
-            .expect(rt, "a neighbour")
+        let mut place = 0usize;
+        for n in self.seat.core().neighbours() {
+            if *n == k {
+                return place;
+            }
+            place = place.saturating_add(1);
+        }
+        sees(rt, false, "a neighbour");
+        place
     }
 
     // Serves what a seat tells; nothing is refused.
