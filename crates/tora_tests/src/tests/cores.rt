@@ -1,7 +1,9 @@
 //! Worked runs of the rules, and texts.
 ghost use Rattle.std.specs.Prelude.{◌<◌, ◌≤◌, ◌≡◌, true, All};
 
+use super::made::{clear, height, query_for, update};
 use super::plain_core::{Plain, Told, told_by};
+use super::sees::{prints_each, same, same_at, same_text, sees};
 use std::alloc::{AllocError, Global};
 use std::process::Abort;
 use std::test::Fail;
@@ -9,31 +11,22 @@ use tora_core::{Core, CoreError, Input, Sends, StepError};
 use tora_height::{Height, Id};
 use tora_packet::{Clear, Packet, Update};
 
-/// The height of these parts.
-fn height(rt: &impl Abort, tau: u64, oid: Id, r: u8, delta: i32, id: Id) -> Height {
-    Height::new(tau, oid, r, delta, id).expect(rt, "a height")
-}
-
 /// The query for 4.
 fn query(rt: &impl Abort) -> Packet {
-    Packet::qry(4).expect(rt, "a query")
-}
-
-/// The update for 4 of these parts.
-fn update(rt: &impl Abort, tau: u64, oid: Id, r: u8, delta: i32, id: Id) -> Packet {
-    Packet::Upd(Update::new(4, height(rt, tau, oid, r, delta, id)).expect(rt, "an update"))
-}
-
-/// The clear for 4 of this level.
-fn clear(rt: &impl Abort, tau: u64, oid: Id) -> Packet {
-    Packet::Clr(Clear::new(4, tau, oid).expect(rt, "a clear"))
+    query_for(rt, 4)
 }
 
 /// Takes an input in, and sees that just this packet is broadcast, or none.
 fn sends(rt: &impl Abort, core: &mut Core, now: u64, input: Input, answer: Option<Packet>) {
     let sent = core.step(input, now).expect(rt, "an input that is taken");
-    assert_eq!(rt; sent.as_slice().first().copied(), answer, "at {now}");
-    assert!(rt; sent.len() <= 1);
+    same_at(
+        rt,
+        &sent.as_slice().first().copied(),
+        &answer,
+        "the packet",
+        &now,
+    );
+    sees(rt, sent.len() <= 1, "one packet at most");
 }
 
 /// A packet that comes from a neighbour.
@@ -50,13 +43,23 @@ fn takes(
 
 fn shows(rt: &impl Abort, core: &Core, alloc: Global, text: &str) {
     let shown = core.show(alloc).expect(rt, "memory");
-    assert_eq!(rt; shown.as_str(), text);
+    same_text(rt, shown.as_str(), text, "the text of the core");
+}
+
+/// The height of a core for 4.
+fn has_height(rt: &impl Abort, core: &Core, height: Option<Height>) {
+    same(rt, &core.height(4), &Some(height), "the height");
+}
+
+/// The next hop of a core for 4.
+fn has_hop(rt: &impl Abort, core: &Core, hop: Option<Id>) {
+    same(rt, &core.next_hop(4), &hop, "the next hop");
 }
 
 /// The height and the next hop of a core for 4.
 fn is_at(rt: &impl Abort, core: &Core, height: Option<Height>, hop: Option<Id>) {
-    assert_eq!(rt; core.height(4), Some(height));
-    assert_eq!(rt; core.next_hop(4), hop);
+    has_height(rt, core, height);
+    has_hop(rt, core, hop);
 }
 
 /// A core for the destination 4, with all its links up.
@@ -96,6 +99,24 @@ fn after_a_foreign_reflection(rt: &impl Abort, alloc: Global) -> Core {
         Some(defined),
     );
     core
+}
+
+/// The cores of the line 1 - 2 - 3 - 4, with all their links up.
+#[derive(Drop)]
+struct Line {
+    one: Core,
+    two: Core,
+    three: Core,
+    four: Core,
+}
+
+fn line_of_four(rt: &impl Abort, alloc: Global) -> Line {
+    Line {
+        one: linked(rt, alloc, 1, &[2]),
+        two: linked(rt, alloc, 2, &[1, 3]),
+        three: linked(rt, alloc, 3, &[2, 4]),
+        four: linked(rt, alloc, 4, &[3]),
+    }
 }
 
 /// The line 1 - 2 - 3 - 4, where node 1 needs 4.
@@ -181,10 +202,12 @@ fn erase_line(rt: &impl Abort, one: &mut Core, two: &mut Core, three: &mut Core)
 
 #[test]
 fn line_of_four_joins(rt: HostRuntime) -> Result<(), Fail> {
-    let mut one = linked(&rt, rt.alloc(), 1, &[2]);
-    let mut two = linked(&rt, rt.alloc(), 2, &[1, 3]);
-    let mut three = linked(&rt, rt.alloc(), 3, &[2, 4]);
-    let mut four = linked(&rt, rt.alloc(), 4, &[3]);
+    let Line {
+        mut one,
+        mut two,
+        mut three,
+        mut four,
+    } = line_of_four(&rt, rt.alloc());
     join_line(&rt, &mut one, &mut two, &mut three, &mut four);
     is_at(&rt, &one, Some(height(&rt, 0, 0, 0, 3, 1)), Some(2));
     is_at(&rt, &two, Some(height(&rt, 0, 0, 0, 2, 2)), Some(3));
@@ -195,10 +218,12 @@ fn line_of_four_joins(rt: HostRuntime) -> Result<(), Fail> {
 
 #[test]
 fn line_of_four_detects_a_partition(rt: HostRuntime) -> Result<(), Fail> {
-    let mut one = linked(&rt, rt.alloc(), 1, &[2]);
-    let mut two = linked(&rt, rt.alloc(), 2, &[1, 3]);
-    let mut three = linked(&rt, rt.alloc(), 3, &[2, 4]);
-    let mut four = linked(&rt, rt.alloc(), 4, &[3]);
+    let Line {
+        mut one,
+        mut two,
+        mut three,
+        mut four,
+    } = line_of_four(&rt, rt.alloc());
     join_line(&rt, &mut one, &mut two, &mut three, &mut four);
     part_line(&rt, &mut one, &mut two, &mut three, &mut four);
     erase_line(&rt, &mut one, &mut two, &mut three);
@@ -212,7 +237,7 @@ fn line_of_four_detects_a_partition(rt: HostRuntime) -> Result<(), Fail> {
 #[test]
 fn reflection_of_another_node_gives_a_new_level(rt: HostRuntime) -> Result<(), Fail> {
     let core = after_a_foreign_reflection(&rt, rt.alloc());
-    assert_eq!(rt; core.height(4), Some(Some(height(&rt, 8, 2, 0, 0, 2))));
+    has_height(&rt, &core, Some(height(&rt, 8, 2, 0, 0, 2)));
     Ok(())
 }
 
@@ -224,7 +249,7 @@ fn clear_of_a_foreign_level_counts_as_link_failure(rt: HostRuntime) -> Result<()
     takes(&rt, &mut core, 9, 3, clear(&rt, 7, 9), Some(defined));
     let mut alone = after_a_foreign_reflection(&rt, rt.alloc());
     takes(&rt, &mut alone, 9, 3, clear(&rt, 7, 9), None);
-    assert_eq!(rt; alone.height(4), Some(None));
+    has_height(&rt, &alone, None);
     Ok(())
 }
 
@@ -270,6 +295,12 @@ fn told_neighbour_gets_no_second_answer(rt: HostRuntime) -> Result<(), Fail> {
     Ok(())
 }
 
+/// Sees the number of the refusal of an input at time 2.
+fn refuses(rt: &impl Abort, core: &mut Core, input: Input, number: u8) {
+    let refusal = core.step(input, 2).map_err(|e| e.number()).err();
+    same(rt, &refusal, &Some(number), "the refusal");
+}
+
 #[test]
 fn refusals_change_nothing(rt: HostRuntime) -> Result<(), Fail> {
     let mut core = Core::new(rt.alloc(), 3, &[2, 4], &[4])?;
@@ -282,10 +313,7 @@ fn refusals_change_nothing(rt: HostRuntime) -> Result<(), Fail> {
         (Input::Packet(2, by_three), 4),
         (Input::Need(99), 5),
     ] {
-        assert_eq!(rt;
-            core.step(input, 2).map_err(|e| e.number()).err(),
-            Some(number)
-        );
+        refuses(&rt, &mut core, input, number);
         shows(
             &rt,
             &core,
@@ -299,15 +327,12 @@ fn refusals_change_nothing(rt: HostRuntime) -> Result<(), Fail> {
 #[test]
 fn sends_are_listed_by_destination(rt: HostRuntime) -> Result<(), Fail> {
     let mut core = Core::new(rt.alloc(), 3, &[2, 4], &[5, 4])?;
-    let query_for_five = Packet::qry(5)?;
     sends(&rt, &mut core, 1, Input::LinkUp(2), None);
-    sends(&rt, &mut core, 1, Input::Need(5), Some(query_for_five));
+    sends(&rt, &mut core, 1, Input::Need(5), Some(query_for(&rt, 5)));
     sends(&rt, &mut core, 1, Input::Need(4), Some(query(&rt)));
-    let joined = update(&rt, 0, 0, 0, 1, 3);
     let sent = core.step(Input::LinkUp(4), 2)?;
-    assert_eq!(rt; sent.len(), 2);
-    assert_eq!(rt; sent.as_slice()[0], joined);
-    assert_eq!(rt; sent.as_slice()[1], query_for_five);
+    let expected = [update(&rt, 0, 0, 0, 1, 3), query_for(&rt, 5)];
+    same(&rt, &sent.as_slice(), &expected.as_slice(), "the packets");
     Ok(())
 }
 
@@ -360,15 +385,33 @@ fn text_of_each_direction(rt: HostRuntime) -> Result<(), Fail> {
     Ok(())
 }
 
+/// The text of a core that was made; none where memory is refused.
+fn text_of(rt: &impl Abort, alloc: Global, made: Result<Core, CoreError>) -> Option<String> {
+    match made {
+        Err(error) => is_memory(rt, error),
+        Ok(core) => match core.show(alloc) {
+            Err(error) => is_memory(rt, error),
+            Ok(text) => return Some(text),
+        },
+    }
+    None
+}
+
+/// Sees that memory was refused.
+fn is_memory(rt: &impl Abort, error: CoreError) {
+    same(rt, &error, &CoreError::Memory, "the error");
+}
+
 // With each request for memory refused in turn: a refusal is answered by Memory, and nothing else goes wrong.
 #[test]
 fn want_of_memory_is_answered(rt: HostRuntime) -> Result<(), Fail> {
-    match Core::new(rt.alloc(), 3, &[2, 4], &[4]) {
-        Err(error) => assert_eq!(rt; error, CoreError::Memory),
-        Ok(core) => match core.show(rt.alloc()) {
-            Err(error) => assert_eq!(rt; error, CoreError::Memory),
-            Ok(text) => assert_eq!(rt; text.as_str(), "to 4 height - flag 0 hop -\n"),
-        },
+    if let Some(text) = text_of(&rt, rt.alloc(), Core::new(rt.alloc(), 3, &[2, 4], &[4])) {
+        same_text(
+            &rt,
+            text.as_str(),
+            "to 4 height - flag 0 hop -\n",
+            "the text",
+        );
     }
     let Ok(neighbours) = numbers(rt.alloc(), 2, 32) else {
         return Ok(());
@@ -376,12 +419,9 @@ fn want_of_memory_is_answered(rt: HostRuntime) -> Result<(), Fail> {
     let Ok(table) = numbers(rt.alloc(), 1, 64) else {
         return Ok(());
     };
-    match core_of(&rt, rt.alloc(), &neighbours, &table) {
-        Err(error) => assert_eq!(rt; error, CoreError::Memory),
-        Ok(core) => match core.show(rt.alloc()) {
-            Err(error) => assert_eq!(rt; error, CoreError::Memory),
-            Ok(text) => assert_eq!(rt; text.lines().count(), 64),
-        },
+    let made = core_of(&rt, rt.alloc(), &neighbours, &table);
+    if let Some(text) = text_of(&rt, rt.alloc(), made) {
+        same(&rt, &text.lines().count(), &64, "how many lines");
     }
     Ok(())
 }
@@ -389,27 +429,15 @@ fn want_of_memory_is_answered(rt: HostRuntime) -> Result<(), Fail> {
 #[test]
 fn numbers_of_the_errors(rt: HostRuntime) -> Result<(), Fail> {
     let alloc = rt.alloc();
-    assert_eq!(rt;
-        Core::new(alloc, 1, &[2; 33], &[4]).err(),
-        Some(CoreError::TooMany)
-    );
-    assert_eq!(rt;
-        Core::new(alloc, 1, &[2], &[4; 65]).err(),
-        Some(CoreError::TooMany)
-    );
-    assert_eq!(rt;
-        Core::new(alloc, 1, &[1, 2, 2], &[4]).err(),
-        Some(CoreError::Repeated)
-    );
-    assert_eq!(rt;
-        Core::new(alloc, 1, &[2, 1], &[4, 4]).err(),
-        Some(CoreError::Repeated)
-    );
-    assert_eq!(rt;
-        Core::new(alloc, 1, &[2, 1], &[1]).err(),
-        Some(CoreError::OwnId)
-    );
-    assert!(rt; Core::new(alloc, 1, &[], &[]).is_ok());
+    let many = Some(CoreError::TooMany);
+    let twice = Some(CoreError::Repeated);
+    let own = Some(CoreError::OwnId);
+    makes(&rt, alloc, &[2; 33], &[4], many, "33 neighbours");
+    makes(&rt, alloc, &[2], &[4; 65], many, "65 destinations");
+    makes(&rt, alloc, &[1, 2, 2], &[4], twice, "a neighbour twice");
+    makes(&rt, alloc, &[2, 1], &[4, 4], twice, "a destination twice");
+    makes(&rt, alloc, &[2, 1], &[1], own, "the node itself");
+    makes(&rt, alloc, &[], &[], None, "an empty core");
     Ok(())
 }
 
@@ -473,9 +501,9 @@ fn any_input(random: &mut Random, now: u64) -> Option<Input> {
 
 /// The packets of both bodies are the same.
 fn same_sends(rt: &impl Abort, sends: &Sends, told: &[Told]) {
-    assert_eq!(rt; sends.len(), told.len());
+    same(rt, &sends.len(), &told.len(), "how many packets");
     for (packet, told) in sends.iter().zip(told.iter()) {
-        assert_eq!(rt; told_by(packet), *told);
+        same(rt, &told_by(packet), told, "the packet");
     }
 }
 
@@ -492,14 +520,21 @@ fn same_step(
     let answer = core.step_into(input, now, sends);
     match plain.step(alloc, input, now).expect(rt, "memory") {
         Err(error) => {
-            assert_eq!(rt; answer.err(), Some(error));
+            same(rt, &answer.err(), &Some(error), "the refusal");
             same_sends(rt, sends, &[]);
         }
         Ok(told) => {
-            assert!(rt; answer.is_ok());
+            sees(rt, answer.is_ok(), "an input that is taken");
             same_sends(rt, sends, told.as_slice());
         }
     }
+}
+
+/// Both bodies show the same.
+fn same_tables(rt: &impl Abort, alloc: Global, core: &Core, plain: &Plain, turn: u32) {
+    let shown = core.show(alloc).expect(rt, "memory");
+    let other = plain.show(alloc).expect(rt, "memory");
+    same_at(rt, &shown.as_str(), &other.as_str(), "the tables", &turn);
 }
 
 #[test]
@@ -527,9 +562,7 @@ fn plain_body_answers_alike(rt: HostRuntime) -> Result<(), Fail> {
             );
         }
         if turn % 100 == 99 {
-            let shown = core.show(rt.alloc()).expect(&rt, "memory");
-            let other = plain.show(rt.alloc()).expect(&rt, "memory");
-            assert_eq!(&rt; shown.as_str(), other.as_str(), "at {turn}");
+            same_tables(&rt, rt.alloc(), &core, &plain, turn);
         }
     }
     Ok(())
@@ -542,7 +575,7 @@ fn example_of_the_documentation(rt: HostRuntime) -> Result<(), Fail> {
     sends(&rt, &mut core, 1, Input::LinkUp(4), None);
     let answer = update(&rt, 0, 0, 0, 1, 3);
     takes(&rt, &mut core, 2, 2, query(&rt), Some(answer));
-    assert_eq!(&rt; core.next_hop(4), Some(4));
+    has_hop(&rt, &core, Some(4));
     Ok(())
 }
 
@@ -554,10 +587,7 @@ fn inputs_are_printed_in_words(rt: HostRuntime) -> Result<(), Fail> {
         (Input::Need(4), "need 4"),
         (Input::Packet(2, query(&rt)), "from 2 QRY 4"),
     ];
-    for (input, text) in rows {
-        let printed = format!(in rt.alloc(); "{input}")?;
-        assert_eq!(&rt; printed.as_str(), text);
-    }
+    prints_each(&rt, rt.alloc(), &rows);
     Ok(())
 }
 
@@ -575,10 +605,7 @@ fn errors_of_a_core_are_printed_with_their_cause(rt: HostRuntime) -> Result<(), 
         ),
         (CoreError::OwnId, "the node itself is among its neighbours"),
     ];
-    for (error, text) in rows {
-        let printed = format!(in rt.alloc(); "{error}")?;
-        assert_eq!(&rt; printed.as_str(), text);
-    }
+    prints_each(&rt, rt.alloc(), &rows);
     Ok(())
 }
 
@@ -600,10 +627,7 @@ fn refusals_are_printed_with_their_cause(rt: HostRuntime) -> Result<(), Fail> {
             "the destination is not in the table",
         ),
     ];
-    for (error, text) in rows {
-        let printed = format!(in rt.alloc(); "{error}")?;
-        assert_eq!(&rt; printed.as_str(), text);
-    }
+    prints_each(&rt, rt.alloc(), &rows);
     Ok(())
 }
 
@@ -642,6 +666,19 @@ fn core_of(
     Core::new(alloc, 1, neighbours, destinations)
 }
 
+/// Makes a core, and sees its error, if any.
+fn makes(
+    rt: &impl Abort,
+    alloc: Global,
+    neighbours: &[Id],
+    destinations: &[Id],
+    error: Option<CoreError>,
+    what: &str,
+) {
+    let made = core_of(rt, alloc, neighbours, destinations).err();
+    same(rt, &made, &error, what);
+}
+
 // As many neighbours and destinations as there may be are taken, and one more of either is not.
 #[test]
 fn tables_are_taken_up_to_their_limits(rt: HostRuntime) -> Result<(), Fail> {
@@ -649,14 +686,19 @@ fn tables_are_taken_up_to_their_limits(rt: HostRuntime) -> Result<(), Fail> {
     let many = Some(CoreError::TooMany);
     let (most, more) = (numbers(alloc, 2, 32)?, numbers(alloc, 2, 33)?);
     let (table, larger) = (numbers(alloc, 1, 64)?, numbers(alloc, 1, 65)?);
-    assert_eq!(&rt; core_of(&rt, alloc, &more, &[4]).err(), many);
-    assert_eq!(&rt; core_of(&rt, alloc, &[2], &larger).err(), many);
-    assert_eq!(&rt; core_of(&rt, alloc, &more, &larger).err(), many);
-    assert!(&rt; core_of(&rt, alloc, &most, &[4]).is_ok());
-    assert!(&rt; core_of(&rt, alloc, &[2], &table).is_ok());
+    makes(&rt, alloc, &more, &[4], many, "33 neighbours");
+    makes(&rt, alloc, &[2], &larger, many, "65 destinations");
+    makes(&rt, alloc, &more, &larger, many, "one more of both");
+    makes(&rt, alloc, &most, &[4], None, "32 neighbours");
+    makes(&rt, alloc, &[2], &table, None, "64 destinations");
     let core = core_of(&rt, alloc, &most, &table)?;
-    assert_eq!(&rt; core.neighbours(), most.as_slice());
-    assert_eq!(&rt; core.destinations(), table.as_slice());
+    same(&rt, &core.neighbours(), &most.as_slice(), "the neighbours");
+    same(
+        &rt,
+        &core.destinations(),
+        &table.as_slice(),
+        "the destinations",
+    );
     Ok(())
 }
 
@@ -666,14 +708,35 @@ fn a_list_of_packets_holds_one_for_each_destination(rt: HostRuntime) -> Result<(
     let table = numbers(rt.alloc(), 2, 64)?;
     let mut core = core_of(&rt, rt.alloc(), &[70, 71], &table)?;
     for d in &table {
-        core.step(Input::Need(*d), 1)?;
+        is_taken(&rt, &mut core, Input::Need(*d));
     }
     let sends = core.step(Input::LinkUp(70), 2)?;
-    assert_eq!(&rt; sends.len(), 64);
+    same(&rt, &sends.len(), &64, "how many packets");
     for (packet, d) in sends.iter().zip(table.iter()) {
-        assert_eq!(&rt; packet.destination(), *d);
+        same(&rt, &packet.destination(), d, "the destination");
     }
     Ok(())
+}
+
+/// Every link comes up.
+fn all_up(rt: &impl Abort, core: &mut Core, neighbours: &[Id]) {
+    for k in neighbours {
+        is_taken(rt, core, Input::LinkUp(*k));
+    }
+}
+
+/// An input at time 1, which is taken.
+fn is_taken(rt: &impl Abort, core: &mut Core, input: Input) {
+    sees(rt, core.step(input, 1).is_ok(), "an input that is taken");
+}
+
+/// Sees how many lines a text has, and the first and the last of them.
+fn has_lines(rt: &impl Abort, text: &str, count: usize, first: &str, last: &str) {
+    same(rt, &text.lines().count(), &count, "how many lines");
+    let found = text.lines().next().expect(rt, "a first line");
+    same_text(rt, found, first, "the first line");
+    let found = text.lines().last().expect(rt, "a last line");
+    same_text(rt, found, last, "the last line");
 }
 
 // 32 neighbours that are up and 64 destinations, one of them the node itself: each destination has a line for itself and one
@@ -683,15 +746,9 @@ fn largest_table_is_shown(rt: HostRuntime) -> Result<(), Fail> {
     let neighbours = numbers(rt.alloc(), 2, 32)?;
     let table = numbers(rt.alloc(), 1, 64)?;
     let mut core = core_of(&rt, rt.alloc(), &neighbours, &table)?;
-    for k in &neighbours {
-        core.step(Input::LinkUp(*k), 1)?;
-    }
+    all_up(&rt, &mut core, &neighbours);
     let text = core.show(rt.alloc())?;
-    assert_eq!(&rt; text.lines().count(), 64 * 33);
-    assert_eq!(&rt;
-        text.lines().next(),
-        Some("to 1 height (0,0,0,0,1) flag 0 hop -")
-    );
-    assert_eq!(&rt; text.lines().last(), Some("via 33 - none"));
+    let first = "to 1 height (0,0,0,0,1) flag 0 hop -";
+    has_lines(&rt, text.as_str(), 64 * 33, first, "via 33 - none");
     Ok(())
 }

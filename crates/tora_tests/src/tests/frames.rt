@@ -1,7 +1,10 @@
 //! The byte vectors of the formats, the refused frames, and frames that were cut or changed.
-ghost use Rattle.std.specs.Prelude.{◌≡◌, ◌≤◌, IfSome, length};
+ghost use Rattle.std.specs.Prelude.{◌≡◌, ◌≤◌, length};
 ghost use Rattle.arrayvec.specs.ArrayVec.{array_vec_len};
 
+use super::made::{clear, query_for, update};
+use super::sees::{bytes_of, prints_each, same, same_at};
+use arrayvec::ArrayVec;
 use std::alloc::Global;
 use std::cmp::Ordering;
 use std::process::Abort;
@@ -10,8 +13,7 @@ use tora_frame::{
     Body, BorrowedBody, BorrowedFrame, Frame, FrameError, GREATEST_NUMBER, Header, LONGEST_FRAME,
     MOST_PACKETS, Packets, Version, decode, decode_into, encode, encode_into,
 };
-use tora_height::Height;
-use tora_packet::{Clear, Packet, PacketError, Update};
+use tora_packet::PacketError;
 
 /// The frames of the formats, and more made of the tables of the layouts: in version 1 DATA frames with an update and with
 /// a clear, in version 2 a HELLO, an ACK, and a DATA frame with an update.
@@ -91,93 +93,118 @@ const NEW_FROM_TWO: Header = Header {
     heard: 5,
 };
 
-/// The update for 4 with the height (7,3,1,-1,2).
-fn update() -> Option<Packet> {
-    let height = Height::new(7, 3, 1, -1, 2).ok()?;
-    Some(Packet::Upd(Update::new(4, height).ok()?))
-}
-
-/// The clear for 4 of the level (7,3,1).
-fn clear() -> Option<Packet> {
-    Some(Packet::Clr(Clear::new(4, 7, 3).ok()?))
-}
-
-/// The query for 4, and the clear.
-fn query_and_clear() -> Option<Packets>
-    ensures { IfSome result (λ packets. array_vec_len packets ≡ 2) }
+/// The query for 4, and the clear for 4 of the level (7,3,1).
+fn query_and_clear(rt: &impl Abort) -> Packets
+    ensures { array_vec_len result ≡ 2 }
 {
     let mut packets = Packets::new();
-    packets.push(Packet::qry(4).ok()?);
-    packets.push(clear()?);
-    Some(packets)
+    packets.push(query_for(rt, 4));
+    packets.push(clear(rt, 7, 3));
+    packets
 }
 
 /// The frames of the vectors, in their order.
-fn frames() -> Option<[Frame; 10]> {
-    Some([
+fn frames(rt: &impl Abort) -> [Frame; 10] {
+    [
         Frame::hello(FIRST),
         Frame::hello(FROM_TWO),
-        Frame::one(FROM_ONE, 1, 0, Packet::qry(4).ok()?),
+        Frame::one(FROM_ONE, 1, 0, query_for(rt, 4)),
         Frame::ack(FROM_TWO, 1),
-        Frame::one(FROM_ONE, 2, 3, update()?),
-        Frame::one(FROM_TWO, 7, 1, clear()?),
-        Frame::data(NEW_FROM_ONE, 1, 0, query_and_clear()?),
+        Frame::one(FROM_ONE, 2, 3, update(rt, 7, 3, 1, -1, 2)),
+        Frame::one(FROM_TWO, 7, 1, clear(rt, 7, 3)),
+        Frame::data(NEW_FROM_ONE, 1, 0, query_and_clear(rt)),
         Frame::hello(NEW_FIRST),
         Frame::ack(NEW_FROM_TWO, 1),
-        Frame::one(NEW_FROM_ONE, 2, 3, update()?),
-    ])
+        Frame::one(NEW_FROM_ONE, 2, 3, update(rt, 7, 3, 1, -1, 2)),
+    ]
+}
+
+/// Sees that a frame is spelled by these digits.
+fn spells(rt: &impl Abort, alloc: Global, frame: &Frame, digits: &str) {
+    let bytes = bytes_of(rt, alloc, digits);
+    let out = encode(frame);
+    same_at(rt, &out.as_slice(), &bytes.as_slice(), "the bytes", &digits);
+    same_at(
+        rt,
+        &decode(&bytes).as_ref(),
+        &Ok(frame),
+        "the frame",
+        &digits,
+    );
 }
 
 #[test]
 fn frame_vectors(rt: HostRuntime) -> Result<(), Fail> {
-    let frames = frames().ok_or("frames")?;
+    let frames = frames(&rt);
     for (frame, text) in frames.iter().zip(&VECTORS) {
-        let bytes = hex::decode(rt.alloc(), *text)?;
-        let out = encode(frame);
-        assert_eq!(rt; out.as_slice(), bytes.as_slice(), "at {text}");
-        assert_eq!(rt; decode(&bytes).as_ref(), Ok(frame), "at {text}");
+        spells(&rt, rt.alloc(), frame, *text);
     }
     let ack = Frame::ack(FROM_TWO, 1);
-    assert_eq!(rt; *ack.header(), FROM_TWO);
-    assert_eq!(rt; *ack.body(), Body::Ack(1));
+    same(&rt, ack.header(), &FROM_TWO, "the header");
+    same(&rt, ack.body(), &Body::Ack(1), "the body");
     Ok(())
+}
+
+/// Sees that a frame is spelled into a buffer by these digits, and that its packets are read into another.
+fn spells_into(
+    rt: &impl Abort,
+    alloc: Global,
+    frame: &Frame,
+    digits: &str,
+    out: &mut ArrayVec<u8, LONGEST_FRAME>,
+    packets: &mut Packets,
+) {
+    let bytes = bytes_of(rt, alloc, digits);
+    encode_into(&frame.borrowed(), out);
+    same_at(rt, &out.as_slice(), &bytes.as_slice(), "the bytes", &digits);
+    match decode_into(&bytes, packets) {
+        Ok(read) => {
+            same_at(rt, read.header(), frame.header(), "the header", &digits);
+            same_at(rt, &read.to_frame(), frame, "the frame", &digits);
+        }
+        Err(error) => same_at(rt, &error.number(), &0, "the error", &digits),
+    }
 }
 
 #[test]
 fn kept_buffers_hold_one_frame_after_another(rt: HostRuntime) -> Result<(), Fail> {
-    let frames = frames().ok_or("frames")?;
+    let frames = frames(&rt);
     let mut packets = Packets::new();
     let mut out = encode(&Frame::hello(FIRST));
     for (frame, text) in frames.iter().zip(&VECTORS) {
-        let bytes = hex::decode(rt.alloc(), *text)?;
-        encode_into(&frame.borrowed(), &mut out);
-        assert_eq!(rt; out.as_slice(), bytes.as_slice(), "at {text}");
-        match decode_into(&bytes, &mut packets) {
-            Ok(read) => {
-                assert_eq!(rt; read.header(), frame.header(), "at {text}");
-                assert_eq!(rt; read.to_frame(), *frame, "at {text}");
-            }
-            Err(error) => assert_eq!(rt; error.number(), 0, "at {text}"),
-        }
+        spells_into(&rt, rt.alloc(), frame, *text, &mut out, &mut packets);
     }
     Ok(())
 }
 
+/// Sees the number, the count and the packets of a borrowed DATA frame.
+fn carries(rt: &impl Abort, data: &BorrowedFrame<'_>, packets: &Packets) {
+    match data.body() {
+        BorrowedBody::Data(1, 0, borrowed) => {
+            same(rt, &borrowed, &packets.as_slice(), "the borrowed packets");
+        }
+        other => same_at(rt, &false, &true, "a DATA body", &other),
+    }
+}
+
 #[test]
 fn borrowed_frames_are_the_frames_of_the_same_parts(rt: HostRuntime) -> Result<(), Fail> {
-    let packets = query_and_clear().ok_or("packets")?;
+    let packets = query_and_clear(&rt);
     let data = BorrowedFrame::data(NEW_FROM_ONE, 1, 0, packets.as_slice());
-    match data.body() {
-        BorrowedBody::Data(1, 0, borrowed) => assert_eq!(rt; borrowed, packets.as_slice()),
-        other => assert!(rt; false, "{other:?}"),
-    }
-    let list = query_and_clear().ok_or("packets")?;
-    assert_eq!(rt; data.to_frame(), Frame::data(NEW_FROM_ONE, 1, 0, list));
-    let hello = BorrowedFrame::hello(NEW_FIRST);
-    assert_eq!(rt; hello.to_frame(), Frame::hello(NEW_FIRST));
-    let ack = BorrowedFrame::ack(NEW_FROM_TWO, 1);
-    assert_eq!(rt; ack.to_frame(), Frame::ack(NEW_FROM_TWO, 1));
+    carries(&rt, &data, &packets);
+    let owned = Frame::data(NEW_FROM_ONE, 1, 0, query_and_clear(&rt));
+    same(&rt, &data.to_frame(), &owned, "the DATA frame");
+    let hello = BorrowedFrame::hello(NEW_FIRST).to_frame();
+    same(&rt, &hello, &Frame::hello(NEW_FIRST), "the HELLO");
+    let ack = BorrowedFrame::ack(NEW_FROM_TWO, 1).to_frame();
+    same(&rt, &ack, &Frame::ack(NEW_FROM_TWO, 1), "the ACK");
     Ok(())
+}
+
+/// Sees that bytes spell no frame, and why; `what` tells the bytes.
+fn refuses(rt: &impl Abort, bytes: &[u8], error: FrameError, number: u8, what: &str) {
+    same_at(rt, &decode(bytes), &Err(error), "the error", &what);
+    same_at(rt, &error.number(), &number, "its number", &what);
 }
 
 #[test]
@@ -235,18 +262,26 @@ fn refused_frames(rt: HostRuntime) -> Result<(), Fail> {
         ),
     ];
     for (text, error, number) in rows {
-        let bytes = hex::decode(rt.alloc(), text)?;
-        assert_eq!(rt; decode(&bytes), Err(error), "at {text}");
-        assert_eq!(rt; error.number(), number, "at {text}");
+        let bytes = bytes_of(&rt, rt.alloc(), text);
+        refuses(&rt, &bytes, error, number, text);
     }
     Ok(())
 }
 
-/// The bytes of the batch with one byte changed.
-fn changed(alloc: Global, at: usize, value: u8) -> Option<Vec<u8>> {
-    let mut bytes = hex::decode(alloc, BATCH).ok()?;
-    *bytes.get_mut(at)? = value;
-    Some(bytes)
+/// Sees that the bytes of the batch with one byte changed spell no frame, and why.
+fn refuses_changed(
+    rt: &impl Abort,
+    alloc: Global,
+    at: usize,
+    value: u8,
+    error: FrameError,
+    number: u8,
+) {
+    let mut bytes = bytes_of(rt, alloc, BATCH);
+    let byte = bytes.get_mut(at).expect(rt, "a byte");
+    *byte = value;
+    same_at(rt, &decode(&bytes), &Err(error), "the error", &(at, value));
+    same_at(rt, &error.number(), &number, "its number", &(at, value));
 }
 
 #[test]
@@ -268,33 +303,36 @@ fn batch_frame_vector_and_its_faults(rt: HostRuntime) -> Result<(), Fail> {
         (50, 1, FrameError::Packet(PacketError::Reserved), 9),
     ];
     for (at, value, error, number) in rows {
-        let bytes = changed(rt.alloc(), at, value).ok_or("bytes")?;
-        assert_eq!(rt; decode(&bytes), Err(error), "byte {at} set to {value}");
-        assert_eq!(rt; error.number(), number);
+        refuses_changed(&rt, rt.alloc(), at, value, error, number);
     }
     Ok(())
 }
 
 #[test]
 fn last_number_of_a_batch_is_in_its_range(rt: HostRuntime) -> Result<(), Fail> {
-    let packets = query_and_clear().ok_or("packets")?;
+    let packets = query_and_clear(&rt);
     let frame = Frame::data(NEW_FROM_ONE, GREATEST_NUMBER - 1, 0, packets);
-    assert_eq!(rt; decode(&encode(&frame)), Ok(frame));
+    same(&rt, &decode(&encode(&frame)), &Ok(frame), "the last number");
     let text =
         "0202003000000001000000020000000000000005000000000000000940000000000000000000000000000000\
                 0200000001010000000000040103000000000004000000000000000700000003";
-    let bytes = hex::decode(rt.alloc(), text)?;
-    assert_eq!(rt; decode(&bytes), Err(FrameError::Count));
+    let bytes = bytes_of(&rt, rt.alloc(), text);
+    same(
+        &rt,
+        &decode(&bytes),
+        &Err(FrameError::Count),
+        "one packet more",
+    );
     Ok(())
 }
 
 #[test]
 fn longest_frame_is_read(rt: HostRuntime) -> Result<(), Fail> {
-    let packets = Packets::from([update().ok_or("update")?; MOST_PACKETS]);
+    let packets = Packets::from([update(&rt, 7, 3, 1, -1, 2); MOST_PACKETS]);
     let frame = Frame::data(NEW_FROM_TWO, 1, 0, packets);
     let bytes = encode(&frame);
-    assert_eq!(rt; bytes.len(), LONGEST_FRAME);
-    assert_eq!(rt; decode(&bytes), Ok(frame));
+    same(&rt, &bytes.len(), &LONGEST_FRAME, "the length");
+    same(&rt, &decode(&bytes), &Ok(frame), "the frame");
     Ok(())
 }
 
@@ -402,24 +440,22 @@ fn plain_packets(bytes: &[u8]) -> Option<PacketError> {
 fn check(rt: &impl Abort, bytes: &[u8]) {
     let fault = plain_layout(bytes).or(plain_fields(bytes));
     match (fault, decode(bytes)) {
-        (Some(number), answer) => assert_eq!(rt;
-            answer.map_err(FrameError::number),
-            Err(number),
-            "{bytes:?}"
-        ),
-        (None, Ok(frame)) => assert_eq!(rt; encode(&frame).as_slice(), bytes),
-        (None, Err(error)) => assert_eq!(rt;
-            plain_packets(bytes).map(FrameError::Packet),
-            Some(error),
-            "{bytes:?}"
-        ),
+        (Some(number), answer) => {
+            let answer = answer.map_err(FrameError::number);
+            same_at(rt, &answer, &Err(number), "the fault", &bytes);
+        }
+        (None, Ok(frame)) => same(rt, &encode(&frame).as_slice(), &bytes, "the spelling"),
+        (None, Err(error)) => {
+            let expected = plain_packets(bytes).map(FrameError::Packet);
+            same_at(rt, &expected, &Some(error), "the packets' fault", &bytes);
+        }
     }
 }
 
 #[test]
 fn cut_and_changed_frames(rt: HostRuntime) -> Result<(), Fail> {
     for text in VECTORS {
-        let mut bytes = hex::decode(rt.alloc(), text)?;
+        let mut bytes = bytes_of(&rt, rt.alloc(), text);
         for end in 0..=bytes.len() {
             check(&rt, &bytes[..end]);
         }
@@ -446,8 +482,8 @@ fn example_of_the_documentation(rt: HostRuntime) -> Result<(), Fail> {
     };
     let frame = Frame::ack(header, 3);
     let bytes = encode(&frame);
-    assert_eq!(rt; bytes.len(), 36);
-    assert_eq!(rt; decode(&bytes), Ok(frame));
+    same(&rt, &bytes.len(), &36, "the length");
+    same(&rt, &decode(&bytes), &Ok(frame), "the frame");
     Ok(())
 }
 
@@ -480,9 +516,6 @@ fn errors_are_printed_with_their_cause(rt: HostRuntime) -> Result<(), Fail> {
             "how many packets there are is out of its range",
         ),
     ];
-    for (error, text) in rows {
-        let printed = format!(in rt.alloc(); "{error}")?;
-        assert_eq!(rt; printed.as_str(), text);
-    }
+    prints_each(&rt, rt.alloc(), &rows);
     Ok(())
 }

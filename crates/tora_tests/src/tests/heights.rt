@@ -1,14 +1,17 @@
 //! The example of the documentation, and texts.
+use super::made::height;
+use super::sees::{prints_each, same, sees};
 use std::test::*;
 use tora_height::*;
 
 #[test]
 fn example_of_the_documentation(rt: HostRuntime) -> Result<(), Fail> {
-    let own = Height::new(0, 0, 0, 2, 2).ok().ok_or("no height")?;
-    let neighbour = Height::new(0, 0, 0, 1, 3).ok().ok_or("no height")?;
-    assert!(rt; neighbour < own);
-    assert_eq!(rt; status(Some(own), Some(neighbour)), Direction::Down);
-    assert_eq!(rt; own.level(), neighbour.level());
+    let own = height(&rt, 0, 0, 0, 2, 2);
+    let neighbour = height(&rt, 0, 0, 0, 1, 3);
+    sees(&rt, neighbour < own, "the neighbour is lower");
+    let way = status(Some(own), Some(neighbour));
+    same(&rt, &way, &Direction::Down, "the direction");
+    same(&rt, &own.level(), &neighbour.level(), "the level");
     Ok(())
 }
 
@@ -23,9 +26,6 @@ fn errors_are_printed_with_their_cause(rt: HostRuntime) -> Result<(), Fail> {
         ),
         (HeightError::Id, "id is 0"),
     ];
-    for (error, text) in rows {
-        let printed = format!(in rt.alloc(); "{error}")?;
-        assert_eq!(rt; printed.as_str(), text);
-    }
+    prints_each(&rt, rt.alloc(), &rows);
     Ok(())
 }

@@ -1,13 +1,15 @@
 //! Worked exchanges of frames of version 1, and frames that no honest peer sends.
 ghost use Rattle.std.specs.Prelude.{◌≢◌, ◌<◌, ◌≤◌, ◌^◌};
 
+use super::made::{query_of, update};
+use super::sees::{prints, prints_each, same, same_at, same_text, sees};
 use std::alloc::Global;
 use std::process::Abort;
 use std::test::Fail;
 use tora_arq::{ArqError, Life, LinkEnd, LinkEvent, Reason, SubmitError, Times, Verdict};
 use tora_frame::{Body, Frame, GREATEST_NUMBER, Header, Packets, Version};
-use tora_height::{Height, Id};
-use tora_packet::{Packet, Update};
+use tora_height::Id;
+use tora_packet::Packet;
 
 const LIFE: Life = Life { own: 5, peer: 9 };
 
@@ -17,11 +19,6 @@ enum Sent {
     Hello,
     Data(u64),
     Ack(u64),
-}
-
-fn query(rt: &impl Abort, number: u64) -> Packet {
-    let destination = Id::try_from(number).unwrap_or(Id::MAX);
-    Packet::qry(destination).expect(rt, "a query")
 }
 
 /// A frame from 2 to 1 in a life, which heard a life.
@@ -43,49 +40,94 @@ fn frame(rt: &impl Abort, life: u64, heard: u64, sent: Sent) -> Frame {
     if number == 0 {
         return Frame::ack(header, count);
     }
-    Frame::one(header, number, count, query(rt, number))
+    Frame::one(header, number, count, query_of(rt, number))
 }
 
 /// What a DATA frame with this number and no packet accepted carries: the query for the number.
 fn data_body(rt: &impl Abort, number: u64) -> Body {
     let mut packets = Packets::new();
-    packets.push(query(rt, number));
+    packets.push(query_of(rt, number));
     Body::Data(number, 0, packets)
+}
+
+/// Hands a frame in at a tick, and sees the verdict that it gets; `what` tells the frame.
+fn hears(
+    rt: &impl Abort,
+    end: &mut LinkEnd,
+    frame: &Frame,
+    now: u64,
+    verdict: Verdict,
+    what: &str,
+) {
+    same_at(rt, &end.on_frame(frame, now), &verdict, what, frame);
 }
 
 /// Hands frames in at tick 0, each with its life, the life heard and the verdict that it gets.
 fn takes(rt: &impl Abort, end: &mut LinkEnd, rows: &[(u64, u64, Sent, Verdict)]) {
     for (life, heard, sent, verdict) in rows {
         let frame = frame(rt, *life, *heard, *sent);
-        assert_eq!(rt; end.on_frame(&frame, 0), *verdict, "{frame:?}");
+        hears(rt, end, &frame, 0, *verdict, "the verdict");
     }
+}
+
+/// Polls an event, and sees that it is this, or that there is none.
+fn polls(rt: &impl Abort, end: &mut LinkEnd, event: Option<LinkEvent>) {
+    same(rt, &end.poll_event(), &event, "the event");
 }
 
 /// Polls the events, and sees that they are just these.
 fn tells(rt: &impl Abort, end: &mut LinkEnd, events: &[LinkEvent]) {
     for event in events {
-        assert_eq!(rt; end.poll_event(), Some(*event));
+        polls(rt, end, Some(*event));
     }
-    assert_eq!(rt; end.poll_event(), None);
+    polls(rt, end, None);
 }
 
 /// Polls the events, and sees that they deliver just the packets with these numbers, first to last.
 fn tells_packets(rt: &impl Abort, end: &mut LinkEnd, life: Life, first: u64, last: u64) {
     for number in first..=last {
-        let event = LinkEvent::Deliver(life, query(rt, number));
-        assert_eq!(rt; end.poll_event(), Some(event));
+        polls(
+            rt,
+            end,
+            Some(LinkEvent::Deliver(life, query_of(rt, number))),
+        );
     }
-    assert_eq!(rt; end.poll_event(), None);
+    polls(rt, end, None);
+}
+
+/// Polls the first frame that is due at a tick.
+fn due(rt: &impl Abort, end: &mut LinkEnd, now: u64) -> Frame {
+    end.poll_transmit(now).expect(rt, "a frame")
+}
+
+/// Sees that no frame is due at a tick.
+fn owes_nothing(rt: &impl Abort, end: &mut LinkEnd, now: u64) {
+    same_at(rt, &end.poll_transmit(now), &None, "no frame", &now);
 }
 
 /// Polls the frames due at a tick, and sees that they carry just this, in the life {5, 9}.
 fn sends(rt: &impl Abort, end: &mut LinkEnd, now: u64, bodies: &[Body]) {
     for body in bodies {
-        let frame = end.poll_transmit(now).expect(rt, "a frame");
-        assert_eq!(rt; *frame.body(), *body, "at {now}");
-        assert_eq!(rt; frame.header().heard, 9);
+        let frame = due(rt, end, now);
+        same_at(rt, frame.body(), body, "the body", &now);
+        same(rt, &frame.header().heard, &9, "the life heard");
     }
-    assert_eq!(rt; end.poll_transmit(now), None, "at {now}");
+    owes_nothing(rt, end, now);
+}
+
+/// Submits a packet, which is taken.
+fn submits(rt: &impl Abort, end: &mut LinkEnd, packet: Packet) {
+    same(rt, &end.submit(LIFE, packet), &Ok(()), "submitted");
+}
+
+/// Sees the life that an end is bound to.
+fn lives_in(rt: &impl Abort, end: &LinkEnd, life: Option<Life>) {
+    same(rt, &end.life(), &life, "the life");
+}
+
+/// Sees how many packets wait in the send queue.
+fn waits(rt: &impl Abort, end: &LinkEnd, count: usize) {
+    same(rt, &end.waiting(), &count, "how many packets wait");
 }
 
 fn opened(rt: &impl Abort, end: &mut LinkEnd, life: u64)
@@ -94,7 +136,7 @@ fn opened(rt: &impl Abort, end: &mut LinkEnd, life: u64)
     assert!(rt; end.is_closed());
     assert!(rt; end.last_life() < life);
     end.open(life, 0);
-    assert_eq!(rt; end.last_life(), life);
+    same(rt, &end.last_life(), &life, "the last life");
 }
 
 fn end_of(rt: &impl Abort, alloc: Global, me: Id, peer: Id, life: u64) -> LinkEnd
@@ -106,6 +148,16 @@ fn end_of(rt: &impl Abort, alloc: Global, me: Id, peer: Id, life: u64) -> LinkEn
     end_with(rt, alloc, me, peer, life, Times::STANDARD)
 }
 
+/// Node 1's end of the link to 2, opened with 5.
+fn first_end(rt: &impl Abort, alloc: Global) -> LinkEnd {
+    end_of(rt, alloc, 1, 2, 5)
+}
+
+/// Node 2's end of the link to 1, opened with 9.
+fn second_end(rt: &impl Abort, alloc: Global) -> LinkEnd {
+    end_of(rt, alloc, 2, 1, 9)
+}
+
 fn end_with(rt: &impl Abort, alloc: Global, me: Id, peer: Id, life: u64, times: Times) -> LinkEnd
     requires me { 0 < me }
     requires peer { 0 < peer }
@@ -114,15 +166,16 @@ fn end_with(rt: &impl Abort, alloc: Global, me: Id, peer: Id, life: u64, times: 
 {
     assert!(rt; times.hello > 0 && times.silent > 0 && times.retry > 0 && times.tries > 0);
     let mut end = LinkEnd::new_v1(alloc, me, peer, times).expect(rt, "memory");
-    assert_eq!(rt; (end.me(), end.peer(), end.times()), (me, peer, times));
-    assert_eq!(rt; end.version(), Version::One);
+    same(rt, &(end.me(), end.peer()), &(me, peer), "the nodes");
+    same(rt, &end.times(), &times, "the times");
+    same(rt, &end.version(), &Version::One, "the version");
     opened(rt, &mut end, life);
     end
 }
 
 /// Node 1's end of the link to 2, bound to the life {5, 9} at tick 0; its HELLO is sent and its event is polled.
 fn bound_end(rt: &impl Abort, alloc: Global) -> LinkEnd {
-    let mut end = end_of(rt, alloc, 1, 2, 5);
+    let mut end = first_end(rt, alloc);
     takes(rt, &mut end, &[(9, 5, Sent::Hello, Verdict::Accepted)]);
     tells(rt, &mut end, &[LinkEvent::Up(LIFE)]);
     sends(rt, &mut end, 0, &[Body::Hello]);
@@ -131,24 +184,25 @@ fn bound_end(rt: &impl Abort, alloc: Global) -> LinkEnd {
 
 /// Sends the HELLO that is due at tick 0 from one end to the other.
 fn greets(rt: &impl Abort, from: &mut LinkEnd, to: &mut LinkEnd, life: u64, heard: u64) {
-    let hello = from.poll_transmit(0).expect(rt, "a HELLO");
-    assert_eq!(rt; *hello.body(), Body::Hello);
-    assert_eq!(rt; (hello.header().life, hello.header().heard), (life, heard));
-    assert_eq!(rt; to.on_frame(&hello, 0), Verdict::Accepted);
+    let hello = due(rt, from, 0);
+    let lives = (hello.header().life, hello.header().heard);
+    same(rt, hello.body(), &Body::Hello, "a HELLO");
+    same(rt, &lives, &(life, heard), "the lives of a HELLO");
+    hears(rt, to, &hello, 0, Verdict::Accepted, "the HELLO's verdict");
 }
 
 #[test]
 fn three_hellos_bind_both_ends(rt: HostRuntime) -> Result<(), Fail> {
-    let mut one = end_of(&rt, rt.alloc(), 1, 2, 5);
-    let mut two = end_of(&rt, rt.alloc(), 2, 1, 9);
+    let mut one = first_end(&rt, rt.alloc());
+    let mut two = second_end(&rt, rt.alloc());
     greets(&rt, &mut one, &mut two, 5, 0);
-    assert_eq!(&rt; one.life(), None);
+    lives_in(&rt, &one, None);
     greets(&rt, &mut two, &mut one, 9, 5);
     tells(&rt, &mut one, &[LinkEvent::Up(LIFE)]);
     tells(&rt, &mut two, &[]);
     greets(&rt, &mut one, &mut two, 5, 9);
     tells(&rt, &mut two, &[LinkEvent::Up(Life { own: 9, peer: 5 })]);
-    assert_eq!(&rt; one.life(), Some(LIFE));
+    lives_in(&rt, &one, Some(LIFE));
     Ok(())
 }
 
@@ -187,20 +241,20 @@ fn bound_link(rt: &impl Abort, alloc: Global, times: Times) -> Link {
 /// Hands the frames due at a tick from one end to the other, each with the verdict that it gets.
 fn hands(rt: &impl Abort, from: &mut LinkEnd, to: &mut LinkEnd, now: u64, verdicts: &[Verdict]) {
     for verdict in verdicts {
-        let frame = from.poll_transmit(now).expect(rt, "a frame");
-        assert_eq!(rt; to.on_frame(&frame, now), *verdict, "{frame:?}");
+        let frame = due(rt, from, now);
+        hears(rt, to, &frame, now, *verdict, "the verdict");
     }
-    assert_eq!(rt; from.poll_transmit(now), None);
+    owes_nothing(rt, from, now);
 }
 
 #[test]
 fn window_delivers_in_order_after_a_loss(rt: HostRuntime) -> Result<(), Fail> {
     let Link { mut one, mut two } = bound_link(&rt, rt.alloc(), Times::STANDARD);
     for number in [1, 2, 3] {
-        assert_eq!(&rt; one.submit(LIFE, query(&rt, number)), Ok(()));
+        submits(&rt, &mut one, query_of(&rt, number));
     }
-    let lost = one.poll_transmit(0).expect(&rt, "a frame");
-    assert_eq!(&rt; *lost.body(), data_body(&rt, 1));
+    let lost = due(&rt, &mut one, 0);
+    same(&rt, lost.body(), &data_body(&rt, 1), "the lost frame");
     hands(
         &rt,
         &mut one,
@@ -214,7 +268,7 @@ fn window_delivers_in_order_after_a_loss(rt: HostRuntime) -> Result<(), Fail> {
     hands(&rt, &mut one, &mut two, 5, &again);
     tells_packets(&rt, &mut two, LIFE.reversed(), 1, 3);
     hands(&rt, &mut two, &mut one, 5, &[Verdict::Accepted]);
-    assert_eq!(&rt; one.waiting(), 0);
+    waits(&rt, &one, 0);
     Ok(())
 }
 
@@ -235,7 +289,7 @@ fn packets_are_held_up_to_the_window(rt: HostRuntime) -> Result<(), Fail> {
 fn data(rt: &impl Abort, number: u64, destination: u64) -> Frame {
     let header = *frame(rt, 9, 5, Sent::Hello).header();
     assert!(rt; header.heard > 0 && number > 0 && number <= GREATEST_NUMBER);
-    Frame::one(header, number, 0, query(rt, destination))
+    Frame::one(header, number, 0, query_of(rt, destination))
 }
 
 #[test]
@@ -247,7 +301,7 @@ fn packet_held_first_stays(rt: HostRuntime) -> Result<(), Fail> {
         (1, 6, Verdict::Accepted),
     ] {
         let data = data(&rt, number, destination);
-        assert_eq!(&rt; end.on_frame(&data, 0), verdict);
+        hears(&rt, &mut end, &data, 0, verdict, "the verdict");
     }
     tells_packets(&rt, &mut end, LIFE, 6, 7);
     Ok(())
@@ -275,7 +329,7 @@ fn due_at<'a>(now: u64, both: &'a [Body], data: &'a [Body]) -> &'a [Body] {
 #[test]
 fn unanswered_packet_is_retried_then_silent(rt: HostRuntime) -> Result<(), Fail> {
     let mut end = bound_end(&rt, rt.alloc());
-    assert_eq!(&rt; end.submit(LIFE, query(&rt, 1)), Ok(()));
+    submits(&rt, &mut end, query_of(&rt, 1));
     let data = [data_body(&rt, 1)];
     let both = [Body::Hello, data_body(&rt, 1)];
     for now in 0..40 {
@@ -302,7 +356,7 @@ fn unheard_peer_ends_the_life(rt: HostRuntime) -> Result<(), Fail> {
 fn acknowledged_packets_leave_the_queue(rt: HostRuntime) -> Result<(), Fail> {
     let mut end = bound_end(&rt, rt.alloc());
     for number in [1, 2] {
-        assert_eq!(&rt; end.submit(LIFE, query(&rt, number)), Ok(()));
+        submits(&rt, &mut end, query_of(&rt, number));
     }
     takes(&rt, &mut end, &[(9, 5, Sent::Ack(1), Verdict::Foreign)]);
     let both = [data_body(&rt, 1), data_body(&rt, 2)];
@@ -313,9 +367,9 @@ fn acknowledged_packets_leave_the_queue(rt: HostRuntime) -> Result<(), Fail> {
         (9, 5, Sent::Ack(1), Verdict::Accepted),
         (9, 5, Sent::Ack(1), Verdict::Repeated),
     ];
-    assert_eq!(&rt; end.waiting(), 2);
+    waits(&rt, &end, 2);
     takes(&rt, &mut end, &rows);
-    assert_eq!(&rt; end.waiting(), 1);
+    waits(&rt, &end, 1);
     sends(&rt, &mut end, 5, &[data_body(&rt, 2)]);
     Ok(())
 }
@@ -359,13 +413,20 @@ fn frames_of_other_nodes(rt: HostRuntime) -> Result<(), Fail> {
             ..*frame(&rt, 9, 5, Sent::Hello).header()
         };
         assert!(&rt; sender > 0 && receiver > 0 && sender != receiver);
-        assert_eq!(&rt; end.on_frame(&Frame::hello(header), 0), Verdict::Foreign);
+        let hello = Frame::hello(header);
+        hears(&rt, &mut end, &hello, 0, Verdict::Foreign, "another node's");
     }
-    let update = Update::new(4, Height::new(0, 0, 0, 1, 3)?)?;
     let header = *frame(&rt, 9, 5, Sent::Hello).header();
     assert!(&rt; header.heard > 0);
-    let data = Frame::one(header, 1, 0, Packet::Upd(update));
-    assert_eq!(&rt; end.on_frame(&data, 0), Verdict::Foreign);
+    let data = Frame::one(header, 1, 0, update(&rt, 0, 0, 0, 1, 3));
+    hears(
+        &rt,
+        &mut end,
+        &data,
+        0,
+        Verdict::Foreign,
+        "another node's update",
+    );
     tells(&rt, &mut end, &[]);
     Ok(())
 }
@@ -381,15 +442,15 @@ fn busy_end_has_a_place_for_its_down(rt: HostRuntime) -> Result<(), Fail> {
         );
     }
     takes(&rt, &mut end, &[(9, 5, Sent::Data(32), Verdict::Busy)]);
-    let first = LinkEvent::Deliver(LIFE, query(&rt, 1));
-    assert_eq!(&rt; end.poll_event(), Some(first));
+    let first = LinkEvent::Deliver(LIFE, query_of(&rt, 1));
+    polls(&rt, &mut end, Some(first));
     takes(&rt, &mut end, &[(9, 5, Sent::Data(32), Verdict::Accepted)]);
     end.cut(Life { own: 4, peer: 9 });
-    assert_eq!(&rt; end.life(), Some(LIFE));
+    lives_in(&rt, &end, Some(LIFE));
     end.cut(LIFE);
     for number in 2..33 {
-        let next = LinkEvent::Deliver(LIFE, query(&rt, number));
-        assert_eq!(&rt; end.poll_event(), Some(next));
+        let next = LinkEvent::Deliver(LIFE, query_of(&rt, number));
+        polls(&rt, &mut end, Some(next));
     }
     tells(&rt, &mut end, &[LinkEvent::Down(LIFE, Reason::Cut)]);
     Ok(())
@@ -397,8 +458,9 @@ fn busy_end_has_a_place_for_its_down(rt: HostRuntime) -> Result<(), Fail> {
 
 /// Sees that a packet of this life is handed back.
 fn hands_back(rt: &impl Abort, end: &mut LinkEnd, life: Life) {
-    let answer = end.submit(life, query(rt, 4));
-    assert_eq!(rt; answer, Err(SubmitError::WrongLife(query(rt, 4))));
+    let answer = end.submit(life, query_of(rt, 4));
+    let expected = Err(SubmitError::WrongLife(query_of(rt, 4)));
+    same(rt, &answer, &expected, "the packet that is handed back");
 }
 
 #[test]
@@ -406,9 +468,10 @@ fn full_send_queue_ends_the_life(rt: HostRuntime) -> Result<(), Fail> {
     let mut end = bound_end(&rt, rt.alloc());
     hands_back(&rt, &mut end, Life { own: 5, peer: 8 });
     for _ in 0..256 {
-        assert_eq!(&rt; end.submit(LIFE, query(&rt, 4)), Ok(()));
+        submits(&rt, &mut end, query_of(&rt, 4));
     }
-    assert_eq!(&rt; end.submit(LIFE, query(&rt, 4)), Err(SubmitError::Full));
+    let answer = end.submit(LIFE, query_of(&rt, 4));
+    same(&rt, &answer, &Err(SubmitError::Full), "one packet more");
     tells(&rt, &mut end, &[LinkEvent::Down(LIFE, Reason::Full)]);
     hands_back(&rt, &mut end, LIFE);
     Ok(())
@@ -418,23 +481,29 @@ fn full_send_queue_ends_the_life(rt: HostRuntime) -> Result<(), Fail> {
 fn clock_that_goes_back_counts_as_no_time(rt: HostRuntime) -> Result<(), Fail> {
     let mut end = bound_end(&rt, rt.alloc());
     let hello = frame(&rt, 9, 5, Sent::Hello);
-    assert_eq!(&rt; end.on_frame(&hello, u64::MAX), Verdict::Accepted);
+    hears(
+        &rt,
+        &mut end,
+        &hello,
+        u64::MAX,
+        Verdict::Accepted,
+        "the HELLO",
+    );
     end.on_tick(0);
     sends(&rt, &mut end, 0, &[]);
     end.on_tick(u64::MAX);
-    assert_eq!(&rt; end.life(), Some(LIFE));
+    lives_in(&rt, &end, Some(LIFE));
     Ok(())
 }
 
 #[test]
 fn an_end_is_printed(rt: HostRuntime) -> Result<(), Fail> {
-    let end = end_of(&rt, rt.alloc(), 1, 2, 5);
+    let end = first_end(&rt, rt.alloc());
     let text = format!(in rt.alloc(); "{end:?}")?;
-    assert!(&rt;
-        text.as_str().starts_with("LinkEnd { settings: Settings { version: One, me: 1, peer: 2,")
-    );
+    let start = "LinkEnd { settings: Settings { version: One, me: 1, peer: 2,";
+    sees(&rt, text.as_str().starts_with(start), "the end's text");
     let words = format!(in rt.alloc(); "{} {}", Reason::NewPeer, Verdict::Ahead)?;
-    assert_eq!(&rt; words.as_str(), "new peer ahead");
+    same_text(&rt, words.as_str(), "new peer ahead", "the words");
     Ok(())
 }
 
@@ -452,31 +521,32 @@ fn exchange(from: &mut LinkEnd, to: &mut LinkEnd) {
 
 #[test]
 fn example_of_the_documentation(rt: HostRuntime) -> Result<(), Fail> {
-    let mut one = end_of(&rt, rt.alloc(), 1, 2, 5);
-    let mut two = end_of(&rt, rt.alloc(), 2, 1, 9);
+    let mut one = first_end(&rt, rt.alloc());
+    let mut two = second_end(&rt, rt.alloc());
     for _ in 0..2 {
         exchange(&mut one, &mut two);
         exchange(&mut two, &mut one);
     }
     let up = LinkEvent::Up(Life { own: 5, peer: 9 });
-    assert_eq!(&rt; one.poll_event(), Some(up));
+    polls(&rt, &mut one, Some(up));
     Ok(())
 }
 
 /// An end that was made takes no memory any more: a life is opened and bound, packets wait until the queue is full, and the
 /// life ends.
 fn lives(rt: &impl Abort, mut end: LinkEnd) {
-    assert_eq!(rt; (end.me(), end.peer(), end.waiting()), (1, 2, 0));
+    same(rt, &(end.me(), end.peer()), &(1, 2), "the nodes");
+    waits(rt, &end, 0);
     opened(rt, &mut end, 5);
     takes(rt, &mut end, &[(9, 5, Sent::Hello, Verdict::Accepted)]);
     tells(rt, &mut end, &[LinkEvent::Up(LIFE)]);
     for number in 1..257 {
-        assert_eq!(rt; end.submit(LIFE, query(rt, number)), Ok(()));
+        submits(rt, &mut end, query_of(rt, number));
     }
     takes(rt, &mut end, &[(9, 5, Sent::Data(32), Verdict::Ahead)]);
-    assert_eq!(rt; end.waiting(), 256);
-    let one_more = end.submit(LIFE, query(rt, 257));
-    assert_eq!(rt; one_more, Err(SubmitError::Full));
+    waits(rt, &end, 256);
+    let one_more = end.submit(LIFE, query_of(rt, 257));
+    same(rt, &one_more, &Err(SubmitError::Full), "one packet more");
     tells(rt, &mut end, &[LinkEvent::Down(LIFE, Reason::Full)]);
 }
 
@@ -486,11 +556,11 @@ fn lives(rt: &impl Abort, mut end: LinkEnd) {
 fn want_of_memory_is_answered(rt: HostRuntime) {
     for _ in 0..2 {
         match LinkEnd::new(rt.alloc(), 1, 2, Times::STANDARD) {
-            Err(error) => assert_eq!(&rt; error, ArqError::Memory),
+            Err(error) => same(&rt, &error, &ArqError::Memory, "the error"),
             Ok(end) => lives(&rt, end),
         }
         match LinkEnd::new_v1(rt.alloc(), 1, 2, Times::STANDARD) {
-            Err(error) => assert_eq!(&rt; error, ArqError::Memory),
+            Err(error) => same(&rt, &error, &ArqError::Memory, "the error"),
             Ok(end) => lives(&rt, end),
         }
     }
@@ -500,17 +570,13 @@ fn want_of_memory_is_answered(rt: HostRuntime) {
 fn errors_are_printed_with_their_cause(rt: HostRuntime) -> Result<(), Fail> {
     let rows = [
         (
-            SubmitError::WrongLife(query(&rt, 4)),
+            SubmitError::WrongLife(query_of(&rt, 4)),
             "the life is not the bound one",
         ),
         (SubmitError::Full, "the send queue is full"),
         (SubmitError::Spent, "the numbers of packets are used up"),
     ];
-    for (error, text) in rows {
-        let printed = format!(in rt.alloc(); "{error}")?;
-        assert_eq!(&rt; printed.as_str(), text);
-    }
-    let printed = format!(in rt.alloc(); "{}", ArqError::Memory)?;
-    assert_eq!(&rt; printed.as_str(), "out of memory");
+    prints_each(&rt, rt.alloc(), &rows);
+    prints(&rt, rt.alloc(), &ArqError::Memory, "out of memory");
     Ok(())
 }

@@ -70,6 +70,16 @@ fn parts_of(update: &tora_packet::Update) -> Parts {
     }
 }
 
+/// Whether a number is in a list.
+fn has(numbers: &[Id], k: Id) -> bool {
+    for n in numbers {
+        if *n == k {
+            return true;
+        }
+    }
+    false
+}
+
 fn zero(destination: Id) -> Parts {
     Parts {
         tau: 0,
@@ -125,7 +135,12 @@ fn higher_level(a: &Parts, b: &Parts) -> bool {
 
 impl PlainView {
     fn has_down(&self) -> bool {
-        self.rows.iter().any(|row| is_down(self.height, row.entry))
+        for row in self.rows.iter() {
+            if is_down(self.height, row.entry) {
+                return true;
+            }
+        }
+        false
     }
 
     fn lacks_down(&self) -> bool {
@@ -278,7 +293,12 @@ impl PlainView {
         } else {
             None
         };
-        let at = self.rows.iter().filter(|row| row.neighbour < k).count();
+        let mut at = 0usize;
+        for row in self.rows.iter() {
+            if row.neighbour < k {
+                at = at.saturating_add(1);
+            }
+        }
         let row = PlainRow {
             neighbour: k,
             entry,
@@ -332,8 +352,10 @@ impl PlainView {
         if self.height.is_none() {
             return self.join();
         }
-        if self.rows.iter().any(|row| row.neighbour == k && row.told) {
-            return None;
+        for row in self.rows.iter() {
+            if row.neighbour == k && row.told {
+                return None;
+            }
         }
         self.tell()
     }
@@ -405,15 +427,23 @@ impl Plain {
         })
     }
 
+    fn knows(&self, destination: Id) -> bool {
+        for view in self.views.iter() {
+            if view.destination == destination {
+                return true;
+            }
+        }
+        false
+    }
+
     fn is_up(&self, k: Id) -> bool {
-        self.up.iter().any(|n| *n == k)
+        has(self.up.as_slice(), k)
     }
 
     fn refusal(&self, input: &Input) -> Option<StepError> {
         let (k, wants_up) = match input {
             Input::Need(d) => {
-                let known = self.views.iter().any(|view| view.destination == *d);
-                return if known {
+                return if self.knows(*d) {
                     None
                 } else {
                     Some(StepError::UnknownDestination)
@@ -423,7 +453,7 @@ impl Plain {
             Input::LinkDown(k) => (*k, true),
             Input::Packet(k, _) => (*k, true),
         };
-        if !self.neighbours.iter().any(|n| *n == k) {
+        if !has(self.neighbours.as_slice(), k) {
             return Some(StepError::UnknownNeighbour);
         }
         if wants_up && !self.is_up(k) {

@@ -1,12 +1,13 @@
 //! Items served over lanes that fill up.
 
+use super::made::query_for;
+use super::sees::{prints_each, same, same_at, same_text, sees};
 use std::alloc::Global;
 use std::process::Abort;
 use std::test::Fail;
 use tora_arq::{Life, Reason};
 use tora_core::{Core, Input, StepError};
 use tora_height::Id;
-use tora_packet::Packet;
 use tora_seat::{Answer, Cargo, CoreSeat, Item, OutLanes, Stepped, What};
 
 mod line;
@@ -70,21 +71,42 @@ impl OutLanes for TestLanes {
     }
 }
 
-/// The query for a destination.
-fn query(rt: &impl Abort, destination: Id) -> Packet {
-    Packet::qry(destination).expect(rt, "a query")
-}
-
 /// Serves what a seat tells, and sees what is answered.
 fn serves(rt: &impl Abort, seat: &mut CoreSeat, lanes: &mut TestLanes, at: usize, what: What) {
-    assert_eq!(rt; seat.core().neighbours().len(), 2);
+    assert!(rt; seat.core().neighbours().len() == 2);
     let item = Item {
         seat: at,
         number: 1,
         now: 1,
         what,
     };
-    assert_eq!(rt; seat.serve(&item, lanes), Answer::Nothing);
+    let answer = seat.serve(&item, lanes);
+    same_at(rt, &answer, &Answer::Nothing, "the answer", &item);
+}
+
+/// Sees how many cargoes were offered.
+fn has_offered(rt: &impl Abort, lanes: &TestLanes, count: usize) {
+    same(rt, &lanes.offers.len(), &count, "how many cargoes");
+}
+
+/// Sees the inputs that were handed to the core at the last item.
+fn hands(rt: &impl Abort, seat: &CoreSeat, inputs: &[Input]) {
+    same(rt, &seat.inputs(), &inputs, "the inputs");
+}
+
+/// Sees the packet that the core took at the last item.
+fn steps(rt: &impl Abort, seat: &CoreSeat, stepped: Option<Stepped>) {
+    same(rt, &seat.stepped(), &stepped, "what was stepped");
+}
+
+/// Sees the current life of the link at a place.
+fn lives_in(rt: &impl Abort, seat: &CoreSeat, place: usize, life: Option<Life>) {
+    same_at(rt, &seat.current(place), &life, "the life", &place);
+}
+
+/// Sees the life at a place that is still to be cut.
+fn has_to_cut(rt: &impl Abort, seat: &CoreSeat, place: usize, life: Option<Life>) {
+    same_at(rt, &seat.pending(place), &life, "the life to cut", &place);
 }
 
 /// Node 1 needs a route to each of 4 to 8, the link to 2 is up, and so many cargoes wait in its lane.
@@ -100,7 +122,7 @@ fn needing(rt: &impl Abort, alloc: Global, waiting: usize) -> Result<(CoreSeat, 
         serves(rt, &mut seat, &mut lanes, 2, What::Need(d));
     }
     serves(rt, &mut seat, &mut lanes, 0, What::Up(FIRST));
-    assert_eq!(rt; lanes.offers.len(), 5);
+    has_offered(rt, &lanes, 5);
     lanes.offers.clear();
     lanes.first = waiting;
     Ok((seat, lanes))
@@ -108,14 +130,14 @@ fn needing(rt: &impl Abort, alloc: Global, waiting: usize) -> Result<(CoreSeat, 
 
 /// Sees that just these cargoes were offered, each with its place and whether it was put.
 fn offers(rt: &impl Abort, lanes: &TestLanes, rows: &[(usize, Cargo, bool)]) {
-    assert_eq!(rt; lanes.offers.len(), rows.len());
+    has_offered(rt, lanes, rows.len());
     for ((place, cargo, put), offered) in rows.iter().zip(lanes.offers.iter()) {
         let expected = Offered {
             place: *place,
             cargo: *cargo,
             put: *put,
         };
-        assert_eq!(rt; *offered, expected);
+        same(rt, offered, &expected, "the cargo");
     }
 }
 
@@ -123,8 +145,8 @@ fn offers(rt: &impl Abort, lanes: &TestLanes, rows: &[(usize, Cargo, bool)]) {
 fn handed_back_packet_cuts_its_life(rt: HostRuntime) -> Result<(), Fail> {
     let (mut seat, mut lanes) = needing(&rt, rt.alloc(), 254)?;
     serves(&rt, &mut seat, &mut lanes, 1, What::Up(SECOND));
-    let to_2 = |d: Id| Cargo::Packet(FIRST, query(&rt, d));
-    let to_3 = |d: Id| Cargo::Packet(SECOND, query(&rt, d));
+    let to_2 = |d: Id| Cargo::Packet(FIRST, query_for(&rt, d));
+    let to_3 = |d: Id| Cargo::Packet(SECOND, query_for(&rt, d));
     let expected = [
         (0, to_2(4), true),
         (1, to_3(4), true),
@@ -137,16 +159,16 @@ fn handed_back_packet_cuts_its_life(rt: HostRuntime) -> Result<(), Fail> {
     ];
     offers(&rt, &lanes, &expected);
     let inputs = [Input::LinkUp(3), Input::LinkDown(2)];
-    assert_eq!(rt; seat.inputs(), inputs.as_slice());
-    assert_eq!(rt; seat.current(0), None);
-    assert_eq!(rt; seat.pending(0), Some(FIRST));
-    assert_eq!(rt; seat.current(1), Some(SECOND));
+    hands(&rt, &seat, &inputs);
+    lives_in(&rt, &seat, 0, None);
+    has_to_cut(&rt, &seat, 0, Some(FIRST));
+    lives_in(&rt, &seat, 1, Some(SECOND));
     lanes.offers.clear();
-    let late = What::Packet(FIRST, query(&rt, 4));
+    let late = What::Packet(FIRST, query_for(&rt, 4));
     serves(&rt, &mut seat, &mut lanes, 0, late);
     offers(&rt, &lanes, &[(0, Cargo::Cut(FIRST), false)]);
-    assert_eq!(rt; seat.inputs().len(), 0);
-    assert_eq!(rt; seat.stepped(), None);
+    hands(&rt, &seat, &[]);
+    steps(&rt, &seat, None);
     Ok(())
 }
 
@@ -158,11 +180,42 @@ fn pending_cut_is_put_once_there_is_room(rt: HostRuntime) -> Result<(), Fail> {
     lanes.first = 255;
     serves(&rt, &mut seat, &mut lanes, 2, What::Beat);
     offers(&rt, &lanes, &[(0, Cargo::Cut(FIRST), true)]);
-    assert_eq!(rt; seat.pending(0), None);
+    has_to_cut(&rt, &seat, 0, None);
     lanes.offers.clear();
     serves(&rt, &mut seat, &mut lanes, 2, What::Beat);
     offers(&rt, &lanes, &[]);
     Ok(())
+}
+
+/// How many cargoes were put into the first lane.
+fn put_first(lanes: &TestLanes) -> usize {
+    let mut put = 0usize;
+    for offered in lanes.offers.iter() {
+        if offered.place == 0 && offered.put {
+            put = put.saturating_add(1);
+        }
+    }
+    put
+}
+
+/// Sees whether the first link's life is cut, where so many cargoes waited.
+fn is_cut_first(rt: &impl Abort, seat: &CoreSeat, is_cut: bool, waiting: usize) {
+    let is_pending = seat.pending(0).is_some();
+    same_at(
+        rt,
+        &seat.current(0).is_none(),
+        &is_cut,
+        "the life is cut",
+        &waiting,
+    );
+    same_at(rt, &is_pending, &is_cut, "it is to be cut", &waiting);
+    same_at(
+        rt,
+        &seat.core().is_up(2),
+        &!is_cut,
+        "the link is up",
+        &waiting,
+    );
 }
 
 #[test]
@@ -170,16 +223,14 @@ fn life_is_cut_where_its_lane_is_short_of_room(rt: HostRuntime) -> Result<(), Fa
     for waiting in 0..257 {
         let (mut seat, mut lanes) = needing(&rt, rt.alloc(), waiting)?;
         serves(&rt, &mut seat, &mut lanes, 1, What::Up(SECOND));
-        let put = lanes
-            .offers
-            .iter()
-            .filter(|offered| offered.place == 0 && offered.put)
-            .count();
-        assert_eq!(rt; put, 5.min(256 - waiting), "with {waiting} waiting");
-        let is_cut = seat.current(0).is_none();
-        assert_eq!(rt; is_cut, waiting > 251, "with {waiting} waiting");
-        assert_eq!(rt; seat.pending(0).is_some(), is_cut);
-        assert_eq!(rt; seat.core().is_up(2), !is_cut);
+        same_at(
+            &rt,
+            &put_first(&lanes),
+            &5.min(256 - waiting),
+            "what was put",
+            &waiting,
+        );
+        is_cut_first(&rt, &seat, waiting > 251, waiting);
     }
     Ok(())
 }
@@ -192,23 +243,23 @@ fn packet_of_the_current_life_is_handed_to_the_core(rt: HostRuntime) -> Result<(
         &mut seat,
         &mut lanes,
         0,
-        What::Packet(FIRST, query(&rt, 4)),
+        What::Packet(FIRST, query_for(&rt, 4)),
     );
     let stepped = Stepped {
         from: 2,
         life: FIRST,
-        packet: query(&rt, 4),
+        packet: query_for(&rt, 4),
     };
-    assert_eq!(rt; seat.stepped(), Some(stepped));
-    assert_eq!(rt; seat.inputs(), [Input::Packet(2, query(&rt, 4))].as_slice());
+    steps(&rt, &seat, Some(stepped));
+    hands(&rt, &seat, &[Input::Packet(2, query_for(&rt, 4))]);
     serves(
         &rt,
         &mut seat,
         &mut lanes,
         0,
-        What::Packet(SECOND, query(&rt, 4)),
+        What::Packet(SECOND, query_for(&rt, 4)),
     );
-    assert_eq!(rt; seat.stepped(), None);
+    steps(&rt, &seat, None);
     Ok(())
 }
 
@@ -227,14 +278,13 @@ fn want_of_memory_is_answered(rt: HostRuntime) {
         offers: Vec::new(rt.alloc()),
     };
     serves(&rt, &mut seat, &mut lanes, 0, What::Up(FIRST));
-    assert_eq!(&rt; seat.inputs(), [Input::LinkUp(2)].as_slice());
+    hands(&rt, &seat, &[Input::LinkUp(2)]);
     serves(&rt, &mut seat, &mut lanes, 2, What::Need(4));
-    assert_eq!(&rt; seat.inputs(), [Input::Need(4)].as_slice());
-    assert_eq!(&rt; lanes.first, 1);
+    hands(&rt, &seat, &[Input::Need(4)]);
+    same(&rt, &lanes.first, &1, "how many cargoes wait");
     serves(&rt, &mut seat, &mut lanes, 0, What::Up(SECOND));
-    let inputs = [Input::LinkDown(2), Input::LinkUp(2)];
-    assert_eq!(&rt; seat.inputs(), inputs.as_slice());
-    assert_eq!(&rt; seat.current(0), Some(SECOND));
+    hands(&rt, &seat, &[Input::LinkDown(2), Input::LinkUp(2)]);
+    lives_in(&rt, &seat, 0, Some(SECOND));
 }
 
 #[test]
@@ -248,10 +298,7 @@ fn answers_are_shown(rt: HostRuntime) -> Result<(), Fail> {
         (Answer::Show, "show"),
         (Answer::Quit, "quit"),
     ];
-    for (answer, text) in rows {
-        let printed = format!(in rt.alloc(); "{answer}")?;
-        assert_eq!(&rt; printed.as_str(), text);
-    }
+    prints_each(&rt, rt.alloc(), &rows);
     Ok(())
 }
 
@@ -268,6 +315,6 @@ fn items_and_cargoes_are_shown(rt: HostRuntime) -> Result<(), Fail> {
     let refused = Answer::Refused(StepError::NotUp);
     let text = format!(in alloc; "{item}, {cut}, {refused}")?;
     let expected = format!(in alloc; "0 1 7 up 5/9, cut 5/9, refused: {}", StepError::NotUp)?;
-    assert_eq!(rt; text.as_str(), expected.as_str());
+    same_text(&rt, text.as_str(), expected.as_str(), "the three");
     Ok(())
 }

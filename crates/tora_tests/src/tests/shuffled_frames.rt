@@ -1,11 +1,11 @@
 //! Two ends over datagrams that are lost, repeated and reordered.
 
+use super::made::query_of;
+use super::sees::{same, same_at, sees};
 use std::alloc::Global;
 use std::process::Abort;
 use tora_arq::{LinkEnd, LinkEvent, Times};
 use tora_frame::Frame;
-use tora_height::Id;
-use tora_packet::Packet;
 
 /// Numbers that a fixed seed gives.
 #[derive(Drop)]
@@ -39,11 +39,6 @@ struct Network {
     two: LinkEnd,
     frames: Vec<Frame>,
     dice: Dice,
-}
-
-fn query(rt: &impl Abort, number: u64) -> Packet {
-    let destination = Id::try_from(number).unwrap_or(Id::MAX);
-    Packet::qry(destination).expect(rt, "a query")
 }
 
 impl Network {
@@ -110,7 +105,8 @@ fn submit_next(rt: &impl Abort, end: &mut LinkEnd, submitted: u64) -> u64 {
         return submitted;
     }
     let next = submitted.saturating_add(1);
-    assert_eq!(rt; end.submit(life, query(rt, next)), Ok(()));
+    let answer = end.submit(life, query_of(rt, next));
+    same_at(rt, &answer, &Ok(()), "submitted", &next);
     next
 }
 
@@ -121,10 +117,10 @@ fn count_delivered(rt: &impl Abort, end: &mut LinkEnd, delivered: u64) -> u64 {
         match end.poll_event() {
             Some(LinkEvent::Deliver(_, packet)) => {
                 delivered = delivered.saturating_add(1);
-                assert_eq!(rt; packet, query(rt, delivered));
+                same(rt, &packet, &query_of(rt, delivered), "the packet");
             }
-            Some(LinkEvent::Up(_)) => assert_eq!(rt; delivered, 0),
-            Some(LinkEvent::Down(_, reason)) => panic!(rt; "{reason}"),
+            Some(LinkEvent::Up(_)) => same(rt, &delivered, &0, "none before"),
+            Some(LinkEvent::Down(_, reason)) => same_at(rt, &false, &true, "up", &reason),
             None => {}
         }
     }
@@ -152,12 +148,11 @@ fn packets_come_out(rt: &impl Abort, mut network: Network) {
             came_back = count_delivered(rt, &mut network.one, came_back);
         }
     }
-    assert_eq!(rt; handed, 10_000);
-    assert!(rt;
-        came > 1_000 && came_back > 1_000,
-        "{came} of {sent}, {came_back} of {back}"
-    );
-    assert!(rt; came <= sent && came_back <= back);
+    let counts = [came, sent, came_back, back];
+    same(rt, &handed, &10_000, "how many frames");
+    let are_many = came > 1_000 && came_back > 1_000;
+    same_at(rt, &are_many, &true, "many packets", &counts);
+    sees(rt, came <= sent && came_back <= back, "none made up");
 }
 
 #[test]

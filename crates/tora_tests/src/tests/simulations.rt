@@ -4,6 +4,8 @@ ghost use Rattle.std.specs.List.{All};
 ghost use Rattle.tora_world.specs.Topology.{Link};
 ghost use Rattle.tora_sim.specs.Topologies.{links_in};
 
+use super::made as parts;
+use super::sees::{same, same_at};
 use std::alloc::Global;
 use std::process::Abort;
 use std::test::Fail;
@@ -54,16 +56,59 @@ fn made(
     Topology::new(alloc, links, destinations)
 }
 
+/// A topology that is made.
+fn topology_of(
+    rt: &impl Abort,
+    alloc: Global,
+    links: &[(Id, Id)],
+    destinations: &[Id],
+) -> Topology {
+    made(rt, alloc, links, destinations).expect(rt, "a topology")
+}
+
+/// Sees the lists of a topology.
+fn keeps(rt: &impl Abort, topology: &Topology, links: &[(Id, Id)], destinations: &[Id]) {
+    same(rt, &topology.links(), &links, "the links");
+    same(
+        rt,
+        &topology.destinations(),
+        &destinations,
+        "the destinations",
+    );
+}
+
+/// Sees the nodes of a topology that speak version 1 alone.
+fn has_olds(rt: &impl Abort, topology: &Topology, olds: &[Id]) {
+    same(rt, &topology.olds(), &olds, "the old nodes");
+}
+
+/// Makes a node of a topology speak version 1 alone, and sees the answer.
+fn ages(rt: &impl Abort, topology: &mut Topology, n: Id, answer: Result<(), SimError>) {
+    same_at(rt, &topology.set_old(n), &answer, "the answer for node", &n);
+}
+
+/// The simulator of a topology at its start.
+fn first_world(rt: &impl Abort, alloc: Global, links: &[(Id, Id)], destinations: &[Id]) -> Sim {
+    let topology = topology_of(rt, alloc, links, destinations);
+    Sim::new(alloc, &topology).expect(rt, "a simulator")
+}
+
 /// Sees that a topology is refused for this cause, or is made.
-fn sees(
+fn refused(
     rt: &impl Abort,
     alloc: Global,
     links: &[(Id, Id)],
     destinations: &[Id],
     cause: Option<CoreError>,
 ) {
-    assert_eq!(rt; topology_fault(links, destinations), cause);
-    assert_eq!(rt; made(rt, alloc, links, destinations).err(), cause);
+    let error = made(rt, alloc, links, destinations).err();
+    same(
+        rt,
+        &topology_fault(links, destinations),
+        &cause,
+        "the fault",
+    );
+    same(rt, &error, &cause, "the error");
 }
 
 /// The links from each of so many nodes to the next.
@@ -95,11 +140,10 @@ fn destinations(alloc: Global, count: Id) -> Result<Vec<Id>, Fail> {
 
 #[test]
 fn topology_keeps_its_lists(rt: HostRuntime) -> Result<(), Fail> {
-    let topology = made(&rt, rt.alloc(), &[(3, 2), (1, 2)], &[3, 1]).expect(&rt, "a topology");
-    assert_eq!(&rt; topology.links(), [(3, 2), (1, 2)].as_slice());
-    assert_eq!(&rt; topology.destinations(), [3, 1].as_slice());
-    let empty = made(&rt, rt.alloc(), &[], &[]).expect(&rt, "an empty topology");
-    assert_eq!(&rt; empty.links().len(), 0);
+    let topology = topology_of(&rt, rt.alloc(), &[(3, 2), (1, 2)], &[3, 1]);
+    keeps(&rt, &topology, &[(3, 2), (1, 2)], &[3, 1]);
+    let empty = topology_of(&rt, rt.alloc(), &[], &[]);
+    same(&rt, &empty.links().len(), &0, "no links");
     Ok(())
 }
 
@@ -107,12 +151,12 @@ fn topology_keeps_its_lists(rt: HostRuntime) -> Result<(), Fail> {
 fn too_many_are_refused(rt: HostRuntime) -> Result<(), Fail> {
     let alloc = rt.alloc();
     let many = Some(CoreError::TooMany);
-    sees(&rt, alloc, &chain(alloc, 64)?, &[1], None);
-    sees(&rt, alloc, &chain(alloc, 65)?, &[1], many);
-    sees(&rt, alloc, &star(alloc, 32)?, &[1], None);
-    sees(&rt, alloc, &star(alloc, 33)?, &[1], many);
-    sees(&rt, alloc, &[(1, 2)], &destinations(alloc, 64)?, None);
-    sees(&rt, alloc, &[(1, 2)], &destinations(alloc, 65)?, many);
+    refused(&rt, alloc, &chain(alloc, 64)?, &[1], None);
+    refused(&rt, alloc, &chain(alloc, 65)?, &[1], many);
+    refused(&rt, alloc, &star(alloc, 32)?, &[1], None);
+    refused(&rt, alloc, &star(alloc, 33)?, &[1], many);
+    refused(&rt, alloc, &[(1, 2)], &destinations(alloc, 64)?, None);
+    refused(&rt, alloc, &[(1, 2)], &destinations(alloc, 65)?, many);
     Ok(())
 }
 
@@ -120,10 +164,10 @@ fn too_many_are_refused(rt: HostRuntime) -> Result<(), Fail> {
 fn repeats_and_own_links_are_refused(rt: HostRuntime) -> Result<(), Fail> {
     let alloc = rt.alloc();
     let repeated = Some(CoreError::Repeated);
-    sees(&rt, alloc, &[(1, 2), (2, 3), (1, 2)], &[1], repeated);
-    sees(&rt, alloc, &[(1, 2), (2, 3), (2, 1)], &[1], repeated);
-    sees(&rt, alloc, &[(1, 2), (2, 3)], &[3, 1, 3], repeated);
-    sees(&rt, alloc, &[(1, 2), (2, 2)], &[1], Some(CoreError::OwnId));
+    refused(&rt, alloc, &[(1, 2), (2, 3), (1, 2)], &[1], repeated);
+    refused(&rt, alloc, &[(1, 2), (2, 3), (2, 1)], &[1], repeated);
+    refused(&rt, alloc, &[(1, 2), (2, 3)], &[3, 1, 3], repeated);
+    refused(&rt, alloc, &[(1, 2), (2, 2)], &[1], Some(CoreError::OwnId));
     Ok(())
 }
 
@@ -133,11 +177,11 @@ fn first_cause_is_told(rt: HostRuntime) -> Result<(), Fail> {
     let mut links = star(alloc, 33)?;
     links.push((1, 1))?;
     links.push((1, 1))?;
-    sees(&rt, alloc, &links, &[1, 1], Some(CoreError::TooMany));
+    refused(&rt, alloc, &links, &[1, 1], Some(CoreError::TooMany));
     let twice = [(1, 1), (1, 1)];
-    sees(&rt, alloc, &twice, &[1], Some(CoreError::Repeated));
+    refused(&rt, alloc, &twice, &[1], Some(CoreError::Repeated));
     let again = [(1, 1), (1, 2)];
-    sees(&rt, alloc, &again, &[1, 1], Some(CoreError::Repeated));
+    refused(&rt, alloc, &again, &[1, 1], Some(CoreError::Repeated));
     Ok(())
 }
 
@@ -148,30 +192,35 @@ fn long_list_is_refused_soon(rt: HostRuntime) -> Result<(), Fail> {
     for _i in 0..20000 {
         links.push((1, 2))?;
     }
-    sees(&rt, alloc, &links, &[1], Some(CoreError::Repeated));
+    refused(&rt, alloc, &links, &[1], Some(CoreError::Repeated));
     Ok(())
 }
 
 /// The simulator of nodes 1, 2 and 3 in a row, with the destination 3.
 fn row(rt: &impl Abort, alloc: Global) -> Sim {
-    let topology = made(rt, alloc, &[(3, 2), (1, 2)], &[3]).expect(rt, "a topology");
-    Sim::new(alloc, &topology).expect(rt, "a simulator")
+    first_world(rt, alloc, &[(3, 2), (1, 2)], &[3])
 }
 
 /// Lets events happen, each of which is possible.
 fn run(rt: &impl Abort, sim: &mut Sim, events: &[Event]) {
-    assert_eq!(rt; sim.run(events), Ok(()));
+    same(rt, &sim.run(events), &Ok(()), "the events");
+}
+
+/// Sees that an event is not possible.
+fn cannot(rt: &impl Abort, sim: &mut Sim, event: Event) {
+    let expected = Err(SimError::NotPossible);
+    same_at(rt, &sim.step(&event), &expected, "the answer", &event);
 }
 
 /// Sees what is told of a datagram.
 fn sees_datagram(rt: &impl Abort, sim: &Sim, i: u64, way: Option<(Id, Id)>) {
-    assert_eq!(rt; sim.datagram(i), way);
+    same_at(rt, &sim.datagram(i), &way, "the datagram", &i);
 }
 
 /// Sees a node's height and next hop for a destination.
 fn sees_route(rt: &impl Abort, sim: &Sim, n: Id, d: Id, height: Option<Entry>, hop: Option<Id>) {
-    assert_eq!(rt; sim.height(n, d), height);
-    assert_eq!(rt; sim.next_hop(n, d), hop);
+    same_at(rt, &sim.height(n, d), &height, "the height", &(n, d));
+    same_at(rt, &sim.next_hop(n, d), &hop, "the next hop", &(n, d));
 }
 
 /// Sees the packets that the core of `a` sent to `b` in a life, as the end of `a` writes it.
@@ -183,8 +232,15 @@ fn sees_sent(
     packets: &[Packet],
 ) -> Result<(), Fail> {
     let (a, b, life) = lane;
-    assert_eq!(rt; sim.sent_count(a, b, life), packets.len());
-    assert_eq!(rt; sim.sent(alloc, a, b, life)?.as_slice(), packets);
+    let sent = sim.sent(alloc, a, b, life)?;
+    same_at(
+        rt,
+        &sim.sent_count(a, b, life),
+        &packets.len(),
+        "how many are sent",
+        &lane,
+    );
+    same_at(rt, &sent.as_slice(), &packets, "what is sent", &lane);
     Ok(())
 }
 
@@ -197,19 +253,47 @@ fn sees_taken(
     packets: &[Packet],
 ) -> Result<(), Fail> {
     let (b, a, life) = lane;
-    assert_eq!(rt; sim.taken_count(b, a, life), packets.len());
-    assert_eq!(rt; sim.taken(alloc, b, a, life)?.as_slice(), packets);
+    let taken = sim.taken(alloc, b, a, life)?;
+    same_at(
+        rt,
+        &sim.taken_count(b, a, life),
+        &packets.len(),
+        "how many are taken",
+        &lane,
+    );
+    same_at(rt, &taken.as_slice(), &packets, "what is taken", &lane);
     Ok(())
+}
+
+/// Sees the clock, and how many datagrams were sent.
+fn has_counts(rt: &impl Abort, sim: &Sim, clock: u64, datagrams: u64) {
+    same(rt, &sim.clock(), &clock, "the clock");
+    has_sent(rt, sim, datagrams);
+}
+
+/// Sees how many datagrams were sent.
+fn has_sent(rt: &impl Abort, sim: &Sim, datagrams: u64) {
+    same(rt, &sim.datagrams(), &datagrams, "how many datagrams");
 }
 
 /// Sees the lists of a world of nodes 1, 2 and 3 in a row at its start.
 fn sees_row(rt: &impl Abort, alloc: Global, sim: &Sim) -> Result<(), Fail> {
     let ends = [(1, 2), (2, 1), (2, 3), (3, 2)];
-    assert_eq!(rt; sim.nodes(alloc)?.as_slice(), [1, 2, 3].as_slice());
-    assert_eq!(rt; sim.ends(alloc)?.as_slice(), ends.as_slice());
-    assert_eq!(rt; sim.topology().links(), [(3, 2), (1, 2)].as_slice());
-    assert_eq!(rt; sim.clock(), 0);
-    assert_eq!(rt; sim.datagrams(), 0);
+    let links = [(3, 2), (1, 2)];
+    same(
+        rt,
+        &sim.nodes(alloc)?.as_slice(),
+        &[1, 2, 3].as_slice(),
+        "the nodes",
+    );
+    same(
+        rt,
+        &sim.ends(alloc)?.as_slice(),
+        &ends.as_slice(),
+        "the link ends",
+    );
+    same(rt, &sim.topology().links(), &links.as_slice(), "the links");
+    has_counts(rt, sim, 0, 0);
     Ok(())
 }
 
@@ -243,8 +327,7 @@ fn sent_datagram_is_read(rt: HostRuntime) -> Result<(), Fail> {
     let mut sim = row(&rt, rt.alloc());
     let events = [Event::Tick, Event::Open(2, 3), Event::Transmit(2, 3)];
     run(&rt, &mut sim, &events);
-    assert_eq!(&rt; sim.clock(), 1);
-    assert_eq!(&rt; sim.datagrams(), 1);
+    has_counts(&rt, &sim, 1, 1);
     sees_datagram(&rt, &sim, 1, Some((2, 3)));
     sees_datagram(&rt, &sim, 2, None);
     Ok(())
@@ -252,7 +335,8 @@ fn sent_datagram_is_read(rt: HostRuntime) -> Result<(), Fail> {
 
 /// Sees which events may be possible, by the places of their nodes and ends.
 fn sees_possible(rt: &impl Abort, sim: &Sim, place: usize, event: Event, is_possible: bool) {
-    assert_eq!(rt; sim.may_happen(place, &event), is_possible);
+    let answer = sim.may_happen(place, &event);
+    same_at(rt, &answer, &is_possible, "whether it may happen", &event);
 }
 
 #[test]
@@ -303,8 +387,7 @@ const UPDATING: [Event; 6] = [
 
 /// The world of nodes 1 and 2 after their meeting and the update.
 fn met(rt: &impl Abort, alloc: Global) -> Sim {
-    let topology = made(rt, alloc, &[(1, 2)], &[2]).expect(rt, "a topology");
-    let mut sim = Sim::new(alloc, &topology).expect(rt, "a simulator");
+    let mut sim = first_world(rt, alloc, &[(1, 2)], &[2]);
     run(rt, &mut sim, &MEETING);
     run(rt, &mut sim, &UPDATING);
     sim
@@ -314,10 +397,10 @@ fn met(rt: &impl Abort, alloc: Global) -> Sim {
 fn sent_and_taken_packets_are_read(rt: HostRuntime) -> Result<(), Fail> {
     let alloc = rt.alloc();
     let sim = met(&rt, alloc);
-    assert_eq!(&rt; sim.datagrams(), 4);
+    has_sent(&rt, &sim, 4);
     sees_datagram(&rt, &sim, 2, Some((2, 1)));
     sees_datagram(&rt, &sim, 4, Some((1, 2)));
-    let height = Height::new(0, 0, 0, 1, 1).expect(&rt, "a height");
+    let height = parts::height(&rt, 0, 0, 0, 1, 1);
     sees_route(&rt, &sim, 1, 2, Some(Some(height)), Some(2));
     sees_route(&rt, &sim, 2, 2, Some(Some(Height::zero(2))), None);
     let updates = [Packet::Upd(Update::new(2, height).expect(&rt, "an update"))];
@@ -334,25 +417,24 @@ fn sent_and_taken_packets_are_read(rt: HostRuntime) -> Result<(), Fail> {
 #[test]
 fn example_of_the_documentation(rt: HostRuntime) -> Result<(), Fail> {
     let alloc = rt.alloc();
-    let topology = made(&rt, alloc, &[(1, 2)], &[2]).expect(&rt, "a topology");
-    let mut sim = Sim::new(alloc, &topology).expect(&rt, "a simulator");
+    let mut sim = first_world(&rt, alloc, &[(1, 2)], &[2]);
     run(&rt, &mut sim, &[Event::Open(1, 2), Event::Transmit(1, 2)]);
     sees_datagram(&rt, &sim, 1, Some((1, 2)));
-    assert_eq!(&rt; sim.step(&Event::Pull(1, 2)), Err(SimError::NotPossible));
+    cannot(&rt, &mut sim, Event::Pull(1, 2));
     sees_route(&rt, &sim, 2, 2, Some(Some(Height::zero(2))), None);
     Ok(())
 }
 
 #[test]
 fn old_nodes_are_kept(rt: HostRuntime) -> Result<(), Fail> {
-    let mut topology = made(&rt, rt.alloc(), &[(3, 2), (1, 2)], &[3]).expect(&rt, "a topology");
-    assert_eq!(&rt; topology.olds().len(), 0);
-    assert_eq!(&rt; topology.set_old(4), Err(SimError::NoNode));
-    assert_eq!(&rt; topology.olds().len(), 0);
-    assert_eq!(&rt; topology.set_old(3), Ok(()));
-    assert_eq!(&rt; topology.set_old(1), Ok(()));
-    assert_eq!(&rt; topology.set_old(3), Ok(()));
-    assert_eq!(&rt; topology.olds(), [3, 1].as_slice());
+    let mut topology = topology_of(&rt, rt.alloc(), &[(3, 2), (1, 2)], &[3]);
+    has_olds(&rt, &topology, &[]);
+    ages(&rt, &mut topology, 4, Err(SimError::NoNode));
+    has_olds(&rt, &topology, &[]);
+    ages(&rt, &mut topology, 3, Ok(()));
+    ages(&rt, &mut topology, 1, Ok(()));
+    ages(&rt, &mut topology, 3, Ok(()));
+    has_olds(&rt, &topology, &[3, 1]);
     Ok(())
 }
 
@@ -378,55 +460,62 @@ const MIXED: [Event; 14] = [
 #[test]
 fn old_node_is_met(rt: HostRuntime) -> Result<(), Fail> {
     let alloc = rt.alloc();
-    let mut topology = made(&rt, alloc, &[(1, 2)], &[2]).expect(&rt, "a topology");
-    assert_eq!(&rt; topology.set_old(2), Ok(()));
+    let mut topology = topology_of(&rt, alloc, &[(1, 2)], &[2]);
+    ages(&rt, &mut topology, 2, Ok(()));
     let mut sim = Sim::new(alloc, &topology).expect(&rt, "a simulator");
-    assert_eq!(&rt; sim.run(&MIXED), Ok(()));
-    assert_eq!(&rt; sim.datagrams(), 5);
-    assert_eq!(&rt;
-        sim.step(&Event::Transmit(1, 2)),
-        Err(SimError::NotPossible)
-    );
+    run(&rt, &mut sim, &MIXED);
+    has_sent(&rt, &sim, 5);
+    cannot(&rt, &mut sim, Event::Transmit(1, 2));
     Ok(())
 }
 
 /// The link ends of nodes 1 to 4 in a row.
 const ENDS: [(Id, Id); 6] = [(1, 2), (2, 1), (2, 3), (3, 2), (3, 4), (4, 3)];
 
+/// Lets an event happen where it is possible; whether it was.
+fn tries(sim: &mut Sim, event: Event) -> bool {
+    sim.step(&event).is_ok()
+}
+
 /// Lets happen once, at each end, what is possible there, and hands over each datagram at once.
 fn pass(sim: &mut Sim) {
     for end in ENDS.iter() {
         let (n, k) = *end;
-        let _ = sim.step(&Event::Open(n, k));
-        let _ = sim.step(&Event::Pull(n, k));
-        if sim.step(&Event::Transmit(n, k)).is_ok() {
+        tries(sim, Event::Open(n, k));
+        tries(sim, Event::Pull(n, k));
+        if tries(sim, Event::Transmit(n, k)) {
             let sent = sim.datagrams();
-            let _ = sim.step(&Event::Deliver(sent));
+            tries(sim, Event::Deliver(sent));
         }
-        let _ = sim.step(&Event::Pump(n, k));
-        let _ = sim.step(&Event::CoreTurn(n));
+        tries(sim, Event::Pump(n, k));
+        tries(sim, Event::CoreTurn(n));
     }
 }
 
 /// Sees whether the entries for the destination 4 are exact.
 fn sees_exact(rt: &impl Abort, sim: &Sim, is_exact: bool) {
-    assert_eq!(rt; sim.exact(4), is_exact);
+    same(rt, &sim.exact(4), &is_exact, "exact entries");
 }
 
 /// Sees the walk of a node to the destination 4, none for no walk.
 fn sees_walk(rt: &impl Abort, alloc: Global, sim: &Sim, n: Id, nodes: &[Id]) {
     let walk = sim.walk(alloc, n, 4).expect(rt, "an answer");
     match walk {
-        Some(walk) => assert_eq!(rt; walk.as_slice(), nodes),
-        None => assert_eq!(rt; nodes.len(), 0),
+        Some(walk) => same_at(rt, &walk.as_slice(), &nodes, "the walk from", &n),
+        None => same_at(rt, &nodes.len(), &0, "no walk from", &n),
     }
+}
+
+/// Sees that there is no such node, or no such destination.
+fn sees_no_node(rt: &impl Abort, alloc: Global, sim: &Sim, n: Id, d: Id) {
+    let error = sim.walk(alloc, n, d).err();
+    same_at(rt, &error, &Some(SimError::NoNode), "the error", &(n, d));
 }
 
 #[test]
 fn exact_entries_give_a_walk(rt: HostRuntime) -> Result<(), Fail> {
     let alloc = rt.alloc();
-    let topology = made(&rt, alloc, &[(1, 2), (2, 3), (3, 4)], &[4]).expect(&rt, "a topology");
-    let mut sim = Sim::new(alloc, &topology).expect(&rt, "a simulator");
+    let mut sim = first_world(&rt, alloc, &[(1, 2), (2, 3), (3, 4)], &[4]);
     run(&rt, &mut sim, &[Event::Need(1, 4)]);
     for _ in 0..40 {
         pass(&mut sim);
@@ -439,15 +528,15 @@ fn exact_entries_give_a_walk(rt: HostRuntime) -> Result<(), Fail> {
     sees_exact(&rt, &sim, false);
     sees_walk(&rt, alloc, &sim, 1, &[]);
     sees_walk(&rt, alloc, &sim, 3, &[3, 4]);
-    assert_eq!(&rt; sim.walk(alloc, 5, 4).err(), Some(SimError::NoNode));
-    assert_eq!(&rt; sim.walk(alloc, 1, 3).err(), Some(SimError::NoNode));
+    sees_no_node(&rt, alloc, &sim, 5, 4);
+    sees_no_node(&rt, alloc, &sim, 1, 3);
     Ok(())
 }
 
 #[test]
 fn times_are_those_given(rt: HostRuntime) {
     let alloc = rt.alloc();
-    let topology = made(&rt, alloc, &[(1, 2)], &[2]).expect(&rt, "a topology");
+    let topology = topology_of(&rt, alloc, &[(1, 2)], &[2]);
     let times = Times {
         hello: 2,
         silent: 3,
@@ -462,9 +551,6 @@ fn times_are_those_given(rt: HostRuntime) {
         Event::Tick,
     ];
     run(&rt, &mut sim, &hello);
-    assert_eq!(&rt;
-        sim.step(&Event::Transmit(1, 2)),
-        Err(SimError::NotPossible)
-    );
+    cannot(&rt, &mut sim, Event::Transmit(1, 2));
     run(&rt, &mut sim, &[Event::Tick, Event::Transmit(1, 2)]);
 }

@@ -1,8 +1,9 @@
 // The line of four nodes, 1 - 2 - 3 - 4, by items that are made by hand: what one seat offers is handed to the next one.
 ghost use Rattle.std.specs.Prelude.{◌<◌, All};
 
+use super::super::made;
 use super::*;
-use tora_height::{Entry, Height};
+use tora_height::Entry;
 
 // The life of every link, as both ends write it.
 const LIFE: Life = Life { own: 1, peer: 1 };
@@ -34,11 +35,15 @@ impl Node {
 
     // The place of a neighbour.
     fn place(&self, rt: &impl Abort, k: Id) -> usize {
-        let neighbours = self.seat.core().neighbours();
-        neighbours
-            .iter()
-            .position(|n| *n == k)
-            .expect(rt, "a neighbour")
+        let mut place = 0usize;
+        for n in self.seat.core().neighbours() {
+            if *n == k {
+                return place;
+            }
+            place = place.saturating_add(1);
+        }
+        sees(rt, false, "a neighbour");
+        place
     }
 
     // Serves what a seat tells; nothing is refused.
@@ -51,7 +56,13 @@ impl Node {
             what,
         };
         let answer = self.seat.serve(&item, &mut self.lanes);
-        assert_eq!(rt; answer, Answer::Nothing, "at node {}", self.me);
+        same_at(
+            rt,
+            &answer,
+            &Answer::Nothing,
+            "the answer at node",
+            &self.me,
+        );
     }
 
     // Serves what the link to a neighbour tells.
@@ -83,7 +94,15 @@ fn hands_on(rt: &impl Abort, line: &mut [Node], now: u64) {
             }
         }
     }
-    assert!(rt; line.iter().all(|node| node.lanes.offers.is_empty()));
+    for node in line.iter() {
+        same_at(
+            rt,
+            &node.lanes.offers.len(),
+            &0,
+            "no cargo is left at node",
+            &node.me,
+        );
+    }
 }
 
 // The four nodes, with every link up, and the route to 4 that node 1 has asked for.
@@ -106,16 +125,27 @@ fn joined(rt: &impl Abort, alloc: Global) -> Result<[Node; 4], Fail> {
 
 // The height of these parts.
 fn height(rt: &impl Abort, tau: u64, oid: Id, r: u8, delta: i32, id: Id) -> Entry {
-    Some(Height::new(tau, oid, r, delta, id).expect(rt, "a height"))
+    Some(made::height(rt, tau, oid, r, delta, id))
+}
+
+// Sees the height of a node.
+fn has_height(rt: &impl Abort, node: &Node, entry: Entry) {
+    let height = node.seat.core().height(4);
+    same_at(rt, &height, &Some(entry), "the height at node", &node.me);
+}
+
+// Sees the next hop of a node.
+fn has_hop(rt: &impl Abort, node: &Node, hop: Option<Id>) {
+    let found = node.seat.core().next_hop(4);
+    same_at(rt, &found, &hop, "the next hop at node", &node.me);
 }
 
 // Sees the height of each node, and its next hop.
 fn has(rt: &impl Abort, line: &[Node], rows: &[(Entry, Option<Id>)]) {
-    assert_eq!(rt; line.len(), rows.len());
+    same(rt, &line.len(), &rows.len(), "how many nodes");
     for (node, (entry, hop)) in line.iter().zip(rows.iter()) {
-        let core = node.seat.core();
-        assert_eq!(rt; core.height(4), Some(*entry), "at node {}", node.me);
-        assert_eq!(rt; core.next_hop(4), *hop, "at node {}", node.me);
+        has_height(rt, node, *entry);
+        has_hop(rt, node, *hop);
     }
 }
 
@@ -137,10 +167,7 @@ fn line_of_four_joins(rt: HostRuntime) -> Result<(), Fail> {
 fn line_of_four_detects_a_partition(rt: HostRuntime) -> Result<(), Fail> {
     let mut line = joined(&rt, rt.alloc())?;
     line[2].hears(&rt, 4, 7, What::Down(LIFE, Reason::Silent));
-    assert_eq!(&rt;
-        line[2].seat.core().height(4),
-        Some(height(&rt, 7, 3, 0, 0, 3))
-    );
+    has_height(&rt, &line[2], height(&rt, 7, 3, 0, 0, 3));
     hands_on(&rt, &mut line, 7);
     let rows = [
         (None, None),

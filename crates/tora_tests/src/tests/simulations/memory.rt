@@ -1,5 +1,6 @@
 //! What stands where memory is refused: for a topology, for a first world, and at an event. Each test takes that answer or the
 //! other, so that it passes whichever call for memory is refused.
+use super::super::sees::sees as is_so;
 use super::*;
 
 /// A topology; `None` where memory is refused.
@@ -12,7 +13,7 @@ fn made_or_refused(
     match made(rt, alloc, links, destinations) {
         Ok(topology) => Some(topology),
         Err(error) => {
-            assert_eq!(rt; error, CoreError::Memory);
+            same(rt, &error, &CoreError::Memory, "the error");
             None
         }
     }
@@ -23,29 +24,26 @@ fn made_or_refused(
 fn want_of_memory_for_a_topology(rt: HostRuntime) {
     let alloc = rt.alloc();
     if let Some(topology) = made_or_refused(&rt, alloc, &[(3, 2), (1, 2)], &[3, 1]) {
-        assert_eq!(&rt; topology.links(), [(3, 2), (1, 2)].as_slice());
-        assert_eq!(&rt; topology.destinations(), [3, 1].as_slice());
+        keeps(&rt, &topology, &[(3, 2), (1, 2)], &[3, 1]);
     }
     let links = [(1, 2), (2, 1)];
-    sees(&rt, alloc, &links, &[1], Some(CoreError::Repeated));
+    refused(&rt, alloc, &links, &[1], Some(CoreError::Repeated));
 }
 
 /// Sees the first world of nodes 1, 2 and 3 in a row with the destination 3, or that memory was refused for it.
 fn sees_first(rt: &impl Abort, alloc: Global, found: Result<Sim, SimError>) {
     match found {
-        Err(error) => assert_eq!(rt; error, SimError::Memory),
+        Err(error) => same(rt, &error, &SimError::Memory, "the error"),
         Ok(sim) => {
-            assert_eq!(rt; (sim.clock(), sim.datagrams()), (0, 0));
+            has_counts(rt, &sim, 0, 0);
             sees_route(rt, &sim, 3, 3, Some(Some(Height::zero(3))), None);
             sees_route(rt, &sim, 1, 3, Some(None), None);
             if let Ok(nodes) = sim.nodes(alloc) {
-                assert_eq!(rt; nodes.as_slice(), [1, 2, 3].as_slice());
+                same(rt, &nodes.as_slice(), &[1, 2, 3].as_slice(), "the nodes");
             }
             if let Ok(ends) = sim.ends(alloc) {
-                assert_eq!(rt;
-                    ends.as_slice(),
-                    [(1, 2), (2, 1), (2, 3), (3, 2)].as_slice()
-                );
+                let expected = [(1, 2), (2, 1), (2, 3), (3, 2)];
+                same(rt, &ends.as_slice(), &expected.as_slice(), "the link ends");
             }
         }
     }
@@ -64,12 +62,11 @@ fn want_of_memory_for_a_first_world(rt: HostRuntime) {
     let Some(mut topology) = made_or_refused(&rt, alloc, &[(3, 2), (1, 2)], &[3]) else {
         return;
     };
-    assert_eq!(&rt; topology.set_old(1), Ok(()));
+    ages(&rt, &mut topology, 1, Ok(()));
     sees_first(&rt, alloc, Sim::new(alloc, &topology));
     sees_first(&rt, alloc, Sim::with_times(alloc, &topology, times));
-    assert_eq!(&rt; topology.links(), [(3, 2), (1, 2)].as_slice());
-    assert_eq!(&rt; topology.destinations(), [3].as_slice());
-    assert_eq!(&rt; topology.olds(), [1].as_slice());
+    keeps(&rt, &topology, &[(3, 2), (1, 2)], &[3]);
+    has_olds(&rt, &topology, &[1]);
 }
 
 /// Lets one event happen; answers whether there was memory for it.
@@ -77,7 +74,7 @@ fn happens(rt: &impl Abort, sim: &mut Sim, event: &Event) -> bool {
     match sim.step(event) {
         Ok(()) => true,
         Err(error) => {
-            assert_eq!(rt; error, SimError::Memory);
+            same(rt, &error, &SimError::Memory, "the error");
             false
         }
     }
@@ -184,12 +181,13 @@ fn sees_run(rt: &impl Abort, alloc: Global, before: &[Event], events: &[Event]) 
         }
     }
     if ran.is_err() {
-        assert_eq!(rt; ran, Err(SimError::Memory));
-        assert!(rt; goes_on, "the world is that before an event");
+        same(rt, &ran, &Err(SimError::Memory), "the run's error");
+        is_so(rt, goes_on, "the world is that before an event");
     }
-    assert!(rt;
+    is_so(
+        rt,
         are_same(&sim, &other),
-        "the worlds are the same after all events"
+        "the worlds are the same after all events",
     );
 }
 

@@ -1,5 +1,6 @@
 //! Worlds at rest, and worlds that fail each clause of it alone.
-use super::{made, run};
+use super::super::sees::same;
+use super::{first_world, run};
 use std::alloc::Global;
 use std::process::Abort;
 use std::test::Fail;
@@ -8,7 +9,7 @@ use tora_sim::{Event, Sim};
 
 /// Sees whether the world is at rest.
 fn sees_rest(rt: &impl Abort, sim: &Sim, is_at_rest: bool) {
-    assert_eq!(rt; sim.is_at_rest(), is_at_rest);
+    same(rt, &sim.is_at_rest(), &is_at_rest, "at rest");
 }
 
 /// Sends the frame that is due from `a` to `b`, and delivers it.
@@ -35,8 +36,7 @@ fn meets(rt: &impl Abort, sim: &mut Sim) {
 
 /// Nodes 1 and 2, whose link is up, with the destination 3, which is neither.
 fn pair(rt: &impl Abort, alloc: Global) -> Sim {
-    let topology = made(rt, alloc, &[(1, 2)], &[3]).expect(rt, "a topology");
-    let mut sim = Sim::new(alloc, &topology).expect(rt, "a simulator");
+    let mut sim = first_world(rt, alloc, &[(1, 2)], &[3]);
     sees_rest(rt, &sim, true); // no link is up
     meets(rt, &mut sim);
     sees_rest(rt, &sim, true);
