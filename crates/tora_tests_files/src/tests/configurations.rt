@@ -24,11 +24,11 @@ fn configurations_accepted_and_refused(rt: HostRuntime) -> Result<(), Fail> {
         Place::Peer(1),
         Reason::Missing,
     );
-    same_text(
+    why_is(
         &rt,
-        why(&rt, alloc, &["name = \"one\"\n", WORKED]).as_str(),
+        alloc,
+        &["name = \"one\"\n", WORKED],
         "`name` is no key of a configuration",
-        "an unknown key",
     );
     is_refused(
         &rt,
@@ -70,15 +70,14 @@ fn links_are_by_ascending_peer(rt: HostRuntime) -> Result<(), Fail> {
     let text = joined(&rt, rt.alloc(), &parts);
     let config = config_of(&rt, rt.alloc(), text.as_str());
     same(&rt, &config.links.len(), &3, "how many links");
-    for (link, peer) in config.links.iter().zip([3, 9, 4294967295]) {
-        same(&rt, &link.peer, &peer, "the peer of a link");
-    }
+    peer_is(&rt, &config, 0, 3);
+    peer_is(&rt, &config, 1, 9);
+    peer_is(&rt, &config, 2, 4294967295);
     Ok(())
 }
 
 #[test]
 fn keys_of_a_node(rt: HostRuntime) -> Result<(), Fail> {
-    let alloc = rt.alloc();
     let rows = [
         ("", Place::Node, Reason::Missing),
         ("node = \"1\"\n", Place::Node, Reason::NoNumber),
@@ -139,15 +138,13 @@ fn keys_of_a_node(rt: HostRuntime) -> Result<(), Fail> {
             Reason::NoList,
         ),
     ];
-    for (text, place, reason) in rows {
-        is_refused(&rt, alloc, &[text], place, reason);
-    }
+    each_is_refused(&rt, rt.alloc(), "", &rows);
     Ok(())
 }
 
 #[test]
 fn keys_of_a_link(rt: HostRuntime) -> Result<(), Fail> {
-    let alloc = rt.alloc();
+    let before = joined(&rt, rt.alloc(), &[HEAD, LINK]);
     let rows = [
         ("[[link]]\n", Place::Peer(2), Reason::Missing),
         ("[[link]]\npeer = \"3\"\n", Place::Peer(2), Reason::NoNumber),
@@ -210,9 +207,7 @@ fn keys_of_a_link(rt: HostRuntime) -> Result<(), Fail> {
             Reason::OwnId,
         ),
     ];
-    for (text, place, reason) in rows {
-        is_refused(&rt, alloc, &[HEAD, LINK, text], place, reason);
-    }
+    each_is_refused(&rt, rt.alloc(), before.as_str(), &rows);
     Ok(())
 }
 
@@ -220,18 +215,17 @@ fn keys_of_a_link(rt: HostRuntime) -> Result<(), Fail> {
 #[test]
 fn repeated_and_unknown_keys(rt: HostRuntime) -> Result<(), Fail> {
     let alloc = rt.alloc();
-    for text in ["node = 1\n", "dests = []\n", "life_dir = \"n2\"\n"] {
-        is_no_toml(&rt, alloc, &[text, WORKED]);
-    }
-    for text in ["peer = 2\n", "local = 4012\n", "remote = 4021\n"] {
-        is_no_toml(&rt, alloc, &[WORKED, text]);
-    }
-    let unknown = why(&rt, alloc, &[WORKED, "name = \"two\"\n"]);
-    same_text(
+    is_no_toml(&rt, alloc, &["node = 1\n", WORKED]);
+    is_no_toml(&rt, alloc, &["dests = []\n", WORKED]);
+    is_no_toml(&rt, alloc, &["life_dir = \"n2\"\n", WORKED]);
+    is_no_toml(&rt, alloc, &[WORKED, "peer = 2\n"]);
+    is_no_toml(&rt, alloc, &[WORKED, "local = 4012\n"]);
+    is_no_toml(&rt, alloc, &[WORKED, "remote = 4021\n"]);
+    why_is(
         &rt,
-        unknown.as_str(),
+        alloc,
+        &[WORKED, "name = \"two\"\n"],
         "`name` of link 1 is no key of a link",
-        "an unknown key of a link",
     );
     Ok(())
 }
@@ -239,12 +233,10 @@ fn repeated_and_unknown_keys(rt: HostRuntime) -> Result<(), Fail> {
 #[test]
 fn what_a_core_refuses(rt: HostRuntime) -> Result<(), Fail> {
     let alloc = rt.alloc();
-    let mut links = joined(&rt, alloc, &[HEAD]);
-    for n in 2..34u32 {
-        links.push_str(link_to(&rt, alloc, n).as_str())?;
-    }
+    let links = with_links(&rt, alloc, HEAD);
     let _ = config_of(&rt, alloc, links.as_str());
-    links.push_str("[[link]]\npeer = 34\nlocal = 34\nremote = 1\n")?;
+    let one_more = "[[link]]\npeer = 34\nlocal = 34\nremote = 1\n";
+    let links = joined(&rt, alloc, &[links.as_str(), one_more]);
     has_too_many(&rt, alloc, links.as_str());
     let most =
         "node = 1\nlife_dir = \"n1\"\ndests = [1, 2, 3, 4, 5, 6, 7, 8, 9, 10, 11, 12, 13, 14, 15, 16, \
@@ -295,12 +287,8 @@ fn faults_name_the_key_and_the_reason(rt: HostRuntime) -> Result<(), Fail> {
             "`peer` of link 1 is the node itself",
         ),
     ];
-    for (text, words) in rows {
-        same_text(&rt, why(&rt, alloc, &[text]).as_str(), words, text);
-    }
-    let memory = ConfigError::Memory;
-    let printed = format!(in alloc; "{memory}")?;
-    same_text(&rt, printed.as_str(), "out of memory", "no memory");
+    each_says(&rt, alloc, &rows);
+    says(&rt, alloc, &ConfigError::Memory, "out of memory");
     Ok(())
 }
 

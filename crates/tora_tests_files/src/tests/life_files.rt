@@ -1,5 +1,6 @@
 //! The worked rows of the life file, and a crash at each call of the disk.
 use super::sees::{ends, same, same_at, same_bytes, same_text, sees};
+use std::alloc::Global;
 use std::process::Abort;
 use std::test::Fail;
 use tora_life::{Disk, DiskCall, LifeError, LifeFile, MemDisk, OpenFault, bound_of, slot_bytes};
@@ -197,6 +198,14 @@ fn example_of_the_documentation(rt: HostRuntime) -> Result<(), Fail> {
     Ok(())
 }
 
+// Sees the text of each error.
+fn each_says(rt: &impl Abort, alloc: Global, rows: &[(LifeError, &str)]) {
+    for (error, text) in rows {
+        let printed = format!(in alloc; "{error}").expect(rt, "memory");
+        same_text(rt, printed.as_str(), text, "the text of an error");
+    }
+}
+
 #[test]
 fn errors_are_printed_with_their_cause(rt: HostRuntime) -> Result<(), Fail> {
     let rows = [
@@ -209,9 +218,6 @@ fn errors_are_printed_with_their_cause(rt: HostRuntime) -> Result<(), Fail> {
         (LifeError::Damaged, "the file is no life file"),
         (LifeError::Foreign, "the file is of another node or peer"),
     ];
-    for (error, text) in rows {
-        let printed = format!(in rt.alloc(); "{error}")?;
-        same_text(&rt, printed.as_str(), text, "the text of an error");
-    }
+    each_says(&rt, rt.alloc(), &rows);
     Ok(())
 }

@@ -560,20 +560,26 @@ fn ports_tell_that_the_other_side_ended(rt: HostRuntime) -> Result<(), Fail> {
     Ok(())
 }
 
-#[test]
-fn node_has_one_to_32_links(rt: HostRuntime) -> Result<(), Fail> {
-    for (links, refused) in [(0, true), (1, false), (32, false), (33, true)] {
-        match lanes(&rt, rt.alloc(), links) {
-            Ok(made) => {
-                let is_whole = made.links.len() == links && made.outs.len() == links;
-                sees_at(&rt, !refused && is_whole, "lanes are made", &links);
-            }
-            Err(error) => {
-                let is_too_many = error == LaneError::TooMany && error.number() == 2;
-                sees_at(&rt, refused && is_too_many, "lanes are refused", &links);
-            }
+/// Sees whether there are lanes for so many links.
+fn lanes_for<R: Wait + Abort>(rt: &R, alloc: Global, links: usize, refused: bool) {
+    match lanes(rt, alloc, links) {
+        Ok(made) => {
+            let is_whole = made.links.len() == links && made.outs.len() == links;
+            sees_at(rt, !refused && is_whole, "lanes are made", &links);
+        }
+        Err(error) => {
+            let is_too_many = error == LaneError::TooMany && error.number() == 2;
+            sees_at(rt, refused && is_too_many, "lanes are refused", &links);
         }
     }
+}
+
+#[test]
+fn node_has_one_to_32_links(rt: HostRuntime) -> Result<(), Fail> {
+    lanes_for(&rt, rt.alloc(), 0, true);
+    lanes_for(&rt, rt.alloc(), 1, false);
+    lanes_for(&rt, rt.alloc(), 32, false);
+    lanes_for(&rt, rt.alloc(), 33, true);
     same(
         &rt,
         &LaneError::Memory.number(),
@@ -619,15 +625,20 @@ fn use_lanes<R: Wait + Abort>(rt: &R, lanes: Lanes, links: usize) {
     use_out(rt, &mut out, &mut take);
 }
 
+/// Goes over the lanes of a node with so many links, where there is memory for them.
+fn use_new_lanes<R: Wait + Abort>(rt: &R, alloc: Global, links: usize) {
+    match lanes(rt, alloc, links) {
+        Err(error) => same(rt, &error, &LaneError::Memory, "no memory"),
+        Ok(made) => use_lanes(rt, made, links),
+    }
+}
+
 // Where memory is refused `lanes` answers so, and nothing is left of what it had made: the next call finds what it needs. No
 // other call of a lane takes memory, but for one that waits.
 #[test]
 fn want_of_memory_is_answered(rt: HostRuntime) -> Result<(), Fail> {
-    for links in [1, 2, 32] {
-        match lanes(&rt, rt.alloc(), links) {
-            Err(error) => same(&rt, &error, &LaneError::Memory, "no memory"),
-            Ok(made) => use_lanes(&rt, made, links),
-        }
-    }
+    use_new_lanes(&rt, rt.alloc(), 1);
+    use_new_lanes(&rt, rt.alloc(), 2);
+    use_new_lanes(&rt, rt.alloc(), 32);
     Ok(())
 }

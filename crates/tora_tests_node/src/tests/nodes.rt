@@ -378,41 +378,51 @@ const TAG: [u8; 32] = [
 ];
 
 /// Runs node 1 with the one neighbour 3 over this life file, and answers the fault. No thread is started.
-fn fault_of<R: Threads + Wait + Sync + time::Clock + log::Log + Abort>(
-    rt: &R,
+fn fault_of<'a, R: Threads + Wait + Sync + time::Clock + log::Log + Abort>(
+    rt: &'a R,
     alloc: Global,
+    first: &'a AtomicU64,
+    second: &'a AtomicU64,
+    met: &'a AtomicU64,
     disk: ByteDisk,
 ) -> Option<NodeError> {
-    let (first, second, met) = (AtomicU64::new(0), AtomicU64::new(0), AtomicU64::new(0));
     let config = config_of(rt, alloc, 1, &[3]);
     let wire = Meeting {
         rt,
-        own: &first,
-        other: &second,
-        met: &met,
+        own: first,
+        other: second,
+        met,
     };
     let wires = list_of(rt, alloc, wire);
     let disks = list_of(rt, alloc, disk);
-    let mut commands = Waiting { rt, met: &met };
+    let mut commands = Waiting { rt, met };
     let mut screen = Vec::new(alloc);
     let ended = run_over(rt, alloc, config, wires, disks, &mut commands, &mut screen);
-    stands_at(rt, &first, 0, "nothing was received");
+    stands_at(rt, first, 0, "nothing was received");
     ended.err()
+}
+
+/// Sees the fault of a run over this life file.
+fn fault_is<R: Threads + Wait + Sync + time::Clock + log::Log + Abort>(
+    rt: &R,
+    alloc: Global,
+    disk: ByteDisk,
+    wanted: LifeError,
+) {
+    let (first, second, met) = (AtomicU64::new(0), AtomicU64::new(0), AtomicU64::new(0));
+    let fault = fault_of(rt, alloc, &first, &second, &met, disk);
+    same(rt, &fault, &Some(NodeError::Life(3, wanted)), "the fault");
 }
 
 #[test]
 fn a_damaged_life_file_starts_no_thread(rt: HostRuntime) -> Result<(), Fail> {
-    let fault = fault_of(&rt, rt.alloc(), ByteDisk::of_zeros(65));
-    let wanted = Some(NodeError::Life(3, LifeError::Damaged));
-    same(&rt, &fault, &wanted, "a damaged file");
+    fault_is(&rt, rt.alloc(), ByteDisk::of_zeros(65), LifeError::Damaged);
     Ok(())
 }
 
 #[test]
 fn a_life_file_of_another_link_starts_no_thread(rt: HostRuntime) -> Result<(), Fail> {
-    let fault = fault_of(&rt, rt.alloc(), ByteDisk::of_tag(&TAG));
-    let wanted = Some(NodeError::Life(3, LifeError::Foreign));
-    same(&rt, &fault, &wanted, "a file of another link");
+    fault_is(&rt, rt.alloc(), ByteDisk::of_tag(&TAG), LifeError::Foreign);
     Ok(())
 }
 
@@ -427,23 +437,19 @@ fn lines_that_are_commands(rt: HostRuntime) {
     is_command(&rt, b"quit", Command::Quit);
     is_command(&rt, b"need 4", Command::Need(4));
     is_command(&rt, b"need 4294967295", Command::Need(4_294_967_295));
-    for line in [
-        b"".as_slice(),
-        b"need",
-        b"need ",
-        b"need 0",
-        b"need 04",
-        b"need +4",
-        b"need 4 ",
-        b"need  4",
-        b"need 4294967296",
-        b"need 99999999999",
-        b"Show",
-        b"show ",
-        b"quit\r",
-    ] {
-        is_command(&rt, line, Command::Unknown);
-    }
+    is_command(&rt, b"", Command::Unknown);
+    is_command(&rt, b"need", Command::Unknown);
+    is_command(&rt, b"need ", Command::Unknown);
+    is_command(&rt, b"need 0", Command::Unknown);
+    is_command(&rt, b"need 04", Command::Unknown);
+    is_command(&rt, b"need +4", Command::Unknown);
+    is_command(&rt, b"need 4 ", Command::Unknown);
+    is_command(&rt, b"need  4", Command::Unknown);
+    is_command(&rt, b"need 4294967296", Command::Unknown);
+    is_command(&rt, b"need 99999999999", Command::Unknown);
+    is_command(&rt, b"Show", Command::Unknown);
+    is_command(&rt, b"show ", Command::Unknown);
+    is_command(&rt, b"quit\r", Command::Unknown);
 }
 
 /// Sees that the neighbours are 2 and 3.
@@ -556,9 +562,10 @@ fn want_of_memory_ends_a_node(rt: HostRuntime) {
                 "what was printed",
             );
             is_core_of_1(&rt, &ended);
-            for (peer, is_link) in [(2, true), (3, true), (1, false), (4, false)] {
-                counted_nothing(&rt, &ended, peer, is_link);
-            }
+            counted_nothing(&rt, &ended, 2, true);
+            counted_nothing(&rt, &ended, 3, true);
+            counted_nothing(&rt, &ended, 1, false);
+            counted_nothing(&rt, &ended, 4, false);
         }
     }
 }

@@ -148,11 +148,16 @@ fn take_one(rt: &impl Abort, alloc: Global, datagram: &str, expected: Intake) {
     event_is(rt, &mut end, event, datagram);
 }
 
+/// Takes in each datagram of a table at an end of its own.
+fn take_each(rt: &impl Abort, alloc: Global, rows: &[(&str, Intake)]) {
+    for (datagram, expected) in rows {
+        take_one(rt, alloc, datagram, *expected);
+    }
+}
+
 #[test]
 fn verdicts_of_hostile_frames(rt: HostRuntime) {
-    for (datagram, expected) in HOSTILE {
-        take_one(&rt, rt.alloc(), datagram, expected);
-    }
+    take_each(&rt, rt.alloc(), &HOSTILE);
 }
 
 /// Takes in a DATA frame of the bound life with the query for 4.
@@ -206,11 +211,16 @@ fn life_stays(rt: &impl Abort, end: &LinkEnd) {
     same(rt, &end.life(), &Some(LIFE), "the life that is bound");
 }
 
+/// Takes in each beginning of these vectors.
+fn cut_each(rt: &impl Abort, alloc: Global, vectors: &[&str]) {
+    for vector in vectors {
+        take_cut(rt, alloc, vector);
+    }
+}
+
 #[test]
 fn vectors_cut_at_every_length(rt: HostRuntime) {
-    for vector in VECTORS {
-        take_cut(&rt, rt.alloc(), vector);
-    }
+    cut_each(&rt, rt.alloc(), &VECTORS);
 }
 
 /// Sees that the bytes spell a frame just where they were not bad for this reason.
@@ -242,11 +252,16 @@ fn take_changed(rt: &impl Abort, alloc: Global, vector: &str, byte: u8) {
     }
 }
 
+/// Takes in these vectors with each byte changed to this one.
+fn change_each(rt: &impl Abort, alloc: Global, vectors: &[&str], byte: u8) {
+    for vector in vectors {
+        take_changed(rt, alloc, vector, byte);
+    }
+}
+
 #[test]
 fn vectors_with_each_byte_changed(rt: HostRuntime) {
-    for vector in VECTORS {
-        for byte in [0, 1, 255] {
-            take_changed(&rt, rt.alloc(), vector, byte);
-        }
-    }
+    change_each(&rt, rt.alloc(), &VECTORS, 0);
+    change_each(&rt, rt.alloc(), &VECTORS, 1);
+    change_each(&rt, rt.alloc(), &VECTORS, 255);
 }

@@ -203,14 +203,23 @@ fn fault_of<R: Wait + Abort>(
     Ok(finished.fault)
 }
 
+// Sees the fault of a run whose disk fails this call.
+fn ends_by_its_disk<R: Wait + Abort>(
+    rt: &R,
+    alloc: Global,
+    call: DiskCall,
+) -> Result<(), AllocError> {
+    let mut file = file_of(rt, MemDisk::new());
+    file.arm(call);
+    let fault = fault_of(rt, alloc, file)?;
+    fault_is(rt, fault, Some(NodeError::Life(2, LifeError::Disk)));
+    Ok(())
+}
+
 #[test]
 fn a_file_whose_disk_fails_ends_the_link(rt: HostRuntime) -> Result<(), Fail> {
-    for call in [DiskCall::Write, DiskCall::Sync] {
-        let mut file = file_of(&rt, MemDisk::new());
-        file.arm(call);
-        let fault = fault_of(&rt, rt.alloc(), file)?;
-        fault_is(&rt, fault, Some(NodeError::Life(2, LifeError::Disk)));
-    }
+    ends_by_its_disk(&rt, rt.alloc(), DiskCall::Write)?;
+    ends_by_its_disk(&rt, rt.alloc(), DiskCall::Sync)?;
     Ok(())
 }
 
@@ -249,25 +258,35 @@ fn a_damaged_file_gives_no_link(rt: HostRuntime) -> Result<(), Fail> {
     Ok(())
 }
 
+// Sees the text of a fault.
+fn says(rt: &impl Abort, alloc: Global, error: NodeError, text: &str) {
+    let printed = there(rt, format!(in alloc; "{error}").ok(), "memory");
+    same_text(rt, printed.as_str(), text, "the text of an error");
+}
+
 #[test]
 fn faults_say_what_they_are(rt: HostRuntime) -> Result<(), Fail> {
-    let rows = [
-        (NodeError::Memory, "out of memory"),
-        (NodeError::Lane, "there are no lanes for so many links"),
-        (
-            NodeError::Life(2, LifeError::Spent),
-            "the life file of the link to 2: no number is left",
-        ),
-        (
-            NodeError::Wire(2),
-            "a hundred calls in a row of the wire to 2 failed",
-        ),
-        (NodeError::Output, "the output failed"),
-    ];
-    for (error, text) in rows {
-        let printed = format!(in rt.alloc(); "{error}")?;
-        same_text(&rt, printed.as_str(), text, "the text of an error");
-    }
+    let alloc = rt.alloc();
+    says(&rt, alloc, NodeError::Memory, "out of memory");
+    says(
+        &rt,
+        alloc,
+        NodeError::Lane,
+        "there are no lanes for so many links",
+    );
+    says(
+        &rt,
+        alloc,
+        NodeError::Life(2, LifeError::Spent),
+        "the life file of the link to 2: no number is left",
+    );
+    says(
+        &rt,
+        alloc,
+        NodeError::Wire(2),
+        "a hundred calls in a row of the wire to 2 failed",
+    );
+    says(&rt, alloc, NodeError::Output, "the output failed");
     Ok(())
 }
 
