@@ -63,9 +63,9 @@ fn drawn_numbers_rise_in_a_real_folder(rt: HostRuntime) -> Result<(), Fail> {
 }
 
 // Sees what a read answers.
-fn reads<D: Disk>(
+fn reads(
     rt: &impl Abort,
-    disk: &mut D,
+    disk: &mut FileDisk,
     at: usize,
     buf: &mut [u8],
     wanted: Result<usize, DiskError>,
@@ -75,9 +75,9 @@ fn reads<D: Disk>(
 }
 
 // Sees what a write answers.
-fn writes<D: Disk>(
+fn writes(
     rt: &impl Abort,
-    disk: &mut D,
+    disk: &mut FileDisk,
     at: usize,
     bytes: &[u8],
     wanted: Result<(), DiskError>,
@@ -87,12 +87,12 @@ fn writes<D: Disk>(
 }
 
 // Sees that a sync passes.
-fn syncs<D: Disk>(rt: &impl Abort, disk: &mut D) {
+fn syncs(rt: &impl Abort, disk: &mut FileDisk) {
     same(rt, &disk.sync(), &Ok(()), "a sync");
 }
 
 // Goes over a new file, of which 65 bytes are written in the end.
-fn use_places<D: Disk>(rt: &impl Abort, disk: &mut D) {
+fn use_places(rt: &impl Abort, disk: &mut FileDisk) {
     let mut bytes = [1; 6];
     reads(rt, disk, 0, &mut bytes, Ok(0), "a read of the new file");
     writes(rt, disk, 0, b"abcd", Ok(()), "the first write");
