@@ -1,135 +1,39 @@
-//! Times a link between two neighbours' threads over UDP, for `bench/link_udp.sh`. With no words it prints nothing.
+//! Times the lanes of a node and a link between two neighbours' threads, for `bench/lane.sh` and `bench/link_udp.sh`. With no
+//! words it prints nothing.
 //!
-//! `tora_bench_link N` binds two sockets of the loopback, runs `run_neighbour` at each end, and hands N updates of 32 bytes
+//! `tora_bench_link lane N` puts N items from each of three threads into the lane into the core while the core takes them, and
+//! sends N cargoes from one thread to another through one lane. Each line is a name, nanoseconds an operation (the best of
+//! seven runs), and how many operations went through.
+//!
+//! `tora_bench_link link N` binds two sockets of the loopback, runs `run_neighbour` at each end, and hands N updates of 32 bytes
 //! from one to the other, each in a DATA frame of 76 bytes, 32 under way at most. It prints nanoseconds a packet, from the
 //! first that was submitted to the last that was delivered, and how many were delivered.
 #![tactic(auto)]
 
-ghost use Rattle.std.specs.Prelude.{◌≢◌, ◌<◌};
-
+mod lane_runs;
+mod lanes;
+mod link;
 mod paced_hub;
 
-use paced_hub::{Course, PacedHub};
-use std::alloc::Global;
-use std::net::Net;
-use std::sync::Wait;
-use std::sync::atomic::{AtomicU64, Ordering};
-use std::thread::Threads;
-use std::time::{Clock, Instant};
-use std::{io, thread};
-use tora_arq::{Life, LinkEnd, Times};
-use tora_height::{Height, Id};
-use tora_lane::Cargo;
-use tora_life::{LifeFile, MemDisk};
-use tora_neighbour::{Link, ListHub, UdpWire, UnixClock, run_neighbour};
-use tora_packet::{Packet, Update};
+use lanes::time_lanes;
+use link::time_link;
+use std::io;
 
-/// The packets, where no number is given.
+/// The items of each thread, the cargoes and the packets, where no number is given.
 const COUNT: u32 = 200_000;
 
-/// Places for the life that begins and for the beats of a run.
-const OTHER_PUTS: usize = 10_000;
-
-/// Two wires to each other, on two ports of the loopback that are free.
-fn pair<R: Net>(rt: &R) -> Option<(UdpWire, UdpWire)> {
-    for port in 43_000..43_500u16 {
-        let Ok(first) = UdpWire::bind(rt, port, port + 500) else {
-            continue;
-        };
-        let Ok(second) = UdpWire::bind(rt, port + 500, port) else {
-            continue;
-        };
-        return Some((first, second));
-    }
-    None
-}
-
-/// So many updates, in the life of two ends that drew their first numbers.
-fn cargoes(alloc: Global, count: u32) -> Option<Vec<Cargo>> {
-    let height = Height::new(0, 0, 0, 1, 1).ok()?;
-    let packet = Packet::Upd(Update::new(4, height).ok()?);
-    let life = Life { own: 1, peer: 1 };
-    let mut list = Vec::new(alloc);
-    for _ in 0..count {
-        list.push(Cargo::Packet(life, packet)).ok()?;
-    }
-    Some(list)
-}
-
-/// Runs an end until every packet was delivered.
-fn run_end<R: Clock + Wait>(
-    rt: &R,
-    alloc: Global,
-    me: Id,
-    peer: Id,
-    wire: UdpWire,
-    cargoes: Vec<Cargo>,
-    course: &Course,
-) -> Option<u64>
-    requires me { 0 < me }
-    requires peer { 0 < peer }
-    requires other { me ≢ peer }
-{
-    let end = LinkEnd::new(alloc, me, peer, Times::STANDARD).ok()?;
-    let Ok(file) = LifeFile::open(MemDisk::new(), me, peer) else {
-        return None;
-    };
-    let room = usize::try_from(course.count)
-        .ok()?
-        .saturating_add(OTHER_PUTS);
-    let hub = PacedHub {
-        list: ListHub::new(alloc, room, cargoes).ok()?,
-        course,
-        clock: rt,
-        is_up: false,
-        given: 0,
-        over: false,
-    };
-    let clock = UnixClock::new(rt);
-    let finished = run_neighbour(rt, Link { end, file, wire }, &clock, hub);
-    Some(finished.hub.given)
-}
-
-/// Runs both ends.
-fn run_link<R: Clock + Net + Threads + Wait + Sync>(
-    rt: &R,
-    alloc: Global,
-    count: u32,
-    course: &Course,
-) -> Option<()> {
-    let (first, second) = pair(rt)?;
-    let list = cargoes(alloc, count)?;
-    let none = Vec::new(alloc);
-    let (sent, received) = thread::join(
-        rt,
-        move || run_end(rt, alloc, 1, 2, first, list, course),
-        move || run_end(rt, alloc, 2, 1, second, none, course),
-    );
-    sent?;
-    received?;
-    Some(())
+/// Whether the lanes are asked for, and how many operations.
+fn asked(words: &[String]) -> Option<(bool, u32)> {
+    let what = words.get(1)?;
+    let count = words.get(2)?.as_str().parse::<u32>().unwrap_or(COUNT);
+    Some((what.as_str() == "lane", count))
 }
 
 fn main(rt: HostRuntime) -> io::Result<()> {
     let words = std::env::args(&rt)?.collect::<Vec<String>>(rt.alloc())?;
-    let Some(word) = words.get(1) else {
-        return Ok(());
-    };
-    let count = word.as_str().parse::<u32>().unwrap_or(COUNT);
-    let course = Course {
-        base: Instant::now(&rt)?,
-        count: u64::from(count),
-        delivered: AtomicU64::new(0),
-        began: AtomicU64::new(0),
-        ended: AtomicU64::new(0),
-    };
-    let ran = run_link(&rt, rt.alloc(), count, &course);
-    let delivered = course.delivered.load(Ordering::SeqCst);
-    let began = course.began.load(Ordering::SeqCst);
-    let ended = course.ended.load(Ordering::SeqCst);
-    if ran.is_none() || delivered != course.count {
-        return println!(&rt; "link-udp failed, {delivered} of {count} were delivered");
+    match asked(&words) {
+        Some((true, count)) => time_lanes(&rt, rt.alloc(), count),
+        Some((false, count)) => time_link(&rt, rt.alloc(), count),
+        None => Ok(()),
     }
-    let nanoseconds = ended.saturating_sub(began) / u64::from(count.max(1));
-    println!(&rt; "link-udp {nanoseconds} ns/packet count {delivered}")
 }

@@ -1,3 +1,4 @@
 //! The tests of each crate, each over its public names.
 mod configurations;
 mod life_files;
+mod sees;

@@ -2,3 +2,4 @@
 mod lanes;
 mod neighbours;
 mod nodes;
+mod sees;

@@ -1,9 +1,10 @@
 // The worked configuration, and each way to refuse one.
-use std::alloc::Global;
-use std::process::Abort;
+use super::sees::{ends, same, same_text};
+use reading::*;
 use std::test::Fail;
 use tora_config::*;
-use tora_core::CoreError;
+
+mod reading;
 
 const WORKED: &str =
     "node = 1\ndests = [4]\nlife_dir = \"n1\"\n\n[[link]]\npeer = 2\nlocal = 4012\nremote = 4021\n";
@@ -12,66 +13,22 @@ const HEAD: &str = "node = 1\ndests = [4]\nlife_dir = \"n1\"\n";
 
 const LINK: &str = "[[link]]\npeer = 2\nlocal = 4012\nremote = 4021\n";
 
-fn is_refused(
-    rt: &impl Abort,
-    alloc: Global,
-    parts: &[&str],
-    place: Place,
-    reason: Reason,
-) -> Result<(), Fail> {
-    let mut text = String::new(alloc);
-    for part in parts {
-        text.push_str(part)?;
-    }
-    match read_config(alloc, text.as_str()) {
-        Err(ConfigError::Value(at, why)) => {
-            assert_eq!(rt; at, place, "{text}");
-            assert_eq!(rt; why, reason, "{text}");
-        }
-        other => panic!(rt; "{text}: {other:?}"),
-    }
-    Ok(())
-}
-
-// The text of why it is refused.
-fn why(rt: &impl Abort, alloc: Global, parts: &[&str]) -> Result<String, Fail> {
-    let mut text = String::new(alloc);
-    for part in parts {
-        text.push_str(part)?;
-    }
-    match read_config(alloc, text.as_str()) {
-        Ok(_) => panic!(rt; "it is accepted: {text}"),
-        Err(error) => Ok(format!(in alloc; "{error}")?),
-    }
-}
-
 #[test]
 fn configurations_accepted_and_refused(rt: HostRuntime) -> Result<(), Fail> {
     let alloc = rt.alloc();
-    match read_config(alloc, WORKED) {
-        Ok(config) => {
-            assert_eq!(&rt; config.node, 1);
-            assert_eq!(&rt; config.dests.as_slice(), [4].as_slice());
-            assert_eq!(&rt; config.life_dir.as_str(), "n1");
-            let link = LinkConfig {
-                peer: 2,
-                local: 4012,
-                remote: 4021,
-            };
-            assert_eq!(&rt; config.links.as_slice(), [link].as_slice());
-        }
-        Err(error) => panic!(&rt; "{error}"),
-    }
+    is_worked(&rt, &config_of(&rt, alloc, WORKED));
     is_refused(
         &rt,
         alloc,
         &[HEAD, "[[link]]\nlocal = 4012\nremote = 4021\n"],
         Place::Peer(1),
         Reason::Missing,
-    )?;
-    assert_eq!(&rt;
-        why(&rt, alloc, &["name = \"one\"\n", WORKED])?.as_str(),
-        "`name` is no key of a configuration"
+    );
+    why_is(
+        &rt,
+        alloc,
+        &["name = \"one\"\n", WORKED],
+        "`name` is no key of a configuration",
     );
     is_refused(
         &rt,
@@ -83,54 +40,44 @@ fn configurations_accepted_and_refused(rt: HostRuntime) -> Result<(), Fail> {
         ],
         Place::Peer(2),
         Reason::Repeated,
-    )?;
+    );
     is_refused(
         &rt,
         alloc,
         &[HEAD, "[[link]]\npeer = 2\nlocal = 0\nremote = 4021\n"],
         Place::Local(1),
         Reason::NoPort,
-    )?;
+    );
     is_refused(
         &rt,
         alloc,
         &["node = 2\ndests = [4]\nlife_dir = \"n1\"\n", LINK],
         Place::Peer(1),
         Reason::OwnId,
-    )?;
-    match read_config(alloc, "node = = 1\n") {
-        Err(ConfigError::Syntax(_)) => {}
-        other => panic!(&rt; "{other:?}"),
-    }
+    );
+    is_no_toml(&rt, alloc, &["node = = 1\n"]);
     Ok(())
 }
 
 #[test]
 fn links_are_by_ascending_peer(rt: HostRuntime) -> Result<(), Fail> {
-    let alloc = rt.alloc();
-    let mut text = String::from_str(alloc, HEAD)?;
-    for part in [
+    let parts = [
+        HEAD,
         "[[link]]\npeer = 9\nlocal = 1\nremote = 65535\n",
         "[[link]]\npeer = 3\nlocal = 2\nremote = 65535\n",
         "[[link]]\npeer = 4294967295\nlocal = 65535\nremote = 1\n",
-    ] {
-        text.push_str(part)?;
-    }
-    match read_config(alloc, text.as_str()) {
-        Ok(config) => {
-            assert_eq!(&rt; config.links.len(), 3);
-            assert_eq!(&rt; config.links[0].peer, 3);
-            assert_eq!(&rt; config.links[1].peer, 9);
-            assert_eq!(&rt; config.links[2].peer, 4294967295);
-        }
-        Err(error) => panic!(&rt; "{error}"),
-    }
+    ];
+    let text = joined(&rt, rt.alloc(), &parts);
+    let config = config_of(&rt, rt.alloc(), text.as_str());
+    same(&rt, &config.links.len(), &3, "how many links");
+    peer_is(&rt, &config, 0, 3);
+    peer_is(&rt, &config, 1, 9);
+    peer_is(&rt, &config, 2, 4294967295);
     Ok(())
 }
 
 #[test]
 fn keys_of_a_node(rt: HostRuntime) -> Result<(), Fail> {
-    let alloc = rt.alloc();
     let rows = [
         ("", Place::Node, Reason::Missing),
         ("node = \"1\"\n", Place::Node, Reason::NoNumber),
@@ -191,15 +138,13 @@ fn keys_of_a_node(rt: HostRuntime) -> Result<(), Fail> {
             Reason::NoList,
         ),
     ];
-    for (text, place, reason) in rows {
-        is_refused(&rt, alloc, &[text], place, reason)?;
-    }
+    each_is_refused(&rt, rt.alloc(), "", &rows);
     Ok(())
 }
 
 #[test]
 fn keys_of_a_link(rt: HostRuntime) -> Result<(), Fail> {
-    let alloc = rt.alloc();
+    let before = joined(&rt, rt.alloc(), &[HEAD, LINK]);
     let rows = [
         ("[[link]]\n", Place::Peer(2), Reason::Missing),
         ("[[link]]\npeer = \"3\"\n", Place::Peer(2), Reason::NoNumber),
@@ -262,9 +207,7 @@ fn keys_of_a_link(rt: HostRuntime) -> Result<(), Fail> {
             Reason::OwnId,
         ),
     ];
-    for (text, place, reason) in rows {
-        is_refused(&rt, alloc, &[HEAD, LINK, text], place, reason)?;
-    }
+    each_is_refused(&rt, rt.alloc(), before.as_str(), &rows);
     Ok(())
 }
 
@@ -272,57 +215,38 @@ fn keys_of_a_link(rt: HostRuntime) -> Result<(), Fail> {
 #[test]
 fn repeated_and_unknown_keys(rt: HostRuntime) -> Result<(), Fail> {
     let alloc = rt.alloc();
-    for text in ["node = 1\n", "dests = []\n", "life_dir = \"n2\"\n"] {
-        let mut twice = String::from_str(alloc, text)?;
-        twice.push_str(WORKED)?;
-        match read_config(alloc, twice.as_str()) {
-            Err(ConfigError::Syntax(_)) => {}
-            other => panic!(&rt; "{text}: {other:?}"),
-        }
-    }
-    for text in ["peer = 2\n", "local = 4012\n", "remote = 4021\n"] {
-        let mut twice = String::from_str(alloc, WORKED)?;
-        twice.push_str(text)?;
-        match read_config(alloc, twice.as_str()) {
-            Err(ConfigError::Syntax(_)) => {}
-            other => panic!(&rt; "{text}: {other:?}"),
-        }
-    }
-    let unknown = why(&rt, alloc, &[WORKED, "name = \"two\"\n"])?;
-    assert_eq!(&rt; unknown.as_str(), "`name` of link 1 is no key of a link");
+    is_no_toml(&rt, alloc, &["node = 1\n", WORKED]);
+    is_no_toml(&rt, alloc, &["dests = []\n", WORKED]);
+    is_no_toml(&rt, alloc, &["life_dir = \"n2\"\n", WORKED]);
+    is_no_toml(&rt, alloc, &[WORKED, "peer = 2\n"]);
+    is_no_toml(&rt, alloc, &[WORKED, "local = 4012\n"]);
+    is_no_toml(&rt, alloc, &[WORKED, "remote = 4021\n"]);
+    why_is(
+        &rt,
+        alloc,
+        &[WORKED, "name = \"two\"\n"],
+        "`name` of link 1 is no key of a link",
+    );
     Ok(())
 }
 
 #[test]
 fn what_a_core_refuses(rt: HostRuntime) -> Result<(), Fail> {
     let alloc = rt.alloc();
-    let mut links = String::from_str(alloc, HEAD)?;
-    for n in 2..34u32 {
-        let link = format!(in alloc; "[[link]]\npeer = {n}\nlocal = {n}\nremote = 1\n")?;
-        links.push_str(link.as_str())?;
-    }
-    assert!(&rt; read_config(alloc, links.as_str()).is_ok());
-    links.push_str("[[link]]\npeer = 34\nlocal = 34\nremote = 1\n")?;
-    match read_config(alloc, links.as_str()) {
-        Err(ConfigError::Core(CoreError::TooMany)) => {}
-        other => panic!(&rt; "{other:?}"),
-    }
+    let links = with_links(&rt, alloc, HEAD);
+    let _ = config_of(&rt, alloc, links.as_str());
+    let one_more = "[[link]]\npeer = 34\nlocal = 34\nremote = 1\n";
+    let links = joined(&rt, alloc, &[links.as_str(), one_more]);
+    has_too_many(&rt, alloc, links.as_str());
     let most =
         "node = 1\nlife_dir = \"n1\"\ndests = [1, 2, 3, 4, 5, 6, 7, 8, 9, 10, 11, 12, 13, 14, 15, 16, \
         17, 18, 19, 20, 21, 22, 23, 24, 25, 26, 27, 28, 29, 30, 31, 32, \
         33, 34, 35, 36, 37, 38, 39, 40, 41, 42, 43, 44, 45, 46, 47, 48, \
         49, 50, 51, 52, 53, 54, 55, 56, 57, 58, 59, 60, 61, 62, 63, 64";
-    let mut dests = String::from_str(alloc, most)?;
-    dests.push_str("]\n")?;
-    dests.push_str(LINK)?;
-    assert!(&rt; read_config(alloc, dests.as_str()).is_ok());
-    let mut more = String::from_str(alloc, most)?;
-    more.push_str(", 65]\n")?;
-    more.push_str(LINK)?;
-    match read_config(alloc, more.as_str()) {
-        Err(ConfigError::Core(CoreError::TooMany)) => {}
-        other => panic!(&rt; "{other:?}"),
-    }
+    let dests = joined(&rt, alloc, &[most, "]\n", LINK]);
+    let _ = config_of(&rt, alloc, dests.as_str());
+    let more = joined(&rt, alloc, &[most, ", 65]\n", LINK]);
+    has_too_many(&rt, alloc, more.as_str());
     Ok(())
 }
 
@@ -363,29 +287,21 @@ fn faults_name_the_key_and_the_reason(rt: HostRuntime) -> Result<(), Fail> {
             "`peer` of link 1 is the node itself",
         ),
     ];
-    for (text, words) in rows {
-        assert_eq!(&rt; why(&rt, alloc, &[text])?.as_str(), words);
-    }
-    let memory = ConfigError::Memory;
-    assert_eq!(&rt; format!(in alloc; "{memory}")?.as_str(), "out of memory");
+    each_says(&rt, alloc, &rows);
+    says(&rt, alloc, &ConfigError::Memory, "out of memory");
     Ok(())
 }
 
 #[test]
 fn want_of_memory_is_answered(rt: HostRuntime) {
     match read_config(rt.alloc(), WORKED) {
-        Ok(config) => {
-            assert_eq!(&rt; config.node, 1);
-            assert_eq!(&rt; config.dests.as_slice(), [4].as_slice());
-            assert_eq!(&rt; config.life_dir.as_str(), "n1");
-            assert_eq!(&rt; config.links.len(), 1);
-        }
+        Ok(config) => is_worked(&rt, &config),
         Err(ConfigError::Memory) => {}
         Err(error) => panic!(&rt; "{error}"),
     }
     match read_config(rt.alloc(), "name = 1\n") {
-        Err(ConfigError::UnknownKey(key)) => assert_eq!(&rt; key.as_str(), "name"),
+        Err(ConfigError::UnknownKey(key)) => same_text(&rt, key.as_str(), "name", "the key"),
         Err(ConfigError::Memory) => {}
-        _ => panic!(&rt; "an unknown key is read"),
+        _ => ends(&rt, "an unknown key is read"),
     }
 }

@@ -1,7 +1,9 @@
 //! The worked rows of the life file, and a crash at each call of the disk.
+use super::sees::{ends, same, same_at, same_bytes, same_text, sees};
+use std::alloc::Global;
 use std::process::Abort;
 use std::test::Fail;
-use tora_life::{DiskCall, LifeError, LifeFile, MemDisk, bound_of, slot_bytes};
+use tora_life::{Disk, DiskCall, LifeError, LifeFile, MemDisk, OpenFault, bound_of, slot_bytes};
 
 mod files;
 mod fuses;
@@ -22,33 +24,84 @@ const SLOT_OF_900: [u8; 16] = [
 ];
 
 fn disk_of(rt: &impl Abort, bytes: &[u8]) -> MemDisk {
-    match MemDisk::of(bytes) {
-        Some(disk) => disk,
-        None => panic!(rt; "more than 80 bytes"),
-    }
+    MemDisk::of(bytes).expect(rt, "80 bytes at most")
 }
 
-fn opened(rt: &impl Abort, disk: MemDisk) -> LifeFile<MemDisk> {
-    match LifeFile::open(disk, 1, 2) {
+// Ends the test: a file is not opened.
+fn not_opened(rt: &impl Abort, error: LifeError) -> ! {
+    panic!(rt; "not opened: {error:?}")
+}
+
+// What an opening answers: the file, where it is opened.
+fn file_in<D: Disk + Drop>(
+    rt: &impl Abort,
+    answer: Result<LifeFile<D>, OpenFault<D>>,
+) -> LifeFile<D> {
+    match answer {
         Ok(file) => file,
-        Err(fault) => panic!(rt; "not opened: {:?}", fault.error),
+        Err(fault) => not_opened(rt, fault.error),
     }
 }
 
-fn draws(rt: &impl Abort, file: &mut LifeFile<MemDisk>, from: u64, to: u64) {
-    for n in from..to {
-        assert_eq!(rt; file.draw(), Ok(n));
+// What an opening answers: the fault, where the file is not opened.
+fn fault_in<D: Disk + Drop>(
+    rt: &impl Abort,
+    answer: Result<LifeFile<D>, OpenFault<D>>,
+) -> OpenFault<D> {
+    match answer {
+        Ok(_) => ends(rt, "opened"),
+        Err(fault) => fault,
     }
+}
+
+// The file of this disk, of node 1 and peer 2.
+fn opened<D: Disk + Drop>(rt: &impl Abort, disk: D) -> LifeFile<D> {
+    file_in(rt, LifeFile::open(disk, 1, 2))
+}
+
+// Why this disk has no file of node 1 and peer 2.
+fn refused<D: Disk + Drop>(rt: &impl Abort, disk: D) -> OpenFault<D> {
+    fault_in(rt, LifeFile::open(disk, 1, 2))
+}
+
+// Sees what the next draw answers.
+fn next_is<D: Disk + Drop>(
+    rt: &impl Abort,
+    file: &mut LifeFile<D>,
+    wanted: Result<u64, LifeError>,
+    what: &str,
+) {
+    same(rt, &file.draw(), &wanted, what);
+}
+
+fn draws<D: Disk + Drop>(rt: &impl Abort, file: &mut LifeFile<D>, from: u64, to: u64) {
+    for n in from..to {
+        next_is(rt, file, Ok(n), "a number of a row");
+    }
+}
+
+// Sees that the next draw fails at the disk, and the one after it for that reason.
+fn fails<D: Disk + Drop>(rt: &impl Abort, file: &mut LifeFile<D>) {
+    next_is(rt, file, Err(LifeError::Disk), "the draw whose call fails");
+    next_is(rt, file, Err(LifeError::Failed), "the draw after it");
+}
+
+fn spells(rt: &impl Abort, slot: [u8; 16], bound: u64) {
+    same_at(rt, &slot_bytes(bound), &slot, "the slot", &bound);
+    same_at(
+        rt,
+        &bound_of(&slot),
+        &bound,
+        "the bound of the slot",
+        &bound,
+    );
 }
 
 #[test]
 fn slots_spell_their_bounds(rt: HostRuntime) -> Result<(), Fail> {
-    assert_eq!(&rt; slot_bytes(16), SLOT_OF_16);
-    assert_eq!(&rt; slot_bytes(32), SLOT_OF_32);
-    assert_eq!(&rt; slot_bytes(900), SLOT_OF_900);
-    assert_eq!(&rt; bound_of(&SLOT_OF_16), 16);
-    assert_eq!(&rt; bound_of(&SLOT_OF_32), 32);
-    assert_eq!(&rt; bound_of(&SLOT_OF_900), 900);
+    spells(&rt, SLOT_OF_16, 16);
+    spells(&rt, SLOT_OF_32, 32);
+    spells(&rt, SLOT_OF_900, 900);
     Ok(())
 }
 
@@ -57,8 +110,7 @@ fn torn_after_sixteen(rt: &impl Abort, torn: Option<[u8; 16]>) -> LifeFile<MemDi
     let mut file = opened(rt, MemDisk::new());
     draws(rt, &mut file, 1, 17);
     file.arm(DiskCall::Write);
-    assert_eq!(rt; file.draw(), Err(LifeError::Disk));
-    assert_eq!(rt; file.draw(), Err(LifeError::Failed));
+    fails(rt, &mut file);
     let mut disk = file.close();
     disk.crash(torn);
     opened(rt, disk)
@@ -78,8 +130,7 @@ fn drawn_numbers_survive_torn_slots(rt: HostRuntime) -> Result<(), Fail> {
 
     let mut file = opened(&rt, MemDisk::new());
     file.arm(DiskCall::Sync);
-    assert_eq!(&rt; file.draw(), Err(LifeError::Disk));
-    assert_eq!(&rt; file.draw(), Err(LifeError::Failed));
+    fails(&rt, &mut file);
     Ok(())
 }
 
@@ -91,51 +142,68 @@ fn first_draw(rt: &impl Abort, bytes: &[u8]) -> Result<u64, LifeError> {
     }
 }
 
-#[test]
-fn odd_life_files(rt: HostRuntime) -> Result<(), Fail> {
-    assert_eq!(&rt; first_draw(&rt, &[]), Ok(1));
-    assert_eq!(&rt; first_draw(&rt, &[0; 15]), Ok(1));
-    assert_eq!(&rt; first_draw(&rt, &[0xff; 15]), Ok(1));
-    assert_eq!(&rt; first_draw(&rt, &SLOT_OF_16[..15]), Ok(1));
-    let mut cut = [0xff; 31];
-    cut[..16].fill(0);
-    assert_eq!(&rt; first_draw(&rt, &cut), Ok(1));
-    assert_eq!(&rt; first_draw(&rt, &SLOT_OF_16), Ok(17));
-    assert_eq!(&rt; first_draw(&rt, &[0; 33]), Ok(1));
-    assert_eq!(&rt; first_draw(&rt, &[0; 64]), Ok(1));
-    assert_eq!(&rt; first_draw(&rt, &[0; 65]), Err(LifeError::Damaged));
+// Sees what is drawn first from a file of these bytes.
+fn first_is(rt: &impl Abort, bytes: &[u8], wanted: Result<u64, LifeError>, what: &str) {
+    same(rt, &first_draw(rt, bytes), &wanted, what);
+}
 
-    let mut greatest = [0; 16];
-    greatest[..8].fill(0xff);
-    assert_eq!(&rt; first_draw(&rt, &greatest), Err(LifeError::Spent));
-
+// Sees the last numbers that there are, and that none comes after them.
+fn numbers_end(rt: &impl Abort) {
     let near_the_end = [
         0x3f, 0xff, 0xff, 0xff, 0xff, 0xff, 0xff, 0xf0, 0xc0, 0, 0, 0, 0, 0, 0, 0x0f,
     ];
-    let mut file = opened(&rt, disk_of(&rt, &near_the_end));
-    draws(&rt, &mut file, 0x3fff_ffff_ffff_fff1, (1 << 62) + 1);
-    assert_eq!(&rt; file.draw(), Err(LifeError::Spent));
-    assert_eq!(&rt; file.draw(), Err(LifeError::Spent));
+    let mut file = opened(rt, disk_of(rt, &near_the_end));
+    draws(rt, &mut file, 0x3fff_ffff_ffff_fff1, (1 << 62) + 1);
+    next_is(rt, &mut file, Err(LifeError::Spent), "no number is left");
+    next_is(rt, &mut file, Err(LifeError::Spent), "nor is one after it");
+}
+
+#[test]
+fn odd_life_files(rt: HostRuntime) -> Result<(), Fail> {
+    first_is(&rt, &[], Ok(1), "no byte");
+    first_is(&rt, &[0; 15], Ok(1), "15 zeros");
+    first_is(&rt, &[0xff; 15], Ok(1), "15 bytes of 255");
+    first_is(&rt, &SLOT_OF_16[..15], Ok(1), "15 bytes of a slot");
+    let mut cut = [0xff; 31];
+    cut[..16].fill(0);
+    first_is(&rt, &cut, Ok(1), "a slot of zeros and 15 bytes");
+    first_is(&rt, &SLOT_OF_16, Ok(17), "the slot of 16");
+    first_is(&rt, &[0; 33], Ok(1), "33 zeros");
+    first_is(&rt, &[0; 64], Ok(1), "64 zeros");
+    first_is(&rt, &[0; 65], Err(LifeError::Damaged), "65 zeros");
+
+    let mut greatest = [0; 16];
+    greatest[..8].fill(0xff);
+    first_is(&rt, &greatest, Err(LifeError::Spent), "the greatest bound");
+    numbers_end(&rt);
     Ok(())
 }
 
 #[test]
 fn a_disk_holds_80_bytes(rt: HostRuntime) -> Result<(), Fail> {
-    assert!(&rt; MemDisk::of(&[1; 81]).is_none());
-    assert_eq!(&rt; disk_of(&rt, &[1; 80]).bytes(), [1; 80].as_slice());
-    assert_eq!(&rt; MemDisk::new().bytes(), [].as_slice());
+    sees(&rt, MemDisk::of(&[1; 81]).is_none(), "81 bytes are refused");
+    same_bytes(&rt, disk_of(&rt, &[1; 80]).bytes(), &[1; 80], "80 bytes");
+    same_bytes(&rt, MemDisk::new().bytes(), &[], "a new disk");
     Ok(())
 }
 
 #[test]
 fn example_of_the_documentation(rt: HostRuntime) -> Result<(), Fail> {
     let mut file = opened(&rt, MemDisk::new());
-    assert_eq!(&rt; file.draw(), Ok(1));
+    next_is(&rt, &mut file, Ok(1), "the first draw");
     let mut disk = file.close();
     disk.crash(None);
     let mut file = opened(&rt, disk);
-    assert_eq!(&rt; file.draw(), Ok(17));
+    next_is(&rt, &mut file, Ok(17), "the draw after a crash");
     Ok(())
+}
+
+// Sees the text of each error.
+fn each_says(rt: &impl Abort, alloc: Global, rows: &[(LifeError, &str)]) {
+    for (error, text) in rows {
+        let printed = format!(in alloc; "{error}").expect(rt, "memory");
+        same_text(rt, printed.as_str(), text, "the text of an error");
+    }
 }
 
 #[test]
@@ -150,9 +218,6 @@ fn errors_are_printed_with_their_cause(rt: HostRuntime) -> Result<(), Fail> {
         (LifeError::Damaged, "the file is no life file"),
         (LifeError::Foreign, "the file is of another node or peer"),
     ];
-    for (error, text) in rows {
-        let printed = format!(in rt.alloc(); "{error}")?;
-        assert_eq!(&rt; printed.as_str(), text);
-    }
+    each_says(&rt, rt.alloc(), &rows);
     Ok(())
 }

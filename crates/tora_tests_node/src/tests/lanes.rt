@@ -4,6 +4,7 @@ ghost use Rattle.tora_lane.specs.NodeLanes.{AreLinks};
 ghost use Rattle.tora_lane.specs.Out.{AreEndsOf};
 ghost use Rattle.tora_lane.specs.Ports.{IsPortOf};
 
+use super::sees::{same, same_at, sees, sees_at, there};
 use std::alloc::Global;
 use std::process::Abort;
 use std::sync::Wait;
@@ -281,6 +282,37 @@ fn two_links<R: Wait + Abort>(rt: &R, alloc: Global) -> (CoreSide, LinkSide, Lin
     (core, first, second, command)
 }
 
+/// Sees that a seat has put its items, and that each was taken.
+fn seat_is_settled<R: Wait + Abort>(rt: &R, core: &mut CorePort, port: InPort, wanted: Settled)
+    requires { IsPortOf core.old port }
+    ensures { core.new ≡ core.old }
+{
+    same_at(
+        rt,
+        &core.settle(rt, port),
+        &wanted,
+        "the items",
+        &wanted.seat,
+    );
+}
+
+/// Sees that each cargo of a lane was sent and received.
+fn lane_is_settled(rt: &impl Abort, put: OutPut, take: OutTake)
+    requires { AreEndsOf put take }
+{
+    let whole = OutEnd {
+        sent: EACH,
+        received: EACH,
+        waiting: 0,
+    };
+    same(rt, &settle_out(put, take), &whole, "the cargoes of a lane");
+}
+
+/// Sees that the core's port tells that the seats have ended.
+fn seats_have_ended<R: Wait + Abort>(rt: &R, core: &mut CorePort) {
+    sees(rt, core.take(rt).is_err(), "the seats have ended");
+}
+
 #[test]
 fn lane_order(rt: HostRuntime) -> Result<(), Fail> {
     let (core, first, second, command) = two_links(&rt, rt.alloc());
@@ -291,22 +323,28 @@ fn lane_order(rt: HostRuntime) -> Result<(), Fail> {
     );
     let (first, second) = link_sides;
     let ((command, put), core) = others;
-    assert_eq!(&rt; (first.put, second.put, put), (EACH, EACH, EACH));
-    assert_eq!(&rt; core.taken, 3 * EACH);
-    assert_eq!(&rt; (first.taken, second.taken), (EACH, EACH));
+    let all_put = (first.put, second.put, put);
+    same(
+        &rt,
+        &all_put,
+        &(EACH, EACH, EACH),
+        "the items that were put",
+    );
+    same(&rt, &core.taken, &(3 * EACH), "those that were taken");
+    same(
+        &rt,
+        &(first.taken, second.taken),
+        &(EACH, EACH),
+        "the cargoes",
+    );
     let mut port = core.core;
-    assert_eq!(&rt; port.settle(&rt, first.port), all_taken(0, EACH));
-    assert_eq!(&rt; port.settle(&rt, second.port), all_taken(1, EACH));
-    assert_eq!(&rt; port.settle(&rt, command), all_taken(2, EACH));
-    let whole = OutEnd {
-        sent: EACH,
-        received: EACH,
-        waiting: 0,
-    };
-    assert_eq!(&rt; settle_out(core.first, first.take), whole);
-    assert_eq!(&rt; settle_out(core.second, second.take), whole);
-    assert!(&rt; port.take(&rt).is_err());
-    assert!(&rt; port.take(&rt).is_err());
+    seat_is_settled(&rt, &mut port, first.port, all_taken(0, EACH));
+    seat_is_settled(&rt, &mut port, second.port, all_taken(1, EACH));
+    seat_is_settled(&rt, &mut port, command, all_taken(2, EACH));
+    lane_is_settled(&rt, core.first, first.take);
+    lane_is_settled(&rt, core.second, second.take);
+    seats_have_ended(&rt, &mut port);
+    seats_have_ended(&rt, &mut port);
     Ok(())
 }
 
@@ -386,7 +424,7 @@ fn most_links<R: Wait + Abort>(rt: &R, alloc: Global) -> (WholeCore, Vec<LinkSid
             put: 0,
             taken: 0,
         };
-        assert!(rt; sides.push(side).is_ok());
+        sees(rt, sides.push(side).is_ok(), "memory for a side");
     }
     let core = WholeCore {
         core,
@@ -406,15 +444,22 @@ fn lane_order_of_the_most_links(rt: HostRuntime) -> Result<(), Fail> {
         move || run_rest(&rt, command, core),
     );
     let (put, core) = rest;
-    assert_eq!(&rt; put, EACH);
-    assert_eq!(&rt; core.taken, (MOST_LINKS as u64 + 1) * EACH);
-    assert_eq!(&rt; sides.len(), 32);
+    same(&rt, &put, &EACH, "the items of the command seat");
+    let all = (MOST_LINKS as u64 + 1) * EACH;
+    same(&rt, &core.taken, &all, "the items that were taken");
+    same(&rt, &sides.len(), &32, "the links");
     for side in &sides {
-        assert_eq!(&rt; (side.put, side.taken), (EACH, EACH));
+        let counts = (side.put, side.taken);
+        same(
+            &rt,
+            &counts,
+            &(EACH, EACH),
+            "the items and cargoes of a link",
+        );
     }
     let mut port = core.core;
     drop(sides);
-    assert!(&rt; port.take(&rt).is_err());
+    seats_have_ended(&rt, &mut port);
     Ok(())
 }
 
@@ -449,63 +494,119 @@ fn full_lane_is_drained(rt: HostRuntime) -> Result<(), Fail> {
         move || put_from(&rt, command, 2, 342),
     );
     let (first, second) = links;
-    assert_eq!(&rt; (first.1, second.1, command.1), (341, 341, 342));
-    assert_eq!(&rt; take_items(&rt, &mut core, 1024), 1024);
-    assert_eq!(&rt; core.settle(&rt, first.0), all_taken(0, 341));
-    assert_eq!(&rt; core.settle(&rt, second.0), all_taken(1, 341));
-    assert_eq!(&rt; core.settle(&rt, command.0), all_taken(2, 342));
+    let all_put = (first.1, second.1, command.1);
+    same(&rt, &all_put, &(341, 341, 342), "the items that were put");
+    let taken = take_items(&rt, &mut core, 1024);
+    same(&rt, &taken, &1024, "those that were taken");
+    seat_is_settled(&rt, &mut core, first.0, all_taken(0, 341));
+    seat_is_settled(&rt, &mut core, second.0, all_taken(1, 341));
+    seat_is_settled(&rt, &mut core, command.0, all_taken(2, 342));
     Ok(())
+}
+
+/// Sees what a put at this tick answers.
+fn put_is<R: Wait + Abort>(
+    rt: &R,
+    port: &mut InPort,
+    now: u64,
+    what: What,
+    wanted: Result<(), Gone>,
+)
+    ensures { port.new.lane ≡ port.old.lane }
+{
+    same_at(rt, &port.put(rt, now, what), &wanted, "a put", &now);
+}
+
+/// Sees what the core's port takes next.
+fn next_is<R: Wait + Abort>(rt: &R, core: &mut CorePort, wanted: Result<Item, Gone>, what: &str) {
+    same(rt, &core.take(rt), &wanted, what);
+}
+
+/// Sees that a port tells that the core has ended.
+fn core_has_ended<R: Wait + Abort>(rt: &R, alloc: Global) {
+    let (lanes, first, second, command) = two_links(rt, alloc);
+    let mut port = first.port;
+    put_is(rt, &mut port, 0, What::Beat, Ok(()));
+    drop(lanes);
+    put_is(rt, &mut port, 1, What::Beat, Err(Gone));
+    put_is(rt, &mut port, 2, What::Beat, Err(Gone));
+    drop((port, second, command));
 }
 
 #[test]
 fn ports_tell_that_the_other_side_ended(rt: HostRuntime) -> Result<(), Fail> {
-    let (lanes, first, second, command) = two_links(&rt, rt.alloc());
-    let mut port = first.port;
-    assert_eq!(&rt; port.put(&rt, 0, What::Beat), Ok(()));
-    drop(lanes);
-    assert_eq!(&rt; port.put(&rt, 1, What::Beat), Err(Gone));
-    assert_eq!(&rt; port.put(&rt, 2, What::Beat), Err(Gone));
-    drop((port, second, command));
+    core_has_ended(&rt, rt.alloc());
     let (lanes, first, second, command) = two_links(&rt, rt.alloc());
     let mut port = first.port;
     let mut core = lanes.core;
-    let told = port.put(&rt, 3, What::Show);
-    assert_eq!(&rt; told, Ok(()));
+    put_is(&rt, &mut port, 3, What::Show, Ok(()));
     let left = Settled {
         seat: 0,
         put: 1,
         taken: 0,
         left: 1,
     };
-    assert_eq!(&rt; core.settle(&rt, port), left);
+    seat_is_settled(&rt, &mut core, port, left);
     drop((second, command));
-    let item = core.take(&rt).ok().expect(&rt, "the item that is left");
     let wanted = Item {
         seat: 0,
         number: 1,
         now: 3,
         what: What::Show,
     };
-    assert_eq!(&rt; item, wanted);
-    assert_eq!(&rt; core.take(&rt), Err(Gone));
-    assert_eq!(&rt; core.take(&rt), Err(Gone));
+    next_is(&rt, &mut core, Ok(wanted), "the item that is left");
+    next_is(&rt, &mut core, Err(Gone), "all seats have ended");
+    next_is(&rt, &mut core, Err(Gone), "and stay so");
     Ok(())
+}
+
+/// Sees whether there are lanes for so many links.
+fn lanes_for<R: Wait + Abort>(rt: &R, alloc: Global, links: usize, refused: bool) {
+    match lanes(rt, alloc, links) {
+        Ok(made) => {
+            let is_whole = made.links.len() == links && made.outs.len() == links;
+            sees_at(rt, !refused && is_whole, "lanes are made", &links);
+        }
+        Err(error) => {
+            let is_too_many = error == LaneError::TooMany && error.number() == 2;
+            sees_at(rt, refused && is_too_many, "lanes are refused", &links);
+        }
+    }
 }
 
 #[test]
 fn node_has_one_to_32_links(rt: HostRuntime) -> Result<(), Fail> {
-    for (links, refused) in [(0, true), (1, false), (32, false), (33, true)] {
-        match lanes(&rt, rt.alloc(), links) {
-            Ok(made) => assert!(&rt;
-                !refused && made.links.len() == links && made.outs.len() == links
-            ),
-            Err(error) => assert!(&rt;
-                refused && error == LaneError::TooMany && error.number() == 2
-            ),
-        }
-    }
-    assert_eq!(&rt; LaneError::Memory.number(), 1);
+    lanes_for(&rt, rt.alloc(), 0, true);
+    lanes_for(&rt, rt.alloc(), 1, false);
+    lanes_for(&rt, rt.alloc(), 32, false);
+    lanes_for(&rt, rt.alloc(), 33, true);
+    same(
+        &rt,
+        &LaneError::Memory.number(),
+        &1,
+        "the number of an error",
+    );
     Ok(())
+}
+
+/// Sees what a link takes next of its lane from the core.
+fn cargo_is(rt: &impl Abort, take: &mut OutTake, wanted: Option<Cargo>, what: &str) {
+    same(rt, &take.take(), &wanted, what);
+}
+
+/// Puts an item of this link, and sees that the core takes it.
+fn use_port<R: Wait + Abort>(rt: &R, port: &mut InPort, core: &mut CorePort, seat: usize) {
+    put_is(rt, port, 7, What::Beat, Ok(()));
+    let item = there(rt, core.take(rt).ok(), "the item");
+    let found = (item.seat, item.number, item.now);
+    same(rt, &found, &(seat, 1, 7), "the item");
+}
+
+/// Sends a cargo, and sees that the link takes it.
+fn use_out(rt: &impl Abort, out: &mut OutPut, take: &mut OutTake) {
+    same(rt, &out.send(cargo(1)), &Ok(()), "a send");
+    cargo_is(rt, take, Some(cargo(1)), "the cargo");
+    cargo_is(rt, take, None, "no cargo behind it");
 }
 
 /// Goes over the lanes of a node that has just been made, by one thread: an item and a cargo of the last link.
@@ -516,27 +617,28 @@ fn use_lanes<R: Wait + Abort>(rt: &R, lanes: Lanes, links: usize) {
         links: mut sides,
         mut outs,
     } = lanes;
-    assert_eq!(rt; (sides.len(), outs.len()), (links, links));
-    let (mut port, mut take) = sides.pop().expect(rt, "a link");
-    let mut out = outs.pop().expect(rt, "its lane");
-    assert_eq!(rt; port.put(rt, 7, What::Beat), Ok(()));
-    let item = core.take(rt).ok().expect(rt, "the item");
-    assert_eq!(rt; (item.seat, item.number, item.now), (links - 1, 1, 7));
-    assert_eq!(rt; take.take(), None);
-    assert_eq!(rt; out.send(cargo(1)), Ok(()));
-    assert_eq!(rt; take.take(), Some(cargo(1)));
-    assert_eq!(rt; take.take(), None);
+    same(rt, &(sides.len(), outs.len()), &(links, links), "the links");
+    let (mut port, mut take) = there(rt, sides.pop(), "a link");
+    let mut out = there(rt, outs.pop(), "its lane");
+    use_port(rt, &mut port, &mut core, links.wrapping_sub(1));
+    cargo_is(rt, &mut take, None, "no cargo at first");
+    use_out(rt, &mut out, &mut take);
+}
+
+/// Goes over the lanes of a node with so many links, where there is memory for them.
+fn use_new_lanes<R: Wait + Abort>(rt: &R, alloc: Global, links: usize) {
+    match lanes(rt, alloc, links) {
+        Err(error) => same(rt, &error, &LaneError::Memory, "no memory"),
+        Ok(made) => use_lanes(rt, made, links),
+    }
 }
 
 // Where memory is refused `lanes` answers so, and nothing is left of what it had made: the next call finds what it needs. No
 // other call of a lane takes memory, but for one that waits.
 #[test]
 fn want_of_memory_is_answered(rt: HostRuntime) -> Result<(), Fail> {
-    for links in [1, 2, 32] {
-        match lanes(&rt, rt.alloc(), links) {
-            Err(error) => assert_eq!(&rt; error, LaneError::Memory),
-            Ok(made) => use_lanes(&rt, made, links),
-        }
-    }
+    use_new_lanes(&rt, rt.alloc(), 1);
+    use_new_lanes(&rt, rt.alloc(), 2);
+    use_new_lanes(&rt, rt.alloc(), 32);
     Ok(())
 }

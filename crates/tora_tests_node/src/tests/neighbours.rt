@@ -2,6 +2,7 @@
 ghost use Rattle.std.specs.Prelude.{◌≡◌, ◌≢◌, ◌<◌};
 ghost use Rattle.tora_arq.specs.LinkEnd.{first_end};
 
+use super::sees::{ends, same, same_at, sees, there};
 use std::alloc::{AllocError, Global};
 use std::process::Abort;
 use std::sync::Wait;
@@ -81,6 +82,32 @@ fn file_of(rt: &impl Abort, disk: MemDisk) -> LifeFile<MemDisk> {
         Ok(file) => file,
         Err(fault) => panic!(rt; "the file does not open: {:?}", fault.error),
     }
+}
+
+// An end that is open, and has told nothing.
+fn open_end(rt: &impl Abort, alloc: Global, me: Id, peer: Id, life: u64) -> LinkEnd
+    requires me { 0 < me }
+    requires peer { 0 < peer }
+    requires other { me ≢ peer }
+    requires life { (0 < life) × (life < 100) }
+{
+    let mut end = end_of(rt, alloc, me, peer);
+    assert!(rt; end.is_closed());
+    assert!(rt; end.last_life() < life);
+    end.open(life, 0);
+    end
+}
+
+// Sees what an end makes of a datagram.
+fn takes(
+    rt: &impl Abort,
+    end: &mut LinkEnd,
+    tally: &mut Tally,
+    datagram: &[u8],
+    wanted: Intake,
+    what: &str,
+) {
+    same(rt, &take_in(end, tally, datagram, 0), &wanted, what);
 }
 
 // How many datagrams were counted.

@@ -1,7 +1,8 @@
 //! Nodes of several threads, in one process.
-ghost use Rattle.std.specs.Prelude.{◌<◌, ◌≤◌};
+ghost use Rattle.std.specs.Prelude.{All, ◌<◌, ◌≤◌};
 
 use super::neighbours::total;
+use super::sees::{as_many, same, same_at, sees, sees_at, there};
 use std::alloc::Global;
 use std::io::{Read, Write};
 use std::net::Net;
@@ -160,6 +161,47 @@ impl<R: time::Clock> Read for Asking<'_, R> {
     }
 }
 
+/// The configuration of a node with the destination 4.
+fn config_of(rt: &impl Abort, alloc: Global, me: u32, peers: &[u32]) -> Config
+    requires me { 0 < me }
+    requires peers { All (λ n. 0 < n) peers.now }
+{
+    there(
+        rt,
+        Config::new(alloc, me, peers, &[4]).ok(),
+        "a configuration",
+    )
+}
+
+/// A list of one.
+fn list_of<T: Drop>(rt: &impl Abort, alloc: Global, value: T) -> Vec<T> {
+    let mut list = Vec::new(alloc);
+    sees(rt, list.push(value).is_ok(), "memory for a list");
+    list
+}
+
+/// Runs a node over these wires and disks, one of each for each link.
+fn run_over<
+    R: Threads + Wait + Sync + time::Clock + log::Log + Abort,
+    W: Wire + Send + Drop,
+    C: Read,
+    S: Write + Send,
+>(
+    rt: &R,
+    alloc: Global,
+    config: Config,
+    wires: Vec<W>,
+    disks: Vec<ByteDisk>,
+    commands: &mut C,
+    screen: &mut S,
+) -> Result<Ended, NodeError> {
+    let links = config.peers().len();
+    as_many(rt, wires.len(), links);
+    as_many(rt, disks.len(), links);
+    let clock = UnixClock::new(rt);
+    run_node(rt, alloc, config, wires, disks, &clock, commands, screen)
+}
+
 /// Runs a node with one link over the loopback.
 fn run_one<R: Threads + Wait + Sync + Net + time::Clock + log::Log + Abort>(
     rt: &R,
@@ -173,15 +215,9 @@ fn run_one<R: Threads + Wait + Sync + Net + time::Clock + log::Log + Abort>(
     requires me { 0 < me }
     requires peer { 0 < peer }
 {
-    let config = Config::new(alloc, me, &[peer], &[4]).expect(rt, "a configuration");
-    let mut wires = Vec::new(alloc);
-    wires.push(wire).expect(rt, "memory");
-    let mut disks = Vec::new(alloc);
-    disks.push(ByteDisk::of_zeros(0)).expect(rt, "memory");
-    let links = config.peers().len();
-    assert_eq!(rt; wires.len(), links);
-    assert_eq!(rt; disks.len(), links);
-    let clock = UnixClock::new(rt);
+    let config = config_of(rt, alloc, me, &[peer]);
+    let wires = list_of(rt, alloc, wire);
+    let disks = list_of(rt, alloc, ByteDisk::of_zeros(0));
     let mut commands = Asking {
         rt,
         first,
@@ -189,17 +225,7 @@ fn run_one<R: Threads + Wait + Sync + Net + time::Clock + log::Log + Abort>(
         asked: 0,
     };
     let mut screen = Screen { course };
-    run_node(
-        rt,
-        alloc,
-        config,
-        wires,
-        disks,
-        &clock,
-        &mut commands,
-        &mut screen,
-    )
-    .is_ok()
+    run_over(rt, alloc, config, wires, disks, &mut commands, &mut screen).is_ok()
 }
 
 /// Two wires to each other, on two ports of the loopback that are free.
@@ -216,6 +242,11 @@ fn pair<R: Net>(rt: &R) -> Option<(UdpWire, UdpWire)> {
     None
 }
 
+/// Sees what stands in a place that threads share.
+fn stands_at(rt: &impl Abort, place: &AtomicU64, wanted: u64, what: &str) {
+    same(rt, &place.load(Ordering::SeqCst), &wanted, what);
+}
+
 /// Waits until the other node has printed, 10 s at most.
 fn wait_for_print<R: time::Clock>(rt: &R, course: &Course) {
     for _ in 0..100 {
@@ -229,7 +260,7 @@ fn wait_for_print<R: time::Clock>(rt: &R, course: &Course) {
 #[test]
 fn two_nodes_on_the_loopback(rt: HostRuntime) -> Result<(), Fail> {
     let alloc = rt.alloc();
-    let (third, fourth) = pair(&rt).ok_or("no two ports are free")?;
+    let (third, fourth) = there(&rt, pair(&rt), "a pair of free ports");
     let course = Course {
         printed: AtomicU64::new(0),
         found: AtomicU64::new(0),
@@ -243,8 +274,8 @@ fn two_nodes_on_the_loopback(rt: HostRuntime) -> Result<(), Fail> {
             run_one(runtime, alloc, 4, 3, fourth, b"hello\n", shared)
         },
     );
-    assert!(&rt; three && four);
-    assert_eq!(&rt; course.found.load(Ordering::SeqCst), 1);
+    sees(&rt, three && four, "both nodes end well");
+    stands_at(&rt, &course.found, 1, "the route is found");
     Ok(())
 }
 
@@ -313,43 +344,30 @@ impl<R: time::Clock> Read for Waiting<'_, R> {
 fn neighbours_at_once(rt: HostRuntime) -> Result<(), Fail> {
     let alloc = rt.alloc();
     let (first, second, met) = (AtomicU64::new(0), AtomicU64::new(0), AtomicU64::new(0));
-    let config = Config::new(alloc, 1, &[2, 3], &[4])
-        .ok()
-        .ok_or("a configuration")?;
-    let mut wires = Vec::new(alloc);
-    wires.push(Meeting {
-        rt: &rt,
-        own: &first,
-        other: &second,
-        met: &met,
-    })?;
+    let config = config_of(&rt, alloc, 1, &[2, 3]);
+    let mut wires = list_of(
+        &rt,
+        alloc,
+        Meeting {
+            rt: &rt,
+            own: &first,
+            other: &second,
+            met: &met,
+        },
+    );
     wires.push(Meeting {
         rt: &rt,
         own: &second,
         other: &first,
         met: &met,
     })?;
-    let mut disks = Vec::new(alloc);
+    let mut disks = list_of(&rt, alloc, ByteDisk::of_zeros(0));
     disks.push(ByteDisk::of_zeros(0))?;
-    disks.push(ByteDisk::of_zeros(0))?;
-    let links = config.peers().len();
-    assert_eq!(&rt; wires.len(), links);
-    assert_eq!(&rt; disks.len(), links);
-    let clock = UnixClock::new(&rt);
     let mut commands = Waiting { rt: &rt, met: &met };
     let mut screen = Vec::new(alloc);
-    let ended = run_node(
-        &rt,
-        alloc,
-        config,
-        wires,
-        disks,
-        &clock,
-        &mut commands,
-        &mut screen,
-    );
-    assert!(&rt; ended.is_ok());
-    assert_eq!(&rt; met.load(Ordering::SeqCst), 2);
+    let ended = run_over(&rt, alloc, config, wires, disks, &mut commands, &mut screen);
+    sees(&rt, ended.is_ok(), "the node ends well");
+    stands_at(&rt, &met, 2, "both neighbours have met");
     Ok(())
 }
 
@@ -367,92 +385,83 @@ fn fault_of<'a, R: Threads + Wait + Sync + time::Clock + log::Log + Abort>(
     second: &'a AtomicU64,
     met: &'a AtomicU64,
     disk: ByteDisk,
-) -> Result<Option<NodeError>, Fail> {
-    let config = Config::new(alloc, 1, &[3], &[4])
-        .ok()
-        .ok_or("a configuration")?;
-    let mut wires = Vec::new(alloc);
-    wires.push(Meeting {
+) -> Option<NodeError> {
+    let config = config_of(rt, alloc, 1, &[3]);
+    let wire = Meeting {
         rt,
         own: first,
         other: second,
         met,
-    })?;
-    let mut disks = Vec::new(alloc);
-    disks.push(disk)?;
-    let links = config.peers().len();
-    assert_eq!(rt; wires.len(), links);
-    assert_eq!(rt; disks.len(), links);
-    let clock = UnixClock::new(rt);
+    };
+    let wires = list_of(rt, alloc, wire);
+    let disks = list_of(rt, alloc, disk);
     let mut commands = Waiting { rt, met };
     let mut screen = Vec::new(alloc);
-    let ended = run_node(
-        rt,
-        alloc,
-        config,
-        wires,
-        disks,
-        &clock,
-        &mut commands,
-        &mut screen,
-    );
-    assert_eq!(rt; first.load(Ordering::SeqCst), 0);
-    Ok(ended.err())
+    let ended = run_over(rt, alloc, config, wires, disks, &mut commands, &mut screen);
+    stands_at(rt, first, 0, "nothing was received");
+    ended.err()
+}
+
+/// Sees the fault of a run over this life file.
+fn fault_is<R: Threads + Wait + Sync + time::Clock + log::Log + Abort>(
+    rt: &R,
+    alloc: Global,
+    disk: ByteDisk,
+    wanted: LifeError,
+) {
+    let (first, second, met) = (AtomicU64::new(0), AtomicU64::new(0), AtomicU64::new(0));
+    let fault = fault_of(rt, alloc, &first, &second, &met, disk);
+    same(rt, &fault, &Some(NodeError::Life(3, wanted)), "the fault");
 }
 
 #[test]
 fn a_damaged_life_file_starts_no_thread(rt: HostRuntime) -> Result<(), Fail> {
-    let (first, second, met) = (AtomicU64::new(0), AtomicU64::new(0), AtomicU64::new(0));
-    let disk = ByteDisk::of_zeros(65);
-    let fault = fault_of(&rt, rt.alloc(), &first, &second, &met, disk)?;
-    assert_eq!(&rt; fault, Some(NodeError::Life(3, LifeError::Damaged)));
+    fault_is(&rt, rt.alloc(), ByteDisk::of_zeros(65), LifeError::Damaged);
     Ok(())
 }
 
 #[test]
 fn a_life_file_of_another_link_starts_no_thread(rt: HostRuntime) -> Result<(), Fail> {
-    let (first, second, met) = (AtomicU64::new(0), AtomicU64::new(0), AtomicU64::new(0));
-    let disk = ByteDisk::of_tag(&TAG);
-    let fault = fault_of(&rt, rt.alloc(), &first, &second, &met, disk)?;
-    assert_eq!(&rt; fault, Some(NodeError::Life(3, LifeError::Foreign)));
+    fault_is(&rt, rt.alloc(), ByteDisk::of_tag(&TAG), LifeError::Foreign);
     Ok(())
+}
+
+/// Sees the command that a line is.
+fn is_command(rt: &impl Abort, line: &[u8], wanted: Command) {
+    same_at(rt, &command_of(line), &wanted, "the command", &line);
 }
 
 #[test]
 fn lines_that_are_commands(rt: HostRuntime) {
-    assert_eq!(&rt; command_of(b"show"), Command::Show);
-    assert_eq!(&rt; command_of(b"quit"), Command::Quit);
-    assert_eq!(&rt; command_of(b"need 4"), Command::Need(4));
-    assert_eq!(&rt;
-        command_of(b"need 4294967295"),
-        Command::Need(4_294_967_295)
-    );
-    for line in [
-        b"".as_slice(),
-        b"need",
-        b"need ",
-        b"need 0",
-        b"need 04",
-        b"need +4",
-        b"need 4 ",
-        b"need  4",
-        b"need 4294967296",
-        b"need 99999999999",
-        b"Show",
-        b"show ",
-        b"quit\r",
-    ] {
-        assert_eq!(&rt; command_of(line), Command::Unknown);
-    }
+    is_command(&rt, b"show", Command::Show);
+    is_command(&rt, b"quit", Command::Quit);
+    is_command(&rt, b"need 4", Command::Need(4));
+    is_command(&rt, b"need 4294967295", Command::Need(4_294_967_295));
+    is_command(&rt, b"", Command::Unknown);
+    is_command(&rt, b"need", Command::Unknown);
+    is_command(&rt, b"need ", Command::Unknown);
+    is_command(&rt, b"need 0", Command::Unknown);
+    is_command(&rt, b"need 04", Command::Unknown);
+    is_command(&rt, b"need +4", Command::Unknown);
+    is_command(&rt, b"need 4 ", Command::Unknown);
+    is_command(&rt, b"need  4", Command::Unknown);
+    is_command(&rt, b"need 4294967296", Command::Unknown);
+    is_command(&rt, b"need 99999999999", Command::Unknown);
+    is_command(&rt, b"Show", Command::Unknown);
+    is_command(&rt, b"show ", Command::Unknown);
+    is_command(&rt, b"quit\r", Command::Unknown);
+}
+
+/// Sees that the neighbours are 2 and 3.
+fn peers_are(rt: &impl Abort, peers: &[u32]) {
+    same(rt, &peers, &[2, 3].as_slice(), "the neighbours");
 }
 
 #[test]
 fn documented_configuration(rt: HostRuntime) -> Result<(), Fail> {
-    let config = Config::new(rt.alloc(), 1, &[3, 2], &[4])
-        .ok()
-        .ok_or("a configuration")?;
-    assert_eq!(&rt; config.peers(), [2, 3].as_slice());
-    assert_eq!(&rt; command_of(b"need 4".as_slice()), Command::Need(4));
+    let config = config_of(&rt, rt.alloc(), 1, &[3, 2]);
+    peers_are(&rt, config.peers());
+    is_command(&rt, b"need 4", Command::Need(4));
     Ok(())
 }
 
@@ -481,10 +490,10 @@ impl Write for Page {
 #[test]
 fn want_of_memory_refuses_a_configuration(rt: HostRuntime) {
     match Config::new(rt.alloc(), 1, &[3, 2], &[4]) {
-        Err(error) => assert_eq!(&rt; error, CoreError::Memory),
+        Err(error) => same(&rt, &error, &CoreError::Memory, "no memory"),
         Ok(config) => {
-            assert_eq!(&rt; config.peers(), [2, 3].as_slice());
-            assert_eq!(&rt; config.into_core().me(), 1);
+            peers_are(&rt, config.peers());
+            same(&rt, &config.into_core().me(), &1, "the node");
         }
     }
 }
@@ -519,15 +528,15 @@ fn run_in_memory<R: Threads + Wait + Sync + time::Clock + log::Log>(
 /// The node has a link to this peer, of which nothing was counted; or it has none.
 fn counted_nothing(rt: &impl Abort, ended: &Ended, peer: Id, is_link: bool) {
     match ended.tally(peer) {
-        Some(tally) => assert!(rt; is_link && total(&tally) == 0),
-        None => assert!(rt; !is_link),
+        Some(tally) => sees_at(rt, is_link && total(&tally) == 0, "a link", &peer),
+        None => sees_at(rt, !is_link, "no link", &peer),
     }
 }
 
 /// The core is that of node 1 with neighbours 2 and 3.
 fn is_core_of_1(rt: &impl Abort, ended: &Ended) {
-    assert_eq!(rt; ended.core().me(), 1);
-    assert_eq!(rt; ended.core().neighbours(), [2, 3].as_slice());
+    same(rt, &ended.core().me(), &1, "the node of the core");
+    peers_are(rt, ended.core().neighbours());
 }
 
 #[test]
@@ -540,18 +549,23 @@ fn want_of_memory_ends_a_node(rt: HostRuntime) {
     match run_in_memory(&rt, rt.alloc(), commands, &mut page) {
         Err(error) => {
             // What was printed before stands whole.
-            assert_eq!(&rt; error, NodeError::Memory);
-            assert!(&rt; page.length == 0 || page.length == 10 || page.length == 37);
+            same(&rt, &error, &NodeError::Memory, "no memory");
+            let is_whole = page.length == 0 || page.length == 10 || page.length == 37;
+            sees(&rt, is_whole, "whole lines");
         }
         Ok(ended) => {
-            assert_eq!(&rt;
-                &page.bytes[..page.length],
-                b"refused 5\nto 4 height - flag 0 hop -\n".as_slice()
+            let wanted = b"refused 5\nto 4 height - flag 0 hop -\n".as_slice();
+            same(
+                &rt,
+                &&page.bytes[..page.length],
+                &wanted,
+                "what was printed",
             );
             is_core_of_1(&rt, &ended);
-            for (peer, is_link) in [(2, true), (3, true), (1, false), (4, false)] {
-                counted_nothing(&rt, &ended, peer, is_link);
-            }
+            counted_nothing(&rt, &ended, 2, true);
+            counted_nothing(&rt, &ended, 3, true);
+            counted_nothing(&rt, &ended, 1, false);
+            counted_nothing(&rt, &ended, 4, false);
         }
     }
 }

@@ -1,6 +1,9 @@
 //! Life files in a real folder.
+use super::super::sees::{same, same_bytes, sees};
+use super::refused;
 use std::fs::{self, File, Files};
 use std::io::ErrorKind;
+use std::process::Abort;
 use std::test::Fail;
 use tora_life::{Disk, DiskError, FileDisk, LifeError, LifeFile};
 
@@ -20,52 +23,112 @@ fn opened<R: Files<File = File>>(rt: &R) -> Result<LifeFile<FileDisk>, Fail> {
     Ok(LifeFile::open(FileDisk::open(rt, PATH)?, 1, 2)?)
 }
 
+// Makes the folder anew.
+fn make_folder<R: Alloc + Files<File = File>>(rt: &R, folder: &str) -> Result<(), Fail> {
+    let _ = fs::remove_dir_all(rt, folder);
+    Ok(fs::create_dir(rt, folder)?)
+}
+
+// Draws so many numbers, each greater than all before, and answers the last one.
+fn draw_on(rt: &impl Abort, file: &mut LifeFile<FileDisk>, count: u64, greatest: u64) -> u64 {
+    let mut greatest = greatest;
+    for _ in 0..count {
+        match file.draw() {
+            Ok(n) => {
+                sees(rt, n > greatest, "the next number is greater");
+                greatest = n;
+            }
+            Err(error) => panic!(rt; "no number: {:?}", error),
+        }
+    }
+    greatest
+}
+
 // Each of these files is let go without a close, as by a process that is killed between two calls.
 #[test]
 fn drawn_numbers_rise_in_a_real_folder(rt: HostRuntime) -> Result<(), Fail> {
-    let _ = fs::remove_dir_all(&rt, FOLDER);
-    fs::create_dir(&rt, FOLDER)?;
+    make_folder(&rt, FOLDER)?;
     let mut greatest = 0;
     for count in 0..20 {
-        let mut file = opened(&rt)?;
-        for _ in 0..count {
-            match file.draw() {
-                Ok(n) => {
-                    assert!(&rt; n > greatest);
-                    greatest = n;
-                }
-                Err(error) => panic!(&rt; "no number: {:?}", error),
-            }
-        }
+        greatest = draw_on(&rt, &mut opened(&rt)?, count, greatest);
     }
-    assert_eq!(&rt; fs::metadata(&rt, PATH)?.len(), 64);
+    same(
+        &rt,
+        &fs::metadata(&rt, PATH)?.len(),
+        &64,
+        "the size of the file",
+    );
     fs::remove_dir_all(&rt, FOLDER)?;
     Ok(())
 }
 
+// Sees what a read answers.
+fn reads(
+    rt: &impl Abort,
+    disk: &mut FileDisk,
+    at: usize,
+    buf: &mut [u8],
+    wanted: Result<usize, DiskError>,
+    what: &str,
+) {
+    same(rt, &disk.read(at, buf), &wanted, what);
+}
+
+// Sees what a write answers.
+fn writes(
+    rt: &impl Abort,
+    disk: &mut FileDisk,
+    at: usize,
+    bytes: &[u8],
+    wanted: Result<(), DiskError>,
+    what: &str,
+) {
+    same(rt, &disk.write_at(at, bytes), &wanted, what);
+}
+
+// Sees that a sync passes.
+fn syncs(rt: &impl Abort, disk: &mut FileDisk) {
+    same(rt, &disk.sync(), &Ok(()), "a sync");
+}
+
+// Goes over a new file, of which 65 bytes are written in the end.
+fn use_places(rt: &impl Abort, disk: &mut FileDisk) {
+    let mut bytes = [1; 6];
+    reads(rt, disk, 0, &mut bytes, Ok(0), "a read of the new file");
+    writes(rt, disk, 0, b"abcd", Ok(()), "the first write");
+    writes(rt, disk, 2, b"efg", Ok(()), "a write over its end");
+    syncs(rt, disk);
+    reads(rt, disk, 1, &mut bytes, Ok(4), "a read to the end");
+    same_bytes(rt, &bytes, b"befg\x01\x01", "the bytes that were read");
+    reads(rt, disk, 9, &mut bytes, Ok(0), "a read behind the end");
+    reads(
+        rt,
+        disk,
+        usize::MAX,
+        &mut bytes,
+        Err(DiskError),
+        "a read too far",
+    );
+    writes(
+        rt,
+        disk,
+        usize::MAX,
+        b"h",
+        Err(DiskError),
+        "a write too far",
+    );
+    writes(rt, disk, 5, &[0; 60], Ok(()), "the last write");
+}
+
 #[test]
 fn a_file_is_read_and_written_at_places(rt: HostRuntime) -> Result<(), Fail> {
-    let _ = fs::remove_dir_all(&rt, OTHER_FOLDER);
-    fs::create_dir(&rt, OTHER_FOLDER)?;
+    make_folder(&rt, OTHER_FOLDER)?;
     let mut disk = FileDisk::open(&rt, OTHER_PATH)?;
-    let mut bytes = [1; 6];
-    assert_eq!(&rt; disk.read(0, &mut bytes), Ok(0));
-    assert_eq!(&rt; disk.write_at(0, b"abcd"), Ok(()));
-    assert_eq!(&rt; disk.write_at(2, b"efg"), Ok(()));
-    assert_eq!(&rt; disk.sync(), Ok(()));
-    assert_eq!(&rt; disk.read(1, &mut bytes), Ok(4));
-    assert_eq!(&rt; bytes, *b"befg\x01\x01");
-    assert_eq!(&rt; disk.read(9, &mut bytes), Ok(0));
-    assert_eq!(&rt; disk.read(usize::MAX, &mut bytes), Err(DiskError));
-    assert_eq!(&rt; disk.write_at(usize::MAX, b"h"), Err(DiskError));
-
-    assert_eq!(&rt; disk.write_at(5, &[0; 60]), Ok(()));
-    let fault = match LifeFile::open(disk, 1, 2) {
-        Ok(_) => panic!(&rt; "65 bytes opened"),
-        Err(fault) => fault,
-    };
-    assert_eq!(&rt; fault.error, LifeError::Damaged);
-    assert!(&rt; FileDisk::open(&rt, "tora_life_places_test/none/life-3").is_err());
+    use_places(&rt, &mut disk);
+    let fault = refused(&rt, disk);
+    same(&rt, &fault.error, &LifeError::Damaged, "65 bytes");
+    let none = FileDisk::open(&rt, "tora_life_places_test/none/life-3");
+    sees(&rt, none.is_err(), "a file in no folder");
     fs::remove_dir_all(&rt, OTHER_FOLDER)?;
     Ok(())
 }
@@ -82,15 +145,14 @@ fn is_free<R: Files<File = File>>(rt: &R) -> Result<bool, Fail> {
 // A file is locked as long as its disk lives, and by nobody behind that.
 #[test]
 fn a_life_file_is_locked_by_its_disk(rt: HostRuntime) -> Result<(), Fail> {
-    let _ = fs::remove_dir_all(&rt, LOCKED_FOLDER);
-    fs::create_dir(&rt, LOCKED_FOLDER)?;
-    assert!(&rt; is_free(&rt)?);
+    make_folder(&rt, LOCKED_FOLDER)?;
+    sees(&rt, is_free(&rt)?, "free at first");
     let mut disk = FileDisk::open(&rt, LOCKED_PATH)?;
-    assert!(&rt; !is_free(&rt)?);
-    assert_eq!(&rt; disk.sync(), Ok(()));
-    assert!(&rt; !is_free(&rt)?);
+    sees(&rt, !is_free(&rt)?, "locked by its disk");
+    syncs(&rt, &mut disk);
+    sees(&rt, !is_free(&rt)?, "locked after a sync");
     drop(disk);
-    assert!(&rt; is_free(&rt)?);
+    sees(&rt, is_free(&rt)?, "free in the end");
     fs::remove_dir_all(&rt, LOCKED_FOLDER)?;
     Ok(())
 }

@@ -3,6 +3,8 @@ ghost use Rattle.std.specs.Prelude.{◌≡◌, ◌≢◌, ◌<◌, ◌≤◌, Ok
 ghost use Rattle.tora_life.specs.Numbers.{numbers_after};
 ghost use Rattle.tora_life.specs.InMemory.{open_answer, open_state, draw_answer, draw_state};
 
+use super::super::sees::same;
+use super::{file_in, not_opened};
 use std::test::Fail;
 use tora_life::{LifeError, LifeFile, MemDisk, OpenFault};
 
@@ -53,13 +55,10 @@ fn restart(
 fn a_restart_draws_on(rt: HostRuntime) -> Result<(), Fail> {
     let mut file = match open_in_memory(MemDisk::new(), 1, 2) {
         Ok(file) => file,
-        Err(fault) => panic!(&rt; "not opened: {:?}", fault.error),
+        Err(fault) => not_opened(&rt, fault.error),
     };
-    assert_eq!(&rt; draw_in_memory(&mut file), Ok(1));
-    let mut file = match restart(file, Some([9; 16]), 1, 2) {
-        Ok(file) => file,
-        Err(fault) => panic!(&rt; "not opened: {:?}", fault.error),
-    };
-    assert_eq!(&rt; draw_in_memory(&mut file), Ok(17));
+    same(&rt, &draw_in_memory(&mut file), &Ok(1), "the first draw");
+    let mut file = file_in(&rt, restart(file, Some([9; 16]), 1, 2));
+    same(&rt, &draw_in_memory(&mut file), &Ok(17), "the next draw");
     Ok(())
 }

@@ -1,7 +1,11 @@
 //! Files of version 1, half migrated ones and foreign ones, and a crash at each call of the disk.
-ghost use Rattle.std.specs.Prelude.{◌<◌, ◌≤◌, ◌≢◌};
+ghost use Rattle.std.specs.Prelude.{◌≡◌, ◌<◌, ◌≤◌, ◌≢◌};
 
-use super::{SLOT_OF_16, SLOT_OF_32, SLOT_OF_900, disk_of, draws, first_draw, opened};
+use super::super::sees::{ends, same, same_at, same_bytes, sees_at};
+use super::{
+    SLOT_OF_16, SLOT_OF_32, SLOT_OF_900, disk_of, draws, fault_in, first_draw, first_is, opened,
+    refused,
+};
 use std::process::Abort;
 use std::test::Fail;
 use tora_life::{
@@ -35,75 +39,123 @@ fn cut(file: &[u8; 64], length: usize) -> &[u8]
     &file[..length]
 }
 
-fn refusal(rt: &impl Abort, bytes: &[u8], me: u32, peer: u32) -> LifeError
-    requires me { 0 < me }
-    requires peer { 0 < peer }
-    requires distinct { me ≢ peer }
+// Sees why a file of these bytes is refused, and that it stays as it was.
+fn refusal_is(rt: &impl Abort, bytes: &[u8], owner: Owner, wanted: LifeError, what: &str)
+    requires me { 0 < owner.node }
+    requires peer { 0 < owner.peer }
+    requires distinct { owner.node ≢ owner.peer }
 {
-    match LifeFile::open(disk_of(rt, bytes), me, peer) {
-        Ok(_) => panic!(rt; "opened"),
-        Err(fault) => {
-            assert_eq!(rt; fault.disk.bytes(), bytes);
-            fault.error
-        }
-    }
+    let answer = LifeFile::open(disk_of(rt, bytes), owner.node, owner.peer);
+    let fault = fault_in(rt, answer);
+    same_bytes(rt, fault.disk.bytes(), bytes, "what is left of the file");
+    same(rt, &fault.error, &wanted, what);
+}
+
+// The owner with these numbers.
+fn owner_of(node: u32, peer: u32) -> Owner
+    ensures { result ≡ record { node = node; peer = peer } }
+{
+    Owner { node, peer }
 }
 
 #[test]
 fn life_file_is_tagged_and_migrated(rt: HostRuntime) -> Result<(), Fail> {
-    assert_eq!(&rt; tag_bytes(Owner { node: 1, peer: 2 }), TAG_OF_1_AND_2);
-    assert_eq!(&rt;
-        Tag::read(&TAG_OF_1_AND_2),
-        Tag::Of(Owner { node: 1, peer: 2 })
-    );
+    let owner = owner_of(1, 2);
+    same_bytes(&rt, &tag_bytes(owner), &TAG_OF_1_AND_2, "the tag");
+    reads_as(&rt, &TAG_OF_1_AND_2, Tag::Of(owner), "the owner of the tag");
     let tagged = file_of(SLOT_OF_16, SLOT_OF_32, TAG_OF_1_AND_2);
-    assert_eq!(&rt; first_draw(&rt, &tagged), Ok(33));
-    assert_eq!(&rt; refusal(&rt, &tagged, 1, 3), LifeError::Foreign);
-    assert_eq!(&rt; refusal(&rt, &tagged, 2, 1), LifeError::Foreign);
+    first_is(&rt, &tagged, Ok(33), "the file of the owner");
+    refusal_is(
+        &rt,
+        &tagged,
+        owner_of(1, 3),
+        LifeError::Foreign,
+        "another peer",
+    );
+    refusal_is(
+        &rt,
+        &tagged,
+        owner_of(2, 1),
+        LifeError::Foreign,
+        "another node",
+    );
 
     // A file of version 1 after the draws 1 to 3.
     let mut file = opened(&rt, disk_of(&rt, &SLOT_OF_16));
     draws(&rt, &mut file, 17, 18);
-    assert_eq!(&rt; file.close().bytes(), tagged.as_slice());
+    same_bytes(&rt, file.close().bytes(), &tagged, "the migrated file");
 
     // A crash between the write of the migration and its sync, torn to zeros.
-    let disk = FuseDisk::new(disk_of(&rt, &SLOT_OF_16), 3, FuseMode::Always);
-    let mut disk = match LifeFile::open(disk, 1, 2) {
-        Ok(_) => panic!(&rt; "opened"),
-        Err(fault) => fault.disk.into_inner(),
-    };
+    let fused = FuseDisk::new(disk_of(&rt, &SLOT_OF_16), 3, FuseMode::Always);
+    let mut disk = refused(&rt, fused).disk.into_inner();
     disk.crash(Some([0; 16]));
     let mut file = opened(&rt, disk);
     draws(&rt, &mut file, 17, 18);
     Ok(())
 }
 
+// Sees what a tag is read as.
+fn reads_as(rt: &impl Abort, bytes: &[u8], wanted: Tag, what: &str) {
+    same(rt, &Tag::read(bytes), &wanted, what);
+}
+
+// The tag with another byte at this place of it.
+fn changed(place: usize) -> [u8; 32]
+    requires { place < 32 }
+{
+    let mut tag = TAG_OF_1_AND_2;
+    tag[place] ^= 1;
+    tag
+}
+
+// The tag with another byte at this place of its first half, and at the same place of its second half.
+fn changed_twice(place: usize) -> [u8; 32]
+    requires { place < 16 }
+{
+    let mut tag = changed(place);
+    tag[place + 16] ^= 1;
+    tag
+}
+
+// Sees why a file with this tag is refused.
+fn tag_is_refused(rt: &impl Abort, tag: [u8; 32], wanted: LifeError, what: &str) {
+    let file = file_of(SLOT_OF_16, SLOT_OF_32, tag);
+    refusal_is(rt, &file, owner_of(1, 2), wanted, what);
+}
+
 #[test]
 fn tags_are_read(rt: HostRuntime) -> Result<(), Fail> {
     for length in 0..32 {
-        assert_eq!(&rt; Tag::read(&TAG_OF_1_AND_2[..length]), Tag::Absent);
+        reads_as(
+            &rt,
+            &TAG_OF_1_AND_2[..length],
+            Tag::Absent,
+            "a part of the tag",
+        );
     }
     for place in 0..32 {
-        let mut tag = TAG_OF_1_AND_2;
-        tag[place] ^= 1;
-        assert_eq!(&rt; Tag::read(&tag), Tag::Absent);
+        reads_as(
+            &rt,
+            &changed(place),
+            Tag::Absent,
+            "the tag with a changed byte",
+        );
     }
     // Complementary in each byte, with another beginning.
     for place in 0..8 {
-        let mut tag = TAG_OF_1_AND_2;
-        tag[place] ^= 1;
-        tag[place + 16] ^= 1;
-        assert_eq!(&rt; Tag::read(&tag), Tag::Strange);
-        let file = file_of(SLOT_OF_16, SLOT_OF_32, tag);
-        assert_eq!(&rt; refusal(&rt, &file, 1, 2), LifeError::Damaged);
+        let tag = changed_twice(place);
+        reads_as(&rt, &tag, Tag::Strange, "the tag with another beginning");
+        tag_is_refused(
+            &rt,
+            tag,
+            LifeError::Damaged,
+            "the file with another beginning",
+        );
     }
     // And with other numbers.
     for place in 8..16 {
-        let mut tag = TAG_OF_1_AND_2;
-        tag[place] ^= 1;
-        tag[place + 16] ^= 1;
-        let file = file_of(SLOT_OF_16, SLOT_OF_32, tag);
-        assert_eq!(&rt; refusal(&rt, &file, 1, 2), LifeError::Foreign);
+        let tag = changed_twice(place);
+        tag_is_refused(&rt, tag, LifeError::Foreign, "the file with other numbers");
     }
     Ok(())
 }
@@ -113,13 +165,31 @@ fn tags_are_read(rt: HostRuntime) -> Result<(), Fail> {
 fn files_of_version_1_go_on_above_their_numbers(rt: HostRuntime) -> Result<(), Fail> {
     let two = file_of(SLOT_OF_16, SLOT_OF_32, [0; 32]);
     let three = file_of(SLOT_OF_48, SLOT_OF_32, [0; 32]);
-    assert_eq!(&rt; first_draw(&rt, &[]), Ok(1));
-    assert_eq!(&rt; first_draw(&rt, cut(&two, 16)), Ok(17));
-    assert_eq!(&rt; first_draw(&rt, cut(&two, 32)), Ok(33));
-    assert_eq!(&rt; first_draw(&rt, cut(&three, 32)), Ok(49));
+    first_is(&rt, &[], Ok(1), "no byte");
+    first_is(&rt, cut(&two, 16), Ok(17), "one slot");
+    first_is(&rt, cut(&two, 32), Ok(33), "two slots");
+    first_is(
+        &rt,
+        cut(&three, 32),
+        Ok(49),
+        "two slots after a third write",
+    );
     let mut file = opened(&rt, disk_of(&rt, cut(&three, 32)));
     draws(&rt, &mut file, 49, 90);
     Ok(())
+}
+
+// Sees the first number of a file of version 1 of this length, which is opened twice.
+fn short_file_goes_on(rt: &impl Abort, bytes: &[u8], wanted: u64) {
+    let file = opened(rt, disk_of(rt, bytes));
+    let mut file = opened(rt, file.close());
+    same_at(
+        rt,
+        &file.draw(),
+        &Ok(wanted),
+        "the first number",
+        &bytes.len(),
+    );
 }
 
 // A slot that is not wholly there counts as 0, as before, and one that is whole stays.
@@ -134,15 +204,14 @@ fn short_files_are_filled_up(rt: HostRuntime) -> Result<(), Fail> {
         } else {
             33
         };
-        let file = opened(&rt, disk_of(&rt, cut(&two, length)));
-        let mut file = opened(&rt, file.close());
-        assert_eq!(&rt; file.draw(), Ok(first));
+        short_file_goes_on(&rt, cut(&two, length), first);
     }
     // Any bytes behind the slots that are no whole tag are written over.
     let mut half = file_of(SLOT_OF_16, SLOT_OF_32, TAG_OF_1_AND_2);
     half[48] = 0;
     for length in 33..65 {
-        assert_eq!(&rt; first_draw(&rt, cut(&half, length)), Ok(33));
+        let number = first_draw(&rt, cut(&half, length));
+        same_at(&rt, &number, &Ok(33), "bytes that are no tag", &length);
     }
     Ok(())
 }
@@ -197,7 +266,7 @@ fn next_number(rt: &impl Abort, mut disk: MemDisk) -> u64 {
             Err(fault) => disk = fault.disk,
         }
     }
-    panic!(rt; "no number is drawn");
+    ends(rt, "no number is drawn")
 }
 
 // Crashes the disk, and answers the next number drawn. With `twice` this call of the disk fails while the file is opened
@@ -232,6 +301,25 @@ fn old_disk(rt: &impl Abort, kind: u64) -> (MemDisk, u64) {
     }
 }
 
+// Sees that the next number is above those that were drawn, where the disk fails from this call on and then crashes.
+fn goes_on_after_a_crash(
+    rt: &impl Abort,
+    kind: u64,
+    k: u64,
+    torn: Option<[u8; 16]>,
+    again: Option<u64>,
+) {
+    let (disk, drawn) = old_disk(rt, kind);
+    let (fused, greatest) = run(FuseDisk::new(disk, k, FuseMode::Always), drawn);
+    let next = next_after_crash(rt, fused.into_inner(), torn, again);
+    sees_at(
+        rt,
+        next > greatest,
+        "above all before",
+        &(kind, k, torn, again),
+    );
+}
+
 #[test]
 fn each_crash(rt: HostRuntime) -> Result<(), Fail> {
     let patterns = [None, Some([0; 16]), Some(SLOT_OF_32), Some(SLOT_OF_900)];
@@ -240,15 +328,30 @@ fn each_crash(rt: HostRuntime) -> Result<(), Fail> {
         for torn in patterns {
             for again in twice {
                 for k in 0..12 {
-                    let (disk, drawn) = old_disk(&rt, kind);
-                    let (fused, greatest) = run(FuseDisk::new(disk, k, FuseMode::Always), drawn);
-                    let next = next_after_crash(&rt, fused.into_inner(), torn, again);
-                    assert!(&rt; next > greatest);
+                    goes_on_after_a_crash(&rt, kind, k, torn, again);
                 }
             }
         }
     }
     Ok(())
+}
+
+// The same where one call fails, before the file is opened (`stop` 0) or before a draw.
+fn goes_on_after_a_call(
+    rt: &impl Abort,
+    (kind, call, stop): (u64, DiskCall, u64),
+    torn: Option<[u8; 16]>,
+    again: Option<u64>,
+) {
+    let (disk, drawn) = old_disk(rt, kind);
+    let (disk, greatest) = run_armed(disk, stop, call, drawn);
+    let next = next_after_crash(rt, disk, torn, again);
+    sees_at(
+        rt,
+        next > greatest,
+        "above all before",
+        &(kind, stop, torn, again),
+    );
 }
 
 // A write that fails may have done a part of its work.
@@ -261,9 +364,7 @@ fn each_failed_call_and_crash(rt: HostRuntime) -> Result<(), Fail> {
             for torn in patterns {
                 for again in twice {
                     for stop in 0..42 {
-                        let (disk, drawn) = old_disk(&rt, kind);
-                        let (disk, greatest) = run_armed(disk, stop, call, drawn);
-                        assert!(&rt; next_after_crash(&rt, disk, torn, again) > greatest);
+                        goes_on_after_a_call(&rt, (kind, call, stop), torn, again);
                     }
                 }
             }

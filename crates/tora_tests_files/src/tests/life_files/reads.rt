@@ -1,6 +1,7 @@
 //! A reader that gives one byte a call, is interrupted, and then fails.
 ghost use Rattle.std.specs.Prelude.{◌≡◌};
 
+use super::super::sees::{same, same_bytes, sees};
 use std::io::{self, ErrorKind};
 use std::test::Fail;
 use tora_life::{ReadFrom, read_whole};
@@ -44,24 +45,24 @@ fn five_bytes(fails_from: u64) -> Dripping {
     }
 }
 
+// How many bytes are read from this place on, by a reader that fails from this call on. `None` where it fails.
+fn read_five(fails_from: u64, at: usize, buf: &mut [u8]) -> Option<usize> {
+    read_whole(&mut five_bytes(fails_from), at, buf).ok()
+}
+
 #[test]
 fn short_and_interrupted_reads_are_gone_on_with(rt: HostRuntime) -> Result<(), Fail> {
     let mut long = [9u8; 7];
-    assert_eq!(&rt;
-        read_whole(&mut five_bytes(100), 1, &mut long).ok(),
-        Some(4)
-    );
-    assert_eq!(&rt; long, [2, 3, 4, 5, 9, 9, 9]);
+    same(&rt, &read_five(100, 1, &mut long), &Some(4), "a long read");
+    same_bytes(&rt, &long, &[2, 3, 4, 5, 9, 9, 9], "its bytes");
     let mut short = [9u8; 3];
-    assert_eq!(&rt;
-        read_whole(&mut five_bytes(100), 0, &mut short).ok(),
-        Some(3)
+    same(&rt, &read_five(100, 0, &mut short), &Some(3), "a short one");
+    same_bytes(&rt, &short, &[1, 2, 3], "the three bytes");
+    same(&rt, &read_five(100, 5, &mut short), &Some(0), "at the end");
+    sees(
+        &rt,
+        read_five(4, 0, &mut short).is_none(),
+        "a failure is told",
     );
-    assert_eq!(&rt; short, [1, 2, 3]);
-    assert_eq!(&rt;
-        read_whole(&mut five_bytes(100), 5, &mut short).ok(),
-        Some(0)
-    );
-    assert!(&rt; read_whole(&mut five_bytes(4), 0, &mut short).is_err());
     Ok(())
 }

@@ -3,21 +3,17 @@ use super::*;
 
 #[test]
 fn documented_lanes(rt: HostRuntime) -> Result<(), Fail> {
-    let lanes = lanes(&rt, rt.alloc(), 1).ok().ok_or("lanes")?;
+    let lanes = there(&rt, lanes(&rt, rt.alloc(), 1).ok(), "lanes");
     let Lanes {
         mut core,
         command,
         mut links,
         mut outs,
     } = lanes;
-    let (mut port, mut take) = links.pop().ok_or("a link")?;
-    let mut out = outs.pop().ok_or("its lane")?;
-    assert_eq!(&rt; port.put(&rt, 7, What::Beat), Ok(()));
-    let item = core.take(&rt).ok().ok_or("the item")?;
-    assert_eq!(&rt; (item.seat, item.number, item.now), (0, 1, 7));
-    assert_eq!(&rt; out.send(cargo(1)), Ok(()));
-    assert_eq!(&rt; take.take(), Some(cargo(1)));
-    assert_eq!(&rt; take.take(), None);
+    let (mut port, mut take) = there(&rt, links.pop(), "a link");
+    let mut out = there(&rt, outs.pop(), "its lane");
+    use_port(&rt, &mut port, &mut core, 0);
+    use_out(&rt, &mut out, &mut take);
     drop(command);
     Ok(())
 }

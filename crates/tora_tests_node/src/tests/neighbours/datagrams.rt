@@ -94,18 +94,42 @@ fn bytes_of(rt: &impl Abort, text: &str) -> ([u8; 76], usize)
     (bytes, size)
 }
 
+/// Sees what an end tells next.
+fn event_is(rt: &impl Abort, end: &mut LinkEnd, wanted: Option<LinkEvent>, what: &str) {
+    same(rt, &end.poll_event(), &wanted, what);
+}
+
 /// The end of node 1 to node 2, bound to {5, 9}, with nothing to tell.
 fn bound(rt: &impl Abort, alloc: Global) -> LinkEnd {
-    let mut end = end_of(rt, alloc, 1, 2);
-    assert!(rt; end.is_closed());
-    assert!(rt; end.last_life() < 5);
-    end.open(5, 0);
+    let mut end = open_end(rt, alloc, 1, 2, 5);
     let (hello, size) = bytes_of(rt, VECTORS[1]);
-    let intake = take_in(&mut end, &mut Tally::new(), &hello[..size], 0);
-    assert_eq!(rt; intake, Intake::Seen(Verdict::Accepted));
-    assert_eq!(rt; end.poll_event(), Some(LinkEvent::Up(LIFE)));
-    assert_eq!(rt; end.poll_event(), None);
+    let seen = Intake::Seen(Verdict::Accepted);
+    takes(
+        rt,
+        &mut end,
+        &mut Tally::new(),
+        &hello[..size],
+        seen,
+        "the HELLO that binds",
+    );
+    event_is(
+        rt,
+        &mut end,
+        Some(LinkEvent::Up(LIFE)),
+        "the life that is bound",
+    );
+    event_is(rt, &mut end, None, "nothing behind it");
     end
+}
+
+/// Sees that one datagram was counted, as this.
+fn counted_once(rt: &impl Abort, tally: &Tally, intake: Intake) {
+    same(rt, &total(tally), &1, "the datagrams");
+    let count = match intake {
+        Intake::Bad(error) => tally.of_bad(error.number()),
+        Intake::Seen(verdict) => tally.of_verdict(verdict),
+    };
+    same(rt, &count, &1, "those of this kind");
 }
 
 /// Takes in one datagram at a bound end. Just one count is then 1.
@@ -113,38 +137,39 @@ fn take_one(rt: &impl Abort, alloc: Global, datagram: &str, expected: Intake) {
     let mut end = bound(rt, alloc);
     let mut tally = Tally::new();
     let (bytes, size) = bytes_of(rt, datagram);
-    let intake = take_in(&mut end, &mut tally, &bytes[..size], 0);
-    assert_eq!(rt; intake, expected, "{datagram}");
-    assert_eq!(rt; total(&tally), 1);
-    match intake {
-        Intake::Bad(error) => assert_eq!(rt; tally.of_bad(error.number()), 1),
-        Intake::Seen(verdict) => assert_eq!(rt; tally.of_verdict(verdict), 1),
-    }
+    takes(rt, &mut end, &mut tally, &bytes[..size], expected, datagram);
+    counted_once(rt, &tally, expected);
     let ended = LinkEvent::Down(LIFE, Reason::NewPeer);
     let event = if expected == Intake::Seen(Verdict::Accepted) {
         Some(ended)
     } else {
         None
     };
-    assert_eq!(rt; end.poll_event(), event, "{datagram}");
+    event_is(rt, &mut end, event, datagram);
+}
+
+/// Takes in each datagram of a table at an end of its own.
+fn take_each(rt: &impl Abort, alloc: Global, rows: &[(&str, Intake)]) {
+    for (datagram, expected) in rows {
+        take_one(rt, alloc, datagram, *expected);
+    }
 }
 
 #[test]
 fn verdicts_of_hostile_frames(rt: HostRuntime) {
-    for (datagram, expected) in HOSTILE {
-        take_one(&rt, rt.alloc(), datagram, expected);
-    }
+    take_each(&rt, rt.alloc(), &HOSTILE);
 }
 
 /// Takes in a DATA frame of the bound life with the query for 4.
-fn take_data(rt: &impl Abort, end: &mut LinkEnd, tally: &mut Tally, number: u8) -> Intake {
+fn take_data(rt: &impl Abort, end: &mut LinkEnd, tally: &mut Tally, number: u8, verdict: Verdict) {
     let (mut bytes, size) = bytes_of(
         rt,
         "0102001800000002000000010000000000000009000000000000000500000000000000000000000000000000\
          0101000000000004",
     );
     bytes[35] = number;
-    take_in(end, tally, &bytes[..size], 0)
+    let intake = take_in(end, tally, &bytes[..size], 0);
+    same_at(rt, &intake, &Intake::Seen(verdict), "a DATA frame", &number);
 }
 
 #[test]
@@ -152,20 +177,14 @@ fn busy_end_takes_in_no_more(rt: HostRuntime) {
     let mut end = bound(&rt, rt.alloc());
     let mut tally = Tally::new();
     for number in 1..32u8 {
-        let intake = take_data(&rt, &mut end, &mut tally, number);
-        assert_eq!(&rt; intake, Intake::Seen(Verdict::Accepted), "{number}");
+        take_data(&rt, &mut end, &mut tally, number, Verdict::Accepted);
     }
-    assert_eq!(&rt;
-        take_data(&rt, &mut end, &mut tally, 32),
-        Intake::Seen(Verdict::Busy)
-    );
-    assert!(&rt; end.poll_event().is_some());
-    assert_eq!(&rt;
-        take_data(&rt, &mut end, &mut tally, 32),
-        Intake::Seen(Verdict::Accepted)
-    );
-    assert_eq!(&rt; tally.of_verdict(Verdict::Accepted), 32);
-    assert_eq!(&rt; total(&tally), 33);
+    take_data(&rt, &mut end, &mut tally, 32, Verdict::Busy);
+    sees(&rt, end.poll_event().is_some(), "something is told");
+    take_data(&rt, &mut end, &mut tally, 32, Verdict::Accepted);
+    let accepted = tally.of_verdict(Verdict::Accepted);
+    same(&rt, &accepted, &32, "those that were accepted");
+    same(&rt, &total(&tally), &33, "all datagrams");
 }
 
 /// Takes in each beginning of the vector: each is too short.
@@ -173,19 +192,40 @@ fn take_cut(rt: &impl Abort, alloc: Global, vector: &str) {
     let mut end = bound(rt, alloc);
     let mut tally = Tally::new();
     let (bytes, size) = bytes_of(rt, vector);
+    let short = Intake::Bad(FrameError::Short);
     for length in 0..size {
         let intake = take_in(&mut end, &mut tally, &bytes[..length], 0);
-        assert_eq!(rt; intake, Intake::Bad(FrameError::Short), "{vector} {length}");
+        same_at(rt, &intake, &short, vector, &length);
     }
-    assert_eq!(rt; tally.of_bad(1), size as u64);
-    assert_eq!(rt; end.life(), Some(LIFE));
+    same(
+        rt,
+        &tally.of_bad(1),
+        &(size as u64),
+        "those that are too short",
+    );
+    life_stays(rt, &end);
+}
+
+/// Sees that the end is bound as before.
+fn life_stays(rt: &impl Abort, end: &LinkEnd) {
+    same(rt, &end.life(), &Some(LIFE), "the life that is bound");
+}
+
+/// Takes in each beginning of these vectors.
+fn cut_each(rt: &impl Abort, alloc: Global, vectors: &[&str]) {
+    for vector in vectors {
+        take_cut(rt, alloc, vector);
+    }
 }
 
 #[test]
 fn vectors_cut_at_every_length(rt: HostRuntime) {
-    for vector in VECTORS {
-        take_cut(&rt, rt.alloc(), vector);
-    }
+    cut_each(&rt, rt.alloc(), &VECTORS);
+}
+
+/// Sees that the bytes spell a frame just where they were not bad for this reason.
+fn is_read_so(rt: &impl Abort, bytes: &[u8], bad: Option<FrameError>) {
+    same(rt, &decode(bytes).err(), &bad, "what the bytes spell");
 }
 
 /// Takes in bytes at a bound end: they are bad just where they spell no frame, and the end then stays as it is.
@@ -194,12 +234,12 @@ fn take_any(rt: &impl Abort, alloc: Global, bytes: &[u8]) {
     let mut tally = Tally::new();
     match take_in(&mut end, &mut tally, bytes, 0) {
         Intake::Bad(error) => {
-            assert_eq!(rt; decode(bytes), Err(error));
-            assert_eq!(rt; end.life(), Some(LIFE));
+            is_read_so(rt, bytes, Some(error));
+            life_stays(rt, &end);
         }
-        Intake::Seen(_) => assert!(rt; decode(bytes).is_ok()),
+        Intake::Seen(_) => is_read_so(rt, bytes, None),
     }
-    assert_eq!(rt; total(&tally), 1);
+    same(rt, &total(&tally), &1, "the datagrams");
 }
 
 /// Takes in the vector with each byte changed to this one.
@@ -212,11 +252,16 @@ fn take_changed(rt: &impl Abort, alloc: Global, vector: &str, byte: u8) {
     }
 }
 
+/// Takes in these vectors with each byte changed to this one.
+fn change_each(rt: &impl Abort, alloc: Global, vectors: &[&str], byte: u8) {
+    for vector in vectors {
+        take_changed(rt, alloc, vector, byte);
+    }
+}
+
 #[test]
 fn vectors_with_each_byte_changed(rt: HostRuntime) {
-    for vector in VECTORS {
-        for byte in [0, 1, 255] {
-            take_changed(&rt, rt.alloc(), vector, byte);
-        }
-    }
+    change_each(&rt, rt.alloc(), &VECTORS, 0);
+    change_each(&rt, rt.alloc(), &VECTORS, 1);
+    change_each(&rt, rt.alloc(), &VECTORS, 255);
 }

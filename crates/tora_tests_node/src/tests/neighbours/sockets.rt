@@ -20,16 +20,32 @@ fn pair<R: Net>(rt: &R) -> Option<(UdpWire, UdpWire)> {
     None
 }
 
+// Sees what a receive answers.
+fn receives(
+    rt: &impl Abort,
+    wire: &mut UdpWire,
+    buffer: &mut [u8],
+    wanted: Result<Option<usize>, WireError>,
+    what: &str,
+) {
+    same(rt, &wire.receive(buffer), &wanted, what);
+}
+
 #[test]
 fn datagrams_go_over_the_loopback(rt: HostRuntime) -> Result<(), Fail> {
-    let (mut first, mut second) = pair(&rt).ok_or("no two ports are free")?;
+    let (mut first, mut second) = there(&rt, pair(&rt), "a pair of free ports");
     let mut buffer = [0u8; 4];
-    assert_eq!(&rt; second.receive(&mut buffer), Ok(None));
-    assert_eq!(&rt; first.send(&[]), Ok(()));
-    assert_eq!(&rt; first.send(&[4, 5, 6, 7, 8, 9]), Ok(()));
-    assert_eq!(&rt; second.receive(&mut buffer), Ok(Some(0)));
-    assert_eq!(&rt; second.receive(&mut buffer), Ok(Some(4)));
-    assert_eq!(&rt; buffer, [4, 5, 6, 7]);
+    receives(&rt, &mut second, &mut buffer, Ok(None), "nothing at first");
+    same(&rt, &first.send(&[]), &Ok(()), "a send of no byte");
+    same(
+        &rt,
+        &first.send(&[4, 5, 6, 7, 8, 9]),
+        &Ok(()),
+        "a send of six",
+    );
+    receives(&rt, &mut second, &mut buffer, Ok(Some(0)), "no byte");
+    receives(&rt, &mut second, &mut buffer, Ok(Some(4)), "as many as fit");
+    same(&rt, &buffer, &[4, 5, 6, 7], "the bytes");
     Ok(())
 }
 
@@ -39,7 +55,8 @@ fn a_port_that_is_taken_is_not_bound(rt: HostRuntime) -> Result<(), Fail> {
         let Ok(_first) = UdpWire::bind(&rt, port, port + 500) else {
             continue;
         };
-        assert!(&rt; UdpWire::bind(&rt, port, port + 501).is_err());
+        let second = UdpWire::bind(&rt, port, port + 501);
+        sees(&rt, second.is_err(), "a port that is taken");
         return Ok(());
     }
     Err("no port is free")?
@@ -48,10 +65,10 @@ fn a_port_that_is_taken_is_not_bound(rt: HostRuntime) -> Result<(), Fail> {
 // The first tick is in or after the year 2020.
 #[test]
 fn the_clock_of_the_system_goes_on(rt: HostRuntime) {
-    let clock = UnixClock::new(rt);
+    let clock = UnixClock::new(&rt);
     let then = clock.now();
-    assert!(&rt; then > 15_778_368_000);
-    assert!(&rt; clock.now() >= then);
+    sees(&rt, then > 15_778_368_000, "the year 2020 is over");
+    sees(&rt, clock.now() >= then, "the clock goes on");
 }
 
 // Runs one end with a clock of one tick a turn, until 30 things were put, and answers the first life that was bound.
@@ -93,9 +110,9 @@ fn run_both<R: Threads + Wait + Abort + Sync>(
 // Both draw 1 from an empty file.
 #[test]
 fn two_threads_bind_a_life_over_the_loopback(rt: HostRuntime) -> Result<(), Fail> {
-    let (first, second) = pair(&rt).ok_or("no two ports are free")?;
+    let (first, second) = there(&rt, pair(&rt), "a pair of free ports");
     let lives = run_both(&rt, rt.alloc(), first, second);
     let life = Some(Life { own: 1, peer: 1 });
-    assert_eq!(&rt; lives, (life, life));
+    same(&rt, &lives, &(life, life), "the lives of both");
     Ok(())
 }

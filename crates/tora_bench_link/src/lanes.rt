@@ -1,13 +1,5 @@
-//! Times the lanes of a node, for `bench/lane.sh`. With no words it prints nothing.
-//!
-//! `tora_bench_lane N` puts N items from each of three threads into the lane into the core while the core takes them, and
-//! sends N cargoes from one thread to another through one lane. Each line is a name, nanoseconds an operation (the best of
-//! seven runs), and how many operations went through.
-#![tactic(auto)]
-
-mod runs;
-
-use runs::{run_core_lane, run_out_lane};
+//! Times the lanes of a node: the one into the core, into which three threads put, and one to a neighbour.
+use crate::lane_runs::{run_core_lane, run_out_lane};
 use std::alloc::Global;
 use std::io;
 use std::rt::Clock;
@@ -17,9 +9,6 @@ use std::time::{Duration, Instant};
 
 /// How often each run is made; the best one counts.
 const RUNS: u32 = 7;
-
-/// The items of each thread, and the cargoes, where no number is given.
-const COUNT: u32 = 200_000;
 
 /// Prints the line of a run: its name, the least time that it took, and how many operations it had.
 fn line<R: Print>(rt: &R, name: &str, best: Option<Duration>, count: u64) -> io::Result<()> {
@@ -71,12 +60,12 @@ fn time<R: Clock + Print + Threads + Wait + Sync>(
     line(rt, lane.name(), best, taken)
 }
 
-fn main(rt: HostRuntime) -> io::Result<()> {
-    let words = std::env::args(&rt)?.collect::<Vec<String>>(rt.alloc())?;
-    let Some(word) = words.get(1) else {
-        return Ok(());
-    };
-    let count = word.as_str().parse::<u32>().unwrap_or(COUNT);
-    time(&rt, rt.alloc(), Lane::IntoCore, count)?;
-    time(&rt, rt.alloc(), Lane::ToNeighbour, count)
+/// Times both lanes, with so many items of each thread and so many cargoes.
+pub fn time_lanes<R: Clock + Print + Threads + Wait + Sync>(
+    rt: &R,
+    alloc: Global,
+    count: u32,
+) -> io::Result<()> {
+    time(rt, alloc, Lane::IntoCore, count)?;
+    time(rt, alloc, Lane::ToNeighbour, count)
 }

@@ -1,0 +1,124 @@
+//! Times a link between two neighbours' threads over UDP.
+ghost use Rattle.std.specs.Prelude.{◌≢◌, ◌<◌};
+
+use crate::paced_hub::{Course, PacedHub};
+use std::alloc::Global;
+use std::net::Net;
+use std::sync::Wait;
+use std::sync::atomic::{AtomicU64, Ordering};
+use std::thread::Threads;
+use std::time::{Clock, Instant};
+use std::{io, thread};
+use tora_arq::{Life, LinkEnd, Times};
+use tora_height::{Height, Id};
+use tora_lane::Cargo;
+use tora_life::{LifeFile, MemDisk};
+use tora_neighbour::{Link, ListHub, UdpWire, UnixClock, run_neighbour};
+use tora_packet::{Packet, Update};
+
+/// Places for the life that begins and for the beats of a run.
+const OTHER_PUTS: usize = 10_000;
+
+/// Two wires to each other, on two ports of the loopback that are free.
+fn pair<R: Net>(rt: &R) -> Option<(UdpWire, UdpWire)> {
+    for port in 43_000..43_500u16 {
+        let Ok(first) = UdpWire::bind(rt, port, port + 500) else {
+            continue;
+        };
+        let Ok(second) = UdpWire::bind(rt, port + 500, port) else {
+            continue;
+        };
+        return Some((first, second));
+    }
+    None
+}
+
+/// So many updates, in the life of two ends that drew their first numbers.
+fn cargoes(alloc: Global, count: u32) -> Option<Vec<Cargo>> {
+    let height = Height::new(0, 0, 0, 1, 1).ok()?;
+    let packet = Packet::Upd(Update::new(4, height).ok()?);
+    let life = Life { own: 1, peer: 1 };
+    let mut list = Vec::new(alloc);
+    for _ in 0..count {
+        list.push(Cargo::Packet(life, packet)).ok()?;
+    }
+    Some(list)
+}
+
+/// Runs an end until every packet was delivered.
+fn run_end<R: Clock + Wait>(
+    rt: &R,
+    alloc: Global,
+    me: Id,
+    peer: Id,
+    wire: UdpWire,
+    cargoes: Vec<Cargo>,
+    course: &Course,
+) -> Option<u64>
+    requires me { 0 < me }
+    requires peer { 0 < peer }
+    requires other { me ≢ peer }
+{
+    let end = LinkEnd::new(alloc, me, peer, Times::STANDARD).ok()?;
+    let Ok(file) = LifeFile::open(MemDisk::new(), me, peer) else {
+        return None;
+    };
+    let room = usize::try_from(course.count)
+        .ok()?
+        .saturating_add(OTHER_PUTS);
+    let hub = PacedHub {
+        list: ListHub::new(alloc, room, cargoes).ok()?,
+        course,
+        clock: rt,
+        is_up: false,
+        given: 0,
+        over: false,
+    };
+    let clock = UnixClock::new(rt);
+    let finished = run_neighbour(rt, Link { end, file, wire }, &clock, hub);
+    Some(finished.hub.given)
+}
+
+/// Runs both ends.
+fn run_link<R: Clock + Net + Threads + Wait + Sync>(
+    rt: &R,
+    alloc: Global,
+    count: u32,
+    course: &Course,
+) -> Option<()> {
+    let (first, second) = pair(rt)?;
+    let list = cargoes(alloc, count)?;
+    let none = Vec::new(alloc);
+    let (sent, received) = thread::join(
+        rt,
+        move || run_end(rt, alloc, 1, 2, first, list, course),
+        move || run_end(rt, alloc, 2, 1, second, none, course),
+    );
+    sent?;
+    received?;
+    Some(())
+}
+
+/// Times the link, with so many packets.
+pub fn time_link<R: Clock + Net + Print + Threads + Wait + Sync>(
+    rt: &R,
+    alloc: Global,
+    count: u32,
+) -> io::Result<()> {
+    let course = Course {
+        base: Instant::now(rt)?,
+        count: u64::from(count),
+        delivered: AtomicU64::new(0),
+        began: AtomicU64::new(0),
+        ended: AtomicU64::new(0),
+    };
+    let ran = run_link(rt, alloc, count, &course);
+    let delivered = course.delivered.load(Ordering::SeqCst);
+    let began = course.began.load(Ordering::SeqCst);
+    let ended = course.ended.load(Ordering::SeqCst);
+    if ran.is_none() || delivered != course.count {
+        return println!(rt; "link-udp failed, {delivered} of {count} were delivered");
+    }
+    let nanoseconds = ended.saturating_sub(began) / u64::from(count.max(1));
+    println!(rt; "link-udp {nanoseconds} ns/packet count {delivered}")
+}
