@@ -125,55 +125,85 @@ Exit statuses:
   4  a life file can't be opened or gives no number
   5  memory was refused";
 
-/// The command line of the program.
-pub fn command<'a>(alloc: Global) -> Result<Command<'a>, AllocError> {
-    let verbose = Arg::new(alloc, "verbose")
-        .short('v')
-        .long("verbose")
-        .action(ArgAction::SetTrue)
-        .global(true)
-        .help("Says more on standard error: why an event is refused, and whose a life file is");
-    let replay = Command::new(alloc, "replay")
+/// `replay`.
+fn replay<'a>(alloc: Global) -> Command<'a> {
+    Command::new(alloc, "replay")
         .about("Replays the inputs of one node, from standard input to standard output")
-        .after_help(FORMATS);
-    let config = Arg::new(alloc, "CONFIG")
-        .required(true)
-        .help("The configuration, a TOML file");
-    let file = Arg::new(alloc, "FILE")
-        .required(true)
-        .help("The lines of the simulation, a text file");
-    let times = Arg::new(alloc, "times")
+        .after_help(FORMATS)
+}
+
+/// `--times` of `sim`.
+fn times<'a>(alloc: Global) -> Arg<'a> {
+    Arg::new(alloc, "times")
         .long("times")
         .value_name("HELLO,SILENCE,RETRY,TRIES")
         .help(
             "The times of each link end, in ticks of 100 ms, each at least 1: between HELLOs, of silence until a life ends, between tries of a packet, and how many tries; 10,50,5,8 without it",
-        );
-    let trace = Arg::new(alloc, "trace")
+        )
+}
+
+/// `--trace` of `sim`.
+fn trace<'a>(alloc: Global) -> Arg<'a> {
+    Arg::new(alloc, "trace")
         .long("trace")
         .value_name("PATH")
-        .help("Writes to this file what happens, a record a line");
-    let sim = Command::new(alloc, "sim")
+        .help("Writes to this file what happens, a record a line")
+}
+
+/// An option that is there or not.
+fn flag<'a>(alloc: Global, name: &'a str, help: &'a str) -> Arg<'a> {
+    Arg::new(alloc, name)
+        .long(name)
+        .action(ArgAction::SetTrue)
+        .help(help)
+}
+
+/// A word that has to stand behind a command.
+fn required<'a>(alloc: Global, name: &'a str, help: &'a str) -> Arg<'a> {
+    Arg::new(alloc, name).required(true).help(help)
+}
+
+/// `sim`.
+fn sim<'a>(alloc: Global) -> Result<Command<'a>, AllocError> {
+    let file = required(alloc, "FILE", "The lines of the simulation, a text file");
+    Command::new(alloc, "sim")
         .about("Simulates a world of nodes, links and datagrams, to standard output")
         .after_help(SIMULATION)
-        .arg(times)?
-        .arg(trace)?
-        .arg(file)?;
-    let check = Arg::new(alloc, "check")
-        .long("check")
-        .action(ArgAction::SetTrue)
-        .help("Reads the configuration, says what is wrong with it, and ends");
-    let node = Command::new(alloc, "node")
+        .arg(times(alloc))?
+        .arg(trace(alloc))?
+        .arg(file)
+}
+
+/// `node`.
+fn node<'a>(alloc: Global) -> Result<Command<'a>, AllocError> {
+    let config = required(alloc, "CONFIG", "The configuration, a TOML file");
+    let check = flag(
+        alloc,
+        "check",
+        "Reads the configuration, says what is wrong with it, and ends",
+    );
+    Command::new(alloc, "node")
         .about("Runs a node over UDP on the loopback, with its commands on standard input")
         .after_help(NODE)
         .arg(config)?
-        .arg(check)?;
+        .arg(check)
+}
+
+/// `--verbose`, with each command.
+fn verbose<'a>(alloc: Global) -> Arg<'a> {
+    let help = "Says more on standard error: why an event is refused, and whose a life file is";
+    flag(alloc, "verbose", help).short('v').global(true)
+}
+
+/// The command line of the program.
+pub fn command<'a>(alloc: Global) -> Result<Command<'a>, AllocError> {
     Command::new(alloc, "tora")
         .bin_name("tora")?
         .version("0.1.0")
         .about("A TORA router node")
         .after_help(FORMATS)
-        .arg(verbose)?
-        .subcommand(replay)?
-        .subcommand(sim)?
-        .subcommand(node)
+        .arg(verbose(alloc))?
+        .subcommand(replay(alloc))?
+        .subcommand(sim(alloc)?)?
+        .subcommand(node(alloc)?)
 }

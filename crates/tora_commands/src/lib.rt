@@ -18,6 +18,7 @@ mod flushing;
 pub mod node_command;
 pub mod replay_command;
 pub mod sim_command;
+mod telling;
 mod times_word;
 pub mod traced_command;
 
@@ -28,6 +29,7 @@ pub use flushing::{
 };
 use std::process::ExitCode;
 use std::rt::Files;
+use telling::tell;
 pub use times_word::asked_times;
 use tora_lines::{Ended, Output, ReplayError};
 use tora_sim::Sim;
@@ -54,7 +56,7 @@ const TIMES: &str = "behind `--times` stand four numbers from 1 on between comma
 pub fn stop(rt: &impl Eprint, status: u8, cause: &str) -> ExitCode
     ensures { exit_status result ≡ status }
 {
-    let _ = rt.eprintln(format_args!("tora: {cause}"));
+    tell(rt, &cause);
     ExitCode::from(status)
 }
 

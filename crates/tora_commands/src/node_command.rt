@@ -5,9 +5,11 @@ ghost use Rattle.tora_commands.specs.Statuses.{status_of_node, status_of_fault, 
 ghost use Rattle.tora_node.specs.declared.node.Ended.{Ended};
 ghost use Rattle.tora_config.specs.NodeConfig.{IsNodeConfig};
 
+use crate::telling::{tell, tell_at};
 use crate::{INPUT, LIFE, MEMORY, SOCKET, stop};
 use log::Log;
-use std::alloc::Global;
+use std::alloc::{AllocError, Global};
+use std::fmt::Display;
 use std::fs::File;
 use std::io::{ErrorKind, Read, Write};
 use std::net::Net;
@@ -47,7 +49,7 @@ fn say(rt: &impl Eprint, fault: Fault) -> Fault
         Fault::Socket => "socket",
         Fault::Life => "life",
     };
-    let _ = rt.eprintln(format_args!("tora: {word}"));
+    tell(rt, &word);
     fault
 }
 
@@ -93,7 +95,7 @@ fn read<R: Files<File = File> + AllocGlobal + Eprint>(
         }
         Err(error) => {
             let fault = say(rt, Fault::Config);
-            let _ = rt.eprintln(format_args!("tora: input: {path}: {error}"));
+            tell_at(rt, "input: ", path, &error);
             return Err(fault);
         }
     };
@@ -102,22 +104,39 @@ fn read<R: Files<File = File> + AllocGlobal + Eprint>(
         Err(ConfigError::Memory) => Err(say(rt, Fault::Memory)),
         Err(error) => {
             let fault = say(rt, Fault::Config);
-            let _ = rt.eprintln(format_args!("tora: input: {path}: {error}"));
+            tell_at(rt, "input: ", path, &error);
             Err(fault)
         }
     }
 }
 
+/// What stands behind a word for so many.
+fn plural(count: usize) -> &'static str {
+    if count == 1 { "" } else { "s" }
+}
+
+/// Says on standard error that a configuration is one, and of how many of two things.
+fn praise_counts(
+    rt: &impl Eprint,
+    path: &str,
+    (m, first): (usize, &str),
+    (n, second): (usize, &str),
+) {
+    let (p, q) = (plural(m), plural(n));
+    let _ = rt.eprintln(format_args!("tora: {path}: ok, {m} {first}{p}, {n} {second}{q}"));
+}
+
 /// Says on standard error that a configuration is one, and of how many links and destinations.
 fn praise(rt: &impl Eprint, path: &str, config: &NodeConfig) {
-    let (links, dests) = (config.links.len(), config.dests.len());
-    let link = if links == 1 { "link" } else { "links" };
-    let destination = if dests == 1 {
-        "destination"
-    } else {
-        "destinations"
-    };
-    let _ = rt.eprintln(format_args!("tora: {path}: ok, {links} {link}, {dests} {destination}"));
+    let links = (config.links.len(), "link");
+    let dests = (config.dests.len(), "destination");
+    praise_counts(rt, path, links, dests);
+}
+
+/// Says on standard error why the socket of a link can't be bound.
+fn tell_socket(rt: &impl Eprint, link: &LinkConfig, error: &impl Display) {
+    let (peer, port) = (link.peer, link.local);
+    let _ = rt.eprintln(format_args!("tora: socket: port {port} of the link to {peer}: {error}"));
 }
 
 /// Binds the socket of each link, by ascending neighbour.
@@ -128,8 +147,7 @@ fn bind<R: Net + Eprint>(
 ) -> Result<Vec<UdpWire>, Fault> {
     let mut wires = Vec::new(alloc);
     for link in links {
-        let (peer, port) = (link.peer, link.local);
-        match UdpWire::bind(rt, port, link.remote) {
+        match UdpWire::bind(rt, link.local, link.remote) {
             Ok(wire) => {
                 let Ok(()) = wires.push(wire) else {
                     return Err(say(rt, Fault::Memory));
@@ -137,9 +155,7 @@ fn bind<R: Net + Eprint>(
             }
             Err(error) => {
                 let fault = say(rt, Fault::Socket);
-                let _ = rt.eprintln(format_args!(
-                    "tora: socket: port {port} of the link to {peer}: {error}"
-                ));
+                tell_socket(rt, link, &error);
                 return Err(fault);
             }
         }
@@ -149,11 +165,16 @@ fn bind<R: Net + Eprint>(
 
 /// Says on standard error why a life file can't be opened.
 fn tell_file(rt: &impl Eprint, path: &str, error: &io::Error) {
-    let _ = if error.kind() == ErrorKind::WouldBlock {
-        rt.eprintln(format_args!("tora: life: {path}: a node that runs has this file"))
+    if error.kind() == ErrorKind::WouldBlock {
+        tell_at(rt, "life: ", path, &"a node that runs has this file");
     } else {
-        rt.eprintln(format_args!("tora: life: {path}: {error}"))
-    };
+        tell_at(rt, "life: ", path, error);
+    }
+}
+
+/// The path of the life file of the link to `peer`.
+fn life_path(alloc: Global, folder: &str, peer: Id) -> Result<String, AllocError> {
+    format!(in alloc; "{folder}/life-{peer}")
 }
 
 /// Opens the file of each link, by ascending neighbour.
@@ -167,7 +188,7 @@ fn open<R: Files<File = File> + Eprint>(
     let _ = fs::create_dir_all(rt, folder);
     for link in links {
         let peer = link.peer;
-        let Ok(path) = format!(in alloc; "{folder}/life-{peer}") else {
+        let Ok(path) = life_path(alloc, folder, peer) else {
             return Err(say(rt, Fault::Memory));
         };
         match FileDisk::open(rt, path.as_str()) {
@@ -201,6 +222,14 @@ fn owner_in<R: Files<File = File>>(rt: &R, path: &str) -> Option<Owner> {
     }
 }
 
+/// Says on standard error whose a life file is.
+fn tell_owner(rt: &impl Eprint, path: &str, owner: Owner) {
+    let (node, peer) = (owner.node, owner.peer);
+    let _ = rt.eprintln(format_args!(
+        "tora: {path}: it is the file of node {node} for its link to {peer}"
+    ));
+}
+
 /// Says on standard error what is wrong with the life file of the link to `peer`, and with `is_verbose` of a foreign one whose it is.
 fn tell_life<R: Files<File = File> + AllocGlobal + Eprint>(
     rt: &R,
@@ -209,19 +238,21 @@ fn tell_life<R: Files<File = File> + AllocGlobal + Eprint>(
     error: LifeError,
     is_verbose: bool,
 ) {
-    let Ok(path) = format!(in rt.alloc(); "{folder}/life-{peer}") else {
+    let Ok(path) = life_path(rt.alloc(), folder, peer) else {
         return;
     };
-    let _ = rt.eprintln(format_args!("tora: life: {path}: {error}"));
+    tell_at(rt, "life: ", path.as_str(), &error);
     if error != LifeError::Foreign || !is_verbose {
         return;
     }
     if let Some(owner) = owner_in(rt, path.as_str()) {
-        let (node, other) = (owner.node, owner.peer);
-        let _ = rt.eprintln(format_args!(
-            "tora: {path}: it is the file of node {node} for its link to {other}"
-        ));
+        tell_owner(rt, path.as_str(), owner);
     }
+}
+
+/// Says on standard error that the socket of the link to `peer` failed.
+fn tell_failing(rt: &impl Eprint, peer: Id) {
+    let _ = rt.eprintln(format_args!("tora: socket: the calls of the link to {peer} keep failing"));
 }
 
 /// Says on standard error why a node that ran has ended.
@@ -233,14 +264,8 @@ fn tell_ended<R: Files<File = File> + AllocGlobal + Eprint>(
 ) {
     match error {
         NodeError::Life(peer, error) => tell_life(rt, folder, peer, error, is_verbose),
-        NodeError::Wire(peer) => {
-            let _ = rt.eprintln(format_args!(
-                "tora: socket: the calls of the link to {peer} keep failing"
-            ));
-        }
-        NodeError::Output => {
-            let _ = rt.eprintln("tora: input: standard output can't be written");
-        }
+        NodeError::Wire(peer) => tell_failing(rt, peer),
+        NodeError::Output => tell(rt, &"input: standard output can't be written"),
         NodeError::Memory | NodeError::Lane => {}
     }
 }

@@ -6,6 +6,7 @@ ghost use Rattle.tora_replay.specs.ReplayText.{replay_rules};
 
 use crate::flushing::replay_and_flush;
 use crate::status;
+use crate::telling::{tell as tell_error, tell_line, tell_lost_line};
 use std::io::Read;
 use std::process::ExitCode;
 use tora_lines::{Ended, Output, Recent, ReplayError};
@@ -17,17 +18,17 @@ fn tell<T: AllocGlobal + Eprint, R: Read>(
     reader: &Recent<R>,
     ended: Result<Ended, ReplayError>,
 ) {
-    let _ = match ended {
-        Ok(Ended::Whole) => Ok(()),
+    match ended {
+        Ok(Ended::Whole) => {}
         Ok(Ended::Fault(number)) if reader.is_lossy() => {
-            rt.eprintln(format_args!("tora: line {number} was not kept"))
+            tell_lost_line(rt, number);
         }
         Ok(Ended::Fault(number)) => {
             let cause = cause_of(rt.alloc(), number, reader.line(number));
-            rt.eprintln(format_args!("tora: line {number}: {cause}"))
+            tell_line(rt, number, &cause);
         }
-        Err(error) => rt.eprintln(format_args!("tora: {error}")),
-    };
+        Err(error) => tell_error(rt, &error),
+    }
 }
 
 /// Replays what a reader gives, and ends with a status: 0 at its end, 1 where a line is a fault or reading or writing

@@ -6,6 +6,7 @@ ghost use Rattle.tora_arq.specs.Settings.{IsTimes};
 ghost use Rattle.tora_script.specs.SimulationText.{simulation_rules};
 
 use crate::flushing::simulate_telling_and_flush;
+use crate::telling::{tell as tell_error, tell_at};
 use crate::{INPUT, MEMORY, status, stop};
 use std::io::{ErrorKind, Read};
 use std::process::ExitCode;
@@ -23,7 +24,7 @@ pub fn refuse<R: Eprint>(rt: &R, path: &str, error: &io::Error, _is_verbose: boo
         return stop(rt, MEMORY, "memory");
     }
     let code = stop(rt, INPUT, "input");
-    let _ = rt.eprintln(format_args!("tora: input: {path}: {error}"));
+    tell_at(rt, "input: ", path, error);
     code
 }
 
@@ -37,9 +38,7 @@ pub fn tell<T: Eprint, R: Read>(rt: &T, reader: &Recent<R>, ended: Result<Ended,
                 tell_cause(rt, number, SimulationCause::TooLong);
             }
         }
-        Err(error) => {
-            let _ = rt.eprintln(format_args!("tora: {error}"));
-        }
+        Err(error) => tell_error(rt, &error),
     }
 }
 

@@ -8,6 +8,7 @@ ghost use Rattle.tora_commands.specs.Statuses.{traced_status};
 ghost use Rattle.tora_traced.specs.TraceOuts.{IsHandedOn};
 
 use crate::sim_command::{refuse, tell};
+use crate::telling::tell_at;
 use crate::{INPUT, MEMORY, status, stop};
 use std::io::{BufWriter, ErrorKind, Read};
 use std::process::ExitCode;
@@ -25,7 +26,7 @@ fn refuse_trace<T: Eprint>(rt: &T, path: &str, error: &io::Error) -> ExitCode
         return stop(rt, MEMORY, "memory");
     }
     let code = stop(rt, INPUT, "input");
-    let _ = rt.eprintln(format_args!("tora: {path}: {error}"));
+    tell_at(rt, "", path, error);
     code
 }
 
@@ -48,7 +49,7 @@ fn traced_status<T: Eprint, V: Output>(
         Err(ReplayError::Read) => stop(rt, INPUT, "input"),
         Err(ReplayError::Write) => stop(rt, INPUT, "input"),
     };
-    let _ = rt.eprintln(format_args!("tora: {path}: {error}"));
+    tell_at(rt, "", path, error);
     code
 }
 
@@ -104,9 +105,7 @@ pub fn run<S: Watched, T: Files + AllocGlobal + Eprint, W: Output>(
     let (path, trace) = paths;
     if path == trace {
         let code = stop(rt, INPUT, "input");
-        let _ = rt.eprintln(format_args!(
-            "tora: {path}: the trace would take the place of the file"
-        ));
+        tell_at(rt, "", path, &"the trace would take the place of the file");
         return code;
     }
     let file = match fs::open(rt, path) {

@@ -1,5 +1,5 @@
 -- The words for what is wrong with a configuration.
-use Rattle.std.specs.Prelude.{codes, List, ℕ, ◌++◌}
+use Rattle.std.specs.Prelude.{codes, List, [], ℕ, ◌++◌, Option, Some, None}
 use Rattle.std.specs.Fmt.{decimal}
 use Rattle.tora_config.specs.declared.fault.Place.{Place}
 use Rattle.tora_config.specs.declared.fault.Place.TheVariants as At
@@ -27,3 +27,8 @@ reason_text Is.NoList = codes "is no list"
 reason_text Is.NoTable = codes "is no table"
 reason_text Is.Repeated = codes "stands before already"
 reason_text Is.OwnId = codes "is the node itself"
+
+-- the number behind the words for a key, where it has one
+abbrev pub number_text : Option ℕ → List ℕ
+number_text None = []
+number_text (Some n) = decimal n

@@ -28,6 +28,28 @@ pub enum Place {
     Remote(usize),
 }
 
+impl Place {
+    ghost use Rattle.std.specs.Prelude.{◌≡◌, ◌++◌};
+    ghost use Rattle.tora_config.specs.FaultText.{place_text, number_text};
+
+    /// The words for it, and the number behind them where it has one.
+    fn words(self) -> (&'static str, Option<usize>)
+        ensures { place_text self ≡ result.0.now ++ number_text result.1 }
+    {
+        match self {
+            Place::Node => ("`node`", None),
+            Place::Dests => ("`dests`", None),
+            Place::Dest(n) => ("`dests`, number ", Some(n)),
+            Place::LifeDir => ("`life_dir`", None),
+            Place::Links => ("`link`", None),
+            Place::Link(n) => ("`link`, number ", Some(n)),
+            Place::Peer(n) => ("`peer` of link ", Some(n)),
+            Place::Local(n) => ("`local` of link ", Some(n)),
+            Place::Remote(n) => ("`remote` of link ", Some(n)),
+        }
+    }
+}
+
 impl Display for Place {
     ghost use Rattle.std.specs.Prelude.{Some};
     ghost use Rattle.tora_config.specs.FaultText.{place_text};
@@ -35,16 +57,9 @@ impl Display for Place {
     ghost output = { λ place. Some (place_text place) };
 
     fn fmt<W: fmt::Write>(&self, f: &mut Formatter<W>) -> fmt::Result {
-        match *self {
-            Place::Node => write!(f, "`node`"),
-            Place::Dests => write!(f, "`dests`"),
-            Place::Dest(n) => write!(f, "`dests`, number {n}"),
-            Place::LifeDir => write!(f, "`life_dir`"),
-            Place::Links => write!(f, "`link`"),
-            Place::Link(n) => write!(f, "`link`, number {n}"),
-            Place::Peer(n) => write!(f, "`peer` of link {n}"),
-            Place::Local(n) => write!(f, "`local` of link {n}"),
-            Place::Remote(n) => write!(f, "`remote` of link {n}"),
+        match self.words() {
+            (words, None) => f.write_str(words),
+            (words, Some(n)) => write!(f, "{words}{n}"),
         }
     }
 }
@@ -72,6 +87,28 @@ pub enum Reason {
     OwnId,
 }
 
+impl Reason {
+    ghost use Rattle.std.specs.Prelude.{◌≡◌};
+    ghost use Rattle.tora_config.specs.FaultText.{reason_text};
+
+    /// The words for it.
+    fn words(self) -> &'static str
+        ensures { result.now ≡ reason_text self }
+    {
+        match self {
+            Reason::Missing => "is missing",
+            Reason::NoNumber => "is no whole number",
+            Reason::NoId => "is not from 1 to 4294967295",
+            Reason::NoPort => "is not from 1 to 65535",
+            Reason::NoText => "is no text",
+            Reason::NoList => "is no list",
+            Reason::NoTable => "is no table",
+            Reason::Repeated => "stands before already",
+            Reason::OwnId => "is the node itself",
+        }
+    }
+}
+
 impl Display for Reason {
     ghost use Rattle.std.specs.Prelude.{Some};
     ghost use Rattle.tora_config.specs.FaultText.{reason_text};
@@ -79,17 +116,7 @@ impl Display for Reason {
     ghost output = { λ reason. Some (reason_text reason) };
 
     fn fmt<W: fmt::Write>(&self, f: &mut Formatter<W>) -> fmt::Result {
-        match *self {
-            Reason::Missing => write!(f, "is missing"),
-            Reason::NoNumber => write!(f, "is no whole number"),
-            Reason::NoId => write!(f, "is not from 1 to 4294967295"),
-            Reason::NoPort => write!(f, "is not from 1 to 65535"),
-            Reason::NoText => write!(f, "is no text"),
-            Reason::NoList => write!(f, "is no list"),
-            Reason::NoTable => write!(f, "is no table"),
-            Reason::Repeated => write!(f, "stands before already"),
-            Reason::OwnId => write!(f, "is the node itself"),
-        }
+        f.write_str(self.words())
     }
 }
 

@@ -1,5 +1,5 @@
 //! What is printed for the lines behind the first.
-ghost use Rattle.std.specs.Prelude.{◌≡◌, ◌++◌, OnOk, string_bytes, Ok, Err};
+ghost use Rattle.std.specs.Prelude.{◌≡◌, [], ◌∷◌, ◌++◌, OnOk, codes, string_bytes, Ok, Err};
 ghost use Rattle.tora_core.specs.ShowText.{show_text};
 ghost use Rattle.tora_lines.specs.LineText.{numbered, TakesReply};
 ghost use Rattle.tora_replay.specs.Answers.{answer, step_reply, replied, send_line, send_lines};
@@ -9,6 +9,13 @@ use std::alloc::AllocError;
 use tora_core::{Core, Input, Sends};
 use tora_lines::numbered;
 use tora_packet::{LONGEST_PACKET, Packet, encode};
+
+/// Puts a line of these digits behind a text.
+fn send_digits(out: &mut String, digits: &str) -> Result<(), AllocError>
+    ensures { OnOk result (string_bytes out.new ≡ string_bytes out.old ++ codes "send " ++ digits.now ++ 10 ∷ []) }
+{
+    writeln!(out, "send {digits}")
+}
 
 fn send(out: &mut String, packet: &Packet) -> Result<(), AllocError>
     ensures { OnOk result (string_bytes out.new ≡ string_bytes out.old ++ send_line packet.now) }
@@ -22,7 +29,7 @@ fn send(out: &mut String, packet: &Packet) -> Result<(), AllocError>
     let Ok(digits) = str::from_utf8(digits) else {
         unreachable!()
     };
-    writeln!(out, "send {digits}")
+    send_digits(out, digits)
 }
 
 /// Puts a line for each packet behind a text.

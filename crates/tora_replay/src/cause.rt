@@ -1,46 +1,78 @@
 //! Why a line is a fault, in plain words.
 use crate::parse;
 use std::alloc::Global;
-use thiserror::Error;
+use std::error::Error;
+use std::fmt;
+use std::fmt::{Display, Formatter};
 use tora_core::{Core, CoreError};
 use tora_lines::{LONGEST_LINE, words};
 
 /// Why a line is a fault.
-#[derive(Clone, Copy, Debug, PartialEq, Eq, Error)]
+#[derive(Clone, Copy, Debug, PartialEq, Eq)]
 pub enum Cause {
-    #[error("the input ends where the first line is required")]
     Missing,
-    #[error("it has more than 4096 bytes")]
     TooLong,
-    #[error("it is empty")]
     Empty,
-    #[error("it ends with a carriage return")]
     CarriageReturn,
-    #[error("it ends with a blank")]
     TrailingBlank,
-    #[error("the first line is `node I links LIST dests LIST`, with one blank between two words")]
     Header,
-    #[error("a node's number is from 1 to 4294967295, without leading zeros; a list is such numbers between commas, or `-`")]
     HeaderNumber,
-    #[error("the first line is refused: {0}")]
     Refused(CoreError),
-    #[error("a line begins with its time, a number below 2^64 without leading zeros")]
     Time,
-    #[error("nothing stands behind the time")]
     NoOrder,
-    #[error("its second word is none of `up`, `down`, `need`, `from` and `show`")]
     Word,
-    #[error("behind `up`, `down` and `need` stands one node's number, from 1 to 4294967295, without leading zeros")]
     Id,
-    #[error("behind `from` stand a node's number, from 1 to 4294967295, and the bytes of a packet")]
     From,
-    #[error("the bytes of a packet are an even number of hexadecimal digits, or `-` for none")]
     Digits,
-    #[error("nothing stands behind `show`")]
     Show,
-    #[error("it is no line of a replay file")]
     Other,
 }
+
+impl Cause {
+    /// Why the line is a fault, in front of what a core says of it where one refuses it.
+    fn words(self) -> &'static str {
+        match self {
+            Cause::Missing => "the input ends where the first line is required",
+            Cause::TooLong => "it has more than 4096 bytes",
+            Cause::Empty => "it is empty",
+            Cause::CarriageReturn => "it ends with a carriage return",
+            Cause::TrailingBlank => "it ends with a blank",
+            Cause::Header => {
+                "the first line is `node I links LIST dests LIST`, with one blank between two words"
+            }
+            Cause::HeaderNumber => {
+                "a node's number is from 1 to 4294967295, without leading zeros; a list is such numbers between commas, or `-`"
+            }
+            Cause::Refused(_) => "the first line is refused: ",
+            Cause::Time => "a line begins with its time, a number below 2^64 without leading zeros",
+            Cause::NoOrder => "nothing stands behind the time",
+            Cause::Word => "its second word is none of `up`, `down`, `need`, `from` and `show`",
+            Cause::Id => {
+                "behind `up`, `down` and `need` stands one node's number, from 1 to 4294967295, without leading zeros"
+            }
+            Cause::From => {
+                "behind `from` stand a node's number, from 1 to 4294967295, and the bytes of a packet"
+            }
+            Cause::Digits => {
+                "the bytes of a packet are an even number of hexadecimal digits, or `-` for none"
+            }
+            Cause::Show => "nothing stands behind `show`",
+            Cause::Other => "it is no line of a replay file",
+        }
+    }
+}
+
+impl Display for Cause {
+    fn fmt<W: fmt::Write>(&self, f: &mut Formatter<W>) -> fmt::Result {
+        f.write_str(self.words())?;
+        match self {
+            Cause::Refused(error) => error.fmt(f),
+            _ => Ok(()),
+        }
+    }
+}
+
+impl Error for Cause {}
 
 /// Why the first line is a fault.
 fn first_cause(alloc: Global, line: &[u8]) -> Cause {

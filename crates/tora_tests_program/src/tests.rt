@@ -1,6 +1,7 @@
 use expected::{expect_ended, expect_few_refusals, expect_written, is_end, is_memory};
 use fake_streams::{ArrayWriter, PieceReader};
 use replay_rows::*;
+use sees::{same_at, sees, sees_at};
 use std::alloc::Global;
 use std::io::{ErrorKind as IoErrorKind, Read, Write};
 use std::process::{Abort, ExitCode};
@@ -22,6 +23,7 @@ mod fake_streams;
 mod mixed_networks;
 mod replay_rows;
 mod rest_lines;
+mod sees;
 mod simulation_causes;
 mod simulation_rows;
 mod simulation_streams;
@@ -294,11 +296,9 @@ impl Engine {
         let found = self.run(rt.alloc(), &mut reader, &mut writer);
         let is_told = is_end(found, Err(error)) || is_memory(found);
         let text = self.text().as_bytes();
-        assert!(rt; is_told, "at read {failing_read}, write {failing_write}");
-        assert!(rt;
-            text.starts_with(writer.text()),
-            "at read {failing_read}, write {failing_write}"
-        );
+        let place = ("read", failing_read, "write", failing_write);
+        sees_at(rt, is_told, &place);
+        sees_at(rt, text.starts_with(writer.text()), &place);
     }
 
     /// The whole text is written, and all lines are taken, unless memory was refused: the answer says whether it was.
@@ -315,7 +315,7 @@ impl Engine {
             return false;
         }
         let is_whole = is_end(found, Ok(Ended::Whole)) && writer.text() == self.text().as_bytes();
-        assert!(rt; is_whole, "in pieces of {size}, at read {interrupted_read}");
+        sees_at(rt, is_whole, &("pieces of", size, "read", interrupted_read));
         true
     }
 }
@@ -325,10 +325,7 @@ fn input_in_pieces(rt: HostRuntime) {
     for (engine, sizes) in [(Engine::Replay, 80), (Engine::Simulation, 40)] {
         for size in 1..sizes {
             let is_whole = engine.expect_whole(&rt, size, 0) || engine.expect_whole(&rt, size, 0);
-            assert!(&rt;
-                is_whole,
-                "one refusal of memory at most, in pieces of {size}"
-            );
+            sees_at(&rt, is_whole, &("pieces of", size));
         }
     }
 }
@@ -371,8 +368,7 @@ fn cause_in(alloc: Global, number: u64, line: &[u8]) -> Cause {
 
 /// A line behind the first is a fault for this cause.
 fn expect_cause(rt: &impl Abort, alloc: Global, line: &str, cause: Cause) {
-    let found = cause_in(alloc, 2, line.as_bytes());
-    assert_eq!(rt; found, cause, "at {line:?}");
+    same_at(rt, &cause_in(alloc, 2, line.as_bytes()), &cause, &line);
 }
 
 /// A first line is a fault for this cause. Where another is found it is asked for again, since memory may have been refused.
@@ -381,7 +377,7 @@ fn expect_first_cause(rt: &impl Abort, alloc: Global, line: &str, cause: Cause) 
     if found != cause {
         found = cause_in(alloc, 1, line.as_bytes());
     }
-    assert_eq!(rt; found, cause, "at {line:?}");
+    same_at(rt, &found, &cause, &line);
 }
 
 const TOO_LONG: [u8; 4097] = [b' '; 4097];
@@ -393,13 +389,14 @@ fn causes_of_faults(rt: HostRuntime) {
         expect_cause(&rt, rt.alloc(), *line, *cause);
     }
     let long = cause_in(rt.alloc(), 2, &TOO_LONG);
-    assert_eq!(&rt; long, Cause::TooLong);
+    same_at(&rt, &long, &Cause::TooLong, &"a line that is too long");
 }
 
 /// Why a first line is a fault, as `-v` says it.
 #[test]
 fn causes_of_first_faults(rt: HostRuntime) {
-    assert_eq!(&rt; cause_of(rt.alloc(), 1, None), Cause::Missing);
+    let missing = cause_of(rt.alloc(), 1, None);
+    same_at(&rt, &missing, &Cause::Missing, &"no line");
     for (line, cause) in FIRST_CAUSES {
         expect_first_cause(&rt, rt.alloc(), *line, *cause);
     }
@@ -496,7 +493,7 @@ fn verbose_words(rt: HostRuntime) {
     for (words, wanted) in VERBOSE {
         match is_verbose(&rt, *words) {
             None => refused = refused.saturating_add(1),
-            Some(found) => assert_eq!(&rt; found, *wanted, "at {words:?}"),
+            Some(found) => same_at(&rt, &found, wanted, words),
         }
     }
     expect_few_refusals(&rt, refused);

@@ -126,7 +126,7 @@ fn is_status(status: ExitCode, wanted: u8) -> bool {
 
 /// A run, told by two texts, ends with this status.
 fn expect_status(rt: &impl Abort, run: (&str, &str), status: ExitCode, wanted: u8) {
-    assert!(rt; is_status(status, wanted), "at {run:?}: not {wanted}");
+    sees_at(rt, is_status(status, wanted), &(run, "not", wanted));
 }
 
 /// Runs over lines with an output and a trace that fail so, and expects a status and what is written. Says whether the trace
@@ -148,7 +148,7 @@ fn expect_run<T: AllocGlobal + Eprint + Abort>(
 fn expect_whole_run<T: AllocGlobal + Eprint + Abort>(rt: &T, run: Run, is_verbose: bool) {
     let fine = ((0, false), (0, false));
     let is_lost = expect_run(rt, (run, is_verbose), run.lines(), fine, SUCCESS);
-    assert!(rt; !is_lost, "at {run:?}");
+    sees_at(rt, !is_lost, &run);
     expect_run(rt, (run, is_verbose), ("", "fault 1\n"), fine, INPUT);
 }
 
@@ -191,7 +191,7 @@ fn expect_lost_trace<T: AllocGlobal + Eprint + Abort>(
     let fails = ((0, false), trace);
     let lines = Run::Traced.lines();
     let is_lost = expect_run(rt, (Run::Traced, is_verbose), lines, fails, INPUT);
-    assert!(rt; is_lost, "at {trace:?}");
+    sees_at(rt, is_lost, &trace);
 }
 
 /// 1 where the trace can't be written or not be handed on; what is printed is whole.
@@ -281,13 +281,13 @@ fn files_are_those_named(rt: HostRuntime) -> Result<(), Fail> {
     make_folder(&rt)?;
     for (trace, makes) in [(None, false), (Some(TRACE), true)] {
         expect_simulated(&rt, (None, FILE, trace), SUCCESS, "refused 2\n");
-        assert_eq!(&rt; holds(&rt, TRACE, RECORDS), makes);
-        assert!(&rt; holds(&rt, FILE, LINES), "the file stays");
+        same_at(&rt, &holds(&rt, TRACE, RECORDS), &makes, &trace);
+        sees(&rt, holds(&rt, FILE, LINES), "the file stays");
     }
     for (asked, wanted) in FAILING {
         expect_simulated(&rt, *asked, *wanted, "");
-        assert!(&rt; holds(&rt, FILE, LINES), "the file stays");
-        assert!(&rt; holds(&rt, TRACE, RECORDS), "the trace stays");
+        sees(&rt, holds(&rt, FILE, LINES), "the file stays");
+        sees(&rt, holds(&rt, TRACE, RECORDS), "the trace stays");
     }
     fs::remove_dir_all(&rt, FOLDER)?;
     Ok(())

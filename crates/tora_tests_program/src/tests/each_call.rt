@@ -102,10 +102,12 @@ const ENDS: [(Id, Id); 6] = [(1, 2), (2, 1), (2, 3), (3, 2), (3, 4), (4, 3)];
 fn recorded(rt: &impl Abort, alloc: Global) -> Vec<Event> {
     let started = <Recorder as Simulator>::start(alloc, &LINKS, &[4], &[], Times::STANDARD);
     let mut recorder = started.expect(rt, "a simulator");
-    assert!(rt; matches!(recorder.happen(&Event::Need(1, 4)), Ok(None)));
-    assert!(rt; make_rounds(&mut recorder, 3, &NODES, &ENDS, &[]).is_ok());
+    let needed = recorder.happen(&Event::Need(1, 4));
+    sees(rt, matches!(needed, Ok(None)), "the need happens");
+    let made = make_rounds(&mut recorder, 3, &NODES, &ENDS, &[]);
+    sees(rt, made.is_ok(), "three rounds are made");
     let Recorder { sim, events } = recorder;
-    assert!(rt; has_routes(&sim), "the route is found");
+    sees(rt, has_routes(&sim), "the route is found");
     events
 }
 
@@ -128,11 +130,12 @@ fn run_armed(rt: &impl Abort, alloc: Global, events: &[Event], place: usize, arm
     let mut sim = Sim::new(alloc, &topology).expect(rt, "a simulator");
     for (at, event) in events.iter().enumerate() {
         if at == place {
-            assert!(rt; sim.step(arm).is_ok());
+            sees(rt, sim.step(arm).is_ok(), "a call is armed");
         }
         let _ = sim.step(event);
     }
-    assert!(rt; make_rounds(&mut sim, 60, &NODES, &ENDS, &[]).is_ok());
+    let made = make_rounds(&mut sim, 60, &NODES, &ENDS, &[]);
+    sees(rt, made.is_ok(), "sixty rounds are made");
     sim
 }
 
@@ -140,15 +143,16 @@ fn run_armed(rt: &impl Abort, alloc: Global, events: &[Event], place: usize, arm
 #[test]
 fn each_call(rt: HostRuntime) {
     let events = recorded(&rt, rt.alloc());
-    assert!(&rt; events.len() > 100, "{} events", events.len());
+    sees_at(&rt, events.len() > 100, &(events.len(), "events"));
     for place in 0..events.len() {
         for n in NODES {
             for call in [Call::SendLost, Call::SendGone, Call::Receive] {
                 let arm = Event::Arm(n, call);
                 let sim = run_armed(&rt, rt.alloc(), events.as_slice(), place, &arm);
-                assert!(&rt;
+                sees_at(
+                    &rt,
                     has_routes(&sim),
-                    "a call of node {n} armed before event {place}"
+                    &("a call of node", n, "armed before event", place),
                 );
             }
         }

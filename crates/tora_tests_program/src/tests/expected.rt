@@ -1,6 +1,6 @@
-//! What every test of a run expects: how it ends, and what is written. An assertion that compares and formats is proved once, here.
+//! What every test of a run expects: how it ends, and what is written.
+use super::sees::{same_at, sees_at};
 use std::process::Abort;
-use std::test::*;
 use tora_lines::{Ended, ReplayError};
 
 /// A run of lines, in two parts, ends as it should.
@@ -10,20 +10,17 @@ pub fn expect_ended(
     found: Result<Ended, ReplayError>,
     wanted: Result<Ended, ReplayError>,
 ) {
-    assert_eq!(rt; found, wanted, "at {lines:?}");
+    same_at(rt, &found, &wanted, &lines);
 }
 
 /// A run of lines, in two parts, wrote what it should.
 pub fn expect_written(rt: &impl Abort, lines: (&str, &str), written: &[u8], text: &str) {
-    assert_eq!(rt; written, text.as_bytes(), "at {lines:?}");
+    same_at(rt, &written, &text.as_bytes(), &lines);
 }
 
 /// Memory was refused once at most: a run of the tests makes one allocation fail.
 pub fn expect_few_refusals(rt: &impl Abort, refused: u64) {
-    assert!(rt;
-        refused <= 1,
-        "one refusal of memory at most, not {refused}"
-    );
+    sees_at(rt, refused <= 1, &("so many refusals of memory", refused));
 }
 
 /// Whether memory was refused.

@@ -166,8 +166,10 @@ fn expect_loss(rt: &impl Abort, alloc: Global, times: Times, is_lost: bool)
     let found = simulated_with(alloc, times, input, &mut writer);
     if !is_memory(found) {
         expect_ended(rt, (input, ""), found, Ok(Ended::Whole));
-        assert!(rt; writer.text().starts_with(FOUND.as_bytes()));
-        assert_eq!(rt; writer.text() == FOUND_AND_LOST.as_bytes(), is_lost);
+        let is_found = writer.text().starts_with(FOUND.as_bytes());
+        sees(rt, is_found, "the route is found");
+        let found_lost = writer.text() == FOUND_AND_LOST.as_bytes();
+        same_at(rt, &found_lost, &is_lost, &"the loss of the route");
     }
 }
 
@@ -184,8 +186,7 @@ fn asked(word: Option<&str>) -> Option<Times> {
 }
 
 fn expect_times(rt: &impl Abort, word: Option<&str>, times: Option<Times>) {
-    let found = asked(word);
-    assert_eq!(rt; found, times, "at {word:?}");
+    same_at(rt, &asked(word), &times, &word);
 }
 
 const LONGEST_RETRY: Times = Times {
@@ -246,7 +247,7 @@ fn times_in(alloc: Global, words: &[&str]) -> Option<Option<Times>> {
 fn expect_times_in(rt: &impl Abort, alloc: Global, words: &[&str], times: Option<Times>) -> u64 {
     match times_in(alloc, words) {
         None => return 1,
-        Some(found) => assert_eq!(rt; found, times, "at {words:?}"),
+        Some(found) => same_at(rt, &found, &times, &words),
     }
     0
 }
@@ -278,6 +279,6 @@ fn times_on_the_command_line(rt: HostRuntime) {
     refused = refused.saturating_add(expect_times_in(&rt, rt.alloc(), short, None));
     expect_few_refusals(&rt, refused);
     for words in NO_WORDS {
-        assert!(&rt; times_in(rt.alloc(), *words).is_none(), "at {words:?}");
+        sees_at(&rt, times_in(rt.alloc(), *words).is_none(), words);
     }
 }

@@ -35,6 +35,8 @@ fn words_behind_rest_are_faults(rt: HostRuntime) {
         Times::STANDARD,
     );
     let stage = Stage::Runs(running.expect(&rt, "a topology"));
-    assert_eq!(&rt; simulation_cause(&stage, b"rest 4"), SimulationCause::Rest);
-    assert_eq!(&rt; simulation_cause(&stage, b"rests"), SimulationCause::Word);
+    let behind = simulation_cause(&stage, b"rest 4");
+    same_at(&rt, &behind, &SimulationCause::Rest, &"rest 4");
+    let longer = simulation_cause(&stage, b"rests");
+    same_at(&rt, &longer, &SimulationCause::Word, &"rests");
 }

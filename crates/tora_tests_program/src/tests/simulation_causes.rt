@@ -46,7 +46,7 @@ fn expect_cause(
     if !is_cause(found, cause) {
         found = cause_behind(alloc, lines, line);
     }
-    assert!(rt; is_cause(found, cause), "at {line:?}: {found:?}");
+    sees_at(rt, is_cause(found, cause), &(line, found));
 }
 
 /// Behind these lines each of the rows is a line and the cause for which it is a fault.
@@ -222,11 +222,11 @@ fn words_of_a_simulation(rt: HostRuntime) {
     for (words, is_verbose) in WORDS {
         match path_of(rt.alloc(), *words) {
             None => refused = refused.saturating_add(1),
-            Some(found) => assert_eq!(&rt; found, (*is_verbose, true), "at {words:?}"),
+            Some(found) => same_at(&rt, &found, &(*is_verbose, true), words),
         }
     }
     expect_few_refusals(&rt, refused);
     for words in NO_WORDS {
-        assert!(&rt; path_of(rt.alloc(), *words).is_none(), "at {words:?}");
+        sees_at(&rt, path_of(rt.alloc(), *words).is_none(), words);
     }
 }

@@ -70,13 +70,12 @@ fn want_of_memory_in_a_simulation(rt: HostRuntime) {
     let mut writer = ArrayWriter::new(0);
     let lines = FOUR_FOUND_AND_LOST.as_bytes();
     let found = simulated_once(rt.alloc(), lines, b"", &mut writer);
-    if found == Ok(Ended::Whole) {
-        assert_eq!(&rt; writer.text(), FOUND_AND_LOST.as_bytes());
+    let run = (FOUR_FOUND_AND_LOST, "");
+    if is_end(found, Ok(Ended::Whole)) {
+        expect_written(&rt, run, writer.text(), FOUND_AND_LOST);
     } else {
-        assert_eq!(&rt; found, Err(ReplayError::Memory));
+        expect_ended(&rt, run, found, Err(ReplayError::Memory));
     }
-    assert!(&rt;
-        FOUND_AND_LOST.as_bytes().starts_with(writer.text()),
-        "what was written begins the text"
-    );
+    let begins = FOUND_AND_LOST.as_bytes().starts_with(writer.text());
+    sees(&rt, begins, "what was written begins the text");
 }

@@ -1,6 +1,7 @@
 //! Simulation files.
 use super::simulation_rows::*;
 use super::*;
+use std::alloc::AllocError;
 
 /// Simulates once.
 pub fn simulated_once(
@@ -303,14 +304,17 @@ fn nodes_are_counted(rt: HostRuntime) {
     expect_few_refusals(&rt, refused);
 }
 
+/// Puts a link behind the lines of a file.
+fn push_link(text: &mut String, a: u64, b: u64) -> Result<(), AllocError> {
+    writeln!(text, "link {a} {b}")
+}
+
 /// A file of so many links in a line, or nothing where memory is refused.
 fn line_of_links(alloc: Global, count: u64) -> Option<String> {
     let mut text = String::new(alloc);
     text.push_str("dests 4\n").ok()?;
     for n in 0..count {
-        let next = n.saturating_add(1);
-        let last = n.saturating_add(2);
-        writeln!(text, "link {next} {last}").ok()?;
+        push_link(&mut text, n.saturating_add(1), n.saturating_add(2)).ok()?;
     }
     Some(text)
 }

@@ -109,18 +109,28 @@ const FILLED: &str = "sent 1 2 1 17\n\
 const FILLED_COUNTS: &str =
     "count 51\ncount 102\ncount 153\ncount 204\ncount 255\ncount 256\ncount 51\n";
 
+/// A destination behind others in the first line.
+fn more_dests(alloc: Global, d: u32) -> Result<String, AllocError> {
+    format!(in alloc; ",{d}")
+}
+
+/// A need of node 1, and its turn.
+fn need_of_one(alloc: Global, d: u32) -> Result<String, AllocError> {
+    format!(in alloc; "need 1 {d}\nturn 1\n")
+}
+
 /// A file up to the needs of the destinations 10 to 60: node 2 begins anew, so that the life of its link is {1, 17}.
 fn with_needs(alloc: Global) -> Result<String, AllocError> {
     let mut whole = String::from_str(alloc, "dests 10")?;
     for d in 11..61 {
-        let more = format!(in alloc; ",{d}")?;
+        let more = more_dests(alloc, d)?;
         whole.push_str(&more)?;
     }
     whole.push_str("\nlink 1 2\nlink 1 3\nopen 2 1\nrestart 2 -\n")?;
     whole.push_str(BOUND)?;
     whole.push_str("pump 1 2\nturn 1\n")?;
     for d in 10..61 {
-        let more = format!(in alloc; "need 1 {d}\nturn 1\n")?;
+        let more = need_of_one(alloc, d)?;
         whole.push_str(&more)?;
     }
     whole.push_str(FILLED)?;

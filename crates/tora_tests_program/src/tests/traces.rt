@@ -72,7 +72,7 @@ fn expect_trace_so<T: AllocGlobal + Eprint + Abort>(
     let (found, out) = traced(rt, (front, end), &mut writer, (0, false), is_verbose);
     expect_ended(rt, (front, end), found, Ok(ended));
     expect_written(rt, (front, end), writer.text(), text);
-    assert!(rt; out.failure().is_none(), "at {front:?} {end:?}");
+    sees_at(rt, out.failure().is_none(), &(front, end));
     expect_written(rt, (front, end), text_of(&out).as_bytes(), trace);
 }
 
@@ -129,17 +129,17 @@ fn expect_told<T: AllocGlobal + Eprint + Abort>(rt: &T, lines: &str, heights: &s
     let mut writer = ArrayWriter::new(0);
     let (found, out) = traced(rt, (lines, heights), &mut writer, (0, false), false);
     expect_ended(rt, (lines, heights), found, Ok(Ended::Whole));
-    assert!(rt; out.failure().is_none(), "at {lines:?}");
+    sees_at(rt, out.failure().is_none(), &lines);
     let d = heights.trim_start_matches("heights ").trim_end().as_bytes();
     let trace = out.writer.text();
     let mut printed = 0usize;
     for line in writer.text().split(|byte| *byte == b'\n') {
         if line.starts_with(b"node ") {
             printed = printed.saturating_add(1);
-            assert!(rt; tells(trace, line, d), "at {lines:?} {line:?}");
+            sees_at(rt, tells(trace, line, d), &(lines, line));
         }
     }
-    assert_eq!(rt; printed, count, "at {lines:?}");
+    same_at(rt, &printed, &count, &lines);
 }
 
 /// Two nodes: a need that is asked for in vain, then answered by the neighbour, which is the destination.
@@ -162,7 +162,7 @@ fn trace_of_two_nodes(rt: HostRuntime) {
     let records = text_of(&out);
     let bound = "0 need 1 2\n0 qry 1 2 0\n1 up 1 2 1 1\n1 upd 1 2 1 (0,0,0,1,1)\n\
         1 route 1 2 (0,0,0,1,1) 2\n1 up 2 1 1 1\n1 frames ";
-    assert!(&rt; records.starts_with(bound), "{records}");
+    sees(&rt, records.starts_with(bound), records);
 }
 
 /// What is parted is sent and not delivered, and each line `part` and `mend` has its record, with the clock.
@@ -243,7 +243,7 @@ fn expect_printed<T: AllocGlobal + Eprint + Abort>(rt: &T, until_failure: u64, k
     expect_ended(rt, LOST, found, Ok(Ended::Whole));
     expect_written(rt, LOST, writer.text(), LOST_TEXT);
     let fails = keeps || until_failure > 0;
-    assert_eq!(rt; out.failure().is_some(), fails, "at {until_failure}");
+    same_at(rt, &out.failure().is_some(), &fails, &until_failure);
 }
 
 /// A trace that can't be written, or not handed on, changes nothing of what is printed.
