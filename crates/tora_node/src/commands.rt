@@ -8,6 +8,7 @@ ghost use Rattle.tora_node.specs.CommandSteps.{Holds, DidPut, PutsAll, PutsLast,
 use crate::words::{after, id, is_word};
 use arrayvec::ArrayVec;
 use log::{Log, info, warn};
+use std::fmt::Display;
 use std::io::{ErrorKind, Read};
 use std::sync::Wait;
 use tora_height::Id;
@@ -109,13 +110,16 @@ impl Line {
     fn tell<R: Log>(&self, rt: &R) {
         let line = self.bytes.as_slice();
         if self.is_too_long {
-            warn!(rt; "a line of more than {LONGEST_COMMAND} bytes is no command; {COMMANDS}");
+            tell_unknown(
+                rt,
+                format_args!("a line of more than {LONGEST_COMMAND} bytes"),
+            );
         } else if is_word(b"help", line) {
             info!(rt; "{COMMANDS}");
         } else if command_of(line) == Command::Unknown {
             match str::from_utf8(line) {
-                Ok(text) => warn!(rt; "{text:?} is no command; {COMMANDS}"),
-                Err(_) => warn!(rt; "a line that is no text is no command; {COMMANDS}"),
+                Ok(text) => tell_unknown(rt, format_args!("{text:?}")),
+                Err(_) => tell_unknown(rt, "a line that is no text"),
             }
         }
     }
@@ -134,6 +138,11 @@ impl Line {
         self.is_too_long = false;
         command
     }
+}
+
+/// Logs that this is no command, with those that are.
+fn tell_unknown<R: Log, D: Display + Drop>(rt: &R, what: D) {
+    warn!(rt; "{what} is no command; {COMMANDS}");
 }
 
 /// Puts what a command asks. Nothing follows `quit`, and where nobody takes items any more.

@@ -1,5 +1,6 @@
 //! A hub that logs what its link tells.
 use log::{Log, info};
+use std::fmt::Display;
 use std::sync::Wait;
 use tora_height::Id;
 use tora_lane::{Cargo, Gone, What};
@@ -18,18 +19,22 @@ pub struct LogHub<L, H> {
 
 impl<L: Log, H: Hub> LogHub<L, H> {
     fn tell(&self, what: &What) {
-        let peer = self.peer;
         match what {
             What::Up(life) => {
                 let (own, theirs) = (life.own, life.peer);
-                info!(&self.log; "link {peer} up {own} {theirs}");
+                self.note(format_args!("up {own} {theirs}"));
             }
             What::Down(_, reason) => {
                 let number = reason.number();
-                info!(&self.log; "link {peer} down {number}");
+                self.note(format_args!("down {number}"));
             }
             _ => {}
         }
+    }
+
+    fn note<D: Display + Drop>(&self, what: D) {
+        let peer = self.peer;
+        info!(&self.log; "link {peer} {what}");
     }
 }
 

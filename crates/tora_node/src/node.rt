@@ -104,8 +104,8 @@ fn link_fault(fault: Option<NodeError>) -> Option<LinkFault>
 /// How many datagrams spelt no frame, at most 2^64 - 1.
 fn bad_datagrams(tally: &Tally) -> u64 {
     let mut bad: u64 = 0;
-    for number in 1..=LAST_FRAME_ERROR {
-        bad = bad.saturating_add(tally.of_bad(number));
+    for number in 0..LAST_FRAME_ERROR {
+        bad = bad.saturating_add(tally.of_bad(number + 1));
     }
     bad
 }

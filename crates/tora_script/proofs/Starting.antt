@@ -1,12 +1,12 @@
 -- What the simulator's own clauses say, as the engine asks for it.
-use Rattle.std.proofs.Common.{◌≡◌, inl, inr, refl, ap, arith, ℕ, ◌<◌, List, Some, None}
+use Rattle.std.proofs.Common.{◌≡◌, ◌∙◌, inl, inr, refl, ap, arith, ℕ, ◌<◌, List, Option, Some, None, is_some, if◌then◌else◌}
 use Rattle.std.proofs.lemmas.List.Elements.{All-map}
 use Rattle.tora_arq.specs.declared.Times.{Times}
 use Rattle.tora_world.specs.declared.Event.{Event}
 use Rattle.tora_world.specs.declared.SimError.{SimError}
 use Rattle.tora_world.specs.Errors.{sim_error_number}
 use Rattle.tora_world.specs.Topology.{Link, topology_fault}
-use Rattle.tora_world.specs.World.{World, first_world, world_after, world_by}
+use Rattle.tora_world.specs.World.{World, first_world, effect_by, own_choice, refusal_of, world_after, world_by}
 use Rattle.tora_sim.specs.Topologies.{link_in, topology_of, AreNumbers}
 use Rattle.tora_sim.specs.Steps.{IsRefused}
 use Rattle.tora_script.specs.Simulator.{ArePairs, AreIds, mixed_topology, started}
@@ -23,10 +23,21 @@ pub started_as : (links : List (ℕ × ℕ)) (dests olds : List ℕ) (times : Ti
 unfolding started
 started_as links dests olds times w sound made = rw (sound, made) refl
 
+-- what a refusal leaves
+left_by : {A : Type 0} (r : Option SimError) (e : SimError) (w x : A) → r ≡ Some e → w ≡ (if is_some r then w else x)
+left_by r e w x is = rw is refl
+
 -- an event that is refused for another cause than memory, which has the number 1, leaves the world as it was
 pub stays : (w after : World) (event : Event) (e : SimError) → 1 < sim_error_number e → IsRefused w event e after → after ≡ world_after w event
 unfolding world_by
 stays w after event e other refused = elim refused.cause [
   | inl none ↦ let one : sim_error_number e ≡ 1 = ap sim_error_number none.0 in absurd (omega arith)
-  | inr cause ↦ rw cause refused.world
+  | inr cause ↦ refused.world ∙ left_by (refusal_of w event) e w (effect_by (own_choice w event) w event) cause
+]
+
+-- and its cause is the refusal
+pub is_cause : (w after : World) (event : Event) (e : SimError) → 1 < sim_error_number e → IsRefused w event e after → refusal_of w event ≡ Some e
+is_cause w after event e other refused = elim refused.cause [
+  | inl none ↦ let one : sim_error_number e ≡ 1 = ap sim_error_number none.0 in absurd (omega arith)
+  | inr cause ↦ cause
 ]

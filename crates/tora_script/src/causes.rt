@@ -5,80 +5,126 @@ use crate::rounds::is_same_pair;
 use crate::script_line::SimulationLine;
 use crate::simulating::is_linked;
 use crate::simulation::Stage;
-use thiserror::Error;
+use std::error::Error;
+use std::fmt::{self, Display, Formatter, Write};
 use tora_core::CoreError;
 use tora_height::Id;
 use tora_lines::words;
 use tora_sim::topology_fault;
 
 /// Why a line of a simulation file is a fault.
-#[derive(Clone, Copy, Debug, PartialEq, Eq, Error)]
+#[derive(Clone, Copy, Debug, PartialEq, Eq)]
 pub enum SimulationCause {
-    #[error("the input ends where the first line is required")]
     Missing,
-    #[error("it has more than 4096 bytes")]
     TooLong,
-    #[error("it is empty")]
     Empty,
-    #[error("it ends with a carriage return")]
     CarriageReturn,
-    #[error("it ends with a blank")]
     TrailingBlank,
-    #[error("the first line is `dests LIST`, the destinations")]
     Dests,
-    #[error("a list is nodes' numbers, from 1 to 4294967295 without leading zeros, between commas, or `-`")]
     List,
-    #[error("behind the first line a line `link A B` is required")]
     NoLink,
-    #[error("the links and destinations are refused: there are more than 64 nodes, 32 neighbours of a node or 64 destinations")]
     TooMany,
-    #[error("the links and destinations are refused: a link, either way round, or a destination stands twice")]
     Repeated,
-    #[error("the links and destinations are refused: lines {0} and {1} have the same link, either way round")]
     RepeatedLink(u64, u64),
-    #[error("the links and destinations are refused: the destination {0} stands twice in line 1")]
     RepeatedDestination(Id),
-    #[error("the links and destinations are refused: a link leads from a node to itself")]
     OwnLink,
-    #[error("behind `old` stands one node's number, from 1 to 4294967295, without leading zeros")]
     Old,
-    #[error("no link names this node")]
     NoSuchNode,
-    #[error("a node is old right behind the links, before any other line")]
     LateOld,
-    #[error("its first word is none of `need`, `tick`, `open`, `pull`, `transmit`, `deliver`, `pump`, `turn`, `arm`, `restart`, `rounds`, `part`, `mend`, `heights`, `sent`, `taken`, `exact`, `walk` and `rest`")]
     Word,
-    #[error("behind this word stand two nodes' numbers, from 1 to 4294967295, without leading zeros")]
     Pair,
-    #[error("behind this word stands one node's number, from 1 to 4294967295, without leading zeros")]
     Id,
-    #[error("nothing stands behind `tick`")]
     Tick,
-    #[error("nothing stands behind `rest`")]
     Rest,
-    #[error("behind `deliver` stands the number of a datagram, below 2^64, without leading zeros")]
     Deliver,
-    #[error("behind `arm` stand a node's number and `send-lost`, `send-gone`, `receive`, `read`, `write` or `sync`")]
     Arm,
-    #[error("behind `restart` stand a node's number and 32 hexadecimal digits or `-`")]
     Restart,
-    #[error("behind `rounds` stands a number, 10000 at most, without leading zeros")]
     Rounds,
-    #[error("behind `sent` and `taken` stand two nodes' numbers and the two numbers of a life, each from 1 to 2^62")]
     Life,
-    #[error("the first line alone is `dests LIST`")]
     LateDests,
-    #[error("a link stands behind the first line or another link")]
     LateLink,
-    #[error("there is no link between these nodes")]
     NoSuchLink,
-    #[error("this destination is not in the list of the first line")]
     NoSuchDestination,
-    #[error("no link names this node, or this destination is not in the list of the first line")]
     NoSuchWalk,
-    #[error("it is no line of a simulation file")]
     Other,
 }
+
+impl SimulationCause {
+    /// What it says, up to the numbers that it has.
+    fn words(self) -> &'static str {
+        match self {
+            Self::Missing => "the input ends where the first line is required",
+            Self::TooLong => "it has more than 4096 bytes",
+            Self::Empty => "it is empty",
+            Self::CarriageReturn => "it ends with a carriage return",
+            Self::TrailingBlank => "it ends with a blank",
+            Self::Dests => "the first line is `dests LIST`, the destinations",
+            Self::List =>
+                "a list is nodes' numbers, from 1 to 4294967295 without leading zeros, between commas, or `-`",
+            Self::NoLink => "behind the first line a line `link A B` is required",
+            Self::TooMany =>
+                "the links and destinations are refused: there are more than 64 nodes, 32 neighbours of a node or 64 destinations",
+            Self::Repeated =>
+                "the links and destinations are refused: a link, either way round, or a destination stands twice",
+            Self::RepeatedLink(_, _) => "the links and destinations are refused: ",
+            Self::RepeatedDestination(_) => "the links and destinations are refused: ",
+            Self::OwnLink =>
+                "the links and destinations are refused: a link leads from a node to itself",
+            Self::Old =>
+                "behind `old` stands one node's number, from 1 to 4294967295, without leading zeros",
+            Self::NoSuchNode => "no link names this node",
+            Self::LateOld => "a node is old right behind the links, before any other line",
+            _ => self.words_behind_links(),
+        }
+    }
+
+    /// What it says of a line behind the links.
+    fn words_behind_links(self) -> &'static str {
+        match self {
+            Self::Word =>
+                "its first word is none of `need`, `tick`, `open`, `pull`, `transmit`, `deliver`, `pump`, `turn`, `arm`, `restart`, `rounds`, `part`, `mend`, `heights`, `sent`, `taken`, `exact`, `walk` and `rest`",
+            Self::Pair =>
+                "behind this word stand two nodes' numbers, from 1 to 4294967295, without leading zeros",
+            Self::Id =>
+                "behind this word stands one node's number, from 1 to 4294967295, without leading zeros",
+            Self::Tick => "nothing stands behind `tick`",
+            Self::Rest => "nothing stands behind `rest`",
+            Self::Deliver =>
+                "behind `deliver` stands the number of a datagram, below 2^64, without leading zeros",
+            Self::Arm =>
+                "behind `arm` stand a node's number and `send-lost`, `send-gone`, `receive`, `read`, `write` or `sync`",
+            Self::Restart =>
+                "behind `restart` stand a node's number and 32 hexadecimal digits or `-`",
+            Self::Rounds => "behind `rounds` stands a number, 10000 at most, without leading zeros",
+            Self::Life =>
+                "behind `sent` and `taken` stand two nodes' numbers and the two numbers of a life, each from 1 to 2^62",
+            Self::LateDests => "the first line alone is `dests LIST`",
+            Self::LateLink => "a link stands behind the first line or another link",
+            Self::NoSuchLink => "there is no link between these nodes",
+            Self::NoSuchDestination => "this destination is not in the list of the first line",
+            Self::NoSuchWalk =>
+                "no link names this node, or this destination is not in the list of the first line",
+            _ => "it is no line of a simulation file",
+        }
+    }
+}
+
+impl Display for SimulationCause {
+    fn fmt<W: Write>(&self, f: &mut Formatter<W>) -> fmt::Result {
+        f.write_str(self.words())?;
+        match self {
+            SimulationCause::RepeatedLink(a, b) => {
+                write!(f, "lines {a} and {b} have the same link, either way round")
+            }
+            SimulationCause::RepeatedDestination(d) => {
+                write!(f, "the destination {d} stands twice in line 1")
+            }
+            _ => Ok(()),
+        }
+    }
+}
+
+impl Error for SimulationCause {}
 
 /// What can be seen of a line without its words, if that is a fault.
 fn shape_cause(line: &[u8]) -> Option<SimulationCause> {
@@ -103,25 +149,38 @@ fn first_cause(line: &[u8]) -> SimulationCause {
     }
 }
 
+/// The words that a line may begin with, and why a line that begins so, but says nothing, is a fault.
+const WORD_CAUSES: &[(&[u8], SimulationCause)] = &[
+    (b"need", SimulationCause::Pair),
+    (b"open", SimulationCause::Pair),
+    (b"pull", SimulationCause::Pair),
+    (b"transmit", SimulationCause::Pair),
+    (b"pump", SimulationCause::Pair),
+    (b"part", SimulationCause::Pair),
+    (b"mend", SimulationCause::Pair),
+    (b"walk", SimulationCause::Pair),
+    (b"turn", SimulationCause::Id),
+    (b"heights", SimulationCause::Id),
+    (b"exact", SimulationCause::Id),
+    (b"tick", SimulationCause::Tick),
+    (b"rest", SimulationCause::Rest),
+    (b"deliver", SimulationCause::Deliver),
+    (b"arm", SimulationCause::Arm),
+    (b"restart", SimulationCause::Restart),
+    (b"rounds", SimulationCause::Rounds),
+    (b"sent", SimulationCause::Life),
+    (b"taken", SimulationCause::Life),
+    (b"dests", SimulationCause::LateDests),
+    (b"link", SimulationCause::LateLink),
+    (b"old", SimulationCause::LateOld),
+];
+
 /// Why a line that says nothing is a fault, by its first word.
 fn word_cause(line: &[u8]) -> SimulationCause {
     let (word, _) = words::cut(b' ', line).unwrap_or((line, b""));
-    match word {
-        b"need" | b"open" | b"pull" | b"transmit" | b"pump" | b"part" | b"mend" | b"walk" => {
-            SimulationCause::Pair
-        }
-        b"turn" | b"heights" | b"exact" => SimulationCause::Id,
-        b"tick" => SimulationCause::Tick,
-        b"rest" => SimulationCause::Rest,
-        b"deliver" => SimulationCause::Deliver,
-        b"arm" => SimulationCause::Arm,
-        b"restart" => SimulationCause::Restart,
-        b"rounds" => SimulationCause::Rounds,
-        b"sent" | b"taken" => SimulationCause::Life,
-        b"dests" => SimulationCause::LateDests,
-        b"link" => SimulationCause::LateLink,
-        b"old" => SimulationCause::LateOld,
-        _ => SimulationCause::Word,
+    match WORD_CAUSES.iter().find(|row| row.0 == word) {
+        Some(row) => row.1,
+        None => SimulationCause::Word,
     }
 }
 
