@@ -4,6 +4,8 @@
   measure.py SCENARIO.json TRACE      the row
   measure.py --header                 the names of the columns, which docs/studies.md explains
   measure.py --loops SCENARIO TRACE   one line for each loop of next hops over links that are not parted
+  measure.py --traffic RATE [--hop TICKS] [--ttl HOPS] ..
+                                      the row, and the columns of data packets that the flows send (traffic.py)
 
 At the end of each round each flow's route is followed along the next hops. It works where it reaches the destination over
 links that are not parted; it is stale where it comes to a parted link, without a hop where it comes to a node without
@@ -15,7 +17,8 @@ import collections
 import statistics
 import sys
 
-from study import Usage, adjacency, distances, load_scenario, moments, ordered, records, run
+import traffic
+from study import Usage, adjacency, at_least, distances, load_scenario, moments, ordered, records, run
 
 COLUMNS = (
     "nodes seed rounds hello_ticks silence_ticks retry_ticks tries destinations flows links_met links_declared most_met "
@@ -214,16 +217,27 @@ class Counts:
             yield record
 
 
-def measure(scenario, path):
-    """The routes and the row of a run."""
+def measure(scenario, path, load=None):
+    """The routes and the row of a run; with a load the columns of its packets, too."""
     counts, routes = Counts(records(path)), Routes(scenario)
+    packets = load and traffic.Traffic(scenario["flows"], load)
     for clock, world in moments(scenario, path, counts):
         routes.take(clock, world)
+        if packets:
+            packets.run(clock, clock, world)
     row = dict.fromkeys(COLUMNS, "") | {key: scenario[key] for key in ("nodes", "seed", "rounds", "links_met", "most_met", "breaks")}
     row |= dict(zip(("hello_ticks", "silence_ticks", "retry_ticks", "tries"), scenario["times"]))
     row.update(destinations=len(scenario["destinations"]), flows=len(scenario["flows"]), links_declared=len(scenario["links"]),
                contact_kept=round(scenario["contact_kept"], 4), left_out=len(scenario["left_out"]))
-    return routes, row | routes.columns() | counts.row
+    row |= routes.columns() | counts.row
+    if packets:
+        row |= packets.columns(*control_of(row))
+    return routes, row
+
+
+def control_of(row):
+    """The control packets that were broadcast, and their copies."""
+    return sum(row[kind] for kind in Counts.NAMES.values()), sum(row[kind + "_copies"] for kind in Counts.NAMES.values())
 
 
 def loop_lines(routes):
@@ -234,23 +248,33 @@ def loop_lines(routes):
         yield f"destination {loop['destination']} loop {ring} from round {loop['start']} for {loop['rounds']} rounds, {some}"
 
 
-def main():
-    """Prints what the command line asks for."""
+def options_of(words):
+    """The options of the command line."""
     parser = argparse.ArgumentParser(description=__doc__, formatter_class=argparse.RawDescriptionHelpFormatter)
     parser.add_argument("--header", action="store_true", help="print the names of the columns alone")
     parser.add_argument("--loops", action="store_true", help="print the loops in place of the row")
+    parser.add_argument("--traffic", metavar="RATE", help="packets that each flow sends a second")
+    parser.add_argument("--hop", metavar="TICKS", type=at_least(1), default=1, help="ticks of 100 ms that a packet takes for a hop (1)")
+    parser.add_argument("--ttl", metavar="HOPS", type=at_least(1), default=32, help="hops that a packet may make (32)")
     parser.add_argument("scenario", nargs="?", help="what scenario.py wrote: PREFIX.json")
     parser.add_argument("trace", nargs="?", help="what `tora sim --trace` wrote")
-    options = parser.parse_args()
+    return parser.parse_args(words)
+
+
+def main():
+    """Prints what the command line asks for."""
+    options = options_of(sys.argv[1:])
 
     def body():
+        load = traffic.load_of(options.traffic, options.hop, options.ttl) if options.traffic is not None else None
+        names = COLUMNS + (traffic.COLUMNS if load else [])
         if options.header:
-            print(",".join(COLUMNS))
+            print(",".join(names))
             return
         if options.trace is None:
             raise Usage("a scenario and a trace are needed (--help)")
-        routes, row = measure(load_scenario(options.scenario), options.trace)
-        for line in loop_lines(routes) if options.loops else [",".join(str(row[name]) for name in COLUMNS)]:
+        routes, row = measure(load_scenario(options.scenario), options.trace, load)
+        for line in loop_lines(routes) if options.loops else [",".join(str(row[name]) for name in names)]:
             print(line)
 
     return run("measure", body)

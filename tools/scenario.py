@@ -24,9 +24,9 @@ import random
 import re
 import sys
 
-from study import Refused, Usage, refused, run
+from study import TICKS_A_SECOND, Refused, Usage, at_least, refused, run
 
-TICK = 0.1  # seconds of a round
+TICK = 1 / TICKS_A_SECOND  # seconds of a round
 MOST_NODES = 64
 MOST_NEIGHBOURS = 32
 STANDARD_TIMES = [10, 50, 5, 8]
@@ -259,16 +259,6 @@ def write(prefix, scenario, lines):
         out = ",".join(map(str, scenario["left_out"])) or "none"
         print(f"scenario: {lost} of {scenario['links_met']} links left out by the limit of {scenario['limit']} neighbours, "
               f"{share:.1f} % of the contact time; nodes without a link: {out}", file=sys.stderr)
-
-
-def at_least(least, most=None):
-    """The type of an option: a whole number in a range."""
-    def number(text):
-        value = int(text)
-        if value < least or (most is not None and value > most):
-            raise argparse.ArgumentTypeError(f"{value} is not {least} or more" if most is None else f"{value} is not {least} to {most}")
-        return value
-    return number
 
 
 def options_of(words):

@@ -4,11 +4,14 @@ A scenario is the file PREFIX.json that `scenario.py` writes beside PREFIX.sim; 
 `KEYS` has the keys of the first, `docs/formats.md` ("Traces") the lines of the second.
 A trace without a scenario has one without motion: of its simulation file, or of itself.
 """
+import argparse
 import collections
 import json
 import math
 import re
 import sys
+
+TICKS_A_SECOND = 10  # a tick is a round, 100 ms
 
 Record = collections.namedtuple("Record", "line clock kind words")
 Record.__doc__ = "One record of a trace: its line from 1, the clock, its word, and what follows (numbers, heights, None for `-`)."
@@ -63,6 +66,16 @@ def run(tool, body):
         print(f"{tool}: {cause.filename}: {cause.strerror}", file=sys.stderr)
         return 1
     return 0
+
+
+def at_least(least, most=None):
+    """The type of an option: a whole number in a range."""
+    def number(text):
+        value = int(text)
+        if value < least or (most is not None and value > most):
+            raise argparse.ArgumentTypeError(f"{value} is not {least} or more" if most is None else f"{value} is not {least} to {most}")
+        return value
+    return number
 
 
 def field(path, line, kind, word):
