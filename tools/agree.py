@@ -12,7 +12,9 @@ import argparse
 import sys
 
 from play_data import read_page
-from study import Rounds, Usage, field, records, refused, run
+from record import field, records
+from study import Usage, refused, run
+from world import Rounds
 
 
 class Fold:

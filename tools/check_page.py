@@ -10,9 +10,11 @@ import sys
 
 from agree import Fold
 from dag import breaks
-from measure import WORKS, follow, live_loops
 from page_browser import Browser, figures
-from study import Rounds, load_scenario, moments, ordered, records, run
+from record import records
+from routes import WORKS, follow, live_loops
+from study import load_scenario, ordered, run
+from world import Rounds, moments
 
 STORED = os.path.join(os.path.dirname(os.path.realpath(__file__)), "stored")
 

@@ -19,7 +19,9 @@ import shutil
 import subprocess
 import sys
 
-from study import Refused, Usage, load_scenario, moments, ordered, records, run
+from record import records
+from study import Refused, Usage, load_scenario, ordered, run
+from world import moments
 
 SIDE = 14 * 72  # points
 COLOURS = ["#ffffff", "#cfe8ff", "#d9f2d0", "#fff2b3", "#ffd9b3", "#e6d5f5", "#c9f0ee", "#f5d5e0"]

@@ -20,7 +20,10 @@ import tempfile
 
 from play_data import page_data, read_page, record_text
 from play_place import places_by_force, places_by_hand
-from study import Fit, Refused, Usage, load_scenario, nodes_of, records, refused, run, scenario_of_simulation, scenario_of_trace
+from record import records
+from resting import scenario_of_simulation, scenario_of_trace
+from study import Refused, Usage, load_scenario, nodes_of, refused, run
+from world import Fit
 
 HERE = os.path.dirname(os.path.realpath(__file__))
 PARTS = f"{HERE}/page"

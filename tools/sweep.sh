@@ -64,9 +64,9 @@ echo "$want" >"$dir/study.txt" # --resume counts runs and does not compare what 
 # What a run needs stands in one folder, so that it can be copied to other machines as it is.
 bundle=$dir/bundle
 mkdir -p "$bundle/page"
-tools=(study-one.sh scenario.py measure.py study.py)
+tools=(study-one.sh)
+for part in "$here"/*.py; do tools+=("${part##*/}"); done
 if [ -n "$page" ]; then
-  tools+=(play.py play_data.py play_place.py)
   for part in "$here"/page/*.*; do tools+=("page/${part##*/}"); done
 fi
 for name in "${tools[@]}"; do cp "$here/$name" "$bundle/$name"; done
