@@ -127,6 +127,8 @@ check_study() {
   same loops "$work/loops"
   python3 ../summary.py "$work/study.csv" >"$work/summary"
   same summary "$work/summary"
+  python3 ../summary.py --by nodes,silence_ticks --interval mean "$work/study.csv" available hops_mean >"$work/intervals"
+  same intervals "$work/intervals"
   python3 ../summary.py --data "$work/study.csv" restore_median available >"$work/study.dat"
   same study.dat "$work/study.dat"
 }

@@ -12,6 +12,7 @@ How routes fare is told in routes.py, what becomes of data packets in traffic.py
 import argparse
 import sys
 
+import parameters
 import traffic
 from record import GRAMMAR, records
 from routes import Routes
@@ -60,8 +61,8 @@ class Counts:
         return row | {"links_" + kind: self.records[kind] for kind in ("up", "down")}
 
 
-def measure(scenario, path, load=None):
-    """The routes and the row of a run; with a load the columns of its packets, too."""
+def measure(scenario, path, load=None, version=""):
+    """The routes and the row of a run, which a version of the simulator made; with a load the columns of its packets, too."""
     counts, routes = Counts(records(path)), Routes(scenario)
     packets = load and traffic.Traffic(scenario["flows"], load)
     for first, last, world in spans(scenario, path, counts):
@@ -73,7 +74,7 @@ def measure(scenario, path, load=None):
     row |= dict(zip(("hello_ticks", "silence_ticks", "retry_ticks", "tries"), scenario["times"]))
     row.update(destinations=len(scenario["destinations"]), flows=len(scenario["flows"]), links_declared=len(scenario["links"]),
                contact_kept=round(scenario["contact_kept"], 4), left_out=len(scenario["left_out"]))
-    row |= routes.columns() | counts.columns()
+    row |= routes.columns() | counts.columns() | parameters.cells(scenario, version)
     if packets:
         row |= packets.columns(*counts.control())
     return routes, row
@@ -87,6 +88,11 @@ def loop_lines(routes):
         yield f"destination {loop['destination']} loop {ring} from round {loop['start']} for {loop['rounds']} rounds, {some}"
 
 
+def word_of(version):
+    """A version as a cell: without what divides cells and lines."""
+    return " ".join(version.replace(",", " ").replace('"', " ").split())
+
+
 def options_of(words):
     """The options of the command line."""
     parser = argparse.ArgumentParser(description=__doc__, formatter_class=argparse.RawDescriptionHelpFormatter)
@@ -95,6 +101,7 @@ def options_of(words):
     parser.add_argument("--traffic", metavar="RATE", help="packets that each flow sends a second")
     parser.add_argument("--hop", metavar="TICKS", type=at_least(1), default=1, help="ticks of 100 ms that a packet takes for a hop (1)")
     parser.add_argument("--ttl", metavar="HOPS", type=at_least(1), default=32, help="hops that a packet may make (32)")
+    parser.add_argument("--version", metavar="TEXT", default="", help="what the simulator calls itself, for the row")
     parser.add_argument("scenario", nargs="?", help="what scenario.py wrote: PREFIX.json")
     parser.add_argument("trace", nargs="?", help="what `tora sim --trace` wrote")
     return parser.parse_args(words)
@@ -106,13 +113,13 @@ def main():
 
     def body():
         load = traffic.load_of(options.traffic, options.hop, options.ttl) if options.traffic is not None else None
-        names = COLUMNS + (traffic.COLUMNS if load else [])
+        names = COLUMNS + parameters.COLUMNS + (traffic.COLUMNS if load else [])
         if options.header:
             print(",".join(names))
             return
         if options.trace is None:
             raise Usage("a scenario and a trace are needed (--help)")
-        routes, row = measure(load_scenario(options.scenario), options.trace, load)
+        routes, row = measure(load_scenario(options.scenario), options.trace, load, word_of(options.version))
         for line in loop_lines(routes) if options.loops else [",".join(str(row[name]) for name in names)]:
             print(line)
 

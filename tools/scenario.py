@@ -69,18 +69,41 @@ def times_of(text):
     return [int(word) for word in text.split(",")]
 
 
-def motion(options, source):
-    """Way points of all nodes, by the options."""
-    if options.ns2:
-        return read_ns2(options.ns2)
-    if options.bonnmotion:
-        return read_bonnmotion(options.bonnmotion, options.coordinates)
+def area_of(options):
+    """Width and height of the area, in metres."""
     side = options.range * math.sqrt(math.pi * options.nodes / options.degree)
     width, height = pair_of(options.area, "x", "--area") if options.area else (side, side)
+    if not (width and height):
+        raise Usage("--area: a side is 0")
+    return width, height
+
+
+def speeds_of(options):
+    """The least and the greatest speed, in metres a second."""
     speeds = pair_of(options.speed, "-", "--speed")
     if not 0 < speeds[0] <= speeds[1]:
         raise Usage("--speed: the least speed has to be above 0, or nodes grow slower for ever, and not above the most")
-    return random_waypoint(options.nodes, width, height, speeds, options.pause, options.rounds * TICK, options.settle, source)
+    return speeds
+
+
+def motion(options, source):
+    """Ways of all nodes by the options, and the parameters of the motion."""
+    if options.ns2:
+        return read_ns2(options.ns2), {"model": "ns2"}
+    if options.bonnmotion:
+        return read_bonnmotion(options.bonnmotion, options.coordinates), {"model": "bonnmotion"}
+    (width, height), speeds = area_of(options), speeds_of(options)
+    ways = random_waypoint(options.nodes, width, height, speeds, options.pause, options.rounds * TICK, options.settle, source)
+    known = {"model": "waypoint", "speed_least": speeds[0], "speed_most": speeds[1], "pause": options.pause, "settle": options.settle}
+    return ways, known | {"width": round(width, 2), "height": round(height, 2), "degree": "" if options.area else options.degree}
+
+
+def checked(options):
+    """The options, once what their texts say was tried."""
+    if not (options.ns2 or options.bonnmotion):
+        area_of(options), speeds_of(options)
+    times_of(options.times)
+    return options
 
 
 def choose_flows(scenario, nodes, options, source):
@@ -92,8 +115,8 @@ def choose_flows(scenario, nodes, options, source):
 
 def make(options):
     """The scenario and the lines of the simulation file."""
-    source = random.Random(options.seed)
-    ways = motion(options, source)
+    source = random.Random(checked(options).seed)
+    ways, parameters = motion(options, source)
     if not 2 <= len(ways) <= MOST_NODES:
         raise Refused(f"{len(ways)} nodes; a simulated world has 2 to {MOST_NODES}")
     times = [at * TICK for at in range(0, options.rounds, options.sample)]
@@ -112,7 +135,7 @@ def make(options):
         "contact_kept": round(sum(total[link] for link in links) / sum(total.values()), 6), "links_met": len(total),
         "most_met": max(met.values()),
         "most_at_once": contacts.most,
-        "breaks": 0, "left_out": [node for node in range(1, len(ways) + 1) if node not in degree], "positions": places,
+        "breaks": 0, "left_out": [node for node in range(1, len(ways) + 1) if node not in degree], "positions": places, "parameters": parameters | {"need_rounds": options.need},
     }
     choose_flows(scenario, sorted(degree), options, source)
     return scenario, simulation_lines(scenario, contacts.changes, options.heights, options.need)

@@ -1,7 +1,7 @@
 """The packets of three nodes in a line, worked out by hand from the definition in traffic.py."""
 import unittest
 
-from measure import COLUMNS, measure
+from measure import measure
 from testing import scenario_of, written
 from traffic import load_of
 
@@ -73,7 +73,7 @@ class TrafficTest(unittest.TestCase):
         scenario = scenario_of(links=[(1, 2), (2, 3)], flows=[(1, 3)], rounds=8)
         with written(LINE) as path:
             row, more = measure(scenario, path)[1], measure(scenario, path, load_of("1", 1, 1))[1]
-        self.assertEqual(row, {name: more[name] for name in COLUMNS})
+        self.assertEqual(row, {name: more[name] for name in row})
 
 
 if __name__ == "__main__":

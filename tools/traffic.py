@@ -24,7 +24,7 @@ from study import TICKS_A_SECOND, Usage, ordered
 
 COLUMNS = (
     "sent delivered delivery_ratio lost_no_hop lost_parted lost_loop lost_ttl under_way delay_median delay_95 "
-    "delivered_hops_mean control_per_delivered control_copies_per_delivered"
+    "delivered_hops_mean control_per_delivered control_copies_per_delivered packets_a_second hop_ticks ttl"
 ).split()
 LOOP, TTL, NO_HOP, PARTED = "lost_loop", "lost_ttl", "lost_no_hop", "lost_parted"
 
@@ -87,6 +87,7 @@ class Traffic:
         """Their columns; `control` are the control packets that were broadcast, `copies` their copies."""
         sent, delivered = self.made * len(self.flows), sum(self.delays.values())
         row = dict.fromkeys(COLUMNS, "") | {name: self.ends[name] for name in (NO_HOP, PARTED, LOOP, TTL)}
+        row.update(packets_a_second=float(self.load.rate), hop_ticks=self.load.hop, ttl=self.load.ttl)
         row.update(sent=sent, delivered=delivered, under_way=sent - delivered - sum(self.ends.values()))
         if sent:
             row.update(delivery_ratio=round(delivered / sent, 4))
