@@ -1,7 +1,7 @@
 #!/usr/bin/env python3
 """Makes a simulation file of moving nodes, and a scenario beside it.
 
-  scenario.py PREFIX [--nodes N --seed S ..]      random waypoint motion
+  scenario.py PREFIX [--nodes N --seed S ..]      random waypoint motion, or another --model
   scenario.py PREFIX --ns2 FILE                   a movement file of ns-2 (setdest)
   scenario.py PREFIX --bonnmotion FILE [--coordinates 3] a movement file of BonnMotion
 
@@ -20,15 +20,14 @@ import re
 import sys
 
 from contacts import Contacts, declared_links
-from motion import random_waypoint
+from motion import LIMITS, MODELS, OWN, Motion
 from movement_files import read_bonnmotion, read_ns2
-from study import TICKS_A_SECOND, Refused, Usage, at_least, run
+from study import MOST_METRES, TICKS_A_SECOND, Refused, Usage, at_least, number_in, run
 from way import positions
 
 TICK = 1 / TICKS_A_SECOND  # seconds of a round
 MOST_NODES = 64
 MOST_NEIGHBOURS = 32
-STANDARD_TIMES = [10, 50, 5, 8]
 
 
 def simulation_lines(scenario, changes, every, need):
@@ -59,6 +58,8 @@ def pair_of(text, mark, name):
     found = re.fullmatch(rf"(\d+(?:\.\d+)?){mark}(\d+(?:\.\d+)?)", text)
     if not found:
         raise Usage(f"{name}: `{text}` is not of the form A{mark}B")
+    if max(float(found[1]), float(found[2])) > MOST_METRES:
+        raise Usage(f"{name}: a number in `{text}` is above {MOST_METRES}")
     return float(found[1]), float(found[2])
 
 
@@ -92,16 +93,34 @@ def motion(options, source):
         return read_ns2(options.ns2), {"model": "ns2"}
     if options.bonnmotion:
         return read_bonnmotion(options.bonnmotion, options.coordinates), {"model": "bonnmotion"}
-    (width, height), speeds = area_of(options), speeds_of(options)
-    ways = random_waypoint(options.nodes, width, height, speeds, options.pause, options.rounds * TICK, options.settle, source)
-    known = {"model": "waypoint", "speed_least": speeds[0], "speed_most": speeds[1], "pause": options.pause, "settle": options.settle}
-    return ways, known | {"width": round(width, 2), "height": round(height, 2), "degree": "" if options.area else options.degree}
+    told = motion_of(options)
+    width, height = round(told.width, 2), round(told.height, 2)
+    known = {"model": options.model, "speed_least": told.speeds[0], "speed_most": told.speeds[1], "width": width, "height": height}
+    known |= {"degree": "" if options.area else options.degree, **told.model_parameters}
+    known |= {"pause": options.pause} if options.model.startswith("waypoint") else {}
+    known |= {"settle": options.settle} if options.model == "waypoint" else {}
+    return MODELS[options.model](told, source), known
+
+
+def motion_of(options):
+    """What a model is told, by the options; refuses parameters that are another model's."""
+    (width, height), speeds, own = area_of(options), speeds_of(options), {}
+    for model, parameters in OWN.items():
+        for name, (standard, _) in parameters.items():
+            value = getattr(options, name)
+            if model == options.model:
+                own[name] = standard if value is None else value
+            elif value is not None:
+                raise Usage(f"--{name.replace('_', '-')} is of --model {model}")
+    if own.get("mean_speed", 0) is None:
+        own["mean_speed"] = sum(speeds) / 2
+    return Motion(options.nodes, width, height, speeds, options.pause, options.settle, options.rounds * TICK, own)
 
 
 def checked(options):
     """The options, once what their texts say was tried."""
     if not (options.ns2 or options.bonnmotion):
-        area_of(options), speeds_of(options)
+        motion_of(options)
     times_of(options.times)
     return options
 
@@ -156,6 +175,17 @@ def write(prefix, scenario, lines):
               f"{share:.1f} % of the contact time; nodes without a link: {out}", file=sys.stderr)
 
 
+def add_models(parser):
+    """The options of models of motion."""
+    parser.add_argument("--model", choices=MODELS, default="waypoint", help="how nodes move (waypoint)")
+    for model, parameters in OWN.items():
+        group = parser.add_argument_group(f"of --model {model}")
+        for name, (standard, text) in parameters.items():
+            least, most = LIMITS.get(name, (0, math.inf))
+            kind = at_least(least, most) if isinstance(standard, int) else number_in(least, most)
+            group.add_argument(f"--{name.replace('_', '-')}", type=kind, metavar="NUMBER", help=text + (f" ({standard})" if standard else ""))
+
+
 def options_of(words):
     """The options of the command line."""
     parser = argparse.ArgumentParser(description=__doc__, formatter_class=argparse.RawDescriptionHelpFormatter)
@@ -181,6 +211,7 @@ def options_of(words):
     add("--destinations", type=at_least(1, MOST_NODES), default=4, help="destinations, drawn by the seed (4)")
     add("--flows", type=at_least(0), default=0, help="flows, drawn by the seed; 0: as many as nodes (0)")
     add("--times", default="10,50,5,8", metavar="HELLO,SILENCE,RETRY,TRIES", help="times of a link end (10,50,5,8)")
+    add_models(parser)
     options = parser.parse_args(words)
     if not (0 < options.range < math.inf and 0 < options.degree < math.inf):
         parser.error("--range and --degree have to be above 0")

@@ -8,6 +8,7 @@ import math
 import sys
 
 TICKS_A_SECOND = 10  # a tick is a round, 100 ms
+MOST_METRES = 10_000_000  # of a place from the origin, and of a speed in a second
 
 # The keys of a scenario, with what each has to be.
 KEYS = {
@@ -57,6 +58,16 @@ def at_least(least, most=None):
         value = int(text)
         if value < least or (most is not None and value > most):
             raise argparse.ArgumentTypeError(f"{value} is not {least} or more" if most is None else f"{value} is not {least} to {most}")
+        return value
+    return number
+
+
+def number_in(least, most):
+    """The type of an option: a number in a range, and no infinite one."""
+    def number(text):
+        value = float(text)
+        if not (least <= value <= most and math.isfinite(value)):
+            raise argparse.ArgumentTypeError(f"{text} is not a number from {least}" + (f" to {most}" if math.isfinite(most) else ""))
         return value
     return number
 
