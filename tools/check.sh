@@ -215,6 +215,11 @@ check_refusals() {
   printf 'nodes,seed\n1\n' >"$work/c"
   refuses 1 "$work/c:2: 1 cells, not 2" python3 ../summary.py "$work/c"
   refuses 2 'no column colour' python3 ../summary.py study.csv colour
+  refuses 2 'argument --nodes: 65 is not 2 to 64' ../sweep.sh "$work/sweep" '10 65' 2
+  refuses 2 '--vary: `seed=1,2` is not' ../sweep.sh --vary seed=1,2 "$work/sweep" 10 2
+  if command -v parallel >/dev/null; then
+    TORA_SIM=true refuses 1 "can't be made or written" ../sweep.sh /dev/null/study 10 2
+  fi
 }
 
 # The dissector, on the capture of stored/frames.list: of a port that is decoded as tora, and by the bytes alone.

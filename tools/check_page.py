@@ -13,7 +13,8 @@ from dag import breaks
 from page_browser import Browser, figures
 from record import records
 from routes import WORKS, follow, live_loops
-from study import load_scenario, ordered, run
+from scenario_file import load_scenario
+from study import ordered, run
 from world import Rounds, moments
 
 STORED = os.path.join(os.path.dirname(os.path.realpath(__file__)), "stored")

@@ -20,7 +20,8 @@ import subprocess
 import sys
 
 from record import records
-from study import Refused, Usage, load_scenario, ordered, run
+from scenario_file import load_scenario
+from study import Refused, Usage, ordered, run, writing
 from world import moments
 
 SIDE = 14 * 72  # points
@@ -138,7 +139,7 @@ def dot_text(scenario, world, destination, clock, colours):
 
 def draw(name, text, kinds):
     """Writes NAME.dot and its pictures."""
-    with open(name + ".dot", "w", encoding="ascii") as sink:
+    with writing(name + ".dot") as sink:
         sink.write(text)
     for kind in kinds:
         done = subprocess.run(["neato", "-n2", "-Gdpi=80", "-T" + kind, name + ".dot", "-o", f"{name}.{kind}"], capture_output=True, text=True)

@@ -16,7 +16,8 @@ import parameters
 import traffic
 from record import GRAMMAR, records
 from routes import Routes
-from study import Usage, at_least, load_scenario, run
+from scenario_file import load_scenario
+from study import Usage, at_least, run
 from world import spans
 
 COLUMNS = (

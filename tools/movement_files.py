@@ -2,8 +2,9 @@
 import gzip
 import math
 import re
+import zlib
 
-from study import refused
+from study import MOST_METRES, refused
 from way import position
 
 NUMBER = r"([-+]?(?:\d+\.?\d*|\.\d+)(?:[eE][-+]?\d+)?)"
@@ -19,7 +20,7 @@ def read_lines(path):
     try:
         with opened as source:
             lines = [(number, line.strip()) for number, line in enumerate(source, 1)]
-    except (EOFError, UnicodeDecodeError, gzip.BadGzipFile):
+    except (EOFError, UnicodeDecodeError, gzip.BadGzipFile, zlib.error):
         raise refused(path, None, "neither a text nor a compressed text") from None
     return [(number, line) for number, line in lines if line and not line.startswith("#")]
 
@@ -36,7 +37,7 @@ def parse_ns2(path):
             moves.append((float(found[1]), number, int(found[2]), *(float(found[i]) for i in (3, 4, 5))))
         else:
             raise refused(path, number, f"no line of a setdest file: {line}")
-        if not all(math.isfinite(float(word)) for word in found.groups() if word not in "XYZ"):
+        if not all(abs(float(word)) <= MOST_METRES for word in found.groups() if word not in "XYZ"):
             raise refused(path, number, "a number is too large")
     if sorted(start) != list(range(len(start))) or not all({"X", "Y"} <= set(place) for place in start.values()):
         raise refused(path, None, "nodes have to be 0, 1, 2 .. without a gap, each with X_ and Y_")
@@ -73,6 +74,8 @@ def read_bonnmotion(path, coordinates):
             raise refused(path, number, "a word is no number") from None
         if len(values) % width or not all(map(math.isfinite, values)):
             raise refused(path, number, f"{len(values)} numbers, not a multiple of {width}, or one is not finite")
+        if not all(abs(value) <= MOST_METRES for value in values):
+            raise refused(path, number, "a number is too large")
         way = [tuple(values[at : at + 3]) for at in range(0, len(values), width)]
         if any(a[0] > b[0] for a, b in zip(way, way[1:])):
             raise refused(path, number, "times go back")

@@ -22,7 +22,7 @@ import sys
 from contacts import Contacts, declared_links
 from motion import LIMITS, MODELS, OWN, Motion
 from movement_files import read_bonnmotion, read_ns2
-from study import MOST_METRES, TICKS_A_SECOND, Refused, Usage, at_least, number_in, run
+from study import MOST_METRES, TICKS_A_SECOND, Refused, Usage, at_least, number_in, run, writing
 from way import positions
 
 TICK = 1 / TICKS_A_SECOND  # seconds of a round
@@ -127,9 +127,17 @@ def checked(options):
 
 def choose_flows(scenario, nodes, options, source):
     """Destinations among the nodes, and flows (source, destination), both drawn by the seed."""
-    scenario["destinations"] = sorted(source.sample(nodes, min(options.destinations, len(nodes))))
+    scenario["destinations"] = sorted(source.sample(nodes, clamped("destinations", options.destinations, len(nodes))))
     pairs = [(a, d) for a in nodes for d in scenario["destinations"] if a != d]
-    scenario["flows"] = sorted(source.sample(pairs, min(options.flows or scenario["nodes"], len(pairs))))
+    count = options.flows and clamped("flows", options.flows, len(pairs))
+    scenario["flows"] = sorted(source.sample(pairs, count or min(scenario["nodes"], len(pairs))))
+
+
+def clamped(what, asked, most):
+    """A number that is asked for, or the most that there are, which is told."""
+    if asked > most:
+        print(f"scenario: {asked} {what} are asked for, and {most} are made: the nodes with links have no more", file=sys.stderr)
+    return min(asked, most)
 
 
 def make(options):
@@ -162,9 +170,9 @@ def make(options):
 
 def write(prefix, scenario, lines):
     """Writes both files, and tells on standard error what the limit of neighbours has cost."""
-    with open(prefix + ".sim", "w", encoding="ascii") as sink:
+    with writing(prefix + ".sim") as sink:
         sink.write("\n".join(lines) + "\n")
-    with open(prefix + ".json", "w", encoding="ascii") as sink:
+    with writing(prefix + ".json") as sink:
         parts = [f" {json.dumps(key)}: {json.dumps(value, separators=(',', ':'))}" for key, value in scenario.items()]
         sink.write("{\n" + ",\n".join(parts) + "\n}\n")
     lost = scenario["links_met"] - len(scenario["links"])

@@ -23,6 +23,7 @@ done
 command -v python3 >/dev/null || { echo "show: python3 is missing (package python3)" >&2; exit 2; }
 command -v gnuplot >/dev/null || { echo "show: gnuplot is missing (package gnuplot-nox)" >&2; exit 2; }
 [ -e "$dir/study.csv" ] || { echo "show: $dir/study.csv: there is no study" >&2; exit 1; }
+{ : >>"$dir/summary.txt"; } 2>/dev/null || { echo "show: $dir: the folder can't be written" >&2; exit 1; }
 python3 "$here/summary.py" "$dir/study.csv" >"$dir/summary.txt"
 python3 "$here/summary.py" --data "$dir/study.csv" >"$dir/study.dat"
 gnuplot -e "data='$dir/study.dat'; picture='$dir/study.png'" "$here/plot.gp"

@@ -29,7 +29,7 @@ times=$(sed -n 's/^ "times": \[\(.*\)\],$/\1/p' "$run.json")
 version=$("${simulate[0]}" --version 2>/dev/null </dev/null | head -n 1) || version=''
 python3 "$here/measure.py" ${measure[@]+"${measure[@]}"} --version "$version" "$run.json" "$run.trace" >"$run.csv"
 if [ -n "${PAGE:-}" ]; then python3 "$here/play.py" "$run.json" "$run.trace" -o "$run.html"; fi
-mkdir -p "$dir"
+mkdir -p "$dir" 2>/dev/null || { echo "study-one: $dir: the folder can't be made" >&2; exit 1; }
 if [ -n "${PAGE:-}" ]; then cp "$run.html" "$dir/"; fi
 if [ -n "${KEEP:-}" ]; then cp "$run.sim" "$run.json" "$run.trace" "$dir/"; fi
 cp "$run.csv" "$dir/.$name.part"

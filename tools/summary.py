@@ -11,6 +11,7 @@ kind happened) are left out of that column. Columns of words are not summarized.
 """
 import argparse
 import csv
+import math
 import statistics
 import sys
 
@@ -19,21 +20,33 @@ from parameters import TEXTS
 from study import Usage, refused, run
 
 
+def value_of(path, line, name, cell):
+    """A cell as a number, a word of `TEXTS`, or None."""
+    try:
+        value = (cell if name in TEXTS else float(cell)) if cell else None
+    except ValueError:
+        value = math.nan
+    if isinstance(value, float) and not math.isfinite(value):
+        raise refused(path, line, "a cell is no number")
+    return value
+
+
 def read(path):
     """The columns' names and the rows of a CSV, each cell a number, a word of `TEXTS` or None; refuses a cell that is neither."""
     with open(path, encoding="ascii", errors="replace", newline="") as source:
         reader = csv.reader(source)
-        names = next(reader, None)
+        try:
+            names, *lines = [(reader.line_num, cells) for cells in reader] or [(1, None)]
+        except csv.Error as cause:
+            raise refused(path, reader.line_num, str(cause)) from None
+        names = names[1]
         if not names or len(set(names)) != len(names):
             raise refused(path, 1, "no names of columns")
         rows = []
-        for cells in reader:
+        for number, cells in lines:
             if len(cells) != len(names):
-                raise refused(path, reader.line_num, f"{len(cells)} cells, not {len(names)}")
-            try:
-                rows.append({name: (cell if name in TEXTS else float(cell)) if cell else None for name, cell in zip(names, cells)})
-            except ValueError:
-                raise refused(path, reader.line_num, "a cell is no number") from None
+                raise refused(path, number, f"{len(cells)} cells, not {len(names)}")
+            rows.append({name: value_of(path, number, name, cell) for name, cell in zip(names, cells)})
     if not rows:
         raise refused(path, None, "no rows")
     return names, rows

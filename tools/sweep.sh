@@ -61,7 +61,7 @@ else
 fi
 program=$(command -v "${simulate[0]}") || fail 2 "there is no program ${simulate[0]}"
 
-mkdir -p "$dir"
+{ mkdir -p "$dir" && : >>"$dir/runs.txt"; } 2>/dev/null || fail 1 "$dir: the folder can't be made or written"
 dir=$(cd "$dir" && pwd)
 want="sizes $sizes seeds $seeds options $*${vary[*]+ vary ${vary[*]}}${measure[*]+ measure ${measure[*]}}"
 if [ -e "$dir/study.txt" ] && [ "$(cat "$dir/study.txt")" != "$want" ]; then

@@ -35,7 +35,7 @@ class RoutesTest(unittest.TestCase):
 
     def test_without_a_change(self):
         """A trace without a route: no hop in every round."""
-        row = self.row("1 frames 1 0 0 0\n")[1]
+        row = self.row("3 frames 1 0 0 0\n")[1]
         self.assertEqual([row["available"], row["no_hop"], row["outages"], row["hops_mean"]], [0.0, 1.0, 0, ""])
 
     def test_loop(self):

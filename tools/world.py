@@ -105,7 +105,7 @@ def spans(scenario, path, given):
     `changed` are the destinations with a height or a next hop that is not as in the rounds before, `rerouted` those with a
     next hop that is not, and `relinked` tells whether links are not.
     """
-    world, rounds, ended, last = World(scenario), Rounds(), 0, scenario["rounds"]
+    world, rounds, ended, last, record = World(scenario), Rounds(), 0, scenario["rounds"], None
     known = world.fit.known
     for record in given:
         _, clock, kind, words = record
@@ -120,8 +120,18 @@ def spans(scenario, path, given):
                 world.take(path, record)
         elif words[:2] not in known[kind] and clock <= last:
             world.fit.check(path, record)
+    refuse_cut(path, scenario, record)
     if ended < last:
         yield ended + 1, last, world
+
+
+def refuse_cut(path, scenario, record):
+    """Refuses a trace by its last record, None where it is empty: one that ends before the run does."""
+    if record is None:
+        raise refused(path, 1, "the trace is empty")
+    # every link end says HELLO in each interval, so that there are records up to the end
+    if scenario["times"] and record.clock <= scenario["rounds"] - scenario["times"][0]:
+        raise refused(path, record.line, f"the trace ends in round {record.clock} of {scenario['rounds']}: it is cut")
 
 
 def moments(scenario, path, given):
