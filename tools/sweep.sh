@@ -1,7 +1,7 @@
 #!/usr/bin/env bash
 # A study: one run for each size and seed, by GNU parallel. It writes DIR/study.csv, and begins again where it was broken off.
 # usage: tools/sweep.sh [--jobs N] [--sshlogin HOSTS] [--keep] [--page] [--vary NAME=VALUE,..].. [--traffic RATE]
-#                       DIR "SIZES" SEEDS [OPTION OF scenario.py]..
+#                       [--slurm[=OPTIONS]] DIR "SIZES" SEEDS [OPTION OF scenario.py]..
 #   DIR               holds the rows, the job log (joblog) and what the study is (study.txt)
 #   SIZES             numbers of nodes, as "10 20 40"
 #   SEEDS             how many seeds: 1 to SEEDS
@@ -11,6 +11,8 @@
 #   --jobs N          runs at a time on each machine; as many as processors without it
 #   --sshlogin HOSTS  machines as GNU parallel names them, as 4/first,8/second; `:` is this one. Each needs ssh, rsync and
 #                     python3; the tools and the program are copied there for the time of the study
+#   --slurm, --slurm="OPTIONS OF sbatch"  send the runs to Slurm as job arrays, as --slurm="--partition=long --time=10"; every
+#                     node has to see DIR, and --jobs and --sshlogin have no meaning (sweep-slurm.sh)
 #   --keep            keep each run's simulation file, scenario and trace in DIR/rows
 #   --page            make a page that plays each run, DIR/rows/NODES-SEED.html, and DIR/index.html with a link to each
 # TORA_SIM is the command that simulates, in place of the repository's `./tora sim`.
@@ -27,13 +29,15 @@ need() {
   command -v "$1" >/dev/null || fail 2 "$1 is missing (package $2)"
 }
 
-jobs='' hosts='' keep='' page='' vary=() measure=()
+jobs='' hosts='' keep='' page='' slurm='' sbatch='' vary=() measure=()
 while [ $# -gt 0 ]; do
   case $1 in
     -h | --help) sed -n '2,/^set -eu/{/^# /s/^# //p}' "$0"; exit 0 ;;
     --jobs) jobs=${2:?}; shift 2 ;;
     --sshlogin) hosts=${2:?}; shift 2 ;;
     --keep) keep=1; shift ;;
+    --slurm) slurm=1; shift ;;
+    --slurm=*) slurm=1 sbatch=${1#*=}; shift ;;
     --vary) vary+=(--vary "${2:?}"); shift 2 ;;
     --traffic | --hop | --ttl) measure+=("$1" "${2:?}"); shift 2 ;;
     --page) page=1; shift ;;
@@ -49,8 +53,14 @@ shift 3
 need python3 python3
 runs=$(python3 "$here/sweep_runs.py" "$sizes" "$seeds" ${vary[@]+"${vary[@]}"} -- "$@") || exit
 header=$(python3 "$here/measure.py" ${measure[@]+"${measure[@]}"} --header) || exit
-need parallel parallel
-parallel --version 2>/dev/null | grep -q '^GNU parallel' || fail 2 "parallel is not GNU parallel (package parallel)"
+if [ -n "$slurm" ]; then
+  [ -z "$jobs$hosts" ] || fail 2 "--jobs and --sshlogin are not for --slurm"
+  need sbatch 'slurm-client; a cluster of its own: slurm-wlm'
+  need squeue slurm-client
+else
+  need parallel parallel
+  parallel --version 2>/dev/null | grep -q '^GNU parallel' || fail 2 "parallel is not GNU parallel (package parallel)"
+fi
 
 # The program itself: the launcher builds it first, where it is what is asked for.
 if [ -n "${TORA_SIM:-}" ]; then
@@ -82,22 +92,32 @@ for name in "${tools[@]}"; do cp "$here/$name" "$bundle/$name"; done
 cp "$program" "$bundle/simulator"
 words=(./bundle/simulator "${simulate[@]:1}")
 
-parallel=(parallel --will-cite --quote --joblog "$dir/joblog" --resume-failed --retries 2 --halt "soon,fail=20%")
-[ -z "$jobs" ] || parallel+=(--jobs "$jobs")
-if [ -n "$hosts" ]; then
-  need rsync rsync
-  parallel+=(--sshlogin "$hosts" --workdir tora-study --cleanup)
-  # Runs on this machine (`:`) stand in a folder of that name, too: it leads to the same bundle and rows.
-  mkdir -p "$dir/tora-study" "$dir/rows"
-  ln -sfn ../bundle "$dir/tora-study/bundle"
-  ln -sfn ../rows "$dir/tora-study/rows"
-  for name in "${tools[@]}" simulator; do parallel+=(--basefile "./bundle/$name"); done
-  for end in csv ${keep:+sim json trace} ${page:+html}; do parallel+=(--return "rows/{1}.$end"); done
-fi
-command=(env "TORA_SIM=${words[*]}" "KEEP=$keep" "PAGE=$page" "VARY={4}" "MEASURE=${measure[*]-}"
-  bash ./bundle/study-one.sh --name "{1}" rows "{2}" "{3}" "$@")
+# Runs what has no row yet, by GNU parallel.
+run_in_parallel() {
+  local parallel=(parallel --will-cite --quote --joblog "$dir/joblog" --resume-failed --retries 2 --halt "soon,fail=20%") command
+  [ -z "$jobs" ] || parallel+=(--jobs "$jobs")
+  if [ -n "$hosts" ]; then
+    need rsync rsync
+    parallel+=(--sshlogin "$hosts" --workdir tora-study --cleanup)
+    # Runs on this machine (`:`) stand in a folder of that name, too: it leads to the same bundle and rows.
+    mkdir -p "$dir/tora-study" "$dir/rows"
+    ln -sfn ../bundle "$dir/tora-study/bundle"
+    ln -sfn ../rows "$dir/tora-study/rows"
+    for name in "${tools[@]}" simulator; do parallel+=(--basefile "./bundle/$name"); done
+    for end in csv ${keep:+sim json trace} ${page:+html}; do parallel+=(--return "rows/{1}.$end"); done
+  fi
+  command=(env "TORA_SIM=${words[*]}" "KEEP=$keep" "PAGE=$page" "VARY={4}" "MEASURE=${measure[*]-}"
+    bash ./bundle/study-one.sh --name "{1}" rows "{2}" "{3}" "$@")
+  (cd "$dir" && "${parallel[@]}" --colsep '\t' "${command[@]}" :::: runs.txt)
+}
+
 status=0
-(cd "$dir" && "${parallel[@]}" --colsep '\t' "${command[@]}" :::: runs.txt) || status=1
+if [ -n "$slurm" ]; then
+  TORA_SIM=${words[*]} KEEP=$keep PAGE=$page MEASURE=${measure[*]-} bash "$here/sweep-slurm.sh" "$dir" "$sbatch" "$@" || status=$?
+  [ "$status" -le 1 ] || exit "$status"
+else
+  run_in_parallel "$@" || status=1
+fi
 
 {
   echo "$header"
