@@ -8,21 +8,20 @@ does not count here: the motion decides.
 import collections
 
 from counted import mean_of, median_of, share_95_of
-from study import ordered
-from world import adjacency, distances
+from world import distances
 
 WORKS, STALE, NO_HOP, LOOPING = "available", "stale", "no_hop", "looping"
 Outage = collections.namedtuple("Outage", "start by_break was_cut linked_since")
 
 
-def follow(hops, links, node, destination):
-    """How a route fares from a node, and after how many hops."""
+def follow(hops, near, node, destination):
+    """How a route fares from a node, and after how many hops; `near` has the neighbours over links that are not parted."""
     seen = {node}
     while node != destination:
         hop = hops[node]
         if hop is None:
             return NO_HOP, 0
-        if ordered(node, hop) not in links:
+        if hop not in near[node]:
             return STALE, 0
         if hop in seen:
             return LOOPING, 0
@@ -31,19 +30,20 @@ def follow(hops, links, node, destination):
     return WORKS, len(seen) - 1
 
 
-def live_loops(hops, links):
+def live_loops(hops, near):
     """The cycles of next hops whose links are all not parted; each begins with its lowest node."""
-    met_from, loops = {}, set()
+    met_from, loops = {None: None}, set()
     for start in hops:
-        path, node = [], start
-        while node is not None and node not in met_from:
+        node = start
+        while node not in met_from:
             met_from[node] = start
-            path.append(node)
             node = hops[node]
-        if node is None or met_from[node] != start:
+        if met_from[node] != start:
             continue
-        ring = path[path.index(node):]
-        if all(ordered(a, b) in links for a, b in zip(ring, ring[1:] + ring[:1])):
+        ring = [node]
+        while hops[ring[-1]] != node:
+            ring.append(hops[ring[-1]])
+        if all(hops[one] in near[one] for one in ring):
             at = ring.index(min(ring))
             loops.add(tuple(ring[at:] + ring[:at]))
     return loops
@@ -147,13 +147,12 @@ class Routes:
         self.count, self.linked, self.rounds = collections.Counter(), 0, 0
         self.lengths, self.stretches = collections.Counter(), collections.Counter()
         self.outages, self.loops = Outages(), Loops()
-        self.near, self.far = {}, {}
+        self.far = {}
 
     def take(self, first, last, world):
         """Rounds at whose ends the world stands as it does now."""
         if world.relinked:
-            self.near = adjacency(world.links)
-            self.far = {destination: distances(self.near, destination) for destination in self.flows}
+            self.far = {destination: distances(world.near, destination) for destination in self.flows}
         for destination in self.flows:
             if world.relinked or destination in world.rerouted:
                 self.look(first, world, destination)
@@ -164,12 +163,12 @@ class Routes:
         """Looks at a destination whose next hops or links are others in this round than before."""
         self.settle(destination, clock)
         hops, far, before = world.hops[destination], self.far[destination], self.fares[destination]
-        fares = [(*follow(hops, world.links, *flow), far.get(flow[0])) for flow in self.flows[destination]]
+        fares = [(*follow(hops, world.near, *flow), far.get(flow[0])) for flow in self.flows[destination]]
         for at, (flow, fare) in enumerate(zip(self.flows[destination], fares)):
             if not before or fare != before[at]:
                 self.outages.take(clock, flow, fare[0], fare[2] is not None)
         self.fares[destination] = fares
-        self.loops.take(clock, destination, live_loops(hops, world.links), world.heights[destination])
+        self.loops.take(clock, destination, live_loops(hops, world.near), world.heights[destination])
 
     def settle(self, destination, clock):
         """Counts the rounds from the last look at a destination to the one before this."""

@@ -84,7 +84,7 @@ for try in 1 2; do
 done
 missing >slurm.missing
 while IFS=$'\t' read -r name _; do
-  log=$(awk -F '\t' -v name="$name" '$1 == name { log = $2 } END { print log }' slurm.logs)
+  log=$(awk -F '\t' -v name="$name" '$1 == name { last = $2 } END { print last }' slurm.logs)
   echo "sweep: the run $name failed; its log: $dir/$log" >&2
   tail -n 1 "$log" 2>/dev/null >&2 || true
 done <slurm.missing

@@ -5,23 +5,13 @@ from study import nodes_of, ordered, refused
 CHANGES = ("part", "mend", "route")  # records that change the world
 
 
-def adjacency(links):
-    """The neighbours of each node that has a link."""
-    near = {}
-    for a, b in links:
-        near.setdefault(a, []).append(b)
-        near.setdefault(b, []).append(a)
-    return near
-
-
 def distances(near, start):
-    """How many hops each node is from `start`; a node that can't be reached is left out."""
-    far, queue = {start: 0}, [start]
-    for node in queue:
-        for other in near.get(node, ()):
-            if other not in far:
-                far[other] = far[node] + 1
-                queue.append(other)
+    """How many hops each node is from `start`, by the neighbours of each; a node that can't be reached is left out."""
+    far, edge, hops = {start: 0}, {start}, 0
+    while edge:
+        hops += 1
+        edge = set().union(*[near[node] for node in edge]).difference(far)
+        far.update(dict.fromkeys(edge, hops))
     return far
 
 
@@ -44,8 +34,14 @@ class Fit:
             elif words[0] not in self.nodes or (words[1] not in self.destinations and kind != "need"):
                 raise refused(path, record.line, "no node or no destination of the scenario")
             self.known[kind].add(words[:2])
-        if kind == "route" and words[3] is not None and ordered(words[0], words[3]) not in self.links:
-            raise refused(path, record.line, f"the next hop {words[3]} is no neighbour of {words[0]}")
+        if kind == "route":
+            self.check_hop(path, record)
+
+    def check_hop(self, path, record):
+        """Refuses a route whose next hop is no neighbour."""
+        node, _, _, hop = record.words
+        if hop is not None and ordered(node, hop) not in self.links:
+            raise refused(path, record.line, f"the next hop {hop} is no neighbour of {node}")
 
 
 class Rounds:
@@ -75,6 +71,10 @@ class World:
         self.nodes, self.fit = nodes_of(scenario), Fit(scenario)
         self.links = set(scenario["links"])
         self.declared = set(scenario["links"])
+        self.near = {node: set() for node in self.nodes}  # by node its neighbours over links that are not parted
+        for a, b in self.links:
+            self.near[a].add(b)
+            self.near[b].add(a)
         self.hops = {d: dict.fromkeys(self.nodes) for d in scenario["destinations"]}
         self.heights = {d: {n: (0, 0, 0, 0, d) if n == d else None for n in self.nodes} for d in self.hops}
         self.changed, self.rerouted, self.relinked = set(self.hops), set(self.hops), True
@@ -85,18 +85,28 @@ class World:
 
     def take(self, path, record):
         """Takes a record of `CHANGES` in; refuses one of another world."""
-        self.fit.check(path, record)
+        known = record.words[:2] in self.fit.known[record.kind]
+        if not known:
+            self.fit.check(path, record)
         if record.kind == "route":
             node, destination, height, hop = record.words
             if self.hops[destination][node] != hop:
+                if known:
+                    self.fit.check_hop(path, record)
                 self.rerouted.add(destination)
-            self.heights[destination][node], self.hops[destination][node] = height, hop
+                self.hops[destination][node] = hop
+            self.heights[destination][node] = height
             self.changed.add(destination)
         else:
-            link = ordered(*record.words)
-            (self.links.discard if record.kind == "part" else self.links.add)(link)
-            self.changed.update(self.hops)
-            self.relinked = True
+            self.take_link(record.kind == "mend", *record.words)
+
+    def take_link(self, is_mended, a, b):
+        """A link is mended or parted."""
+        (self.links.add if is_mended else self.links.discard)(ordered(a, b))
+        for node, other in ((a, b), (b, a)):
+            (self.near[node].add if is_mended else self.near[node].discard)(other)
+        self.changed.update(self.hops)
+        self.relinked = True
 
 
 def spans(scenario, path, given):
