@@ -12,7 +12,9 @@ import argparse
 import sys
 
 from play_data import read_page
-from study import Rounds, Usage, field, records, refused, run
+from record import field, records
+from study import Usage, refused, run
+from world import Rounds
 
 
 class Fold:
@@ -38,10 +40,14 @@ class Fold:
 
 def printed_heights(simulation, output):
     """Yields (line of the output, clock, node, destination, height, next hop) of each printed line of a `heights`."""
-    with open(simulation, encoding="ascii") as source:
-        lines = [line.split() for line in source]
-    nodes = sorted({int(word) for words in lines if words[0] == "link" for word in words[1:]})
-    with open(output, encoding="ascii") as source:
+    with open(simulation, encoding="ascii", errors="replace") as source:
+        lines = [line.split() or [""] for line in source]
+    numbered = [(at, word) for at, words in enumerate(lines, 1) if words[0] == "link" for word in words[1:]]
+    nodes = sorted({field(simulation, at, "i", word) for at, word in numbered})
+    for at, words in enumerate(lines, 1):
+        if words[0] in ("rounds", "heights"):
+            field(simulation, at, "n", words[1] if len(words) == 2 else "")
+    with open(output, encoding="ascii", errors="replace") as source:
         told, clock = enumerate((line.split() for line in source), 1), 0
         for number, words in enumerate(lines, 1):
             if words[0] == "rounds":

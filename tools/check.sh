@@ -1,8 +1,8 @@
 #!/usr/bin/env bash
-# Checks the tools on stored scenarios: a small study, whose CSV, summary, loops and pictures (as .dot) are compared with
-# stored ones, the data in pages that play the runs, the reading of movement files, and the refusals of bad input. Beside
-# them the dissector, the completion, what ./tora install puts where, and that the manual page and the help have the lines of
-# docs/formats.md.
+# Checks the tools: the unit tests (tools/test_*.py), and on stored scenarios a small study, whose CSV, summary, loops and pictures
+# (as .dot) are compared with stored ones, the data in pages that play the runs, the reading of movement files, and the
+# refusals of bad input. Beside them the dissector, the completion, what ./tora install puts where, and that the manual page and
+# the help have the lines of docs/formats.md.
 # usage: tools/check.sh [--store]
 #   --store   write what comes out to tools/stored in place of comparing; for a change that is meant to change it
 # Where a simulator with --trace is there, the stored simulations are run, too, and twelve random networks (tools/rest.py). The
@@ -127,8 +127,24 @@ check_study() {
   same loops "$work/loops"
   python3 ../summary.py "$work/study.csv" >"$work/summary"
   same summary "$work/summary"
+  python3 ../summary.py --by nodes,silence_ticks --interval mean "$work/study.csv" available hops_mean >"$work/intervals"
+  same intervals "$work/intervals"
   python3 ../summary.py --data "$work/study.csv" restore_median available >"$work/study.dat"
   same study.dat "$work/study.dat"
+}
+
+# The data packets of the stored runs, four of each flow a second.
+check_traffic() {
+  local run
+  python3 ../measure.py --traffic 4 --header >"$work/traffic.csv"
+  for run in $runs; do python3 ../measure.py --traffic 4 --hop 2 "$run.json" "$run.trace" >>"$work/traffic.csv"; done
+  same traffic.csv "$work/traffic.csv"
+  refuses 2 '--traffic: `none` is no number of packets' python3 ../measure.py --traffic none 6-1.json 6-1.trace
+}
+
+# The unit tests, tools/test_*.py.
+check_units() {
+  holds 'the unit tests' env PYTHONPATH=.. python3 -m unittest discover -s .. -p 'test_*.py'
 }
 
 check_pictures() {
@@ -199,6 +215,11 @@ check_refusals() {
   printf 'nodes,seed\n1\n' >"$work/c"
   refuses 1 "$work/c:2: 1 cells, not 2" python3 ../summary.py "$work/c"
   refuses 2 'no column colour' python3 ../summary.py study.csv colour
+  refuses 2 'argument --nodes: 65 is not 2 to 64' ../sweep.sh "$work/sweep" '10 65' 2
+  refuses 2 '--vary: `seed=1,2` is not' ../sweep.sh --vary seed=1,2 "$work/sweep" 10 2
+  if command -v parallel >/dev/null; then
+    TORA_SIM=true refuses 1 "can't be made or written" ../sweep.sh /dev/null/study 10 2
+  fi
 }
 
 # The dissector, on the capture of stored/frames.list: of a port that is decoded as tora, and by the bytes alone.
@@ -316,6 +337,8 @@ check_lock() {
 check_simulator
 check_lock
 check_study
+check_traffic
+check_units
 check_pictures
 check_pages
 check_motion

@@ -10,9 +10,12 @@ import sys
 
 from agree import Fold
 from dag import breaks
-from measure import WORKS, follow, live_loops
 from page_browser import Browser, figures
-from study import Rounds, load_scenario, moments, ordered, records, run
+from record import records
+from routes import WORKS, follow, live_loops
+from scenario_file import load_scenario
+from study import ordered, run
+from world import Rounds, moments
 
 STORED = os.path.join(os.path.dirname(os.path.realpath(__file__)), "stored")
 
@@ -113,8 +116,8 @@ def check_every_round(checks, page, scenario_path, trace):
         flows, shares, kinds, loops = [flow for flow in scenario["flows"] if flow[1] == destination], [], [], []
         for clock, world in moments(scenario, trace, records(trace)):
             hops = world.hops[destination]
-            shares.append(sum(follow(hops, world.links, *flow)[0] == WORKS for flow in flows) / len(flows))
-            looping = {node for ring in live_loops(hops, world.links) for node in ring}
+            shares.append(sum(follow(hops, world.near, *flow)[0] == WORKS for flow in flows) / len(flows))
+            looping = {node for ring in live_loops(hops, world.near) for node in ring}
             loops += [clock] if looping else []
             stale = {node for node, hop in hops.items() if hop and tuple(sorted((node, hop))) not in world.links}
             kinds.append(sorted([node, "stale" if node in stale else "loop" if node in looping else "works"] for node, hop in hops.items() if hop))

@@ -12,18 +12,27 @@ break's round, and `after` the first round from there on in which none of the br
 
 Black arrows are next hops; red and dashed ones are stale: over a parted link. Grey arrows lead from the higher to the
 lower height of two linked nodes, dotted lines to a node without a height. The colour of a node is its reference level,
-red for none; below its number stands its delta. Nodes that would cover each other are moved apart.
+red for none; below its number stands its delta. The legend tells all this. Nodes that would cover each other are moved apart.
 """
 import argparse
 import shutil
 import subprocess
 import sys
 
-from study import Refused, Usage, load_scenario, moments, ordered, records, run
+from record import records
+from scenario_file import load_scenario
+from study import TICKS_A_SECOND, Refused, Usage, ordered, run, writing
+from world import moments
 
 SIDE = 14 * 72  # points
 COLOURS = ["#ffffff", "#cfe8ff", "#d9f2d0", "#fff2b3", "#ffd9b3", "#e6d5f5", "#c9f0ee", "#f5d5e0"]
 NO_HEIGHT = "#ff9999"
+GREY = "#9a9a9a"
+# What lines are, in their colours.
+LINES = (
+    ("black", "&#8594; next hop"), ("red", "- - &#8594; next hop, link parted"), (GREY, "&#8594; from higher to lower"),
+    (GREY, "&#183;&#183;&#183; an end without height"),
+)
 
 
 def stale_hops(world, destination):
@@ -101,20 +110,22 @@ def arrow_lines(world, destination):
     for a, b in sorted(world.links - drawn):
         if heights[a] and heights[b]:
             high, low = (a, b) if heights[a] > heights[b] else (b, a)
-            yield f'  {high} -> {low} [color="#9a9a9a"];'
+            yield f'  {high} -> {low} [color="{GREY}"];'
         else:
-            yield f'  {a} -> {b} [dir=none,style=dotted,color="#9a9a9a"];'
+            yield f'  {a} -> {b} [dir=none,style=dotted,color="{GREY}"];'
 
 
 def legend_lines(world, destination, colours):
-    """The levels, and two points that give all pictures of a call one frame."""
+    """The legend: nodes, levels and lines; and two points that give all pictures of a call one frame."""
     heights = world.heights[destination].values()
     rows = "".join(f'<tr><td bgcolor="{colours[level]}">level {level}</td></tr>' for level in sorted({h[:3] for h in heights if h}))
     if None in heights:
         rows += f'<tr><td bgcolor="{NO_HEIGHT}">no height</td></tr>'
-    table = f'<<table border="0" cellborder="1" cellspacing="0"><tr><td>node / delta</td></tr>{rows}</table>>'
-    yield f'  legend [shape=plain,fixedsize=false,style="",pos="{SIDE + 110},{SIDE - 60}!",label={table}];'
-    for name, x, y in (("low", -20, -20), ("high", SIDE + 190, SIDE + 20)):
+    rows += "".join(f'<tr><td><font color="{colour}">{text}</font></td></tr>' for colour, text in LINES)
+    head = "<tr><td>node / delta</td></tr><tr><td>two rims: the destination</td></tr>"
+    table = f'<<table border="0" cellborder="1" cellspacing="0">{head}{rows}</table>>'
+    yield f'  legend [shape=plain,fixedsize=false,style="",pos="{SIDE + 130},{SIDE - 120}!",label={table}];'
+    for name, x, y in (("low", -20, -20), ("high", SIDE + 240, SIDE + 20)):
         yield f'  {name} [style=invis,width=0.01,label="",pos="{x},{y}!"];'
 
 
@@ -124,7 +135,7 @@ def dot_text(scenario, world, destination, clock, colours):
         colours.setdefault(height[:3], COLOURS[len(colours) % len(COLOURS)])
     lines = [
         "digraph tora {",
-        f'  label="destination {destination}, end of round {clock}"; labelloc=t; fontsize=24; fontname="Helvetica"; outputorder=edgesfirst;',
+        f'  label="destination {destination}, end of round {clock} ({clock / TICKS_A_SECOND:.1f} s)"; labelloc=t; fontsize=24; fontname="Helvetica"; outputorder=edgesfirst;',
         '  node [shape=circle,fixedsize=true,width=0.5,fontname="Helvetica",fontsize=12,style=filled,fillcolor=white]; edge [arrowsize=0.9];',
         *node_lines(world, destination, places_of(scenario, clock), colours),
         *arrow_lines(world, destination),
@@ -136,7 +147,7 @@ def dot_text(scenario, world, destination, clock, colours):
 
 def draw(name, text, kinds):
     """Writes NAME.dot and its pictures."""
-    with open(name + ".dot", "w", encoding="ascii") as sink:
+    with writing(name + ".dot") as sink:
         sink.write(text)
     for kind in kinds:
         done = subprocess.run(["neato", "-n2", "-Gdpi=80", "-T" + kind, name + ".dot", "-o", f"{name}.{kind}"], capture_output=True, text=True)

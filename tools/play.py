@@ -20,7 +20,11 @@ import tempfile
 
 from play_data import page_data, read_page, record_text
 from play_place import places_by_force, places_by_hand
-from study import Fit, Refused, Usage, load_scenario, nodes_of, records, refused, run, scenario_of_simulation, scenario_of_trace
+from record import records
+from resting import scenario_of_simulation, scenario_of_trace
+from scenario_file import load_scenario
+from study import Refused, Usage, nodes_of, refused, run, writing
+from world import Fit, refuse_cut
 
 HERE = os.path.dirname(os.path.realpath(__file__))
 PARTS = f"{HERE}/page"
@@ -47,7 +51,7 @@ def write_page(path, text):
     """Writes a page whole, or not at all."""
     part = f"{path}.part"
     try:
-        with open(part, "w", encoding="utf-8") as sink:
+        with writing(part, "utf-8") as sink:
             sink.write(text)
         os.replace(part, path)
     finally:
@@ -66,9 +70,7 @@ def fitting(path, scenario, given):
         fit.check(path, record)
         if record.clock > scenario["rounds"]:
             raise refused(path, record.line, f"round {record.clock} of a run of {scenario['rounds']} rounds")
-    # every link end says HELLO in each interval, so that there are records up to the end
-    if scenario["times"] and found[-1].clock <= scenario["rounds"] - scenario["times"][0]:
-        raise refused(path, found[-1].line, f"the trace ends in round {found[-1].clock} of {scenario['rounds']}: it is cut")
+    refuse_cut(path, scenario, found[-1])
     return found
 
 

@@ -14,7 +14,8 @@ import base64
 import json
 import re
 
-from study import GRAMMAR, Record, nodes_of, refused
+from record import GRAMMAR, Record
+from study import nodes_of, refused
 
 KINDS = tuple(GRAMMAR)
 MOST_TICKS = 15

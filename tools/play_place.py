@@ -1,7 +1,8 @@
 """Places for the nodes of a run without motion: by force, or by hand from a file."""
 import math
 
-from study import field, refused
+from record import field
+from study import refused
 
 TURNS = 300
 

@@ -22,9 +22,17 @@ set key default
 set key top left
 set yrange [0:*]
 set ylabel 'rounds (100 ms)'
+set link y2 via y/10. inverse y*10.
+set ytics nomirror
+set y2tics
+set y2label 'seconds'
 plot data using by:'restore_median':'restore_median_deviation' with yerrorlines lw 2 title 'break to route restored, median', \
      data using by:'restore_95':'restore_95_deviation' with yerrorlines lw 2 title '95 of 100', \
      data using by:'silence_ticks' with lines dt 3 lc 0 title 'silence that ends a link'
+unset y2tics
+unset y2label
+unset link y2
+set ytics mirror
 set ylabel 'broadcasts in a run'
 plot data using by:'query':'query_deviation' with yerrorlines lw 2 title 'QRY', \
      data using by:'update':'update_deviation' with yerrorlines lw 2 title 'UPD', \

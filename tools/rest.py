@@ -21,7 +21,8 @@ import subprocess
 import sys
 import tempfile
 
-from study import Refused, Usage, field, records, run
+from record import field, records
+from study import Refused, Usage, run
 
 HERE = os.path.dirname(os.path.realpath(__file__))
 MOST_ROUNDS = 4000  # a network that isn't at rest then is told

@@ -1,28 +1,49 @@
 #!/usr/bin/env bash
 # Shows a study that sweep.sh made: its plot and summary, and pictures of a break where runs were kept (sweep.sh --keep).
-# usage: tools/show.sh DIR [--page] [RUN] [OPTION OF dag.py]..
-#   RUN     NODES-SEED, as 20-1; without it the first run of the study
+# usage: tools/show.sh DIR [--page] [--by COLUMN[,COLUMN]] [--interval mean|median] [RUN] [OPTION OF dag.py]..
+#   RUN     NODES-SEED, as 20-1, or the name of a run in DIR/rows; without it the first run of the study
 #   --page  make DIR/index.html, too: the summary, the plot, and a link to a page of each run that plays it
+#   --by    draw DIR/by-COLUMN.png, too: over a column, with one line for each value of a second one, medians (or, with
+#           --interval mean, means) with their 95 % confidence intervals, and DIR/by-COLUMN.txt with all columns
 # It writes DIR/study.dat, DIR/study.png, DIR/summary.txt and DIR/break-ROUND.png: before, during and after the first break
 # of a route to the first destination; dag.py has options for others.
 set -eu
 here=$(cd "$(dirname "$0")" && pwd)
 case ${1:---help} in -h | --help) sed -n '2,/^set -eu/{/^# /s/^# //p}' "$0"; exit 0 ;; esac
-dir=$1 page=
+dir=$1 page='' by='' interval=median
 shift
-case ${1:-} in --page) page=1; shift ;; esac
+while [ $# -gt 0 ]; do
+  case $1 in
+    --page) page=1; shift ;;
+    --by) by=${2:?}; shift 2 ;;
+    --interval) interval=${2:?}; shift 2 ;;
+    *) break ;;
+  esac
+done
 command -v python3 >/dev/null || { echo "show: python3 is missing (package python3)" >&2; exit 2; }
 command -v gnuplot >/dev/null || { echo "show: gnuplot is missing (package gnuplot-nox)" >&2; exit 2; }
 [ -e "$dir/study.csv" ] || { echo "show: $dir/study.csv: there is no study" >&2; exit 1; }
+{ : >>"$dir/summary.txt"; } 2>/dev/null || { echo "show: $dir: the folder can't be written" >&2; exit 1; }
 python3 "$here/summary.py" "$dir/study.csv" >"$dir/summary.txt"
 python3 "$here/summary.py" --data "$dir/study.csv" >"$dir/study.dat"
 gnuplot -e "data='$dir/study.dat'; picture='$dir/study.png'" "$here/plot.gp"
 echo "$dir/study.png: the plot; $dir/summary.txt: its figures"
+if [ -n "$by" ]; then
+  summarize=(python3 "$here/summary.py" --interval "$interval" --by "$by")
+  name=$dir/by-${by//,/-} second=${by#"${by%%,*}"}
+  "${summarize[@]}" "$dir/study.csv" >"$name.txt"
+  "${summarize[@]}" --data "$dir/study.csv" available restore_median stretch_mean update >"$name.dat"
+  words="data='$name.dat'; picture='$name.png'; by='${by%%,*}'; kind='$interval'"
+  [ -z "$second" ] || words+="; second='${second#,}'; values='$(sed 1d "$name.dat" | cut -d ' ' -f 2 | sort -u | paste -sd ' ')'"
+  gnuplot -e "$words" "$here/plot-by.gp"
+  echo "$name.png: the plot over ${by/,/ and }; $name.txt: its figures"
+fi
 if [ -n "$page" ]; then
   python3 "$here/study_page.py" "$dir"
   echo "$dir/index.html: summary, plot, and a link to the page of each run"
 fi
-run=$(sed -n '2s/^\([0-9]*\),\([0-9]*\),.*/\1-\2/p' "$dir/study.csv")
+run=$(sed -n '1s/\t.*//p' "$dir/runs.txt" 2>/dev/null) || true
+[ -n "$run" ] || run=$(sed -n '2s/^\([0-9]*\),\([0-9]*\),.*/\1-\2/p' "$dir/study.csv")
 case ${1:-} in [0-9]*) run=$1; shift ;; esac
 scenario=$dir/rows/$run.json
 if [ ! -e "$scenario" ]; then

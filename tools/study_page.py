@@ -13,7 +13,7 @@ import sys
 
 from play import moving_page, write_page
 from study import run
-from summary import groups, read, spread_text
+from summary import cell_text, figure_columns, groups, read, spread_text
 
 STYLE = """:root { color-scheme: light dark; }
 body { font: 0.9rem/1.4 system-ui, "DejaVu Sans", sans-serif; margin: 1rem auto; max-width: 75rem; padding: 0 1rem; }
@@ -37,10 +37,10 @@ def table_text(head, rows):
 
 def summary_text(path, names, rows):
     """The summary's table: medians, and the least and the greatest."""
-    columns = [name for name in names if name not in ("nodes", "seed")]
-    cells = groups(path, names, rows, "nodes", columns)
+    columns = figure_columns(names, ["nodes"])
+    cells = groups(path, names, rows, ["nodes"], columns)
     lines = [[name, *(spread_text(group[name]) for group in cells.values())] for name in columns]
-    return table_text(["nodes", *(f"{nodes:g}" for nodes in cells)], lines)
+    return table_text(["nodes", *(cell_text(nodes) for nodes, in cells)], lines)
 
 
 def made(folder, name):
@@ -53,11 +53,20 @@ def made(folder, name):
     return True
 
 
+def run_names(folder, rows):
+    """The names of the runs of the rows: NODES-SEED, or those of a study that varies more (sweep_runs.py)."""
+    plain = [f"{row['nodes']:g}-{row['seed']:g}" for row in rows]
+    if len(set(plain)) == len(plain) or not os.path.exists(f"{folder}/runs.txt"):
+        return plain
+    with open(f"{folder}/runs.txt", encoding="ascii", errors="replace") as source:
+        names = [line.split("\t")[0] for line in source]
+    return [name for name in names if os.path.exists(f"{folder}/rows/{name}.csv")] or plain
+
+
 def runs_text(folder, names, rows):
     """The table of the runs, each with a link to its page."""
     shown, lines = [name for name in SHOWN if name in names], []
-    for row in rows:
-        name = f"{row['nodes']:g}-{row['seed']:g}"
+    for name, row in zip(run_names(folder, rows), rows):
         link = f'<a href="rows/{name}.html">{name}</a>' if made(folder, name) else f"{name} (not kept)"
         lines.append([link, *("" if row[column] is None else f"{row[column]:g}" for column in shown)])
     return table_text(["run", *shown], lines)

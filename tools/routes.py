@@ -1,0 +1,202 @@
+"""How the routes of the flows of a run fare: shares of rounds, outages, and loops of next hops.
+
+At the end of each round each flow's route is followed along the next hops. It works where it reaches the destination over
+links that are not parted; it is stale where it comes to a parted link, without a hop where it comes to a node without
+next hop, and looping where it comes back to a node, over links that are not parted. What the nodes know of a parted link
+does not count here: the motion decides.
+"""
+import collections
+
+from counted import mean_of, median_of, share_95_of
+from world import distances
+
+WORKS, STALE, NO_HOP, LOOPING = "available", "stale", "no_hop", "looping"
+Outage = collections.namedtuple("Outage", "start by_break was_cut linked_since")
+
+
+def follow(hops, near, node, destination):
+    """How a route fares from a node, and after how many hops; `near` has the neighbours over links that are not parted."""
+    seen = {node}
+    while node != destination:
+        hop = hops[node]
+        if hop is None:
+            return NO_HOP, 0
+        if hop not in near[node]:
+            return STALE, 0
+        if hop in seen:
+            return LOOPING, 0
+        seen.add(hop)
+        node = hop
+    return WORKS, len(seen) - 1
+
+
+def live_loops(hops, near):
+    """The cycles of next hops whose links are all not parted; each begins with its lowest node."""
+    met_from, loops = {None: None}, set()
+    for start in hops:
+        node = start
+        while node not in met_from:
+            met_from[node] = start
+            node = hops[node]
+        if met_from[node] != start:
+            continue
+        ring = [node]
+        while hops[ring[-1]] != node:
+            ring.append(hops[ring[-1]])
+        if all(hops[one] in near[one] for one in ring):
+            at = ring.index(min(ring))
+            loops.add(tuple(ring[at:] + ring[:at]))
+    return loops
+
+
+class Loops:
+    """Loops over links that are not parted, from the round in which each was first seen to the last."""
+
+    def __init__(self):
+        """None yet."""
+        self.open, self.all = {}, []
+
+    def take(self, clock, destination, rings, heights):
+        """What stands at the end of a round for a destination, whose next hops or links are others than before."""
+        for key in [key for key in self.open if key[0] == destination and key[1] not in rings]:
+            self.close(clock, key)
+        for ring in rings:
+            if (destination, ring) not in self.open:
+                loop = {"destination": destination, "ring": ring, "start": clock, "rounds": 0, "without_height": False}
+                self.open[destination, ring] = loop
+                self.all.append(loop)
+        self.look(destination, heights)
+
+    def look(self, destination, heights):
+        """Looks at the heights of the nodes of the loops of a destination."""
+        for (of, ring), loop in self.open.items():
+            if of == destination:
+                loop["without_height"] |= any(heights[node] is None for node in ring)
+
+    def close(self, clock, key):
+        """A loop that is no more at the end of this round."""
+        loop = self.open.pop(key)
+        loop["rounds"] = clock - loop["start"]
+
+    def end(self, clock):
+        """The run ends in the round before this."""
+        for key in list(self.open):
+            self.close(clock, key)
+
+    def columns(self):
+        """Their columns."""
+        return {
+            "loops": len(self.all), "loops_without_height": sum(loop["without_height"] for loop in self.all),
+            "loop_rounds": sum(loop["rounds"] for loop in self.all),
+            "loop_longest": max((loop["rounds"] for loop in self.all), default=0),
+            "loop_nodes": max((len(loop["ring"]) for loop in self.all), default=0),
+        }
+
+
+class Outages:
+    """When the route of a flow stops to work, why, and after how many rounds it works again."""
+
+    def __init__(self):
+        """No flow has had a route."""
+        self.open, self.worked = {}, set()
+        self.count = self.by_break = 0
+        self.restored, self.healed = collections.Counter(), collections.Counter()
+
+    def take(self, clock, flow, status, linked):
+        """One flow at the end of a round in which it fares otherwise than before; linked: a path to its destination stands."""
+        outage = self.open.get(flow)
+        if status == WORKS:
+            self.worked.add(flow)
+            if outage:
+                self.close(clock, self.open.pop(flow))
+        elif outage:
+            since = None if not linked else clock - 1 if outage.linked_since is None else outage.linked_since
+            self.open[flow] = outage._replace(was_cut=outage.was_cut or not linked, linked_since=since)
+        elif flow in self.worked:
+            self.count += 1
+            self.by_break += status == STALE
+            self.open[flow] = Outage(clock - 1, status == STALE, not linked, clock - 1 if linked else None)
+            self.worked.discard(flow)
+
+    def close(self, clock, outage):
+        """Counts the rounds of an outage: since the path stands again where it was cut, else since the break."""
+        if outage.was_cut:
+            self.healed[clock - (clock - 1 if outage.linked_since is None else outage.linked_since)] += 1
+        elif outage.by_break:
+            self.restored[clock - outage.start] += 1
+
+    def columns(self):
+        """Their columns."""
+        row = {"outages": self.count, "outages_by_break": self.by_break, "restored": self.restored.total(),
+               "healed": self.healed.total(), "open_outages": len(self.open)}
+        if self.restored:
+            row.update(restore_median=median_of(self.restored), restore_95=share_95_of(self.restored), restore_most=max(self.restored))
+        if self.healed:
+            row.update(heal_median=median_of(self.healed), heal_95=share_95_of(self.healed))
+        return row
+
+
+class Routes:
+    """How the routes of the flows fare. Rounds without a change are counted when something changes, or in the end."""
+
+    def __init__(self, scenario):
+        """Before the first round."""
+        self.flows = {d: [flow for flow in scenario["flows"] if flow[1] == d] for d in scenario["destinations"]}
+        self.fares = {d: [] for d in self.flows}  # by destination how each flow fares since the last look
+        self.since = dict.fromkeys(self.flows, 1)  # by destination the round of the last look
+        self.count, self.linked, self.rounds = collections.Counter(), 0, 0
+        self.lengths, self.stretches = collections.Counter(), collections.Counter()
+        self.outages, self.loops = Outages(), Loops()
+        self.far = {}
+
+    def take(self, first, last, world):
+        """Rounds at whose ends the world stands as it does now."""
+        if world.relinked:
+            self.far = {destination: distances(world.near, destination) for destination in self.flows}
+        for destination in self.flows:
+            if world.relinked or destination in world.rerouted:
+                self.look(first, world, destination)
+            elif destination in world.changed:
+                self.loops.look(destination, world.heights[destination])
+
+    def look(self, clock, world, destination):
+        """Looks at a destination whose next hops or links are others in this round than before."""
+        self.settle(destination, clock)
+        hops, far, before = world.hops[destination], self.far[destination], self.fares[destination]
+        fares = [(*follow(hops, world.near, *flow), far.get(flow[0])) for flow in self.flows[destination]]
+        for at, (flow, fare) in enumerate(zip(self.flows[destination], fares)):
+            if not before or fare != before[at]:
+                self.outages.take(clock, flow, fare[0], fare[2] is not None)
+        self.fares[destination] = fares
+        self.loops.take(clock, destination, live_loops(hops, world.near), world.heights[destination])
+
+    def settle(self, destination, clock):
+        """Counts the rounds from the last look at a destination to the one before this."""
+        rounds = clock - self.since[destination]
+        self.since[destination] = clock
+        if not rounds:
+            return
+        for status, length, least in self.fares[destination]:
+            self.rounds += rounds
+            if least is not None:
+                self.linked += rounds
+                self.count[status] += rounds
+            if status == WORKS:
+                self.lengths[length] += rounds
+                self.stretches[length / least] += rounds
+
+    def end(self, rounds):
+        """Counts what stands at the end of the run."""
+        for destination in self.flows:
+            self.settle(destination, rounds + 1)
+        self.loops.end(rounds + 1)
+
+    def columns(self):
+        """Their columns; shares are of the rounds and flows that have a path."""
+        row = {"connected": round(self.linked / self.rounds, 4)} | self.outages.columns() | self.loops.columns()
+        if self.linked:
+            row |= {status: round(self.count[status] / self.linked, 4) for status in (WORKS, STALE, NO_HOP, LOOPING)}
+        if self.lengths:
+            row.update(stretch_mean=round(mean_of(self.stretches), 4), stretch_95=round(share_95_of(self.stretches), 3),
+                       stretch_most=round(max(self.stretches), 3), hops_mean=round(mean_of(self.lengths), 3))
+        return row

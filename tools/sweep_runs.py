@@ -1,0 +1,60 @@
+#!/usr/bin/env python3
+"""Lists the runs of a study, one a line: its name, nodes, seed, and the options that vary, divided by tabs; sweep.sh calls it.
+
+  sweep_runs.py "SIZES" SEEDS [--vary NAME=VALUE,..].. [-- OPTION OF scenario.py..]
+
+Every size stands with every value of each NAME, an option of scenario.py without its dashes, and with every seed. Commas
+within a value are written as colons: `times=10:50:5:8,5:20:5:8`. A run is named NODES-SEED, and behind it -NAME=VALUE for
+each NAME. What scenario.py would refuse of a run's options is refused before any run starts.
+"""
+import argparse
+import itertools
+import re
+import sys
+
+from scenario import checked, options_of
+from study import Usage, run
+
+FIXED = ("nodes", "seed", "ns2", "bonnmotion", "help")  # options that --vary may not name
+
+
+def varied(text):
+    """The name and the values of one --vary."""
+    found = re.fullmatch(r"([a-z][a-z0-9-]*)=([A-Za-z0-9.:_+-]+(?:,[A-Za-z0-9.:_+-]+)*)", text)
+    if not found or found[1] in FIXED:
+        raise Usage(f"--vary: `{text}` is not NAME=VALUE,.. with an option of scenario.py, as speed=1-3,1-20")
+    return [(found[1], value) for value in dict.fromkeys(found[2].split(","))]
+
+
+def runs(sizes, seeds, vary, options):
+    """The runs in the order of the rows: (name, nodes, seed, options that vary)."""
+    grid = [varied(text) for text in vary]
+    names = [values[0][0] for values in grid]
+    if len(set(names)) < len(names):
+        raise Usage("--vary: a name stands twice")
+    for size, values, seed in itertools.product(sizes, itertools.product(*grid), range(1, seeds + 1)):
+        name = "-".join([f"{size}-{seed}", *(f"{option}={value}" for option, value in values)])
+        words = [word for option, value in values for word in (f"--{option}", value.replace(":", ","))]
+        if seed == 1:
+            checked(options_of(["x", "--nodes", str(size), "--seed", "1", *options, *words]))
+        yield name, size, seed, " ".join(words)
+
+
+def main():
+    """Prints the runs."""
+    parser = argparse.ArgumentParser(description=__doc__, formatter_class=argparse.RawDescriptionHelpFormatter)
+    parser.add_argument("sizes", help="numbers of nodes, as \"10 20 40\"")
+    parser.add_argument("seeds", type=int, help="how many seeds")
+    parser.add_argument("--vary", action="append", default=[], metavar="NAME=VALUE,..", help="values of an option of scenario.py")
+    at = sys.argv.index("--") if "--" in sys.argv else len(sys.argv)
+    words = parser.parse_args(sys.argv[1:at])
+
+    def body():
+        for found in list(runs([int(size) for size in words.sizes.split()], words.seeds, words.vary, sys.argv[at + 1 :])):
+            print(*found, sep="\t")
+
+    return run("sweep", body)
+
+
+if __name__ == "__main__":
+    sys.exit(main())

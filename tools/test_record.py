@@ -1,0 +1,42 @@
+"""How the records of a trace are read, and what is refused."""
+import unittest
+
+from record import Record, records
+from study import Refused
+from testing import written
+
+REFUSED = {
+    "1 need 1 2": "1: the line is cut",
+    "1 need 1 2\n1 need 1 3": "2: the line is cut",
+    "1 need 1 2\n1  need 1 2\n": "2: no record of a trace",
+    "1 need 1 2\n1 need 1\n": "2: `need` has 2 fields, not 1",
+    "1 need 1 2\n1 need 1 02\n": "2: `02` is no id",
+    "1 need 1 2\n1 need 1 0\n": "2: `0` is no id",
+    "2 need 1 2\n1 need 1 2\n": "2: the clock goes back from 2 to 1",
+    "1 upd 1 2 3 (0,0,0,1)\n": "1: `(0,0,0,1)` is no height",
+    "1 need 1 " + "9" * 5000 + "\n": "1: `9999",
+    "\n": "1: no record of a trace",
+}
+
+
+class RecordTest(unittest.TestCase):
+    """Lines that come again are read as the first ones."""
+
+    def test_records(self):
+        """The same line at the same clock, at a later one, and heights and `-`."""
+        text = "1 need 1 2\n1 need 1 2\n2 need 1 2\n2 route 1 2 (0,0,0,-1,1) -\n2 route 1 2 - 2\n2 route 1 2 - -\n"
+        with written(text) as path:
+            found = list(records(path))
+        self.assertEqual(found[:3], [Record(1, 1, "need", (1, 2)), Record(2, 1, "need", (1, 2)), Record(3, 2, "need", (1, 2))])
+        self.assertEqual([record.words for record in found[3:]], [(1, 2, (0, 0, 0, -1, 1), None), (1, 2, None, 2), (1, 2, None, None)])
+
+    def test_refusals(self):
+        """Each is told with its line."""
+        for text, cause in REFUSED.items():
+            with self.subTest(text=text[:30]), written(text) as path, self.assertRaises(Refused) as caught:
+                list(records(path))
+            self.assertTrue(str(caught.exception).startswith(f"{path}:{cause}"), caught.exception)
+
+
+if __name__ == "__main__":
+    unittest.main()

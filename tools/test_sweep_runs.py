@@ -1,0 +1,35 @@
+"""The runs of a study: their names, their order, and what is refused before any of them starts."""
+import contextlib
+import io
+import unittest
+
+from study import Usage
+from sweep_runs import runs
+
+
+class RunsTest(unittest.TestCase):
+    """Sizes, then what varies, then seeds."""
+
+    def test_plain(self):
+        """Without --vary a run is NODES-SEED."""
+        self.assertEqual(list(runs([5, 8], 2, [], [])), [("5-1", 5, 1, ""), ("5-2", 5, 2, ""), ("8-1", 8, 1, ""), ("8-2", 8, 2, "")])
+
+    def test_grid(self):
+        """Every value with every other; colons are commas within a value."""
+        found = list(runs([5], 1, ["pause=0,9", "times=10:50:5:8,5:20:5:8"], []))
+        self.assertEqual([name for name, *_ in found], [
+            "5-1-pause=0-times=10:50:5:8", "5-1-pause=0-times=5:20:5:8", "5-1-pause=9-times=10:50:5:8", "5-1-pause=9-times=5:20:5:8"])
+        self.assertEqual(found[1][3], "--pause 0 --times 5,20,5,8")
+
+    def test_refusals(self):
+        """What scenario.py would refuse, and names that may not vary."""
+        for vary in (["pause"], ["seed=1,2"], ["pause=0", "pause=9"], ["speed=3"], ["times=1"]):
+            with self.subTest(vary=vary), self.assertRaises(Usage):
+                list(runs([5], 1, vary, []))
+        for sizes, options in (([65], []), ([1], []), ([5], ["--pause", "x"]), ([5], ["--none"])):
+            with self.subTest(sizes=sizes), self.assertRaises(SystemExit), contextlib.redirect_stderr(io.StringIO()):
+                list(runs(sizes, 1, [], options))
+
+
+if __name__ == "__main__":
+    unittest.main()

@@ -1,0 +1,152 @@
+"""The world that a trace tells, round by round: which links are not parted, and heights and next hops."""
+from record import BETWEEN, GRAMMAR, OF_LINKS
+from study import nodes_of, ordered, refused
+
+CHANGES = ("part", "mend", "route")  # records that change the world
+
+
+def distances(near, start):
+    """How many hops each node is from `start`, by the neighbours of each; a node that can't be reached is left out."""
+    far, edge, hops = {start: 0}, {start}, 0
+    while edge:
+        hops += 1
+        edge = set().union(*[near[node] for node in edge]).difference(far)
+        far.update(dict.fromkeys(edge, hops))
+    return far
+
+
+class Fit:
+    """What the records of a trace may speak of: nodes, destinations and links of a scenario."""
+
+    def __init__(self, scenario):
+        """Those of a scenario."""
+        self.nodes, self.destinations = set(nodes_of(scenario)), set(scenario["destinations"])
+        self.links = set(scenario["links"])
+        self.known = {kind: set() for kind in GRAMMAR}  # by kind the first two fields of records that were not refused
+
+    def check(self, path, record):
+        """Refuses a record of a link, a node or a destination that there is not; a need may be of any destination."""
+        kind, words = record.kind, record.words
+        if words[:2] not in self.known[kind] and kind != "frames":
+            if kind in OF_LINKS:
+                if ordered(words[0], words[1]) not in self.links:
+                    raise refused(path, record.line, "no link of the scenario")
+            elif words[0] not in self.nodes or (words[1] not in self.destinations and kind != "need"):
+                raise refused(path, record.line, "no node or no destination of the scenario")
+            self.known[kind].add(words[:2])
+        if kind == "route":
+            self.check_hop(path, record)
+
+    def check_hop(self, path, record):
+        """Refuses a route whose next hop is no neighbour."""
+        node, _, _, hop = record.words
+        if hop is not None and ordered(node, hop) not in self.links:
+            raise refused(path, record.line, f"the next hop {hop} is no neighbour of {node}")
+
+
+class Rounds:
+    """The round that each record is of, in the order of the trace.
+
+    Records that stand between rounds carry the clock of the round that has ended, and are of the next one; all others are
+    of the round that ends at their clock, or, behind a need, of the next one too.
+    """
+
+    def __init__(self):
+        """Before the first round."""
+        self.now = 1
+
+    def of(self, record):
+        """The round of the next record."""
+        now = record.clock + 1 if record.kind in BETWEEN else record.clock
+        if now > self.now:
+            self.now = now
+        return self.now
+
+
+class World:
+    """The world that a trace tells: which links are not parted, and heights and next hops by destination and node."""
+
+    def __init__(self, scenario):
+        """Every link is mended, no node but a destination has a height, and nobody has a next hop."""
+        self.nodes, self.fit = nodes_of(scenario), Fit(scenario)
+        self.links = set(scenario["links"])
+        self.declared = set(scenario["links"])
+        self.near = {node: set() for node in self.nodes}  # by node its neighbours over links that are not parted
+        for a, b in self.links:
+            self.near[a].add(b)
+            self.near[b].add(a)
+        self.hops = {d: dict.fromkeys(self.nodes) for d in scenario["destinations"]}
+        self.heights = {d: {n: (0, 0, 0, 0, d) if n == d else None for n in self.nodes} for d in self.hops}
+        self.changed, self.rerouted, self.relinked = set(self.hops), set(self.hops), True
+
+    def settle(self):
+        """What changed until now is no news any more."""
+        self.changed, self.rerouted, self.relinked = set(), set(), False
+
+    def take(self, path, record):
+        """Takes a record of `CHANGES` in; refuses one of another world."""
+        known = record.words[:2] in self.fit.known[record.kind]
+        if not known:
+            self.fit.check(path, record)
+        if record.kind == "route":
+            node, destination, height, hop = record.words
+            if self.hops[destination][node] != hop:
+                if known:
+                    self.fit.check_hop(path, record)
+                self.rerouted.add(destination)
+                self.hops[destination][node] = hop
+            self.heights[destination][node] = height
+            self.changed.add(destination)
+        else:
+            self.take_link(record.kind == "mend", *record.words)
+
+    def take_link(self, is_mended, a, b):
+        """A link is mended or parted."""
+        (self.links.add if is_mended else self.links.discard)(ordered(a, b))
+        for node, other in ((a, b), (b, a)):
+            (self.near[node].add if is_mended else self.near[node].discard)(other)
+        self.changed.update(self.hops)
+        self.relinked = True
+
+
+def spans(scenario, path, given):
+    """Yields the first and the last of rounds at whose ends the world is the same, and the world.
+
+    `changed` are the destinations with a height or a next hop that is not as in the rounds before, `rerouted` those with a
+    next hop that is not, and `relinked` tells whether links are not.
+    """
+    world, rounds, ended, last, record = World(scenario), Rounds(), 0, scenario["rounds"], None
+    known = world.fit.known
+    for record in given:
+        _, clock, kind, words = record
+        if kind in BETWEEN or clock > rounds.now:
+            rounds.of(record)
+        if kind in CHANGES:
+            if rounds.now > ended + 1 and ended < last:
+                first, ended = ended + 1, min(rounds.now - 1, last)
+                yield first, ended, world
+                world.settle()
+            if clock <= last:
+                world.take(path, record)
+        elif words[:2] not in known[kind] and clock <= last:
+            world.fit.check(path, record)
+    refuse_cut(path, scenario, record)
+    if ended < last:
+        yield ended + 1, last, world
+
+
+def refuse_cut(path, scenario, record):
+    """Refuses a trace by its last record, None where it is empty: one that ends before the run does."""
+    if record is None:
+        raise refused(path, 1, "the trace is empty")
+    # every link end says HELLO in each interval, so that there are records up to the end
+    if scenario["times"] and record.clock <= scenario["rounds"] - scenario["times"][0]:
+        raise refused(path, record.line, f"the trace ends in round {record.clock} of {scenario['rounds']}: it is cut")
+
+
+def moments(scenario, path, given):
+    """Yields the clock and the world at the end of each round; `changed` are the destinations that are not as before."""
+    for first, last, world in spans(scenario, path, given):
+        for clock in range(first, last + 1):
+            yield clock, world
+            world.settle()
