@@ -1,0 +1,5 @@
+pub mod Parts
+pub mod Network
+pub mod Histories
+pub mod Laws
+pub mod Worked

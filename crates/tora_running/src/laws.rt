@@ -1,0 +1,106 @@
+//! The laws of running nodes. Each stands over the definitions alone: a function without parameters that does nothing.
+ghost use Rattle.tora_running.specs.Laws.{BindsOnce, CoresFollow, EveryNetwork, IsOfWorld, IsWithoutGap, TakenBeginsSent, WalksArrive};
+ghost use Rattle.std.specs.Prelude.{◌≡◌, ℕ, true, List, ◌++◌, Option};
+ghost use Rattle.tora_arq.specs.LinkEnd.{EndState};
+ghost use Rattle.tora_arq.specs.Settings.{Settings};
+ghost use Rattle.tora_neighbour.specs.Turns.{Turn, AreTurns, IsLastTurn, IsTurnRun};
+ghost use Rattle.tora_neighbour.specs.declared.ending.Ending.{Ending};
+ghost use Rattle.tora_node.specs.CoreRuns.{ServedItem, AreServed, items_served};
+ghost use Rattle.tora_seat.specs.Serving.{SeatState};
+ghost use Rattle.tora_seat.specs.declared.Item.{Item};
+ghost use Rattle.tora_world.specs.Topology.{is_node};
+ghost use Rattle.tora_running.specs.Histories.{IsAfterRefused, parts_of_last, parts_of_turns, parts_served};
+ghost use Rattle.tora_running.specs.Network.{IsRun, Network, after_parts, neighbours_at};
+ghost use Rattle.tora_running.specs.Parts.{AreLinkParts};
+ghost use Rattle.tora_running.specs.Worked.{start, first_parts, parted, second_parts, met, HandsBack, HasMet};
+
+use tora_arq::{data_frames_are_what_was_submitted, refused_frames_change_nothing};
+use tora_life::drawn_life_numbers_rise;
+use tora_world::{
+    exact_entries_give_walks, life_files_become_what_crashes_leave, no_gap_law, prefix_law,
+};
+
+/// Running nodes are a world: whatever the parts that their threads make, some schedule of the free world leaves a world with
+/// the same cores, link ends and lanes, in which the same was sent, taken and accepted.
+///
+/// A part may be made where the thread's own definition allows it, lanes keep their order, no datagram is forged that its end
+/// does not refuse, and the numbers drawn for a link end rise. That is all that is asked of a run of parts; ticks, answers of
+/// lanes, losses, repeated datagrams and the moments of starts are any.
+pub fn running_nodes_are_a_world()
+    ensures { EveryNetwork (λ t times w. IsOfWorld t times w) }
+{
+    data_frames_are_what_was_submitted();
+    refused_frames_change_nothing();
+    drawn_life_numbers_rise();
+    life_files_become_what_crashes_leave();
+}
+
+/// The prefix law of running nodes: what the core of a node has taken from a neighbour in a life begins what the
+/// neighbour's core has sent in that life, over all starts of both.
+pub fn running_nodes_keep_the_prefix_law()
+    ensures prefix { EveryNetwork (λ t times w. TakenBeginsSent w) }
+    // Each end binds each pair of life numbers at most once.
+    ensures once { BindsOnce }
+{
+    running_nodes_are_a_world();
+    data_frames_are_what_was_submitted();
+    refused_frames_change_nothing();
+    drawn_life_numbers_rise();
+    life_files_become_what_crashes_leave();
+    prefix_law();
+}
+
+/// Each core of a running node is what TORA's rules make of the inputs that it accepted since its node's last start.
+pub fn running_cores_follow()
+    ensures { EveryNetwork (λ t times w. CoresFollow t w) }
+{
+    running_nodes_are_a_world();
+    prefix_law();
+}
+
+/// The no-gap law of running nodes: while a life is current at a core, all that the core has broadcast since its link came
+/// up was sent in that life, and nothing else.
+pub fn running_nodes_keep_the_no_gap_law()
+    ensures { EveryNetwork (λ t times w. IsWithoutGap t w) }
+{
+    running_nodes_are_a_world();
+    no_gap_law();
+}
+
+/// Exact entries give walks of running nodes: where each entry for a destination that is not NULL is the height of the
+/// neighbour whose entry it is, the next hops lead from any node with a height to the destination.
+pub fn running_walks_arrive()
+    ensures { EveryNetwork (λ t times w. WalksArrive t w) }
+{
+    running_nodes_are_a_world();
+    exact_entries_give_walks();
+}
+
+/// The parts are those of the threads: what a link's thread and a core's thread are proved to do is spelled, turn after turn and
+/// item after item, as parts that the definitions allow.
+pub fn histories_are_of_the_threads()
+    // Whole turns of a link's thread are parts of its end, one after another.
+    ensures turns { (s : Settings) (e : EndState) (turns : List Turn) (after : EndState) → AreTurns s e turns after → AreLinkParts s e (parts_of_turns turns) after }
+    // So is the last turn, which may end early; an event that the hub has refused is no part.
+    ensures last { (s : Settings) (last_beat : Option ℕ) (e : EndState) (t : Turn) (ending : Ending) (after : EndState) → IsLastTurn s last_beat e t ending after
+        → (between : EndState) × AreLinkParts s e (parts_of_last ending t) between × IsAfterRefused between t.refused after }
+    // And so is the whole run of a link's thread, as the contract of `run_neighbour` tells it.
+    ensures run { (s : Settings) (e : EndState) (turns : List Turn) (last : Turn) (ending : Ending) (after : EndState) → IsTurnRun s e turns last ending after
+        → (between : EndState) × AreLinkParts s e (parts_of_turns turns ++ parts_of_last ending last) between × IsAfterRefused between last.refused after }
+    // Items that a core's thread has served one after another, as the contract of `run_core` tells them, are a run of parts
+    // where they wait in its lane, and it leaves the same seat.
+    ensures served { (w : Network) (n : ℕ) (xs : List ServedItem) (rest : List Item) (after : SeatState) → is_node w.topology n ≡ true
+        → w.items n ≡ items_served xs ++ rest → AreServed (neighbours_at w n) (w.seats n) xs after
+        → IsRun w (parts_served n xs) × ((after_parts (parts_served n xs) w).seats n ≡ after) × ((after_parts (parts_served n xs) w).items n ≡ rest) }
+{}
+
+/// Two running nodes, computed: what the laws say of a run of parts is not empty.
+pub fn worked_networks_hold()
+    // Both nodes are started, a HELLO is lost, three more bind the link, and the update of node 1 is handed back.
+    ensures first { IsRun start first_parts }
+    ensures handed_back { HandsBack parted }
+    // Both are killed and started again. An old datagram comes, the link is bound in a second life, and the update is sent and
+    // taken in it, once, though its datagram comes twice: node 1 has a route.
+    ensures second { IsRun parted second_parts }
+    ensures met { HasMet met }
+{}
