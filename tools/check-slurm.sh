@@ -151,7 +151,7 @@ check_failing() {
   holds 'a failed run ends with status 1' test "$status" = 1
   holds 'it is told with its log' grep -q "the run 5-2-pause=9 failed; its log: $work/failed/logs/" "$work/told"
   holds 'and the log says why' grep -q 'this run fails' "$(sed -n 's/.*the run 5-2-pause=9 failed; its log: //p' "$work/told")"
-  holds 'the other rows are there' test "$(wc -l <"$work/failed/study.csv")" = 15
+  holds 'the other 15 rows are there, and the header' test "$(wc -l <"$work/failed/study.csv")" = 16
 }
 
 check_refusals() {

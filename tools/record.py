@@ -13,8 +13,8 @@ GRAMMAR = {
     "need": "ii", "part": "ii", "mend": "ii", "up": "iinn", "down": "iinn", "qry": "iin", "upd": "iinh",
     "clr": "iinni", "route": "iihk", "frames": "nnnn",
 }
-BETWEEN = ("need", "part", "mend")  # records that stand between rounds, with the clock of the round that has ended
-OF_LINKS = ("part", "mend", "up", "down")  # records of a link; all others but `frames` are of a node and a destination
+BETWEEN = frozenset(("need", "part", "mend"))  # records that stand between rounds, with the clock of the round that has ended
+OF_LINKS = frozenset(("part", "mend", "up", "down"))  # records of a link; all others but `frames` are of a node and a destination
 HEIGHT = re.compile(r"\((\d{1,20}),(\d{1,20}),([01]),(-?\d{1,20}),(\d{1,20})\)$")
 NUMBER = re.compile(r"(0|[1-9]\d{0,19})$")
 MOST_KNOWN = 10_000  # texts of one kind that are kept

@@ -160,9 +160,9 @@ def make(options):
         "seed": options.seed, "nodes": len(ways), "range": options.range, "rounds": options.rounds, "sample": options.sample,
         "limit": options.limit, "times": times_of(options.times), "destinations": [], "flows": [], "links": links,
         "contact_kept": round(sum(total[link] for link in links) / sum(total.values()), 6), "links_met": len(total),
-        "most_met": max(met.values()),
-        "most_at_once": contacts.most,
-        "breaks": 0, "left_out": [node for node in range(1, len(ways) + 1) if node not in degree], "positions": places, "parameters": parameters | {"need_rounds": options.need},
+        "most_met": max(met.values()), "most_at_once": contacts.most, "breaks": 0,
+        "left_out": [node for node in range(1, len(ways) + 1) if node not in degree], "positions": places,
+        "parameters": parameters | {"need_rounds": options.need},
     }
     choose_flows(scenario, sorted(degree), options, source)
     return scenario, simulation_lines(scenario, contacts.changes, options.heights, options.need)

@@ -2,7 +2,7 @@
 from record import BETWEEN, GRAMMAR, OF_LINKS
 from study import nodes_of, ordered, refused
 
-CHANGES = ("part", "mend", "route")  # records that change the world
+CHANGES = frozenset(("part", "mend", "route"))  # records that change the world
 
 
 def distances(near, start):
