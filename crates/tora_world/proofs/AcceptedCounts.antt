@@ -31,7 +31,7 @@ use Rattle.tora_world.specs.Topology.{Topology, is_link}
 use Rattle.tora_world.specs.LinkMachine.{put_at}
 use Rattle.tora_world.specs.World.{World, Choice, settings, datagram, with_end, first_world, refusal_by, open_with, after_cargo, after_pull, after_sending, after_receiving, after_pump, after_turn, after_arming, effect_by, world_by}
 use Rattle.tora_world.specs.FreeWorld.{FreeEvent, after_cut_of_bound, free_by, Schedule, after_schedule}
-use Rattle.tora_world.specs.FreeWorld.FreeEvent.{Happens, TicksEnd, PumpsOver, Puts, CutsBound, ChangesFile}
+use Rattle.tora_world.specs.FreeWorld.FreeEvent.{Happens, TicksEnd, PumpsOver, Puts, CutsBound, ChangesFile, StartsAnew}
 use Rattle.tora_world.specs.Law.{Sometime, HasAccepted, is_bound_to, times_bound}
 use Rattle.tora_world.specs.Layers.{LinkLaws, LifeLaws}
 use Rattle.tora_world.proofs.PacketLists.{put_here, put_there, by_pair, same_refl}
@@ -210,6 +210,7 @@ module _ (l : Life) where
     grows_free c (Puts n seat what silent) = grows_still (free_by c w (Puts n seat what silent)) refl
     grows_free c (CutsBound n k) = grows_cut_of_bound n k (bound_life (w.ends n k))
     grows_free c (ChangesFile n k change kept) = grows_still (free_by c w (ChangesFile n k change kept)) refl
+    grows_free c (StartsAnew n) = grows_world c (Restart n None)
 
   -- ---- runs
 

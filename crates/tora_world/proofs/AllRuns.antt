@@ -16,14 +16,14 @@ use Rattle.tora_world.specs.LinkMachine.{MachineStep, machine_after, made}
 use Rattle.tora_world.specs.MachineRun.{steps_of_effect, steps_by, free_steps_by, machine_steps}
 use Rattle.tora_world.specs.World.{owner_of, World, Choice, settings, datagram, first_world, is_empty, has_room, unless_possible, refusal_by, effect_by, world_by, world_after, world_after_all}
 use Rattle.tora_world.specs.FreeWorld.{FreeEvent, free_by, Schedule, after_schedule, own_schedule}
-use Rattle.tora_world.specs.FreeWorld.FreeEvent.{Happens, TicksEnd, PumpsOver, Puts, CutsBound, ChangesFile}
+use Rattle.tora_world.specs.FreeWorld.FreeEvent.{Happens, TicksEnd, PumpsOver, Puts, CutsBound, ChangesFile, StartsAnew}
 use Rattle.tora_world.specs.Law.{TakenBeginsSent, IsOfMachine, Sometime, HasAccepted, AcknowledgedIsAccepted}
 use Rattle.tora_world.specs.Layers.{LinkLaws, LifeLaws}
 use Rattle.tora_world.proofs.PacketLists.{begins_nil}
 use Rattle.tora_world.proofs.Invariant.{InPhase, AllEndsFollow, Seen, seen_at_other}
 use Rattle.tora_world.proofs.AllEnds.{more_seen, prefix_follows}
 use Rattle.tora_world.proofs.EndViews.{end_views}
-use Rattle.tora_world.proofs.Events.{need_keeps, tick_keeps, opening_keeps, pull_keeps, transmit_keeps, deliver_keeps, pump_keeps, arming_keeps, restart_keeps}
+use Rattle.tora_world.proofs.Events.{need_keeps, tick_keeps, opening_keeps, pull_keeps, transmit_keeps, deliver_keeps, pump_keeps, arming_keeps, restart_keeps, anew_keeps}
 use Rattle.tora_world.proofs.Serving.{turn_keeps}
 use Rattle.tora_world.proofs.ThreadEvents.{one_tick_keeps, pump_over_keeps, put_keeps, cut_keeps, file_keeps}
 
@@ -56,6 +56,15 @@ module _ (laws : LinkLaws) (lows : LifeLaws) where
       go true e = g
       go false e = effect_keeps steps w seen z now c event e g
 
+  started_follows : (steps : List MachineStep) (w : World) (seen : Seen) (c : Choice) (n : ℕ) → AllEndsFollow steps (end_views w) w.datagrams seen →
+      AllEndsFollow (made (free_steps_by c w (StartsAnew n)) steps) (end_views (free_by c w (StartsAnew n))) (free_by c w (StartsAnew n)).datagrams seen
+  unfolding world_by effect_by
+  started_follows steps w seen c n g = go (is_some (refusal_by c w (Restart n None)))
+    where
+      go : (b : Bool) → AllEndsFollow (made (if b then [] else steps_of_effect c w (Restart n None)) steps) (end_views (record (if b then w else effect_by c w (Restart n None)) { files = w.files })) (if b then w else effect_by c w (Restart n None)).datagrams seen
+      go true = g
+      go false = anew_keeps laws lows steps w seen n None w.files (λ a b f. refl) (λ a b m f. f) g
+
   pub free_follows : (steps : List MachineStep) (w : World) (seen : Seen) → ((n k : ℕ) (l : Life) → seen n k l 0) → ((n k : ℕ) (l : Life) → (w.ends n k).phase ≡ Bound l → seen n k l (w.ends n k).accepted) → (c : Choice) (event : FreeEvent) →
       AllEndsFollow steps (end_views w) w.datagrams seen → AllEndsFollow (made (free_steps_by c w event) steps) (end_views (free_by c w event)) (free_by c w event).datagrams seen
   free_follows steps w seen z now c (Happens event) g = world_follows steps w seen z now c event g
@@ -64,6 +73,7 @@ module _ (laws : LinkLaws) (lows : LifeLaws) where
   free_follows steps w seen z now c (Puts n seat what silent) g = put_keeps laws lows steps w seen g n seat c.stamp what silent
   free_follows steps w seen z now c (CutsBound n k) g = cut_keeps laws lows steps w seen g n k (bound_life (w.ends n k))
   free_follows steps w seen z now c (ChangesFile n k change kept) g = file_keeps laws lows steps w seen g n k (change (w.files n k)) (λ m. kept m (w.files n k))
+  free_follows steps w seen z now c (StartsAnew n) g = started_follows steps w seen c n g
 
   pub first_follows : (t : Topology) (times : Times) → AllEndsFollow [] (end_views (first_world t times)) [] (λ n k l c. c ≡ 0)
   first_follows t times = record {

@@ -31,7 +31,7 @@ use Rattle.tora_world.specs.Topology.{Topology, is_link}
 use Rattle.tora_world.specs.LinkMachine.{put_at}
 use Rattle.tora_world.specs.World.{owner_of, World, Choice, settings, datagram, with_end, first_world, refusal_by, open_with, after_opening, after_cargo, after_pull, after_sending, after_receiving, after_pump, after_turn, is_file_of, with_armed_files, after_arming, reopened, effect_by, world_by}
 use Rattle.tora_world.specs.FreeWorld.{FreeEvent, after_cut_of_bound, free_by, Schedule}
-use Rattle.tora_world.specs.FreeWorld.FreeEvent.{Happens, TicksEnd, PumpsOver, Puts, CutsBound, ChangesFile}
+use Rattle.tora_world.specs.FreeWorld.FreeEvent.{Happens, TicksEnd, PumpsOver, Puts, CutsBound, ChangesFile, StartsAnew}
 use Rattle.tora_world.specs.Law.{is_bound_to, times_bound, BindsOnce}
 use Rattle.tora_world.specs.Layers.{LinkLaws, LifeLaws}
 use Rattle.tora_world.proofs.PacketLists.{put_here, put_there, by_pair, same_true, same_refl}
@@ -126,6 +126,9 @@ module _ (laws : LinkLaws) (lows : LifeLaws) where
       phase = inl (inl refl);
     }
 
+    anew_phase : (n : ℕ) → To (w.ends a b).phase (if nat_eq a n then first_end else w.ends a b).phase
+    anew_phase n = cond_both (nat_eq a n) first_end (w.ends a b) (λ (e : EndState). To (w.ends a b).phase e.phase) (λ _. inr (inl refl)) (λ _. inl refl)
+
     onward : (c : Choice) (event : Event) → Between w (effect_by c w event) a b
     unfolding effect_by
     onward c (Need n d) = same_ends (effect_by c w (Need n d)) refl refl
@@ -167,12 +170,19 @@ module _ (laws : LinkLaws) (lows : LifeLaws) where
         go Fails.Sync = armed_between n Disk.Sync
     onward c (Restart n torn) = record {
       floors = λ m f. cond_both (is_file_of w n a b) (reopened torn (w.files a b)) (w.files a b) (IsFloor m) (λ _. lows.keep m (OpensAnew (after_crash torn (state_in (w.files a b)))) (w.files a b) f (lows.crash m torn (w.files a b) f)) (λ _. f);
-      phase = inl (cond_both (nat_eq a n) first_end (w.ends a b) (λ (e : EndState). To (w.ends a b).phase e.phase) (λ _. inr (inl refl)) (λ _. inl refl));
+      phase = inl (anew_phase n);
     }
 
     onward_world : (c : Choice) (event : Event) → Between w (world_by c w event) a b
     unfolding world_by
     onward_world c event = cond_both (is_some (refusal_by c w event)) _ _ (λ (x : World). Between w x a b) (λ _. still) (λ _. onward c event)
+
+    -- the life files stay
+    started_between : (c : Choice) (n : ℕ) → Between w (free_by c w (StartsAnew n)) a b
+    unfolding world_by effect_by
+    started_between c n =
+        cond_both (is_some (refusal_by c w (Restart n None))) _ _ (λ (x : World). Between w (record x { files = w.files }) a b) (λ _. record { floors = λ m f. f; phase = inl (inl refl) })
+        (λ _. record { floors = λ m f. f; phase = inl (anew_phase n) })
 
     onward_free : (c : Choice) (event : FreeEvent) → Between w (free_by c w event) a b
     onward_free c (Happens event) = onward_world c event
@@ -181,6 +191,7 @@ module _ (laws : LinkLaws) (lows : LifeLaws) where
     onward_free c (Puts n seat what silent) = same_ends (free_by c w (Puts n seat what silent)) refl refl
     onward_free c (CutsBound n k) = cut_between n k (bound_life (w.ends n k))
     onward_free c (ChangesFile n k change kept) = changed_between n k (change (w.files n k)) (λ m. kept m (w.files n k))
+    onward_free c (StartsAnew n) = started_between c n
 
 -- the number of an end is not above this
 abbrev Under : Phase → ℕ → Type 0

@@ -116,7 +116,8 @@ module _ (seats : SeatLaws) (t : Topology) (w : World) (h : AllFollow t w) where
   world_follows c event = cond_both (is_some (refusal_by c w event)) _ _ (AllFollow t) (λ _. h) (λ _. effect_follows c event)
 
   free_follows : (c : Choice) (event : FreeEvent) → AllFollow t (free_by c w event)
-  free_follows c event = free_cases w (λ of after. AllFollow t after) c (λ e. world_follows c e) (λ after l. same_cores t w after l.topology l.seats l.inputs h) event
+  free_follows c event = free_cases w (λ of after. AllFollow t after) c (λ e. world_follows c e) (λ after l. same_cores t w after l.topology l.seats l.inputs h)
+      (λ of after k. same_cores t after (record after { files = w.files }) refl refl refl k) event
 
 run_follows : SeatLaws → (t : Topology) (es : Schedule) (w : World) → AllFollow t w → AllFollow t (after_schedule es w)
 unfolding after_schedule

@@ -357,18 +357,26 @@ module _ (laws : LinkLaws) (lows : LifeLaws) (steps : List MachineStep) (w : Wor
   arming_keeps n Fails.Write g = armed_keeps n Disk.Write g
   arming_keeps n Fails.Sync g = armed_keeps n Disk.Sync g
 
-  pub restart_keeps : (n : ℕ) (torn : Option (List ℕ)) → WorldFollows w → WorldFollowsBy (steps_of_restart n (w.seats n).current (neighbours w n)) (after_restart w n torn)
-  restart_keeps n torn g = restart_follows n (w.seats n).current steps (end_views w) (end_views (after_restart w n torn)) w.datagrams seen (neighbours w n) off on g
+  -- a node is made anew, its life files are these, and no number is drawn again
+  pub anew_keeps : (n : ℕ) (torn : Option (List ℕ)) (files : ℕ → ℕ → LifeDisk) → ((a b : ℕ) → nat_eq a n ≡ false → files a b ≡ w.files a b) → ((a b m : ℕ) → IsFloor m (w.files a b) → IsFloor m (files a b)) →
+      WorldFollows w → WorldFollowsBy (steps_of_restart n (w.seats n).current (neighbours w n)) (record (after_restart w n torn) { files = files })
+  anew_keeps n torn files same floors g = restart_follows n (w.seats n).current steps (end_views w) (end_views (record (after_restart w n torn) { files = files })) w.datagrams seen (neighbours w n) off on g
     where
-      shown : Bool → ℕ → ℕ → EndView
-      shown t a b = view_of (settings w a b) (if t then first_end else w.ends a b) (if t && is_link w.topology a b then reopened torn (w.files a b) else w.files a b) ((if t then first_seat w.topology n else w.seats a).current b)
+      shown : Bool → LifeDisk → ℕ → ℕ → EndView
+      shown t file a b = view_of (settings w a b) (if t then first_end else w.ends a b) file ((if t then first_seat w.topology n else w.seats a).current b)
           (arrivals_of (neighbours w a) b (if t then [] else w.items a)) ((if t then (λ k. []) else w.cargoes a) b) (w.put a b) (w.steps a b)
 
-      off : (a b : ℕ) → nat_eq a n ≡ false → end_views (after_restart w n torn) a b ≡ end_views w a b
-      off a b f = ap (λ x. shown x a b) f
+      off : (a b : ℕ) → nat_eq a n ≡ false → end_views (record (after_restart w n torn) { files = files }) a b ≡ end_views w a b
+      off a b f = ap₂ (λ x file. shown x file a b) f (same a b f)
 
-      on : (a b : ℕ) (p p' : MachineEnd) (other : List Parcel) → nat_eq a n ≡ true → ClosesMore ((w.seats n).current b) p p' → FollowsMachine (end_views w a b) p other (seen_at_other seen a b) → FollowsMachine (end_views (after_restart w n torn) a b) p' other (seen_at_other seen a b)
+      on : (a b : ℕ) (p p' : MachineEnd) (other : List Parcel) → nat_eq a n ≡ true → ClosesMore ((w.seats n).current b) p p' → FollowsMachine (end_views w a b) p other (seen_at_other seen a b) →
+          FollowsMachine (end_views (record (after_restart w n torn) { files = files }) a b) p' other (seen_at_other seen a b)
       on a b p p' other t more h =
-          subst (λ x. FollowsMachine (shown x a b) p' other (seen_at_other seen a b)) (sym t)
-          (restarts laws (end_views w a b) p p' other (seen_at_other seen a b) (if is_link w.topology a b then reopened torn (w.files a b) else w.files a b) (subst (λ m. ClosesMore ((w.seats m).current b) p p') (sym (eqb-true a n t)) more)
-          (λ m f. cond_both (is_link w.topology a b) (reopened torn (w.files a b)) (w.files a b) (IsFloor m) (λ _. lows.keep m (OpensAnew (after_crash torn (state_in (w.files a b)))) (w.files a b) f (lows.crash m torn (w.files a b) f)) (λ _. f)) h)
+          subst (λ x. FollowsMachine (shown x (files a b) a b) p' other (seen_at_other seen a b)) (sym t)
+          (restarts laws (end_views w a b) p p' other (seen_at_other seen a b) (files a b) (subst (λ m. ClosesMore ((w.seats m).current b) p p') (sym (eqb-true a n t)) more) (floors a b) h)
+
+  -- its life files are opened after a crash
+  pub restart_keeps : (n : ℕ) (torn : Option (List ℕ)) → WorldFollows w → WorldFollowsBy (steps_of_restart n (w.seats n).current (neighbours w n)) (after_restart w n torn)
+  restart_keeps n torn g =
+      anew_keeps n torn (after_restart w n torn).files (λ a b f. ap (λ x. if x && is_link w.topology a b then reopened torn (w.files a b) else w.files a b) f)
+      (λ a b m f. cond_both (is_file_of w n a b) (reopened torn (w.files a b)) (w.files a b) (IsFloor m) (λ _. lows.keep m (OpensAnew (after_crash torn (state_in (w.files a b)))) (w.files a b) f (lows.crash m torn (w.files a b) f)) (λ _. f)) g

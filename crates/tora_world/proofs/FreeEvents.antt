@@ -1,4 +1,4 @@
--- What only threads do changes at most ends, life files and lanes into the cores.
+-- What only threads do changes at most ends, life files and lanes into the cores, but for a start, which is a Restart with other life files.
 use Rattle.std.proofs.Common.{ℕ, List, [], ◌∷◌, Option, Some, None, refl}
 use Rattle.std.proofs.lemmas.Bool.{cond_both}
 use Rattle.tora_arq.specs.declared.LinkEvent.{LinkEvent}
@@ -6,10 +6,11 @@ use Rattle.tora_arq.specs.LinkEnd.{EndState, first_event}
 use Rattle.tora_life.specs.LifeRun.{LifeDisk}
 use Rattle.tora_seat.specs.declared.Item.{Item}
 use Rattle.tora_world.specs.declared.Event.{Event}
+use Rattle.tora_world.specs.declared.Event.TheVariants.{Restart}
 use Rattle.tora_world.specs.Topology.{is_link}
 use Rattle.tora_world.specs.World.{World, Choice, after_pump, world_by}
 use Rattle.tora_world.specs.FreeWorld.{FreeEvent, if_happens, free_by}
-use Rattle.tora_world.specs.FreeWorld.FreeEvent.{Happens, TicksEnd, PumpsOver, Puts, CutsBound, ChangesFile}
+use Rattle.tora_world.specs.FreeWorld.FreeEvent.{Happens, TicksEnd, PumpsOver, Puts, CutsBound, ChangesFile, StartsAnew}
 use Rattle.tora_world.specs.Frames.{AllElse}
 use Rattle.tora_world.specs.Frames.Part.{Ends, Files, Items, Counts}
 
@@ -25,14 +26,16 @@ module _ (w : World) where
   pump_leaves c n k None = leaves w.ends w.files w.items w.counts
   pump_leaves c n k (Some event) = let after : World = after_pump w c n k (Some event) in leaves after.ends w.files after.items after.counts
 
-  -- what holds after each event of the simulator and of each world that leaves the cores holds after each event of the free world. It may also
-  -- speak of what an event of the simulator makes of values that stay at the other events
+  -- what holds after each event of the simulator and of each world that leaves the cores, whatever the life files are, holds after each event of
+  -- the free world. It may also speak of what an event of the simulator makes of values that stay at the other events
   pub free_cases : (Holds : ((A : Type 0) → (Event → A) → A → A) → World → Type 0) (c : Choice) → ((event : Event) → Holds (λ A f value. f event) (world_by c w event)) → ((after : World) → LeavesCores w after → Holds (λ A f value. value) after) →
+      ((of : (A : Type 0) → (Event → A) → A → A) (after : World) → Holds of after → Holds of (record after { files = w.files })) →
       (event : FreeEvent) → Holds (λ A f value. if_happens f value event) (free_by c w event)
-  free_cases Holds c happens others (Happens event) = happens event
-  free_cases Holds c happens others (TicksEnd n k) = let after : World = free_by c w (TicksEnd n k) in others after (leaves after.ends w.files w.items w.counts)
-  free_cases Holds c happens others (PumpsOver n k) =
+  free_cases Holds c happens others refiled (Happens event) = happens event
+  free_cases Holds c happens others refiled (TicksEnd n k) = let after : World = free_by c w (TicksEnd n k) in others after (leaves after.ends w.files w.items w.counts)
+  free_cases Holds c happens others refiled (PumpsOver n k) =
       others (free_by c w (PumpsOver n k)) (cond_both (is_link w.topology n k) _ _ (LeavesCores w) (λ _. pump_leaves c n k (first_event (w.ends n k))) (λ _. leaves w.ends w.files w.items w.counts))
-  free_cases Holds c happens others (Puts n seat what silent) = let after : World = free_by c w (Puts n seat what silent) in others after (leaves w.ends w.files after.items after.counts)
-  free_cases Holds c happens others (CutsBound n k) = let after : World = free_by c w (CutsBound n k) in others after (leaves after.ends w.files w.items w.counts)
-  free_cases Holds c happens others (ChangesFile n k change kept) = let after : World = free_by c w (ChangesFile n k change kept) in others after (leaves w.ends after.files w.items w.counts)
+  free_cases Holds c happens others refiled (Puts n seat what silent) = let after : World = free_by c w (Puts n seat what silent) in others after (leaves w.ends w.files after.items after.counts)
+  free_cases Holds c happens others refiled (CutsBound n k) = let after : World = free_by c w (CutsBound n k) in others after (leaves after.ends w.files w.items w.counts)
+  free_cases Holds c happens others refiled (ChangesFile n k change kept) = let after : World = free_by c w (ChangesFile n k change kept) in others after (leaves w.ends after.files w.items w.counts)
+  free_cases Holds c happens others refiled (StartsAnew n) = refiled (λ A f value. f (Restart n None)) (world_by c w (Restart n None)) (happens (Restart n None))

@@ -341,7 +341,8 @@ module _ (t : Topology) (keeping : IsKeeping t) (steps : List MachineStep) (w : 
   world_kept c event = cond_both (is_some (refusal_by c w event)) _ _ (AreKept t) (λ _. h) (λ _. effect_kept c event)
 
   free_kept : (c : Choice) (event : FreeEvent) → AreKept t (free_by c w event)
-  free_kept c event = free_cases w (λ of after. AreKept t after) c (λ e. world_kept c e) (λ after l. same_kept t w after l.topology l.seats l.put h) event
+  free_kept c event = free_cases w (λ of after. AreKept t after) c (λ e. world_kept c e) (λ after l. same_kept t w after l.topology l.seats l.put h)
+      (λ of after k. same_kept t after (record after { files = w.files }) refl refl refl k) event
 
 -- ---- runs
 

@@ -155,7 +155,8 @@ module _ (cores : CoreLaws) (seats : SeatLaws) (t : Topology) (steps : List Mach
   world_at c event = cond_both (is_some (refusal_by c w event)) _ _ (AreReceived t) (λ _. h) (λ _. effect_at c event)
 
   free_at : (c : Choice) (event : FreeEvent) → AreReceived t (free_by c w event)
-  free_at c event = free_cases w (λ of after. AreReceived t after) c (λ e. world_at c e) (λ after l. same_received t w after l.topology l.seats l.inputs l.steps h) event
+  free_at c event = free_cases w (λ of after. AreReceived t after) c (λ e. world_at c e) (λ after l. same_received t w after l.topology l.seats l.inputs l.steps h)
+      (λ of after k. same_received t after (record after { files = w.files }) refl refl refl refl k) event
 
 -- ---- runs
 

@@ -246,7 +246,7 @@ module _ (cores : CoreLaws) (seats : SeatLaws) (steps : List MachineStep) (w : W
   pub free_nodes : (c : Choice) (event : FreeEvent) → AreNodes (λ a k. free_stepped_after c w a k event (earlier a k)) (free_by c w event)
   free_nodes c event =
       free_cases w (λ of after. AreNodes (λ a k. of (List Packet) (λ e. stepped_after c w a k e (earlier a k)) (earlier a k)) after) c (λ e. world_nodes c e)
-      (λ after l. same_nodes w after l.topology l.seats l.put l.inputs l.steps h) event
+      (λ after l. same_nodes w after l.topology l.seats l.put l.inputs l.steps h) (λ of after k. same_nodes after (record after { files = w.files }) refl refl refl refl refl k) event
 
 -- ---- runs
 

@@ -237,7 +237,8 @@ module _ (cores : CoreLaws) (seats : SeatLaws) (t : Topology) (n k : ℕ) (apart
   free_at : (Was : Life → Type 0) (o : Option Life) (w : World) (c : Choice) (event : FreeEvent) → Fresh w → AtWorld Was o w → Left Was (free_life_after c w n k event o) w (free_by c w event)
   free_at Was o w c event fresh h =
       free_cases w (λ of after. Left Was (of (Option Life) (λ e. life_after c w n k e o) o) w after) c (λ e. world_at Was o w c e fresh h)
-      (λ after l. same_parts Was o w after l.topology l.seats l.inputs l.put h) event
+      (λ after l. same_parts Was o w after l.topology l.seats l.inputs l.put h)
+      (λ of after k. record { world = record { topology = k.world.topology; parts = k.world.parts }; others = k.others }) event
 
   fresh_of : (steps : List MachineStep) (w : World) (seen : Seen) → w.topology ≡ t → AllEndsFollow steps (end_views w) w.datagrams seen → Fresh w
   fresh_of steps w seen top g item items q l seat what =

@@ -6,6 +6,7 @@ use Rattle.tora_life.specs.LifeRun.{LifeDisk, IsFloor}
 use Rattle.tora_seat.specs.declared.What.{What}
 use Rattle.tora_seat.specs.declared.What.TheVariants as Tells
 use Rattle.tora_world.specs.declared.Event.{Event}
+use Rattle.tora_world.specs.declared.Event.TheVariants.{Restart}
 use Rattle.tora_world.specs.Topology.{is_link}
 use Rattle.tora_world.specs.LinkMachine.{put_at}
 use Rattle.tora_world.specs.World.{World, Choice, settings, with_end, with_item, after_pump, world_by, own_choice, world_after}
@@ -43,8 +44,10 @@ pub data FreeEvent : Type 0 where
   CutsBound : (n k : ℕ) → FreeEvent
   -- a life file is another one than before: calls of it failed, or a crash in the middle of a call left it so
   ChangesFile : (n k : ℕ) (change : LifeDisk → LifeDisk) → ForgetsNothing change → FreeEvent
+  -- core, ends and lanes of a node are made anew, as by a Restart, and its life files are as they are
+  StartsAnew : (n : ℕ) → FreeEvent
 
--- of an event of the simulator what the function says, and of what only threads do the value
+-- of an event of the simulator what the function says, of a start what it says of a Restart, and of all else that only threads do the value
 abbrev pub if_happens : {A : Type 0} → (Event → A) → A → FreeEvent → A
 if_happens f value (Happens event) = f event
 if_happens f value (TicksEnd n k) = value
@@ -52,6 +55,7 @@ if_happens f value (PumpsOver n k) = value
 if_happens f value (Puts n seat what silent) = value
 if_happens f value (CutsBound n k) = value
 if_happens f value (ChangesFile n k change kept) = value
+if_happens f value (StartsAnew n) = f (Restart n None)
 
 -- ---- what it does
 
@@ -68,6 +72,7 @@ free_by c w (PumpsOver n k) = if is_link w.topology n k then after_pump w c n k 
 free_by c w (Puts n seat what silent) = with_item w n seat c.stamp what
 free_by c w (CutsBound n k) = with_end w n k (after_cut_of_bound (w.ends n k) (bound_life (w.ends n k)))
 free_by c w (ChangesFile n k change kept) = record w { files = put_at w.files n k (change (w.files n k)) }
+free_by c w (StartsAnew n) = record (world_by c w (Restart n None)) { files = w.files }
 
 -- the event leaves this world, whatever ticks its calls are handed and whatever is answered for its cargoes
 abbrev pub MayHappen : World → FreeEvent → World → Type 0

@@ -70,7 +70,7 @@ life_by w n k (Arm m call) life = life
 abbrev pub life_after : Choice → World → ℕ → ℕ → Event → Option Life → Option Life
 life_after c w n k event life = if is_some (refusal_by c w event) then life else life_by w n k event life
 
--- what only threads do takes no life from the lane
+-- a start forgets it as a Restart does, and all else that only threads do takes no life from the lane
 abbrev pub free_life_after : Choice → World → ℕ → ℕ → FreeEvent → Option Life → Option Life
 free_life_after c w n k event life = if_happens (λ e. life_after c w n k e life) life event
 

@@ -94,7 +94,7 @@ steps_of_effect c w (Arm n call) = []
 abbrev pub steps_by : Choice → World → Event → List MachineStep
 steps_by c w event = if is_some (refusal_by c w event) then [] else steps_of_effect c w event
 
--- what only threads do is no step
+-- a start makes the steps of a Restart, and all else that only threads do is no step
 abbrev pub free_steps_by : Choice → World → FreeEvent → List MachineStep
 free_steps_by c w event = if_happens (λ e. steps_by c w e) [] event
 

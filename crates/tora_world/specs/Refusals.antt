@@ -52,7 +52,7 @@ stepped_by w n k (Arm m call) earlier = earlier
 abbrev pub stepped_after : Choice → World → ℕ → ℕ → Event → List Packet → List Packet
 stepped_after c w n k event earlier = if is_some (refusal_by c w event) then earlier else stepped_by w n k event earlier
 
--- what only threads do restarts no node
+-- a start is a Restart here, and nothing else that only threads do restarts a node
 abbrev pub free_stepped_after : Choice → World → ℕ → ℕ → FreeEvent → List Packet → List Packet
 free_stepped_after c w n k event earlier = if_happens (λ e. stepped_after c w n k e earlier) earlier event
 

@@ -15,12 +15,12 @@ use Rattle.tora_life.specs.Numbers.{value_of}
 use Rattle.tora_life.specs.State.{MayLeave}
 use Rattle.tora_seat.specs.declared.What.TheVariants as Tells
 use Rattle.tora_world.specs.declared.Event.{Event}
-use Rattle.tora_world.specs.declared.Event.TheVariants.{Open, Transmit, Deliver, Pump, CoreTurn}
+use Rattle.tora_world.specs.declared.Event.TheVariants.{Open, Transmit, Deliver, Pump, CoreTurn, Restart}
 use Rattle.tora_world.specs.declared.SimError.TheVariants as Refused
 use Rattle.tora_world.specs.LinkMachine.MachineStep.{Draw, Send, Close}
 use Rattle.tora_world.specs.World.{World, Choice, refusal_of}
 use Rattle.tora_world.specs.FreeWorld.{FreeEvent, ForgetsNothing, Schedule, after_schedule, own_schedule}
-use Rattle.tora_world.specs.FreeWorld.FreeEvent.{Happens, PumpsOver, Puts, CutsBound, ChangesFile}
+use Rattle.tora_world.specs.FreeWorld.FreeEvent.{Happens, PumpsOver, Puts, CutsBound, ChangesFile, StartsAnew}
 use Rattle.tora_world.specs.MachineRun.{machine_steps}
 use Rattle.tora_world.specs.Worked.{start, life, update, binding, bound_steps}
 use Rattle.tora_world.specs.WorkedEvents.{copies}
@@ -131,3 +131,16 @@ pub record ChangesOne : Type 0 where
   pub as_it_was : ((left binding 0 (CutsBound 1 2 ∷ Happens (Open 1 2) ∷ [])).ends 1 2).phase ≡ Unbound 2
   pub changed : ((left binding 0 (CutsBound 1 2 ∷ ChangesFile 1 2 passes_over passes_no_floor ∷ Happens (Open 1 2) ∷ [])).ends 1 2).phase ≡ Unbound 17
   pub steps : machine_steps (behind binding 0 (CutsBound 1 2 ∷ ChangesFile 1 2 passes_over passes_no_floor ∷ Happens (Open 1 2) ∷ [])) start [] ≡ Draw 1 2 17 ∷ bound_steps
+
+-- ---- a node that starts anew
+
+-- the life is current at both cores, and node 1 starts anew
+pub record StartsOne : Type 0 where
+  pub closed : ((left upping 0 (StartsAnew 1 ∷ [])).ends 1 2).phase ≡ Closed
+  pub over : ((left upping 0 (StartsAnew 1 ∷ [])).seats 1).current 2 ≡ None
+  pub other : ((left upping 0 (StartsAnew 1 ∷ [])).ends 2 1).phase ≡ Bound life
+  -- the machine closes the life, and what was sent in it stays
+  pub steps : machine_steps (behind upping 0 (StartsAnew 1 ∷ [])) start [] ≡ Close 1 2 life ∷ Send 1 2 life update ∷ bound_steps
+  -- the life file is as it was: the number after the last one is drawn, where a Restart passes over those that are set aside
+  pub drawn : ((left upping 0 (StartsAnew 1 ∷ Happens (Open 1 2) ∷ [])).ends 1 2).phase ≡ Unbound 2
+  pub restarted : ((left upping 0 (Happens (Restart 1 None) ∷ Happens (Open 1 2) ∷ [])).ends 1 2).phase ≡ Unbound 17
