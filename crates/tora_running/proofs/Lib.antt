@@ -1,0 +1,5 @@
+pub mod LifeFiles
+pub mod PartEvents
+pub mod LinkPartEvents
+pub mod RunsOfParts
+pub mod WorldLaws

@@ -1,0 +1,53 @@
+-- What holds of every run of running nodes.
+use Rattle.std.specs.Prelude.{◌≡◌, ℕ, true, List, [], Some, None}
+use Rattle.tora_packet.specs.declared.Packet.{Packet}
+use Rattle.tora_frame.specs.FrameParts.{FrameParts}
+use Rattle.tora_arq.specs.declared.Life.{Life}
+use Rattle.tora_arq.specs.declared.Times.{Times}
+use Rattle.tora_core.specs.CoreRun.{core_after_all}
+use Rattle.tora_world.specs.Topology.{Topology, topology_fault, new_core, is_link}
+use Rattle.tora_world.specs.Lists.{reversed, Begins, IsIn}
+use Rattle.tora_world.specs.World.{World, first_world}
+use Rattle.tora_world.specs.FreeWorld.{Schedule, after_schedule}
+use Rattle.tora_world.specs.Gaps.{broadcast_from}
+use Rattle.tora_running.specs.Network.{Network, Part, first_network, after_parts, IsRun, packets_sent, packets_taken}
+
+-- this holds of the network that any run of parts leaves, over any topology and with any times of the link ends
+abbrev pub EveryNetwork : (Topology → Times → Network → Type 0) → Type 0
+EveryNetwork Holds =
+    (t : Topology) (times : Times) (parts : List Part) → IsRun (first_network t times) parts → Holds t times (after_parts parts (first_network t times))
+
+-- the world has what the network has, and each frame that went out is one of its datagrams
+pub record IsWorldOf (network : Network) (w : World) : Type 0 where
+  pub topology : w.topology ≡ network.topology
+  pub times : w.times ≡ network.times
+  pub seats : w.seats ≡ network.seats
+  pub ends : w.ends ≡ network.ends
+  pub items : w.items ≡ network.items
+  pub counts : w.counts ≡ network.counts
+  pub cargoes : w.cargoes ≡ network.cargoes
+  pub put : w.put ≡ network.put
+  pub inputs : w.inputs ≡ network.inputs
+  pub steps : w.steps ≡ network.steps
+  pub datagrams : (n k : ℕ) (frame : FrameParts) → IsIn frame (network.frames n k) → IsIn frame w.datagrams
+
+-- some schedule of the free world leaves that world
+abbrev pub IsOfWorld : Topology → Times → Network → Type 0
+IsOfWorld t times network = (es : Schedule) × IsWorldOf network (after_schedule es (first_world t times))
+
+-- what was taken in a life begins what was sent in it
+abbrev pub TakenBeginsSent : Network → Type 0
+TakenBeginsSent w = (a b : ℕ) (life : Life) → Begins (packets_taken w b a (reversed life)) (packets_sent w a b life)
+
+-- each core is what TORA's rules make of the inputs that it accepted since its node's last start
+abbrev pub CoresFollow : Topology → Network → Type 0
+CoresFollow t w = (n : ℕ) → (w.seats n).core ≡ core_after_all (new_core t n) (w.inputs n)
+
+-- what the core of n has broadcast to k since their link came up last
+abbrev pub packets_broadcast : Topology → Network → ℕ → ℕ → List Packet
+packets_broadcast t w n k = broadcast_from k (new_core t n) (w.inputs n) []
+
+-- while a life is current at a core, all that the core broadcast since its link came up was sent in it
+abbrev pub IsWithoutGap : Topology → Network → Type 0
+IsWithoutGap t w =
+    topology_fault t ≡ None → (n k : ℕ) (life : Life) → is_link t n k ≡ true → (w.seats n).current k ≡ Some life → packets_sent w n k life ≡ packets_broadcast t w n k

@@ -1,0 +1,168 @@
+-- A network of running nodes, and what the parts of their threads make of it, in one order of all of them.
+use Rattle.std.specs.Prelude.{◌≡◌, ℕ, suc, ◌<◌, ◌≤◌, ◌^◌, ◌==◌, IsTrue, if◌then◌else◌, List, [], ◌∷◌, ◌++◌, length, drop}
+use Rattle.tora_packet.specs.declared.Packet.{Packet}
+use Rattle.tora_frame.specs.FrameParts.{FrameParts}
+use Rattle.tora_arq.specs.declared.Life.{Life}
+use Rattle.tora_arq.specs.declared.Times.{Times}
+use Rattle.tora_arq.specs.Settings.{Settings, settings_of}
+use Rattle.tora_arq.specs.LinkEnd.{EndState, first_end}
+use Rattle.tora_core.specs.declared.Input.{Input}
+use Rattle.tora_seat.specs.declared.What.{What}
+use Rattle.tora_seat.specs.declared.What.TheVariants as Told
+use Rattle.tora_seat.specs.declared.Item.{Item}
+use Rattle.tora_seat.specs.declared.Cargo.{Cargo}
+use Rattle.tora_seat.specs.Serving.{SeatState, Parcel, Offer, Serving, put_one, put_to, stepped_from}
+use Rattle.tora_world.specs.Topology.{Topology, version_at, neighbours_of, is_node, is_link}
+use Rattle.tora_world.specs.Lists.{packets_of, parcels_in, IsIn}
+use Rattle.tora_world.specs.LinkMachine.{put_at}
+use Rattle.tora_world.specs.World.{first_seat, place_of, with_datagram, what_of}
+use Rattle.tora_world.specs.FreeWorld.{TellsNoLife}
+use Rattle.tora_running.specs.Parts.{LinkPart, end_after, IsPossible}
+use Rattle.tora_running.specs.Parts.LinkPart.{Opens, Ticks, Takes, Sends, Hears, Tells, Beats, Breaks}
+use Rattle.tora_running.specs.Served.{serving_told}
+
+pub record Network : Type 0 where
+  pub topology : Topology
+  pub times : Times  -- those of every link end
+  pub seats : ℕ → SeatState  -- of each node, its core with the lives of its neighbours
+  pub ends : ℕ → ℕ → EndState  -- of each node and each neighbour, the link end
+  pub numbers : ℕ → ℕ → ℕ  -- and the last number that was drawn for it
+  pub items : ℕ → List Item  -- the lane into each core
+  pub counts : ℕ → ℕ → ℕ  -- how many items each seat of a node has put since the node's last start
+  pub cargoes : ℕ → ℕ → List Cargo  -- the lane from each core to each neighbour
+  pub frames : ℕ → ℕ → List FrameParts  -- all that went out from a node to a neighbour
+  pub put : ℕ → ℕ → List Cargo  -- all cargoes that were ever put into that lane
+  pub inputs : ℕ → List (Input × ℕ)  -- the inputs that each core accepted since its node's last start
+  pub steps : ℕ → ℕ → List Parcel  -- the packets of each neighbour that were ever stepped
+
+-- no node was started yet
+abbrev pub first_network : Topology → Times → Network
+first_network t times = record {
+  topology = t;
+  times = times;
+  seats = first_seat t;
+  ends = λ n k. first_end;
+  numbers = λ n k. 0;
+  items = λ n. [];
+  counts = λ n seat. 0;
+  cargoes = λ n k. [];
+  frames = λ n k. [];
+  put = λ n k. [];
+  inputs = λ n. [];
+  steps = λ n k. [];
+}
+
+-- the packets that the core of a put into the lane to b in a life, as a's end writes it
+abbrev pub packets_sent : Network → ℕ → ℕ → Life → List Packet
+packets_sent w a b life = packets_of life (parcels_in (w.put a b))
+
+-- the packets of a that the core of b stepped in a life, as b's end writes it
+abbrev pub packets_taken : Network → ℕ → ℕ → Life → List Packet
+packets_taken w b a life = packets_of life (w.steps b a)
+
+-- ---- parts
+
+pub data Part : Type 0 where
+  -- a node is started, for the first time or after its process has ended, at whatever moment that was
+  Starts : (n : ℕ) → Part
+  -- the thread of n's link to k
+  OfLink : (n k : ℕ) (part : LinkPart) → Part
+  -- the core's thread takes an item and serves it, and these cargoes are offered
+  Serves : (n : ℕ) (item : Item) (offers : List Offer) → Part
+  -- a user asks for something
+  Asks : (n now : ℕ) (what : What) → Part
+
+-- ---- what they make of the network
+
+abbrev pub settings_at : Network → ℕ → ℕ → Settings
+settings_at w n k = settings_of (version_at w.topology n) n k w.times
+
+abbrev pub neighbours_at : Network → ℕ → List ℕ
+neighbours_at w n = neighbours_of w.topology n
+
+-- the place of the neighbour is its seat, and the commands have the seat behind those of the links
+abbrev pub seat_of : Network → ℕ → ℕ → ℕ
+seat_of w n k = place_of k (neighbours_at w n)
+
+-- core, ends and lanes of n are made anew; what was drawn, sent and taken stays
+abbrev pub after_start : Network → ℕ → Network
+after_start w n = record w {
+  seats = put_one w.seats n (first_seat w.topology n);
+  ends = λ a k. if a == n then first_end else w.ends a k;
+  items = put_one w.items n [];
+  counts = put_one w.counts n (λ seat. 0);
+  cargoes = put_one w.cargoes n (λ k. []);
+  inputs = put_one w.inputs n [];
+}
+
+-- an item more in the lane into the core of n
+abbrev pub with_item : Network → ℕ → ℕ → ℕ → What → Network
+with_item w n seat now what = record w {
+  items = put_one w.items n (w.items n ++ record { seat = seat; number = suc (w.counts n seat); now = now; what = what } ∷ []);
+  counts = put_at w.counts n seat (suc (w.counts n seat));
+}
+
+-- what a part of a link's thread does beside what it makes of the end
+abbrev pub beside : Network → ℕ → ℕ → LinkPart → Network
+beside w n k (Opens number now) = record w { numbers = put_at w.numbers n k number }
+beside w n k (Ticks now) = w
+beside w n k (Takes cargo) = record w { cargoes = put_at w.cargoes n k (drop 1 (w.cargoes n k)) }
+beside w n k (Sends now frame sending) = record w { frames = put_at w.frames n k (with_datagram sending (w.frames n k) frame) }
+beside w n k (Hears now frame) = w
+beside w n k (Tells now event) = with_item w n (seat_of w n k) now (what_of event)
+beside w n k (Beats now) = with_item w n (seat_of w n k) now Told.Beat
+beside w n k Breaks = w
+
+abbrev pub with_part : Network → ℕ → ℕ → LinkPart → Network
+with_part w n k part = record w { ends = put_at w.ends n k (end_after (settings_at w n k) (w.ends n k) part) }
+
+-- the front of the lane was taken and served
+abbrev pub after_serving : Network → ℕ → Serving → Network
+after_serving w n v = record w {
+  seats = put_one w.seats n v.seat;
+  items = put_one w.items n (drop 1 (w.items n));
+  cargoes = put_one w.cargoes n (λ k. w.cargoes n k ++ put_to k v.offers);
+  put = put_one w.put n (λ k. w.put n k ++ put_to k v.offers);
+  inputs = put_one w.inputs n (w.inputs n ++ v.inputs);
+  steps = put_one w.steps n (λ k. w.steps n k ++ stepped_from k v.steps);
+}
+
+abbrev pub after_part : Network → Part → Network
+after_part w (Starts n) = after_start w n
+after_part w (OfLink n k part) = beside (with_part w n k part) n k part
+after_part w (Serves n item offers) = after_serving w n (serving_told (neighbours_at w n) (w.seats n) item offers)
+after_part w (Asks n now what) = with_item w n (length (neighbours_at w n)) now what
+
+abbrev pub after_parts : List Part → Network → Network
+after_parts [] w = w
+after_parts (part ∷ parts) w = after_parts parts (after_part w part)
+
+-- ---- where they may be made
+
+-- what was put first is taken first
+abbrev pub IsFront : {A : Type 0} → A → List A → Type 0
+IsFront x [] = ⊥
+IsFront x (y ∷ ys) = x ≡ y
+
+-- numbers rise over all starts of a node, lanes keep their order, and no datagram is forged
+abbrev pub IsGiven : Network → ℕ → ℕ → LinkPart → Type 0
+IsGiven w n k (Opens number now) = (w.numbers n k < number) × (number ≤ 2 ^ 62)
+IsGiven w n k (Takes cargo) = IsFront cargo (w.cargoes n k)
+IsGiven w n k (Hears now frame) = IsIn frame (w.frames k n)
+IsGiven w n k (Ticks now) = Unit {0}
+IsGiven w n k (Sends now frame sending) = Unit {0}
+IsGiven w n k (Tells now event) = Unit {0}
+IsGiven w n k (Beats now) = Unit {0}
+IsGiven w n k Breaks = Unit {0}
+
+-- where a part may be made
+abbrev pub MayBe : Network → Part → Type 0
+MayBe w (Starts n) = IsTrue (is_node w.topology n)
+MayBe w (OfLink n k part) = IsTrue (is_link w.topology n k) × IsPossible (settings_at w n k) (w.ends n k) part × IsGiven w n k part
+MayBe w (Serves n item offers) = IsTrue (is_node w.topology n) × IsFront item (w.items n) × ((serving_told (neighbours_at w n) (w.seats n) item offers).offers ≡ offers)
+MayBe w (Asks n now what) = IsTrue (is_node w.topology n) × TellsNoLife what
+
+-- each part may be made when it is made
+abbrev pub IsRun : Network → List Part → Type 0
+IsRun w [] = Unit {0}
+IsRun w (part ∷ parts) = MayBe w part × IsRun (after_part w part) parts

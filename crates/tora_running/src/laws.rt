@@ -1,0 +1,46 @@
+//! The laws of running nodes. Each stands over the definitions alone: a function without parameters that does nothing.
+ghost use Rattle.tora_running.specs.Laws.{CoresFollow, EveryNetwork, IsOfWorld, IsWithoutGap, TakenBeginsSent};
+
+use tora_arq::data_frames_are_what_was_submitted;
+use tora_life::drawn_life_numbers_rise;
+use tora_world::{life_files_become_what_crashes_leave, no_gap_law, prefix_law};
+
+/// Running nodes are a world: whatever the parts that their threads make, some schedule of the free world leaves a world with
+/// the same cores, link ends and lanes, in which the same was sent, taken and accepted.
+///
+/// A part may be made where the thread's own definition allows it, lanes keep their order, no datagram is forged, and the
+/// numbers drawn for a link end rise. That is all that is asked of a run of parts; ticks, answers of lanes, losses,
+/// repeated datagrams and the moments of starts are any.
+pub fn running_nodes_are_a_world()
+    ensures { EveryNetwork (λ t times w. IsOfWorld t times w) }
+{
+    data_frames_are_what_was_submitted();
+    drawn_life_numbers_rise();
+    life_files_become_what_crashes_leave();
+}
+
+/// The prefix law of running nodes: what the core of a node has taken from a neighbour in a life begins what the
+/// neighbour's core has sent in that life, over all starts of both.
+pub fn running_nodes_keep_the_prefix_law()
+    ensures { EveryNetwork (λ t times w. TakenBeginsSent w) }
+{
+    running_nodes_are_a_world();
+    prefix_law();
+}
+
+/// Each core of a running node is what TORA's rules make of the inputs that it accepted since its node's last start.
+pub fn running_cores_follow()
+    ensures { EveryNetwork (λ t times w. CoresFollow t w) }
+{
+    running_nodes_are_a_world();
+    prefix_law();
+}
+
+/// The no-gap law of running nodes: while a life is current at a core, all that the core has broadcast since its link came
+/// up was sent in that life, and nothing else.
+pub fn running_nodes_keep_the_no_gap_law()
+    ensures { EveryNetwork (λ t times w. IsWithoutGap t w) }
+{
+    running_nodes_are_a_world();
+    no_gap_law();
+}

@@ -1,0 +1,9 @@
+//! What the threads of running nodes do is a run of the free world, so that its laws hold of running nodes.
+#![tactic(auto)]
+
+mod laws;
+
+pub use laws::{
+    running_cores_follow, running_nodes_are_a_world, running_nodes_keep_the_no_gap_law,
+    running_nodes_keep_the_prefix_law,
+};
