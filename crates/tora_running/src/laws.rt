@@ -1,5 +1,7 @@
 //! The laws of running nodes. Each stands over the definitions alone: a function without parameters that does nothing.
 ghost use Rattle.tora_running.specs.Laws.{CoresFollow, EveryNetwork, IsOfWorld, IsWithoutGap, TakenBeginsSent};
+ghost use Rattle.tora_running.specs.Network.{IsRun};
+ghost use Rattle.tora_running.specs.Worked.{start, first_parts, parted, second_parts, met, HandsBack, HasMet};
 
 use tora_arq::data_frames_are_what_was_submitted;
 use tora_life::drawn_life_numbers_rise;
@@ -44,3 +46,14 @@ pub fn running_nodes_keep_the_no_gap_law()
     running_nodes_are_a_world();
     no_gap_law();
 }
+
+/// Two running nodes, computed: what the laws say of a run of parts is not empty.
+pub fn worked_networks_hold()
+    // Both nodes are started, a HELLO is lost, three more bind the link, and the update of node 1 is handed back.
+    ensures first { IsRun start first_parts }
+    ensures handed_back { HandsBack parted }
+    // Both are killed and started again. An old datagram comes, the link is bound in a second life, and the update is sent and
+    // taken in it, once, though its datagram comes twice: node 1 has a route.
+    ensures second { IsRun parted second_parts }
+    ensures met { HasMet met }
+{}

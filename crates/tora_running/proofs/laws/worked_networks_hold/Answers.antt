@@ -1,0 +1,24 @@
+use Rattle.std.proofs.Common.{refl, inl, inr}
+use Rattle.std.proofs.lemmas.Bool.{leb-true}
+use Rattle.tora_height.specs.Height.{height_fault}
+use Rattle.tora_arq.specs.LinkEnd.{after_release, after_packet, after_packets, on_data, on_matched, on_frame_in, on_frame, after_tick, on_submit, after_cut, on_transmit_in, on_transmit}
+use Rattle.tora_arq.specs.SendQueue.{ready_run, first_due}
+use Rattle.tora_core.specs.Rules.{after_join, new_level, after_erase, after_link_loss, after_update_loss}
+use Rattle.tora_seat.specs.Serving.{after_cuts_tried, after_broadcast, after_broadcasts, after_step, after_settling, after_input, after_link_item, after_other_item, serving_of}
+use Rattle.tora_running.proofs.laws.worked_networks_hold.Goals as goal
+
+pub returns-clause-first : goal.returns-clause-first
+unfolding after_release after_packet after_packets on_data on_matched on_frame_in on_frame after_tick on_submit after_cut on_transmit_in on_transmit ready_run first_due after_join new_level after_erase after_link_loss after_update_loss after_cuts_tried after_broadcast after_broadcasts after_step after_settling after_input after_link_item after_other_item serving_of height_fault
+returns-clause-first c = (refl, (refl, ((refl, tt), ((refl, refl, refl), ((refl, (refl, leb-true _ _ refl), (leb-true _ _ refl, leb-true _ _ refl)), ((refl, (refl, leb-true _ _ refl), (leb-true _ _ refl, leb-true _ _ refl)), ((refl, refl, tt), ((refl, refl, tt), ((refl, tt, inl refl), ((refl, refl, tt), ((refl, tt, inl refl), ((refl, refl, tt), ((refl, tt, inr (inl refl)), ((refl, refl, tt), ((refl, refl, tt), ((refl, refl, refl), ((refl, refl, refl), tt)))))))))))))))))
+
+pub returns-clause-handed_back : goal.returns-clause-handed_back
+unfolding after_release after_packet after_packets on_data on_matched on_frame_in on_frame after_tick on_submit after_cut on_transmit_in on_transmit ready_run first_due after_join new_level after_erase after_link_loss after_update_loss after_cuts_tried after_broadcast after_broadcasts after_step after_settling after_input after_link_item after_other_item serving_of height_fault
+returns-clause-handed_back c = record { bound = refl; over = refl; cut = refl; none = refl }
+
+pub returns-clause-second : goal.returns-clause-second
+unfolding after_release after_packet after_packets on_data on_matched on_frame_in on_frame after_tick on_submit after_cut on_transmit_in on_transmit ready_run first_due after_join new_level after_erase after_link_loss after_update_loss after_cuts_tried after_broadcast after_broadcasts after_step after_settling after_input after_link_item after_other_item serving_of height_fault
+returns-clause-second c = (refl, (refl, ((refl, tt), ((refl, refl, refl), ((refl, (refl, leb-true _ _ refl), (leb-true _ _ refl, leb-true _ _ refl)), ((refl, (refl, leb-true _ _ refl), (leb-true _ _ refl, leb-true _ _ refl)), ((refl, tt, inr (inl refl)), ((refl, refl, tt), ((refl, tt, inr (inr (inl refl))), ((refl, refl, tt), ((refl, tt, inr (inl refl)), ((refl, refl, tt), ((refl, tt, inr (inr (inr (inl refl)))), ((refl, refl, tt), ((refl, refl, tt), ((refl, refl, refl), ((refl, refl, refl), ((refl, tt, refl), ((refl, refl, tt), ((refl, tt, inr (inr (inr (inr (inl refl))))), ((refl, tt, inr (inr (inr (inr (inl refl))))), ((refl, refl, tt), ((refl, refl, refl), tt)))))))))))))))))))))))
+
+pub returns-clause-met : goal.returns-clause-met
+unfolding after_release after_packet after_packets on_data on_matched on_frame_in on_frame after_tick on_submit after_cut on_transmit_in on_transmit ready_run first_due after_join new_level after_erase after_link_loss after_update_loss after_cuts_tried after_broadcast after_broadcasts after_step after_settling after_input after_link_item after_other_item serving_of height_fault
+returns-clause-met c = record { bound = refl; other = refl; sent = refl; taken = refl; none = refl; hop = refl }
