@@ -3,3 +3,4 @@ pub mod PartEvents
 pub mod LinkPartEvents
 pub mod RunsOfParts
 pub mod WorldLaws
+pub mod ThreadHistories

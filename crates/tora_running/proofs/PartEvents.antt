@@ -11,12 +11,12 @@ use Rattle.tora_world.specs.declared.Event.TheVariants.{CoreTurn, Restart}
 use Rattle.tora_world.specs.declared.SimError.TheVariants as Refused
 use Rattle.tora_world.specs.Topology.{is_node}
 use Rattle.tora_world.specs.Lists.{IsIn}
-use Rattle.tora_world.specs.World.{World, Choice, Arms, neighbours, refusal_by, is_empty, unless_possible, effect_by, world_by, after_restart, after_serving, after_turn, command_seat, with_item}
+use Rattle.tora_world.specs.World.{World, Choice, Arms, refusal_by, is_empty, unless_possible, effect_by, world_by, after_restart, after_serving, after_turn, command_seat, with_item}
 use Rattle.tora_world.specs.World.Sending.{Goes}
 use Rattle.tora_world.specs.FreeWorld.{FreeEvent, TellsNoLife, free_by, Schedule, after_schedule}
 use Rattle.tora_world.specs.FreeWorld.FreeEvent.{Happens, Puts, StartsAnew}
-use Rattle.tora_running.specs.Served.{answers_told, serving_told}
-use Rattle.tora_running.specs.Network.{Network, IsFront, after_part}
+use Rattle.tora_node.specs.CoreRuns.{answers_told}
+use Rattle.tora_running.specs.Network.{Network, served_at, IsFront, after_part}
 use Rattle.tora_running.specs.Network.Part.{Starts, Serves, Asks}
 use Rattle.tora_running.proofs.LifeFiles.{IsUnder}
 
@@ -136,7 +136,7 @@ module _ (w : World) (numbers : ℕ → ℕ → ℕ) (frames : ℕ → ℕ → L
   serve_leads n item offers node front = go (w.items n) refl front
     where
       v : Serving
-      v = serving_told (neighbours w n) (w.seats n) item offers
+      v = served_at (network_of w numbers frames) n item offers
 
       c : Choice
       c = at_tick 0 offers

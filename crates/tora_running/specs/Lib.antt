@@ -1,5 +1,5 @@
 pub mod Parts
-pub mod Served
 pub mod Network
+pub mod Histories
 pub mod Laws
 pub mod Worked

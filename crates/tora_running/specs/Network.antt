@@ -17,9 +17,9 @@ use Rattle.tora_world.specs.Lists.{packets_of, parcels_in, IsIn}
 use Rattle.tora_world.specs.LinkMachine.{put_at}
 use Rattle.tora_world.specs.World.{first_seat, place_of, with_datagram, what_of}
 use Rattle.tora_world.specs.FreeWorld.{TellsNoLife}
+use Rattle.tora_node.specs.CoreRuns.{serving_told}
 use Rattle.tora_running.specs.Parts.{LinkPart, end_after, IsPossible}
 use Rattle.tora_running.specs.Parts.LinkPart.{Opens, Ticks, Takes, Sends, Hears, Tells, Beats, Breaks}
-use Rattle.tora_running.specs.Served.{serving_told}
 
 pub record Network : Type 0 where
   pub topology : Topology
@@ -116,6 +116,10 @@ beside w n k Breaks = w
 abbrev pub with_part : Network → ℕ → ℕ → LinkPart → Network
 with_part w n k part = record w { ends = put_at w.ends n k (end_after (settings_at w n k) (w.ends n k) part) }
 
+-- the item is served, by the answers that were told of these cargoes
+abbrev pub served_at : Network → ℕ → Item → List Offer → Serving
+served_at w n item offers = serving_told (neighbours_at w n) (w.seats n) (record { item = item; offers = offers })
+
 -- the front of the lane was taken and served
 abbrev pub after_serving : Network → ℕ → Serving → Network
 after_serving w n v = record w {
@@ -130,7 +134,7 @@ after_serving w n v = record w {
 abbrev pub after_part : Network → Part → Network
 after_part w (Starts n) = after_start w n
 after_part w (OfLink n k part) = beside (with_part w n k part) n k part
-after_part w (Serves n item offers) = after_serving w n (serving_told (neighbours_at w n) (w.seats n) item offers)
+after_part w (Serves n item offers) = after_serving w n (served_at w n item offers)
 after_part w (Asks n now what) = with_item w n (length (neighbours_at w n)) now what
 
 abbrev pub after_parts : List Part → Network → Network
@@ -159,7 +163,7 @@ IsGiven w n k Breaks = Unit {0}
 abbrev pub MayBe : Network → Part → Type 0
 MayBe w (Starts n) = IsTrue (is_node w.topology n)
 MayBe w (OfLink n k part) = IsTrue (is_link w.topology n k) × IsPossible (settings_at w n k) (w.ends n k) part × IsGiven w n k part
-MayBe w (Serves n item offers) = IsTrue (is_node w.topology n) × IsFront item (w.items n) × ((serving_told (neighbours_at w n) (w.seats n) item offers).offers ≡ offers)
+MayBe w (Serves n item offers) = IsTrue (is_node w.topology n) × IsFront item (w.items n) × ((served_at w n item offers).offers ≡ offers)
 MayBe w (Asks n now what) = IsTrue (is_node w.topology n) × TellsNoLife what
 
 -- each part may be made when it is made

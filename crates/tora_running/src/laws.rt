@@ -1,6 +1,17 @@
 //! The laws of running nodes. Each stands over the definitions alone: a function without parameters that does nothing.
 ghost use Rattle.tora_running.specs.Laws.{CoresFollow, EveryNetwork, IsOfWorld, IsWithoutGap, TakenBeginsSent};
-ghost use Rattle.tora_running.specs.Network.{IsRun};
+ghost use Rattle.std.specs.Prelude.{◌≡◌, ℕ, true, List, ◌++◌, Option};
+ghost use Rattle.tora_arq.specs.LinkEnd.{EndState};
+ghost use Rattle.tora_arq.specs.Settings.{Settings};
+ghost use Rattle.tora_neighbour.specs.Turns.{Turn, AreTurns, IsLastTurn, IsTurnRun};
+ghost use Rattle.tora_neighbour.specs.declared.ending.Ending.{Ending};
+ghost use Rattle.tora_node.specs.CoreRuns.{ServedItem, AreServed, items_served};
+ghost use Rattle.tora_seat.specs.Serving.{SeatState};
+ghost use Rattle.tora_seat.specs.declared.Item.{Item};
+ghost use Rattle.tora_world.specs.Topology.{is_node};
+ghost use Rattle.tora_running.specs.Histories.{IsAfterRefused, parts_of_last, parts_of_turns, parts_served};
+ghost use Rattle.tora_running.specs.Network.{IsRun, Network, after_parts, neighbours_at};
+ghost use Rattle.tora_running.specs.Parts.{AreLinkParts};
 ghost use Rattle.tora_running.specs.Worked.{start, first_parts, parted, second_parts, met, HandsBack, HasMet};
 
 use tora_arq::data_frames_are_what_was_submitted;
@@ -46,6 +57,24 @@ pub fn running_nodes_keep_the_no_gap_law()
     running_nodes_are_a_world();
     no_gap_law();
 }
+
+/// The parts are those of the threads: what a link's thread and a core's thread are proved to do is spelled, turn after turn and
+/// item after item, as parts that the definitions allow.
+pub fn histories_are_of_the_threads()
+    // Whole turns of a link's thread are parts of its end, one after another.
+    ensures turns { (s : Settings) (e : EndState) (turns : List Turn) (after : EndState) → AreTurns s e turns after → AreLinkParts s e (parts_of_turns turns) after }
+    // So is the last turn, which may end early; an event that the hub has refused is no part.
+    ensures last { (s : Settings) (last_beat : Option ℕ) (e : EndState) (t : Turn) (ending : Ending) (after : EndState) → IsLastTurn s last_beat e t ending after
+        → (between : EndState) × AreLinkParts s e (parts_of_last ending t) between × IsAfterRefused between t.refused after }
+    // And so is the whole run of a link's thread, as the contract of `run_neighbour` tells it.
+    ensures run { (s : Settings) (e : EndState) (turns : List Turn) (last : Turn) (ending : Ending) (after : EndState) → IsTurnRun s e turns last ending after
+        → (between : EndState) × AreLinkParts s e (parts_of_turns turns ++ parts_of_last ending last) between × IsAfterRefused between last.refused after }
+    // Items that a core's thread has served one after another, as the contract of `run_core` tells them, are a run of parts
+    // where they wait in its lane, and it leaves the same seat.
+    ensures served { (w : Network) (n : ℕ) (xs : List ServedItem) (rest : List Item) (after : SeatState) → is_node w.topology n ≡ true
+        → w.items n ≡ items_served xs ++ rest → AreServed (neighbours_at w n) (w.seats n) xs after
+        → IsRun w (parts_served n xs) × ((after_parts (parts_served n xs) w).seats n ≡ after) × ((after_parts (parts_served n xs) w).items n ≡ rest) }
+{}
 
 /// Two running nodes, computed: what the laws say of a run of parts is not empty.
 pub fn worked_networks_hold()

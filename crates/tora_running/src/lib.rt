@@ -4,6 +4,6 @@
 mod laws;
 
 pub use laws::{
-    running_cores_follow, running_nodes_are_a_world, running_nodes_keep_the_no_gap_law,
-    running_nodes_keep_the_prefix_law, worked_networks_hold,
+    histories_are_of_the_threads, running_cores_follow, running_nodes_are_a_world,
+    running_nodes_keep_the_no_gap_law, running_nodes_keep_the_prefix_law, worked_networks_hold,
 };

@@ -1,0 +1,14 @@
+use Rattle.tora_running.proofs.ThreadHistories.{turns_are, last_is, run_is, served_are}
+use Rattle.tora_running.proofs.laws.histories_are_of_the_threads.Goals as goal
+
+pub returns-clause-turns : goal.returns-clause-turns
+returns-clause-turns c = λ s e turns after h. turns_are s e turns after h
+
+pub returns-clause-last : goal.returns-clause-last
+returns-clause-last c = λ s last_beat e t ending after h. last_is s last_beat e t ending after h
+
+pub returns-clause-run : goal.returns-clause-run
+returns-clause-run c = λ s e turns last ending after h. run_is s e turns last ending after h
+
+pub returns-clause-served : goal.returns-clause-served
+returns-clause-served c = λ w n xs rest after node lane h. served_are w n node xs rest after lane h

@@ -1,0 +1,79 @@
+-- The parts that the turns of a link's thread and the items of a core's thread are.
+use Rattle.std.specs.Prelude.{◌≡◌, ℕ, Bool, if◌then◌else◌, List, [], ◌∷◌, ◌++◌, Option, Some, None, Result, Ok, Err}
+use Rattle.tora_frame.specs.FrameParts.{FrameParts}
+use Rattle.tora_arq.specs.declared.LinkEvent.{LinkEvent}
+use Rattle.tora_arq.specs.LinkEnd.{EndState, first_event, after_poll_event}
+use Rattle.tora_seat.specs.declared.Cargo.{Cargo}
+use Rattle.tora_world.specs.World.{Sending}
+use Rattle.tora_world.specs.World.Sending.{Goes, IsGone}
+use Rattle.tora_neighbour.specs.declared.wire.WireError.{WireError}
+use Rattle.tora_neighbour.specs.declared.ending.Ending.{Ending}
+use Rattle.tora_neighbour.specs.declared.ending.Ending.TheVariants.{NoNumber, Broken, Refused}
+use Rattle.tora_neighbour.specs.Intake.{Reading}
+use Rattle.tora_neighbour.specs.Turns.{Turn}
+use Rattle.tora_node.specs.CoreRuns.{ServedItem}
+use Rattle.tora_running.specs.Parts.{LinkPart}
+use Rattle.tora_running.specs.Parts.LinkPart.{Opens, Ticks, Takes, Sends, Hears, Tells, Beats, Breaks}
+use Rattle.tora_running.specs.Network.{Part}
+use Rattle.tora_running.specs.Network.Part.{Serves}
+
+-- ---- a turn of a link's thread
+
+abbrev pub parts_opened : ℕ → Option ℕ → List LinkPart
+parts_opened now None = []
+parts_opened now (Some number) = Opens number now ∷ []
+
+abbrev pub parts_taken : List Cargo → List LinkPart
+parts_taken [] = []
+parts_taken (cargo ∷ cargoes) = Takes cargo ∷ parts_taken cargoes
+
+-- a send that has failed may have sent the datagram all the same
+abbrev pub sending_of : Result (Unit {0}) WireError → Sending
+sending_of (Ok done) = Goes
+sending_of (Err error) = IsGone
+
+abbrev pub parts_sent : ℕ → List FrameParts → List (Result (Unit {0}) WireError) → List LinkPart
+parts_sent now [] answers = []
+parts_sent now (frame ∷ frames) [] = Sends now frame IsGone ∷ parts_sent now frames []
+parts_sent now (frame ∷ frames) (answer ∷ answers) = Sends now frame (sending_of answer) ∷ parts_sent now frames answers
+
+-- bytes that spell no frame are no part
+abbrev pub parts_heard : ℕ → Option Reading → List LinkPart
+parts_heard now None = []
+parts_heard now (Some (Ok frame)) = Hears now frame ∷ []
+parts_heard now (Some (Err error)) = []
+
+abbrev pub parts_told : ℕ → List LinkEvent → List LinkPart
+parts_told now [] = []
+parts_told now (event ∷ events) = Tells now event ∷ parts_told now events
+
+abbrev pub parts_of_beat : ℕ → Bool → List LinkPart
+parts_of_beat now beat = if beat then Beats now ∷ [] else []
+
+-- up to the last frame that was sent
+abbrev pub parts_begun : Turn → List LinkPart
+parts_begun t = parts_opened t.now t.opened ++ Ticks t.now ∷ (parts_taken t.cargoes ++ parts_sent t.now t.sent t.answers)
+
+abbrev pub parts_of : Turn → List LinkPart
+parts_of t = parts_begun t ++ (parts_heard t.now t.came ++ (parts_told t.now t.told ++ parts_of_beat t.now t.beat))
+
+abbrev pub parts_of_turns : List Turn → List LinkPart
+parts_of_turns [] = []
+parts_of_turns (t ∷ turns) = parts_of t ++ parts_of_turns turns
+
+-- of the last turn, by its ending
+abbrev pub parts_of_last : Ending → Turn → List LinkPart
+parts_of_last (NoNumber error) t = []
+parts_of_last (Broken at) t = parts_begun t ++ Breaks ∷ parts_told t.now t.told
+parts_of_last Refused t = parts_of t
+
+-- an event that the hub has refused was taken from the end, and put nowhere
+abbrev pub IsAfterRefused : EndState → Option LinkEvent → EndState → Type 0
+IsAfterRefused e None after = after ≡ e
+IsAfterRefused e (Some event) after = (first_event e ≡ Some event) × (after ≡ after_poll_event e)
+
+-- ---- the core's thread
+
+abbrev pub parts_served : ℕ → List ServedItem → List Part
+parts_served n [] = []
+parts_served n (x ∷ xs) = Serves n x.item x.offers ∷ parts_served n xs
