@@ -91,16 +91,6 @@ unfolding after_schedule
 schedule-append [] fs w = refl
 schedule-append (e ∷ es) fs w = schedule-append es fs (free_by e.1 w e.0)
 
--- the schedule of one part, and then the one of all others
-pub and_then : (w : World) (network later : Network) (x : Reaches w network) → Reaches (after_schedule x.es w) later → Reaches w later
-and_then w network later x y = record {
-  es = x.es ++ y.es;
-  numbers = y.numbers;
-  frames = y.frames;
-  shows = y.shows ∙ ap (λ v. network_of v y.numbers y.frames) (sym (schedule-append x.es y.es w));
-  other = subst (λ v. IsBeside v y.numbers y.frames) (sym (schedule-append x.es y.es w)) y.other;
-}
-
 -- ---- events of the simulator that are not refused
 
 pub is_possible : (here possible : Bool) → here ≡ true → possible ≡ true → is_some (if here then unless_possible possible else Some Refused.NoNode) ≡ false

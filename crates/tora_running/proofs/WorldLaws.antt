@@ -14,7 +14,10 @@ use Rattle.tora_world.specs.Law as world
 use Rattle.tora_world.specs.Gaps as gaps
 use Rattle.tora_world.specs.Gaps.{EveryEnd, broadcast_from}
 use Rattle.tora_running.specs.Network.{Network}
-use Rattle.tora_running.specs.Laws.{IsWorldOf, IsOfWorld, TakenBeginsSent, CoresFollow, IsWithoutGap}
+use Rattle.tora_height.specs.Height.{Quintuple}
+use Rattle.tora_world.specs.Walks.{EveryWorld, height_at, IsExact, Arrives}
+use Rattle.tora_running.specs.Laws.{IsWorldOf, IsOfWorld, TakenBeginsSent, CoresFollow, IsWithoutGap, cores_of, WalksArrive}
+use Rattle.tora_running.proofs.SameWalks.{same_exact, same_arrives, same_height}
 
 module _ (t : Topology) (times : Times) (network : Network) (h : IsOfWorld t times network) where
   abbrev w : World
@@ -44,3 +47,9 @@ cores_follow law t times network h = cores t times network h (law t times h.0)
 
 pub without_gap : EveryEnd (λ t first es w n k. gaps.IsWithoutGap t first es w n k) → (t : Topology) (times : Times) (network : Network) → IsOfWorld t times network → IsWithoutGap t network
 without_gap law t times network h = gapless t times network h (λ n k sound link. (law t times h.0 n k sound link).now)
+
+pub walks_arrive : EveryWorld (λ w. (d n : ℕ) (height : Quintuple) → IsExact w d → height_at w n d ≡ Some (Some height) → Arrives w n d) → (t : Topology) (times : Times) (network : Network) → IsOfWorld t times network → WalksArrive t network
+walks_arrive law t times network h sound ids d n height exact e =
+    let w : World = after_schedule h.0 (first_world t times) in
+    let v : World = cores_of network in
+    same_arrives w v h.1.topology h.1.seats n d (law t times h.0 sound ids d n height (same_exact w v h.1.topology h.1.seats d exact) (same_height w v h.1.topology h.1.seats n d (Some (Some height)) e))

@@ -1,5 +1,6 @@
 -- What holds of every run of running nodes.
-use Rattle.std.specs.Prelude.{◌≡◌, ℕ, true, List, [], Some, None}
+use Rattle.std.specs.Prelude.{◌≡◌, ℕ, ◌+◌, ◌≤◌, ◌&&◌, true, not, if◌then◌else◌, List, [], ◌∷◌, Some, None}
+use Rattle.tora_height.specs.Height.{Quintuple}
 use Rattle.tora_packet.specs.declared.Packet.{Packet}
 use Rattle.tora_frame.specs.FrameParts.{FrameParts}
 use Rattle.tora_arq.specs.declared.Life.{Life}
@@ -9,8 +10,10 @@ use Rattle.tora_world.specs.Topology.{Topology, topology_fault, new_core, is_lin
 use Rattle.tora_world.specs.Lists.{reversed, Begins, IsIn}
 use Rattle.tora_world.specs.World.{World, first_world}
 use Rattle.tora_world.specs.FreeWorld.{Schedule, after_schedule}
+use Rattle.tora_world.specs.Law.{is_bound_to}
 use Rattle.tora_world.specs.Gaps.{broadcast_from}
-use Rattle.tora_running.specs.Network.{Network, Part, first_network, after_parts, IsRun, packets_sent, packets_taken}
+use Rattle.tora_world.specs.Walks.{height_at, IsExact, Arrives, AreIds}
+use Rattle.tora_running.specs.Network.{Network, Part, first_network, after_part, after_parts, IsRun, packets_sent, packets_taken}
 
 -- this holds of the network that any run of parts leaves, over any topology and with any times of the link ends
 abbrev pub EveryNetwork : (Topology → Times → Network → Type 0) → Type 0
@@ -39,6 +42,19 @@ IsOfWorld t times network = (es : Schedule) × IsWorldOf network (after_schedule
 abbrev pub TakenBeginsSent : Network → Type 0
 TakenBeginsSent w = (a b : ℕ) (life : Life) → Begins (packets_taken w b a (reversed life)) (packets_sent w a b life)
 
+-- how many parts of a run bind the end of n towards k to this life
+abbrev pub times_bound : ℕ → ℕ → Life → List Part → Network → ℕ
+times_bound n k life [] w = 0
+times_bound n k life (part ∷ parts) w =
+    (if is_bound_to life ((after_part w part).ends n k).phase && not (is_bound_to life (w.ends n k).phase) then 1 else 0)
+    + times_bound n k life parts (after_part w part)
+
+-- each end binds each pair of numbers at most once, over all starts of its node
+abbrev pub BindsOnce : Type 0
+BindsOnce =
+    (t : Topology) (times : Times) (parts : List Part) → IsRun (first_network t times) parts
+    → (n k : ℕ) (life : Life) → times_bound n k life parts (first_network t times) ≤ 1
+
 -- each core is what TORA's rules make of the inputs that it accepted since its node's last start
 abbrev pub CoresFollow : Topology → Network → Type 0
 CoresFollow t w = (n : ℕ) → (w.seats n).core ≡ core_after_all (new_core t n) (w.inputs n)
@@ -51,3 +67,13 @@ packets_broadcast t w n k = broadcast_from k (new_core t n) (w.inputs n) []
 abbrev pub IsWithoutGap : Topology → Network → Type 0
 IsWithoutGap t w =
     topology_fault t ≡ None → (n k : ℕ) (life : Life) → is_link t n k ≡ true → (w.seats n).current k ≡ Some life → packets_sent w n k life ≡ packets_broadcast t w n k
+
+-- a world with the network's topology and cores, of which heights, entries and hops are read
+abbrev pub cores_of : Network → World
+cores_of w = record (first_world w.topology w.times) { seats = w.seats }
+
+-- where each entry for a destination that is not NULL is the neighbour's height, the hops from a node with a height arrive
+abbrev pub WalksArrive : Topology → Network → Type 0
+WalksArrive t w =
+    topology_fault t ≡ None → AreIds t → (d n : ℕ) (height : Quintuple) → IsExact (cores_of w) d → height_at (cores_of w) n d ≡ Some (Some height)
+    → Arrives (cores_of w) n d

@@ -1,5 +1,5 @@
 //! The laws of running nodes. Each stands over the definitions alone: a function without parameters that does nothing.
-ghost use Rattle.tora_running.specs.Laws.{CoresFollow, EveryNetwork, IsOfWorld, IsWithoutGap, TakenBeginsSent};
+ghost use Rattle.tora_running.specs.Laws.{BindsOnce, CoresFollow, EveryNetwork, IsOfWorld, IsWithoutGap, TakenBeginsSent, WalksArrive};
 ghost use Rattle.std.specs.Prelude.{◌≡◌, ℕ, true, List, ◌++◌, Option};
 ghost use Rattle.tora_arq.specs.LinkEnd.{EndState};
 ghost use Rattle.tora_arq.specs.Settings.{Settings};
@@ -16,7 +16,9 @@ ghost use Rattle.tora_running.specs.Worked.{start, first_parts, parted, second_p
 
 use tora_arq::data_frames_are_what_was_submitted;
 use tora_life::drawn_life_numbers_rise;
-use tora_world::{life_files_become_what_crashes_leave, no_gap_law, prefix_law};
+use tora_world::{
+    exact_entries_give_walks, life_files_become_what_crashes_leave, no_gap_law, prefix_law,
+};
 
 /// Running nodes are a world: whatever the parts that their threads make, some schedule of the free world leaves a world with
 /// the same cores, link ends and lanes, in which the same was sent, taken and accepted.
@@ -35,9 +37,14 @@ pub fn running_nodes_are_a_world()
 /// The prefix law of running nodes: what the core of a node has taken from a neighbour in a life begins what the
 /// neighbour's core has sent in that life, over all starts of both.
 pub fn running_nodes_keep_the_prefix_law()
-    ensures { EveryNetwork (λ t times w. TakenBeginsSent w) }
+    ensures prefix { EveryNetwork (λ t times w. TakenBeginsSent w) }
+    // Each end binds each pair of life numbers at most once.
+    ensures once { BindsOnce }
 {
     running_nodes_are_a_world();
+    data_frames_are_what_was_submitted();
+    drawn_life_numbers_rise();
+    life_files_become_what_crashes_leave();
     prefix_law();
 }
 
@@ -56,6 +63,15 @@ pub fn running_nodes_keep_the_no_gap_law()
 {
     running_nodes_are_a_world();
     no_gap_law();
+}
+
+/// Exact entries give walks of running nodes: where each entry for a destination that is not NULL is the height of the
+/// neighbour whose entry it is, the next hops lead from any node with a height to the destination.
+pub fn running_walks_arrive()
+    ensures { EveryNetwork (λ t times w. WalksArrive t w) }
+{
+    running_nodes_are_a_world();
+    exact_entries_give_walks();
 }
 
 /// The parts are those of the threads: what a link's thread and a core's thread are proved to do is spelled, turn after turn and

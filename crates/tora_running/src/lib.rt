@@ -5,5 +5,6 @@ mod laws;
 
 pub use laws::{
     histories_are_of_the_threads, running_cores_follow, running_nodes_are_a_world,
-    running_nodes_keep_the_no_gap_law, running_nodes_keep_the_prefix_law, worked_networks_hold,
+    running_nodes_keep_the_no_gap_law, running_nodes_keep_the_prefix_law, running_walks_arrive,
+    worked_networks_hold,
 };
