@@ -6,8 +6,10 @@ use Rattle.tora_frame.specs.FrameParts.{FrameParts}
 use Rattle.tora_arq.specs.declared.LinkEvent.{LinkEvent}
 use Rattle.tora_arq.specs.declared.state.Phase.{Phase}
 use Rattle.tora_arq.specs.declared.state.Phase.TheVariants.{Closed, Unbound, Bound}
+use Rattle.tora_arq.specs.declared.Verdict.{Verdict}
+use Rattle.tora_arq.specs.declared.Verdict.TheVariants.{Accepted, Repeated, Ahead, Stale, Foreign, Busy}
 use Rattle.tora_arq.specs.Settings.{Settings}
-use Rattle.tora_arq.specs.LinkEnd.{EndState, is_closed, bound_life, after_open, after_tick, after_frame, frame_due, after_transmit, first_event}
+use Rattle.tora_arq.specs.LinkEnd.{EndState, is_closed, bound_life, after_open, after_tick, after_frame, verdict_of, frame_due, after_transmit, first_event}
 use Rattle.tora_arq.specs.LinkFacts.{LinkCall, frame_sent_by, IsFrameSent, IsFrameSentIn}
 use Rattle.tora_arq.specs.LinkFacts.LinkCall.{Transmit as Transmits}
 use Rattle.tora_life.specs.LifeRun.{LifeDisk, owner_in, after_event, drawn_by}
@@ -24,7 +26,7 @@ use Rattle.tora_world.specs.Lists.{IsIn}
 use Rattle.tora_world.specs.LinkMachine.{put_at}
 use Rattle.tora_world.specs.World.{World, Choice, Sending, settings, neighbours, place_of, datagram, is_empty, effect_by, with_end, with_item, open_with, after_cargo, after_pull, with_datagram, after_sending, after_receiving, after_pump}
 use Rattle.tora_world.specs.World.Sending.{Goes, IsLost, IsGone}
-use Rattle.tora_world.specs.FreeWorld.{MayBecome, after_cut_of_bound}
+use Rattle.tora_world.specs.FreeWorld.{MayBecome, after_cut_of_bound, after_schedule}
 use Rattle.tora_world.specs.FreeWorld.FreeEvent.{Happens, TicksEnd, PumpsOver, Puts, CutsBound, ChangesFile}
 use Rattle.tora_world.proofs.PacketLists.{by_pair, put_cases, put_here, put_there}
 use Rattle.tora_running.specs.Parts as parts
@@ -69,8 +71,20 @@ ends_of_frame s e f Closed h = absurd h
 ends_of_frame s e f (Unbound own) h = (ap (λ (x : FrameParts). x.header.sender) h, ap (λ (x : FrameParts). x.header.receiver) h)
 ends_of_frame s e f (Bound life) h = (ap (λ (x : FrameParts). x.header.sender) h.0, ap (λ (x : FrameParts). x.header.receiver) h.0)
 
-abbrev pub FrameLaw : Type 0
-FrameLaw = (s : Settings) (e : EndState) (call : LinkCall) (f : FrameParts) → frame_sent_by s e call ≡ Some f → IsFrameSent s e f
+-- of the laws of link ends: what a frame that was sent is, and that a frame that was refused changes nothing
+pub record FrameLaws : Type 0 where
+  pub sent : (s : Settings) (e : EndState) (call : LinkCall) (f : FrameParts) → frame_sent_by s e call ≡ Some f → IsFrameSent s e f
+  pub foreign : (s : Settings) (e : EndState) (f : FrameParts) (now : ℕ) → verdict_of s e f now ≡ Foreign → after_frame s e f now ≡ e
+  pub busy : (s : Settings) (e : EndState) (f : FrameParts) (now : ℕ) → verdict_of s e f now ≡ Busy → after_frame s e f now ≡ e
+  pub stale : (s : Settings) (e : EndState) (f : FrameParts) (now : ℕ) → verdict_of s e f now ≡ Stale → after_frame s e f now ≡ e
+
+refused_changes_nothing : FrameLaws → (s : Settings) (e : EndState) (f : FrameParts) (now : ℕ) (v : Verdict) → verdict_of s e f now ≡ v → net.IsRefusal v → after_frame s e f now ≡ e
+refused_changes_nothing laws s e f now Foreign q h = laws.foreign s e f now q
+refused_changes_nothing laws s e f now Busy q h = laws.busy s e f now q
+refused_changes_nothing laws s e f now Stale q h = laws.stale s e f now q
+refused_changes_nothing laws s e f now Accepted q h = absurd h
+refused_changes_nothing laws s e f now Repeated q h = absurd h
+refused_changes_nothing laws s e f now Ahead q h = absurd h
 
 under_more : (m m' : ℕ) (disk : LifeDisk) → m ≤ m' → IsUnder m disk → IsUnder m' disk
 under_more m m' (Opened owner numbers s) le h = omega (arith, le, h)
@@ -111,9 +125,9 @@ module _ (w : World) (numbers : ℕ → ℕ → ℕ) (frames : ℕ → ℕ → L
           (by_one w (Happens (Pull n k)) (at_tick 0 []) (after_pull w n k (cargo ∷ rest)) numbers frames
           (world_is (at_tick 0 []) w (Pull n k) (is_possible (is_link w.topology n k) (not (is_empty (w.cargoes n k))) link (ap (λ ys. not (is_empty ys)) here)) ∙ ap (after_pull w n k) here) b)
 
-  send_leads : FrameLaw → (now : ℕ) (frame : FrameParts) (sending : Sending) → frame_due (settings w n k) (w.ends n k) now ≡ Some frame → Leads (Sends now frame sending)
+  send_leads : FrameLaws → (now : ℕ) (frame : FrameParts) (sending : Sending) → frame_due (settings w n k) (w.ends n k) now ≡ Some frame → Leads (Sends now frame sending)
   unfolding effect_by
-  send_leads law now frame sending due =
+  send_leads laws now frame sending due =
       by_one w (Happens (Transmit n k)) (at_tick now []) (after_sending w n k (after_transmit (settings w n k) (w.ends n k) now) (Some frame)) numbers (put_at frames n k (with_datagram sending (frames n k) frame))
       (world_is (at_tick now []) w (Transmit n k) (is_possible (is_link w.topology n k) (is_some (frame_due (settings w n k) (w.ends n k) now)) link (ap is_some due)) ∙ ap (after_sending w n k (after_transmit (settings w n k) (w.ends n k) now)) due)
       (record {
@@ -134,7 +148,7 @@ module _ (w : World) (numbers : ℕ → ℕ → ℕ) (frames : ℕ → ℕ → L
       this : (f : FrameParts) → f ≡ frame → WentOut datagrams n k f
       this f e =
           let s = settings w n k in
-          let x = ends_of_frame s (w.ends n k) frame (w.ends n k).phase (law s (w.ends n k) (Transmits now) frame due) in
+          let x = ends_of_frame s (w.ends n k) frame (w.ends n k).phase (laws.sent s (w.ends n k) (Transmits now) frame due) in
           subst (λ y. WentOut datagrams n k y) (sym e) (record { sender = x.0; receiver = x.1; among = subst (IsIn frame) (sym all) (in_last frame w.datagrams) })
 
       pushed : (f : FrameParts) → IsIn f (frames n k ++ frame ∷ []) → WentOut datagrams n k f
@@ -170,6 +184,13 @@ module _ (w : World) (numbers : ℕ → ℕ → ℕ) (frames : ℕ → ℕ → L
 
       heard : ℕ → ℕ → World
       heard a j = with_end w a j (after_frame (settings w a j) (w.ends a j) frame now)
+
+  -- no event
+  refuse_leads : FrameLaws → (now : ℕ) (frame : FrameParts) → net.IsRefusal (verdict_of (settings w n k) (w.ends n k) frame now) → Leads (Hears now frame)
+  unfolding after_schedule
+  refuse_leads laws now frame refused =
+      subst (λ e. Reaches w (record (network_of w numbers frames) { ends = put_at w.ends n k e })) (sym (refused_changes_nothing laws (settings w n k) (w.ends n k) frame now (verdict_of (settings w n k) (w.ends n k) frame now) refl refused))
+      (subst (λ ends. Reaches w (record (network_of w numbers frames) { ends = ends })) (sym (put_same w.ends n k)) (record { es = []; numbers = numbers; frames = frames; shows = refl; other = b }))
 
   open_leads : FileLaws → (number now : ℕ) → IsTrue (is_closed (w.ends n k)) → numbers n k < number → number ≤ 2 ^ 62 → Leads (Opens number now)
   unfolding effect_by
@@ -211,12 +232,13 @@ module _ (w : World) (numbers : ℕ → ℕ → ℕ) (frames : ℕ → ℕ → L
       opened : World
       opened = record w' { ends = put_at w.ends n k (after_open (w.ends n k) (suc m) now); files = put_at w'.files n k left }
 
-  pub link_leads : FileLaws → FrameLaw → (part : LinkPart) → parts.IsPossible (settings w n k) (w.ends n k) part → net.IsGiven (network_of w numbers frames) n k part → Leads part
+  pub link_leads : FileLaws → FrameLaws → (part : LinkPart) → parts.IsPossible (settings w n k) (w.ends n k) part → net.IsGiven (network_of w numbers frames) n k part → Leads part
   link_leads files law (Opens number now) p g = open_leads files number now p.0 g.0 g.1
   link_leads files law (Ticks now) p g = tick_leads now
   link_leads files law (Takes cargo) p g = take_leads cargo g
   link_leads files law (Sends now frame sending) p g = send_leads law now frame sending p
-  link_leads files law (Hears now frame) p g = hear_leads now frame g
+  link_leads files law (Hears now frame) p (inl i) = hear_leads now frame i
+  link_leads files law (Hears now frame) p (inr refused) = refuse_leads law now frame refused
   link_leads files law (Tells now event) p g = tell_leads now event p
   link_leads files law (Beats now) p g = beat_leads now
   link_leads files law Breaks p g = break_leads

@@ -14,7 +14,7 @@ use Rattle.tora_running.specs.Network.Part.{Starts, OfLink, Serves, Asks}
 use Rattle.tora_running.specs.Laws.{IsWorldOf, IsOfWorld, times_bound, BindsOnce}
 use Rattle.tora_running.proofs.LifeFiles.{FileLaws, new_opens}
 use Rattle.tora_running.proofs.PartEvents.{network_of, IsBeside, Reaches, schedule-append, start_leads, serve_leads, ask_leads}
-use Rattle.tora_running.proofs.LinkPartEvents.{FrameLaw, link_leads}
+use Rattle.tora_running.proofs.LinkPartEvents.{FrameLaws, link_leads}
 
 -- ---- how often a schedule binds an end
 
@@ -56,7 +56,7 @@ module _ (n k : ℕ) (life : Life) where
 
 -- ---- runs
 
-module _ (files : FileLaws) (law : FrameLaw) where
+module _ (files : FileLaws) (law : FrameLaws) where
   part_leads : (w : World) (numbers : ℕ → ℕ → ℕ) (frames : ℕ → ℕ → List FrameParts) → IsBeside w numbers frames → (part : Part) → MayBe (network_of w numbers frames) part → Reaches w (after_part (network_of w numbers frames) part)
   part_leads w numbers frames b (Starts n) may = start_leads w numbers frames b n may
   part_leads w numbers frames b (OfLink n k part) may = link_leads w numbers frames b n k may.0 files law part may.1 may.2

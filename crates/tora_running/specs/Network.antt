@@ -1,11 +1,13 @@
 -- A network of running nodes, and what the parts of their threads make of it, in one order of all of them.
-use Rattle.std.specs.Prelude.{◌≡◌, ℕ, suc, ◌<◌, ◌≤◌, ◌^◌, ◌==◌, IsTrue, if◌then◌else◌, List, [], ◌∷◌, ◌++◌, length, drop}
+use Rattle.std.specs.Prelude.{◌≡◌, ◌⊎◌, ℕ, suc, ◌<◌, ◌≤◌, ◌^◌, ◌==◌, IsTrue, if◌then◌else◌, List, [], ◌∷◌, ◌++◌, length, drop}
 use Rattle.tora_packet.specs.declared.Packet.{Packet}
 use Rattle.tora_frame.specs.FrameParts.{FrameParts}
 use Rattle.tora_arq.specs.declared.Life.{Life}
 use Rattle.tora_arq.specs.declared.Times.{Times}
+use Rattle.tora_arq.specs.declared.Verdict.{Verdict}
+use Rattle.tora_arq.specs.declared.Verdict.TheVariants.{Accepted, Repeated, Ahead, Stale, Foreign, Busy}
 use Rattle.tora_arq.specs.Settings.{Settings, settings_of}
-use Rattle.tora_arq.specs.LinkEnd.{EndState, first_end}
+use Rattle.tora_arq.specs.LinkEnd.{EndState, first_end, verdict_of}
 use Rattle.tora_core.specs.declared.Input.{Input}
 use Rattle.tora_seat.specs.declared.What.{What}
 use Rattle.tora_seat.specs.declared.What.TheVariants as Told
@@ -148,11 +150,20 @@ abbrev pub IsFront : {A : Type 0} → A → List A → Type 0
 IsFront x [] = ⊥
 IsFront x (y ∷ ys) = x ≡ y
 
--- numbers rise over all starts of a node, lanes keep their order, and no datagram is forged
+-- the end has refused the frame: it is none that the peer sends to this end, is of another life, or was not looked at
+abbrev pub IsRefusal : Verdict → Type 0
+IsRefusal Stale = Unit {0}
+IsRefusal Foreign = Unit {0}
+IsRefusal Busy = Unit {0}
+IsRefusal Accepted = ⊥
+IsRefusal Repeated = ⊥
+IsRefusal Ahead = ⊥
+
+-- numbers rise over all starts of a node, lanes keep their order, and no datagram is forged that the end does not refuse
 abbrev pub IsGiven : Network → ℕ → ℕ → LinkPart → Type 0
 IsGiven w n k (Opens number now) = (w.numbers n k < number) × (number ≤ 2 ^ 62)
 IsGiven w n k (Takes cargo) = IsFront cargo (w.cargoes n k)
-IsGiven w n k (Hears now frame) = IsIn frame (w.frames k n)
+IsGiven w n k (Hears now frame) = IsIn frame (w.frames k n) ⊎ IsRefusal (verdict_of (settings_at w n k) (w.ends n k) frame now)
 IsGiven w n k (Ticks now) = Unit {0}
 IsGiven w n k (Sends now frame sending) = Unit {0}
 IsGiven w n k (Tells now event) = Unit {0}

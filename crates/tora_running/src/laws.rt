@@ -14,7 +14,7 @@ ghost use Rattle.tora_running.specs.Network.{IsRun, Network, after_parts, neighb
 ghost use Rattle.tora_running.specs.Parts.{AreLinkParts};
 ghost use Rattle.tora_running.specs.Worked.{start, first_parts, parted, second_parts, met, HandsBack, HasMet};
 
-use tora_arq::data_frames_are_what_was_submitted;
+use tora_arq::{data_frames_are_what_was_submitted, refused_frames_change_nothing};
 use tora_life::drawn_life_numbers_rise;
 use tora_world::{
     exact_entries_give_walks, life_files_become_what_crashes_leave, no_gap_law, prefix_law,
@@ -23,13 +23,14 @@ use tora_world::{
 /// Running nodes are a world: whatever the parts that their threads make, some schedule of the free world leaves a world with
 /// the same cores, link ends and lanes, in which the same was sent, taken and accepted.
 ///
-/// A part may be made where the thread's own definition allows it, lanes keep their order, no datagram is forged, and the
-/// numbers drawn for a link end rise. That is all that is asked of a run of parts; ticks, answers of lanes, losses,
-/// repeated datagrams and the moments of starts are any.
+/// A part may be made where the thread's own definition allows it, lanes keep their order, no datagram is forged that its end
+/// does not refuse, and the numbers drawn for a link end rise. That is all that is asked of a run of parts; ticks, answers of
+/// lanes, losses, repeated datagrams and the moments of starts are any.
 pub fn running_nodes_are_a_world()
     ensures { EveryNetwork (λ t times w. IsOfWorld t times w) }
 {
     data_frames_are_what_was_submitted();
+    refused_frames_change_nothing();
     drawn_life_numbers_rise();
     life_files_become_what_crashes_leave();
 }
@@ -43,6 +44,7 @@ pub fn running_nodes_keep_the_prefix_law()
 {
     running_nodes_are_a_world();
     data_frames_are_what_was_submitted();
+    refused_frames_change_nothing();
     drawn_life_numbers_rise();
     life_files_become_what_crashes_leave();
     prefix_law();

@@ -9,7 +9,7 @@ use Rattle.tora_running.proofs.laws.worked_networks_hold.Goals as goal
 
 pub returns-clause-first : goal.returns-clause-first
 unfolding after_release after_packet after_packets on_data on_matched on_frame_in on_frame after_tick on_submit after_cut on_transmit_in on_transmit ready_run first_due after_join new_level after_erase after_link_loss after_update_loss after_cuts_tried after_broadcast after_broadcasts after_step after_settling after_input after_link_item after_other_item serving_of height_fault
-returns-clause-first c = (refl, (refl, ((refl, tt), ((refl, refl, refl), ((refl, (refl, leb-true _ _ refl), (leb-true _ _ refl, leb-true _ _ refl)), ((refl, (refl, leb-true _ _ refl), (leb-true _ _ refl, leb-true _ _ refl)), ((refl, refl, tt), ((refl, refl, tt), ((refl, tt, inl refl), ((refl, refl, tt), ((refl, tt, inl refl), ((refl, refl, tt), ((refl, tt, inr (inl refl)), ((refl, refl, tt), ((refl, refl, tt), ((refl, refl, refl), ((refl, refl, refl), tt)))))))))))))))))
+returns-clause-first c = (refl, (refl, ((refl, tt), ((refl, refl, refl), ((refl, (refl, leb-true _ _ refl), (leb-true _ _ refl, leb-true _ _ refl)), ((refl, (refl, leb-true _ _ refl), (leb-true _ _ refl, leb-true _ _ refl)), ((refl, refl, tt), ((refl, refl, tt), ((refl, tt, inl (inl refl)), ((refl, refl, tt), ((refl, tt, inl (inl refl)), ((refl, refl, tt), ((refl, tt, inl (inr (inl refl))), ((refl, refl, tt), ((refl, refl, tt), ((refl, refl, refl), ((refl, refl, refl), tt)))))))))))))))))
 
 pub returns-clause-handed_back : goal.returns-clause-handed_back
 unfolding after_release after_packet after_packets on_data on_matched on_frame_in on_frame after_tick on_submit after_cut on_transmit_in on_transmit ready_run first_due after_join new_level after_erase after_link_loss after_update_loss after_cuts_tried after_broadcast after_broadcasts after_step after_settling after_input after_link_item after_other_item serving_of height_fault
@@ -17,7 +17,7 @@ returns-clause-handed_back c = record { bound = refl; over = refl; cut = refl; n
 
 pub returns-clause-second : goal.returns-clause-second
 unfolding after_release after_packet after_packets on_data on_matched on_frame_in on_frame after_tick on_submit after_cut on_transmit_in on_transmit ready_run first_due after_join new_level after_erase after_link_loss after_update_loss after_cuts_tried after_broadcast after_broadcasts after_step after_settling after_input after_link_item after_other_item serving_of height_fault
-returns-clause-second c = (refl, (refl, ((refl, tt), ((refl, refl, refl), ((refl, (refl, leb-true _ _ refl), (leb-true _ _ refl, leb-true _ _ refl)), ((refl, (refl, leb-true _ _ refl), (leb-true _ _ refl, leb-true _ _ refl)), ((refl, tt, inr (inl refl)), ((refl, refl, tt), ((refl, tt, inr (inr (inl refl))), ((refl, refl, tt), ((refl, tt, inr (inl refl)), ((refl, refl, tt), ((refl, tt, inr (inr (inr (inl refl)))), ((refl, refl, tt), ((refl, refl, tt), ((refl, refl, refl), ((refl, refl, refl), ((refl, tt, refl), ((refl, refl, tt), ((refl, tt, inr (inr (inr (inr (inl refl))))), ((refl, tt, inr (inr (inr (inr (inl refl))))), ((refl, refl, tt), ((refl, refl, refl), tt)))))))))))))))))))))))
+returns-clause-second c = (refl, (refl, ((refl, tt), ((refl, refl, refl), ((refl, (refl, leb-true _ _ refl), (leb-true _ _ refl, leb-true _ _ refl)), ((refl, (refl, leb-true _ _ refl), (leb-true _ _ refl, leb-true _ _ refl)), ((refl, tt, inl (inr (inl refl))), ((refl, refl, tt), ((refl, tt, inl (inr (inr (inl refl)))), ((refl, refl, tt), ((refl, tt, inl (inr (inl refl))), ((refl, refl, tt), ((refl, tt, inl (inr (inr (inr (inl refl))))), ((refl, refl, tt), ((refl, refl, tt), ((refl, refl, refl), ((refl, refl, refl), ((refl, tt, refl), ((refl, refl, tt), ((refl, tt, inl (inr (inr (inr (inr (inl refl)))))), ((refl, tt, inl (inr (inr (inr (inr (inl refl)))))), ((refl, refl, tt), ((refl, refl, refl), tt)))))))))))))))))))))))
 
 pub returns-clause-met : goal.returns-clause-met
 unfolding after_release after_packet after_packets on_data on_matched on_frame_in on_frame after_tick on_submit after_cut on_transmit_in on_transmit ready_run first_due after_join new_level after_erase after_link_loss after_update_loss after_cuts_tried after_broadcast after_broadcasts after_step after_settling after_input after_link_item after_other_item serving_of height_fault
