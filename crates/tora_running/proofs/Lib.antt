@@ -5,3 +5,4 @@ pub mod RunsOfParts
 pub mod SameWalks
 pub mod WorldLaws
 pub mod ThreadHistories
+pub mod LinkHistories

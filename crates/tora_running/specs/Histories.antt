@@ -1,5 +1,5 @@
 -- The parts that the turns of a link's thread and the items of a core's thread are.
-use Rattle.std.specs.Prelude.{◌≡◌, ℕ, Bool, if◌then◌else◌, List, [], ◌∷◌, ◌++◌, Option, Some, None, Result, Ok, Err}
+use Rattle.std.specs.Prelude.{◌≡◌, ℕ, ◌==◌, ◌&&◌, Bool, IsFalse, if◌then◌else◌, List, [], ◌∷◌, ◌++◌, Option, Some, None, Result, Ok, Err}
 use Rattle.tora_frame.specs.FrameParts.{FrameParts}
 use Rattle.tora_arq.specs.declared.LinkEvent.{LinkEvent}
 use Rattle.tora_arq.specs.LinkEnd.{EndState, first_event, after_poll_event}
@@ -15,7 +15,7 @@ use Rattle.tora_node.specs.CoreRuns.{ServedItem}
 use Rattle.tora_running.specs.Parts.{LinkPart}
 use Rattle.tora_running.specs.Parts.LinkPart.{Opens, Ticks, Takes, Sends, Hears, Tells, Beats, Breaks}
 use Rattle.tora_running.specs.Network.{Part}
-use Rattle.tora_running.specs.Network.Part.{Serves}
+use Rattle.tora_running.specs.Network.Part.{Starts, OfLink, Serves, Asks}
 
 -- ---- a turn of a link's thread
 
@@ -77,3 +77,29 @@ IsAfterRefused e (Some event) after = (first_event e ≡ Some event) × (after �
 abbrev pub parts_served : ℕ → List ServedItem → List Part
 parts_served n [] = []
 parts_served n (x ∷ xs) = Serves n x.item x.offers ∷ parts_served n xs
+
+-- ---- the history of one thread, out of a run of all
+
+-- the node is not started in this run
+abbrev pub IsNotStarted : ℕ → List Part → Type 0
+IsNotStarted n [] = Unit {0}
+IsNotStarted n (Starts m ∷ parts) = IsFalse (n == m) × IsNotStarted n parts
+IsNotStarted n (OfLink m j part ∷ parts) = IsNotStarted n parts
+IsNotStarted n (Serves m item offers ∷ parts) = IsNotStarted n parts
+IsNotStarted n (Asks m now what ∷ parts) = IsNotStarted n parts
+
+-- the parts of the thread of n's link to k
+abbrev pub parts_of_link : ℕ → ℕ → List Part → List LinkPart
+parts_of_link n k [] = []
+parts_of_link n k (OfLink m j part ∷ parts) = if (n == m) && (k == j) then part ∷ parts_of_link n k parts else parts_of_link n k parts
+parts_of_link n k (Starts m ∷ parts) = parts_of_link n k parts
+parts_of_link n k (Serves m item offers ∷ parts) = parts_of_link n k parts
+parts_of_link n k (Asks m now what ∷ parts) = parts_of_link n k parts
+
+-- what the core's thread of n has served
+abbrev pub served_in : ℕ → List Part → List ServedItem
+served_in n [] = []
+served_in n (Serves m item offers ∷ parts) = if n == m then record { item = item; offers = offers } ∷ served_in n parts else served_in n parts
+served_in n (Starts m ∷ parts) = served_in n parts
+served_in n (OfLink m j part ∷ parts) = served_in n parts
+served_in n (Asks m now what ∷ parts) = served_in n parts

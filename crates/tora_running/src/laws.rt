@@ -9,8 +9,8 @@ ghost use Rattle.tora_node.specs.CoreRuns.{ServedItem, AreServed, items_served};
 ghost use Rattle.tora_seat.specs.Serving.{SeatState};
 ghost use Rattle.tora_seat.specs.declared.Item.{Item};
 ghost use Rattle.tora_world.specs.Topology.{is_node};
-ghost use Rattle.tora_running.specs.Histories.{IsAfterRefused, parts_of_last, parts_of_turns, parts_served};
-ghost use Rattle.tora_running.specs.Network.{IsRun, Network, after_parts, neighbours_at};
+ghost use Rattle.tora_running.specs.Histories.{IsAfterRefused, IsNotStarted, parts_of_last, parts_of_link, parts_of_turns, parts_served, served_in};
+ghost use Rattle.tora_running.specs.Network.{IsRun, Network, Part, after_parts, neighbours_at, settings_at};
 ghost use Rattle.tora_running.specs.Parts.{AreLinkParts};
 ghost use Rattle.tora_running.specs.Worked.{start, first_parts, parted, second_parts, met, HandsBack, HasMet};
 
@@ -92,6 +92,12 @@ pub fn histories_are_of_the_threads()
     ensures served { (w : Network) (n : ℕ) (xs : List ServedItem) (rest : List Item) (after : SeatState) → is_node w.topology n ≡ true
         → w.items n ≡ items_served xs ++ rest → AreServed (neighbours_at w n) (w.seats n) xs after
         → IsRun w (parts_served n xs) × ((after_parts (parts_served n xs) w).seats n ≡ after) × ((after_parts (parts_served n xs) w).items n ≡ rest) }
+    // And the other way round: in a run of all threads in which a node is not started, the parts of each of its links are parts
+    // of that end, and the items that its core has served were served one after another.
+    ensures links { (w : Network) (parts : List Part) (n k : ℕ) → IsRun w parts → IsNotStarted n parts
+        → AreLinkParts (settings_at w n k) (w.ends n k) (parts_of_link n k parts) ((after_parts parts w).ends n k) }
+    ensures cores { (w : Network) (parts : List Part) (n : ℕ) → IsRun w parts → IsNotStarted n parts
+        → AreServed (neighbours_at w n) (w.seats n) (served_in n parts) ((after_parts parts w).seats n) }
 {}
 
 /// Two running nodes, computed: what the laws say of a run of parts is not empty.

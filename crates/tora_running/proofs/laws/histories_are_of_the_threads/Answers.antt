@@ -1,4 +1,5 @@
 use Rattle.tora_running.proofs.ThreadHistories.{turns_are, last_is, run_is, served_are}
+use Rattle.tora_running.proofs.LinkHistories.{link_parts, core_parts}
 use Rattle.tora_running.proofs.laws.histories_are_of_the_threads.Goals as goal
 
 pub returns-clause-turns : goal.returns-clause-turns
@@ -12,3 +13,9 @@ returns-clause-run c = λ s e turns last ending after h. run_is s e turns last e
 
 pub returns-clause-served : goal.returns-clause-served
 returns-clause-served c = λ w n xs rest after node lane h. served_are w n node xs rest after lane h
+
+pub returns-clause-links : goal.returns-clause-links
+returns-clause-links c = λ w parts n k run others. link_parts n k parts w run others
+
+pub returns-clause-cores : goal.returns-clause-cores
+returns-clause-cores c = λ w parts n run others. core_parts n parts w run others
