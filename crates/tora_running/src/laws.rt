@@ -12,7 +12,7 @@ ghost use Rattle.tora_world.specs.Topology.{is_node};
 ghost use Rattle.tora_running.specs.Histories.{IsAfterRefused, IsNotStarted, parts_of_last, parts_of_link, parts_of_turns, parts_served, served_in};
 ghost use Rattle.tora_running.specs.Network.{IsRun, Network, Part, after_parts, neighbours_at, settings_at};
 ghost use Rattle.tora_running.specs.Parts.{AreLinkParts};
-ghost use Rattle.tora_running.specs.Worked.{start, first_parts, parted, second_parts, met, HandsBack, HasMet};
+ghost use Rattle.tora_running.specs.Worked.{start, first_parts, parted, second_parts, met, HandsBack, HasMet, drawn_again, TakesTwice};
 
 use tora_arq::{data_frames_are_what_was_submitted, refused_frames_change_nothing};
 use tora_life::drawn_life_numbers_rise;
@@ -137,4 +137,6 @@ pub fn worked_networks_hold()
     // taken in it, once, though its datagram comes twice: node 1 has a route.
     ensures second { IsRun parted second_parts }
     ensures met { HasMet met }
+    // That numbers rise is needed: were the same numbers drawn again after a start, an old datagram would be taken a second time.
+    ensures numbers { TakesTwice drawn_again }
 {}
