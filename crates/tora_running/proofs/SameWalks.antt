@@ -1,10 +1,15 @@
--- Heights, entries, hops and walks are read of the topology and the cores alone.
-use Rattle.std.proofs.Common.{◌≡◌, ℕ, zero, suc, List, [], ◌∷◌, length, Option, Some, None, if◌then◌else◌, refl, sym, ap, ap₂, ◌∙◌, subst}
+-- Heights, entries, hops and walks are read of the topology and the cores alone, and whether a world is at rest also of ends and lanes.
+use Rattle.std.proofs.Common.{◌≡◌, ℕ, zero, suc, inl, inr, ⊎_elim, List, [], ◌∷◌, length, Option, Some, None, if◌then◌else◌, refl, sym, ap, ap₂, ◌∙◌, subst}
 use Rattle.std.specs.Prelude.{◌==◌, ◌≤◌, option_map}
 use Rattle.tora_height.specs.Height.{Quintuple}
 use Rattle.tora_core.specs.CoreRun.{height_of, entry_of, hop_of}
-use Rattle.tora_world.specs.Topology.{Topology, nodes_in, is_node}
+use Rattle.tora_world.specs.Topology.{Topology, nodes_in, is_node, is_link}
 use Rattle.tora_world.specs.World.{World}
+use Rattle.tora_arq.specs.LinkEnd.{EndState, bound_life}
+use Rattle.tora_seat.specs.declared.Item.{Item}
+use Rattle.tora_seat.specs.declared.Cargo.{Cargo}
+use Rattle.tora_world.specs.Lists.{reversed}
+use Rattle.tora_world.specs.Rest.{IsAtRest, EntriesAreHeights, LacksHeight, IsReached, itself, further, life_at}
 use Rattle.tora_world.specs.Walks.{height_at, hop_at, entry_at, IsExact, LeadsOn, FallsFrom, walk_within, Arrives}
 
 module _ (w v : World) (top : w.topology ≡ v.topology) (seats : w.seats ≡ v.seats) where
@@ -45,3 +50,30 @@ module _ (w v : World) (top : w.topology ≡ v.topology) (seats : w.seats ≡ v.
 
   pub same_height : (n d : ℕ) (height : Option (Option Quintuple)) → height_at v n d ≡ height → height_at w n d ≡ height
   same_height n d height e = height_same n d ∙ e
+
+  pub same_lacks : (k d : ℕ) → LacksHeight w k d → LacksHeight v k d
+  same_lacks k d h = sym (height_same k d) ∙ h
+
+  pub same_entries : EntriesAreHeights w → EntriesAreHeights v
+  same_entries h n k d entry e = ⊎_elim (λ x. inl (sym (height_same k d) ∙ x)) (λ x. inr (same_lacks k d x)) (h n k d entry (entry_same n k d ∙ e))
+
+  pub same_reached : (d n k : ℕ) → IsReached w d n k → IsReached v d n k
+  same_reached d n k itself = itself
+  same_reached d n k (further {j = j} r e) = further (same_reached d n j r) (sym (entry_same j k d) ∙ e)
+
+  life_same : (n k : ℕ) → life_at w n k ≡ life_at v n k
+  life_same n k = ap₂ (λ t f. if is_link t n k then (f n).current k else None) top seats
+
+  pub same_rest : w.items ≡ v.items → w.cargoes ≡ v.cargoes → w.ends ≡ v.ends → IsAtRest v → IsAtRest w
+  same_rest items cargoes ends h = record {
+    items = λ n e. ap (λ (f : ℕ → List Item). f n) items ∙ h.items n (ap (λ t. is_node t n) (sym top) ∙ e);
+    idle = λ n k e. let x = h.idle n k (ap (λ t. is_link t n k) (sym top) ∙ e) in record {
+      cargoes = ap (λ (f : ℕ → ℕ → List Cargo). f n k) cargoes ∙ x.cargoes;
+      events = ap (λ (f : ℕ → ℕ → EndState). (f n k).events) ends ∙ x.events;
+      queue = ap (λ (f : ℕ → ℕ → EndState). (f n k).queue) ends ∙ x.queue;
+    };
+    lives = λ n k e. let x = h.lives n k (ap (λ t. is_link t n k) (sym top) ∙ e) in record {
+      same = life_same n k ∙ x.same ∙ ap (option_map reversed) (sym (life_same k n));
+      bound = λ life q. ap (λ (f : ℕ → ℕ → EndState). bound_life (f n k)) ends ∙ x.bound life (sym (life_same n k) ∙ q);
+    };
+  }

@@ -12,6 +12,8 @@ use Rattle.tora_world.specs.World.{World, first_world}
 use Rattle.tora_world.specs.FreeWorld.{Schedule, after_schedule}
 use Rattle.tora_world.specs.Law.{is_bound_to}
 use Rattle.tora_world.specs.Gaps.{broadcast_from}
+use Rattle.tora_world.specs.Refusals.{OnlyNeedsAreRefused}
+use Rattle.tora_world.specs.Rest.{IsAtRest, EntriesAreHeights, LacksHeight, IsReached}
 use Rattle.tora_world.specs.Walks.{height_at, IsExact, Arrives, AreIds}
 use Rattle.tora_running.specs.Network.{Network, Part, first_network, after_part, after_parts, IsRun, packets_sent, packets_taken}
 
@@ -68,12 +70,38 @@ abbrev pub IsWithoutGap : Topology → Network → Type 0
 IsWithoutGap t w =
     topology_fault t ≡ None → (n k : ℕ) (life : Life) → is_link t n k ≡ true → (w.seats n).current k ≡ Some life → packets_sent w n k life ≡ packets_broadcast t w n k
 
--- a world with the network's topology and cores, of which heights, entries and hops are read
-abbrev pub cores_of : Network → World
-cores_of w = record (first_world w.topology w.times) { seats = w.seats }
+-- a world that has what the network has; its clock, life files, datagrams and armed calls are those of a first world, and nothing below asks
+-- for them
+abbrev pub shown : Network → World
+shown w = record (first_world w.topology w.times) {
+  seats = w.seats;
+  ends = w.ends;
+  items = w.items;
+  counts = w.counts;
+  cargoes = w.cargoes;
+  put = w.put;
+  inputs = w.inputs;
+  steps = w.steps;
+}
+
+-- a core refuses nothing but the need of a destination that is not in its table, and for that cause
+abbrev pub RefusesOnlyNeeds : Network → Type 0
+RefusesOnlyNeeds w = OnlyNeedsAreRefused (shown w)
+
+-- this holds of the world that is shown, where the topology is not refused and has nodes' numbers
+abbrev pub HoldsOfSound : (World → Type 0) → Topology → Network → Type 0
+HoldsOfSound Holds t w = topology_fault t ≡ None → AreIds t → Holds (shown w)
 
 -- where each entry for a destination that is not NULL is the neighbour's height, the hops from a node with a height arrive
-abbrev pub WalksArrive : Topology → Network → Type 0
-WalksArrive t w =
-    topology_fault t ≡ None → AreIds t → (d n : ℕ) (height : Quintuple) → IsExact (cores_of w) d → height_at (cores_of w) n d ≡ Some (Some height)
-    → Arrives (cores_of w) n d
+abbrev pub WalksArrive : World → Type 0
+WalksArrive w = (d n : ℕ) (height : Quintuple) → IsExact w d → height_at w n d ≡ Some (Some height) → Arrives w n d
+
+-- where nothing is under way, each entry is NULL or the neighbour's height, or the neighbour has none
+abbrev pub RestingEntriesAreHeights : World → Type 0
+RestingEntriesAreHeights w = IsAtRest w → EntriesAreHeights w
+
+-- and the hops from a node with a height arrive, if no node that links lead to from there is without one
+abbrev pub RestingRoutesArrive : World → Type 0
+RestingRoutesArrive w =
+    IsAtRest w → (d n : ℕ) (height : Quintuple) → height_at w n d ≡ Some (Some height)
+    → ((k : ℕ) → IsReached w d n k → ¬ LacksHeight w k d) → Arrives w n d

@@ -122,3 +122,21 @@ pub record HasMet (w : Network) : Type 0 where
   pub taken : packets_taken w 2 1 (reversed new_life) ≡ update ∷ []
   pub none : packets_taken w 2 1 life ≡ []
   pub hop : hop_of (w.seats 1).core 2 ≡ Some 2
+
+-- ---- what is no run: a number is drawn again
+
+-- the update is taken in the life of the numbers 1 and 1; both nodes are started again and draw the same numbers, and its old datagram comes
+abbrev pub numbers_again : List Reads
+numbers_again =
+    starts 1 ∷ starts 2 ∷ needs 1 2 ∷ serves 1 true ∷ opens 1 2 1 ∷ opens 2 1 1 ∷ sends 1 2 Goes ∷ hears 2 1 0 ∷ sends 2 1 Goes ∷ hears 1 2 0 ∷ sends 1 2 Goes ∷ hears 2 1 1
+    ∷ tells 1 2 ∷ tells 2 1 ∷ serves 2 true ∷ serves 1 true ∷ takes 1 2 ∷ sends 1 2 Goes ∷ hears 2 1 2 ∷ tells 2 1 ∷ serves 2 true
+    ∷ starts 1 ∷ starts 2 ∷ opens 1 2 1 ∷ opens 2 1 1 ∷ sends 1 2 Goes ∷ hears 2 1 3 ∷ sends 2 1 Goes ∷ hears 1 2 1 ∷ sends 1 2 Goes ∷ hears 2 1 4
+    ∷ tells 2 1 ∷ serves 2 true ∷ hears 2 1 2 ∷ tells 2 1 ∷ serves 2 true ∷ []
+
+abbrev pub drawn_again : Network
+drawn_again = after_parts (read_from start numbers_again) start
+
+-- the update was sent once, and taken twice
+pub record TakesTwice (w : Network) : Type 0 where
+  pub sent : packets_sent w 1 2 life ≡ update ∷ []
+  pub taken : packets_taken w 2 1 life ≡ update ∷ update ∷ []

@@ -1,5 +1,5 @@
 //! The laws of running nodes. Each stands over the definitions alone: a function without parameters that does nothing.
-ghost use Rattle.tora_running.specs.Laws.{BindsOnce, CoresFollow, EveryNetwork, IsOfWorld, IsWithoutGap, TakenBeginsSent, WalksArrive};
+ghost use Rattle.tora_running.specs.Laws.{BindsOnce, CoresFollow, EveryNetwork, HoldsOfSound, IsOfWorld, IsWithoutGap, RefusesOnlyNeeds, RestingEntriesAreHeights, RestingRoutesArrive, TakenBeginsSent, WalksArrive};
 ghost use Rattle.std.specs.Prelude.{◌≡◌, ℕ, true, List, ◌++◌, Option};
 ghost use Rattle.tora_arq.specs.LinkEnd.{EndState};
 ghost use Rattle.tora_arq.specs.Settings.{Settings};
@@ -12,12 +12,13 @@ ghost use Rattle.tora_world.specs.Topology.{is_node};
 ghost use Rattle.tora_running.specs.Histories.{IsAfterRefused, IsNotStarted, parts_of_last, parts_of_link, parts_of_turns, parts_served, served_in};
 ghost use Rattle.tora_running.specs.Network.{IsRun, Network, Part, after_parts, neighbours_at, settings_at};
 ghost use Rattle.tora_running.specs.Parts.{AreLinkParts};
-ghost use Rattle.tora_running.specs.Worked.{start, first_parts, parted, second_parts, met, HandsBack, HasMet};
+ghost use Rattle.tora_running.specs.Worked.{start, first_parts, parted, second_parts, met, HandsBack, HasMet, drawn_again, TakesTwice};
 
 use tora_arq::{data_frames_are_what_was_submitted, refused_frames_change_nothing};
 use tora_life::drawn_life_numbers_rise;
 use tora_world::{
-    exact_entries_give_walks, life_files_become_what_crashes_leave, no_gap_law, prefix_law,
+    entries_at_rest_are_heights, exact_entries_give_walks, life_files_become_what_crashes_leave,
+    no_gap_law, only_needs_are_refused, prefix_law, routes_at_rest_arrive,
 };
 
 /// Running nodes are a world: whatever the parts that their threads make, some schedule of the free world leaves a world with
@@ -70,10 +71,37 @@ pub fn running_nodes_keep_the_no_gap_law()
 /// Exact entries give walks of running nodes: where each entry for a destination that is not NULL is the height of the
 /// neighbour whose entry it is, the next hops lead from any node with a height to the destination.
 pub fn running_walks_arrive()
-    ensures { EveryNetwork (λ t times w. WalksArrive t w) }
+    ensures { EveryNetwork (λ t times w. HoldsOfSound WalksArrive t w) }
 {
     running_nodes_are_a_world();
     exact_entries_give_walks();
+}
+
+/// Where nothing is under way among running nodes, each entry of a node for a neighbour whose link is up is NULL, or the
+/// neighbour's height, or the neighbour has no height.
+pub fn running_entries_at_rest_are_heights()
+    ensures { EveryNetwork (λ t times w. HoldsOfSound RestingEntriesAreHeights t w) }
+{
+    running_nodes_are_a_world();
+    entries_at_rest_are_heights();
+}
+
+/// Where nothing is under way among running nodes, the next hops lead from a node that has a height to the destination, if no
+/// node that links lead to from there is without one.
+pub fn running_routes_at_rest_arrive()
+    ensures { EveryNetwork (λ t times w. HoldsOfSound RestingRoutesArrive t w) }
+{
+    running_nodes_are_a_world();
+    routes_at_rest_arrive();
+}
+
+/// A core of a running node refuses nothing but the need of a destination that is not in its table, whatever its next item is
+/// and whatever is answered for its cargoes.
+pub fn running_cores_refuse_only_needs()
+    ensures { EveryNetwork (λ t times w. RefusesOnlyNeeds w) }
+{
+    running_nodes_are_a_world();
+    only_needs_are_refused();
 }
 
 /// The parts are those of the threads: what a link's thread and a core's thread are proved to do is spelled, turn after turn and
@@ -109,4 +137,6 @@ pub fn worked_networks_hold()
     // taken in it, once, though its datagram comes twice: node 1 has a route.
     ensures second { IsRun parted second_parts }
     ensures met { HasMet met }
+    // That numbers rise is needed: were the same numbers drawn again after a start, an old datagram would be taken a second time.
+    ensures numbers { TakesTwice drawn_again }
 {}
