@@ -204,7 +204,7 @@ def edits_in(folder, crates):
     return found
 
 
-def run(folder, room, cores, log, edits):
+def run(folder, room, cores, at_once, log, edits):
     """Runs the gate in the folder and prints what was seen of it. Returns its status."""
     os.mkdir(f"{room}/tmp")
     # programs are run as nobody
@@ -216,7 +216,7 @@ def run(folder, room, cores, log, edits):
     gate = subprocess.Popen(
         ["rt", "ci"],
         cwd=folder,
-        env={**os.environ, "TMPDIR": f"{room}/tmp"},
+        env={**os.environ, "TMPDIR": f"{room}/tmp", **({"RT_JOBS": str(at_once)} if at_once else {})},
         stdin=subprocess.DEVNULL,
         stdout=subprocess.PIPE,
         stderr=subprocess.STDOUT,
@@ -263,6 +263,7 @@ def run(folder, room, cores, log, edits):
     print()
     print(f"- {'broken off after' if broken_off else 'takes'} {minutes(seconds)} minutes, {minutes(whole)} processor minutes")
     print(f"- cores: {len(used_cores)} ({','.join(map(str, used_cores))}) of {os.cpu_count()}; memory of the machine: {gigabytes(memory_of_machine())}")
+    print(f"- checks at once: {at_once or os.environ.get('RT_JOBS') or 'as rt plans them, up to four processors each'}")
     print(f"- memory at its most: {gigabytes(tally.peak)}; the largest process: {gigabytes(largest[1])} ({' '.join(largest[0])})")
     print(f"- the gate's last line: {last[0] or 'none'}; its status: {'none, broken off' if broken_off else gate.returncode}")
     return 130 if broken_off else gate.returncode
@@ -282,6 +283,13 @@ def cores_in(text):
     return found
 
 
+def count_in(text):
+    """A number of checks, at least 1."""
+    if not text.isdigit() or int(text) < 1:
+        raise argparse.ArgumentTypeError(f"'{text}' is no number of checks")
+    return int(text)
+
+
 def stop(*_):
     raise KeyboardInterrupt
 
@@ -290,6 +298,7 @@ def main():
     told = argparse.ArgumentParser(description=__doc__, formatter_class=argparse.RawDescriptionHelpFormatter)
     told.add_argument("folder", nargs="?", metavar="FOLDER", default=os.path.dirname(os.path.dirname(os.path.realpath(__file__))), help="the repository whose last commit is cloned; without it the one that this script stands in")
     told.add_argument("--cores", type=cores_in, metavar="LIST", help="the cores to run on, as 0,1 or 0-3; all without it")
+    told.add_argument("--at-once", type=count_in, metavar="N", help="N checks at once with one processor each, as .ci/run has them; without it as rt plans them")
     told.add_argument("--log", metavar="FILE", help="where the gate's output goes, a time before each line; without it to standard error")
     told.add_argument("--keep", action="store_true", help="leaves the clone, and tells where it stands")
     given = told.parse_args()
@@ -310,7 +319,7 @@ def main():
         print(f"The gate at {commit}\n", flush=True)
         edits = edits_in(folder, crates_of(folder))
         with open(given.log, "w", encoding="utf-8") if given.log else os.fdopen(os.dup(2), "w") as log:
-            return run(folder, room, given.cores, log, edits)
+            return run(folder, room, given.cores, given.at_once, log, edits)
     except KeyboardInterrupt:
         return 130
     finally:
