@@ -298,7 +298,7 @@ def main():
     told = argparse.ArgumentParser(description=__doc__, formatter_class=argparse.RawDescriptionHelpFormatter)
     told.add_argument("folder", nargs="?", metavar="FOLDER", default=os.path.dirname(os.path.dirname(os.path.realpath(__file__))), help="the repository whose last commit is cloned; without it the one that this script stands in")
     told.add_argument("--cores", type=cores_in, metavar="LIST", help="the cores to run on, as 0,1 or 0-3; all without it")
-    told.add_argument("--at-once", type=count_in, metavar="N", help="N checks at once with one processor each, as .ci/run has them; without it as rt plans them")
+    told.add_argument("--at-once", type=count_in, metavar="N", help="N checks at once with one processor each, by the variable RT_JOBS, which plans no memory; without it as rt plans them")
     told.add_argument("--log", metavar="FILE", help="where the gate's output goes, a time before each line; without it to standard error")
     told.add_argument("--keep", action="store_true", help="leaves the clone, and tells where it stands")
     given = told.parse_args()
