@@ -1,7 +1,7 @@
 #!/usr/bin/env python3
 """Runs the merge gate, `rt ci`, on a clean clone and tells what its time and memory went to, crate by crate.
 
-What is not committed is not run. The table, in Markdown, is printed also where the gate fails or is broken off by Ctrl-C.
+What is not committed is not run. The table, in Markdown, is printed also where the gate fails or is broken off by Ctrl-C or SIGTERM.
 
 Each half second the processes below `rt ci` are read in /proc. Processor time is user and system time, to the end of each
 process. A process belongs to the crate that its command line names, and to one of
@@ -285,7 +285,7 @@ def cores_in(text):
 
 def count_in(text):
     """A number of checks, at least 1."""
-    if not text.isdigit() or int(text) < 1:
+    if not text.isdecimal() or int(text) < 1:
         raise argparse.ArgumentTypeError(f"'{text}' is no number of checks")
     return int(text)
 
