@@ -15,9 +15,9 @@ pub use tora_replay::{
     fault_is_the_first, first_lines_are_read_as_written, lines_are_read_as_written, replay,
 };
 pub use tora_script::{
-    Simulator, simulate, simulate_in, simulate_with, simulation_fault_is_the_first,
-    simulation_lines_are_read_as_written,
+    Simulator, simulate_in, simulation_fault_is_the_first, simulation_lines_are_read_as_written,
 };
+pub use tora_simulate::{simulate, simulate_with};
 
 /// Replays standard input.
 fn replay_input(rt: &HostRuntime, is_verbose: bool) -> ExitCode {

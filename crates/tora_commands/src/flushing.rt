@@ -13,7 +13,7 @@ use std::io::Read;
 use tora_arq::Times;
 use tora_lines::{Ended, Output, ReplayError, flushed};
 use tora_replay::replay;
-use tora_script::{Simulator, simulate_in, simulate_telling, simulate_told};
+use tora_script::{Simulator, simulate_in, simulate_told};
 
 /// Replays, and flushes the writer: `Write` where that alone fails.
 pub fn replay_and_flush<R: Read, W: Output>(
@@ -50,29 +50,6 @@ pub fn simulate_and_flush<S: Simulator, R: Read, W: Output>(
     ensures flushed { IsFlushed W.did_flush result writer.new }
 {
     let result = simulate_in::<S, R, W>(alloc, times, reader, writer);
-    flushed(writer, result)
-}
-
-/// Simulates with these times of each link end, tells on standard error why a line is a fault and, where it is verbose, what is
-/// refused, and flushes the writer: `Write` where that alone fails.
-pub fn simulate_telling_and_flush<S: Simulator, T: Eprint, R: Read, W: Output>(
-    rt: &T,
-    alloc: Global,
-    times: Times,
-    reader: &mut R,
-    writer: &mut W,
-    is_verbose: bool,
-) -> Result<Ended, ReplayError>
-    requires { IsTimes times }
-    ensures whole { IfOk result (λ ended. IfSome (R.remaining reader.old) (λ input.
-        Simulates times input (W.contents writer.old) (W.contents writer.new) ended)) }
-    ensures at_end { result ≡ Ok Ended.Whole → IsAtEnd (R.remaining reader.new) }
-    ensures fault { IfOk result (λ ended. IfSome (R.remaining reader.old) (λ input. fault_of ended ≡ first_simulation_fault times input)) }
-    ensures begun { IfErr result (λ e. e ≢ ReplayError.Write →
-        IsSimulationBegun times (R.remaining reader.old) (R.remaining reader.new) (W.contents writer.old) (W.contents writer.new)) }
-    ensures flushed { IsFlushed W.did_flush result writer.new }
-{
-    let result = simulate_telling::<S, T, R, W>(rt, alloc, times, reader, writer, is_verbose);
     flushed(writer, result)
 }
 

@@ -9,69 +9,30 @@ ghost use Rattle.std.specs.Prelude.{◌≡◌, ◌≢◌, ◌⊎◌, None, IfSom
 ghost use Rattle.std.specs.Process.{exit_status};
 ghost use Rattle.clap.specs.Words.{kind_of};
 ghost use Rattle.tora_script.specs.SimulationText.{simulation_rules};
-ghost use Rattle.tora_commands.specs.Endings.{EndsFile, EndsTraced};
-ghost use Rattle.tora_commands.specs.Statuses.{status_of};
 ghost use Rattle.tora_commands.specs.TimesWord.{asked_times};
+ghost use Rattle.tora_simulate.specs.Endings.{EndsFile, EndsTraced};
 
 mod command_line;
 mod flushing;
 pub mod node_command;
 pub mod replay_command;
-pub mod sim_command;
-mod telling;
 mod times_word;
 pub mod traced_command;
 
 use clap::error::ErrorKind;
 pub use command_line::command;
-pub use flushing::{
-    replay_and_flush, simulate_and_flush, simulate_telling_and_flush, simulate_told_and_flush,
-};
+pub use flushing::{replay_and_flush, simulate_and_flush, simulate_told_and_flush};
 use std::process::ExitCode;
 use std::rt::Files;
-use telling::tell;
 pub use times_word::asked_times;
-use tora_lines::{Ended, Output, ReplayError};
+use tora_lines::Output;
 use tora_sim::Sim;
-
-/// The exit status of a fault of input or configuration, and of a failed read or write. 0 stands for an end without a fault.
-pub const INPUT: u8 = 1;
-
-/// The exit status of a fault of usage.
-pub const USAGE: u8 = 2;
-
-/// The exit status where a socket can't be bound, or failed.
-pub const SOCKET: u8 = 3;
-
-/// The exit status where a life file can't be opened or gives no number.
-pub const LIFE: u8 = 4;
-
-/// The exit status where memory was refused.
-pub const MEMORY: u8 = 5;
+pub use tora_simulate::{
+    INPUT, LIFE, MEMORY, SOCKET, USAGE, sim_command, simulate_telling_and_flush, status, stop,
+};
 
 /// What is said of a word behind `--times` that gives no times.
 const TIMES: &str = "behind `--times` stand four numbers from 1 on between commas, as in 10,50,5,8";
-
-/// Says on standard error why the program stops.
-pub fn stop(rt: &impl Eprint, status: u8, cause: &str) -> ExitCode
-    ensures { exit_status result ≡ status }
-{
-    tell(rt, &cause);
-    ExitCode::from(status)
-}
-
-/// The exit status of a replay or a simulation, after its line on standard error.
-pub fn status(rt: &impl Eprint, ended: Result<Ended, ReplayError>) -> ExitCode
-    ensures { exit_status result ≡ status_of ended }
-{
-    match ended {
-        Ok(Ended::Whole) => ExitCode::SUCCESS,
-        Ok(Ended::Fault(_)) => stop(rt, INPUT, "input"),
-        Err(ReplayError::Memory) => stop(rt, MEMORY, "memory"),
-        Err(ReplayError::Read) => stop(rt, INPUT, "input"),
-        Err(ReplayError::Write) => stop(rt, INPUT, "input"),
-    }
-}
 
 /// Simulates the lines of the file at a path, with the times of link ends that a word asks for, and writes the trace where a
 /// path is given for it. A word that gives no times is a fault of usage, and nothing is written.

@@ -5,7 +5,6 @@ ghost use Rattle.tora_commands.specs.Statuses.{status_of_node, status_of_fault, 
 ghost use Rattle.tora_node.specs.declared.node.Ended.{Ended};
 ghost use Rattle.tora_config.specs.NodeConfig.{IsNodeConfig};
 
-use crate::telling::{tell, tell_at};
 use crate::{INPUT, LIFE, MEMORY, SOCKET, stop};
 use log::Log;
 use std::alloc::{AllocError, Global};
@@ -25,6 +24,7 @@ use tora_height::Id;
 use tora_life::{Disk, FileDisk, LifeError, Owner, Tag};
 use tora_neighbour::{NodeError, UdpWire, UnixClock};
 use tora_node::{Config, Ended, run_node};
+use tora_simulate::{tell, tell_at};
 
 /// Why a node is not started.
 #[derive(Clone, Copy, Debug, PartialEq, Eq)]

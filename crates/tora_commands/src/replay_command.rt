@@ -1,16 +1,27 @@
 //! `tora replay`: a replay of what a reader gives.
 ghost use Rattle.std.specs.Prelude.{false};
 ghost use Rattle.std.specs.Process.{exit_status};
-ghost use Rattle.tora_commands.specs.Endings.{EndsBy};
+ghost use Rattle.tora_simulate.specs.Endings.{EndsBy};
 ghost use Rattle.tora_replay.specs.ReplayText.{replay_rules};
 
 use crate::flushing::replay_and_flush;
 use crate::status;
-use crate::telling::{tell as tell_error, tell_line, tell_lost_line};
+use std::fmt::Display;
 use std::io::Read;
 use std::process::ExitCode;
 use tora_lines::{Ended, Output, Recent, ReplayError};
 use tora_replay::cause_of;
+use tora_simulate::tell as tell_error;
+
+/// Says why a line is a fault.
+fn tell_line(rt: &impl Eprint, number: u64, cause: &impl Display) {
+    let _ = rt.eprintln(format_args!("tora: line {number}: {cause}"));
+}
+
+/// Says that a line that is a fault was not kept, since memory was refused.
+fn tell_lost_line(rt: &impl Eprint, number: u64) {
+    let _ = rt.eprintln(format_args!("tora: line {number} was not kept"));
+}
 
 /// Says why a line is a fault, or what failed.
 fn tell<T: AllocGlobal + Eprint, R: Read>(

@@ -2,13 +2,12 @@
 ghost use Rattle.std.specs.Prelude.{◌≡◌, ◌⊎◌, is_some};
 ghost use Rattle.std.specs.Process.{exit_status};
 ghost use Rattle.tora_arq.specs.Settings.{IsTimes};
-ghost use Rattle.tora_commands.specs.Endings.{EndsBy, EndsTraced};
+ghost use Rattle.tora_simulate.specs.Endings.{EndsBy, EndsTraced};
 ghost use Rattle.tora_script.specs.SimulationText.{simulation_rules};
-ghost use Rattle.tora_commands.specs.Statuses.{traced_status};
+ghost use Rattle.tora_simulate.specs.Statuses.{traced_status};
 ghost use Rattle.tora_traced.specs.TraceOuts.{IsHandedOn};
 
 use crate::sim_command::{refuse, tell};
-use crate::telling::tell_at;
 use crate::{INPUT, MEMORY, status, stop};
 use std::io::{BufWriter, ErrorKind, Read};
 use std::process::ExitCode;
@@ -16,6 +15,7 @@ use std::rt::Files;
 use std::{fs, io};
 use tora_arq::Times;
 use tora_lines::{Ended, Output, Recent, ReplayError, flushed};
+use tora_simulate::tell_at;
 use tora_traced::{TraceOut, Watched, simulate_traced};
 
 /// Says which path can't be the trace's, and why, and ends with the status of the cause.

@@ -4,7 +4,7 @@
 //! events.
 //!
 //! ```rust
-//! let ended = simulate(alloc, &mut reader, &mut writer)?;
+//! let ended = simulate_in::<Sim, R, W>(alloc, Times::STANDARD, &mut reader, &mut writer)?;
 //! ```
 #![tactic(auto)]
 
@@ -14,11 +14,11 @@ mod parse;
 mod rounds;
 mod running;
 mod script_line;
-mod simulated;
 mod simulating;
 mod simulation;
 mod simulator;
 mod told;
+mod world_simulator;
 
 pub use causes::{SimulationCause, simulation_cause};
 pub use link_lines::LinkLines;
@@ -26,7 +26,6 @@ pub use parse::{simulation_line, simulation_lines_are_read_as_written};
 pub use rounds::{is_parted, make_rounds};
 pub use running::{Running, mend, part};
 pub use script_line::SimulationLine;
-pub use simulated::{simulate, simulate_with};
 pub use simulating::{simulate_in, simulation_fault_is_the_first};
 pub use simulation::{Simulation, Stage};
 pub use simulator::Simulator;

@@ -170,8 +170,8 @@ impl<S: Simulator> FileKind for Simulation<S> {
 }
 
 /// Reads the lines of a simulation file to the end of the input or to the first line that is a fault, and writes what is
-/// printed for each, in a simulator of this kind whose link ends have these times, none of which is 0. `simulate` says what
-/// a file is.
+/// printed for each, in a simulator of this kind whose link ends have these times, none of which is 0. `docs/formats.md`,
+/// "Simulation files", says what a file is.
 #[tactic(auto, unfolding(tora_lines::specs::Engine::text_of))]
 pub fn simulate_in<S: Simulator, R: Read, W: Write>(
     alloc: Global,

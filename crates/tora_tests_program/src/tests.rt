@@ -12,8 +12,8 @@ use tora_commands::{
 };
 use tora_lines::{Ended, Recent, ReplayError};
 use tora_replay::{Cause, cause_of, replay};
-use tora_script::{simulate, simulate_with};
 use tora_sim::Sim;
+use tora_simulate::{simulate, simulate_with};
 use words::matched;
 
 mod commands;

@@ -1,6 +1,6 @@
 use Rattle.std.proofs.Common.{false}
 use Rattle.tora_replay.specs.ReplayText.{replay_rules}
-use Rattle.tora_commands.proofs.EndingLaws.{ends_from}
+use Rattle.tora_simulate.proofs.EndingLaws.{ends_from}
 use Rattle.tora_commands.proofs.replay_command.run.Goals as goal
 
 pub returns : goal.returns

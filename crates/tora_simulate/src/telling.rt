@@ -10,13 +10,3 @@ pub fn tell(rt: &impl Eprint, cause: &impl Display) {
 pub fn tell_at(rt: &impl Eprint, word: &str, place: &str, cause: &impl Display) {
     let _ = rt.eprintln(format_args!("tora: {word}{place}: {cause}"));
 }
-
-/// Says why a line is a fault.
-pub fn tell_line(rt: &impl Eprint, number: u64, cause: &impl Display) {
-    let _ = rt.eprintln(format_args!("tora: line {number}: {cause}"));
-}
-
-/// Says that a line that is a fault was not kept, since memory was refused.
-pub fn tell_lost_line(rt: &impl Eprint, number: u64) {
-    let _ = rt.eprintln(format_args!("tora: line {number} was not kept"));
-}

@@ -1,13 +1,13 @@
 //! `tora sim [--times HELLO,SILENCE,RETRY,TRIES] FILE`: a simulation of a file of lines.
 ghost use Rattle.std.specs.Prelude.{◌≡◌, ◌⊎◌, false};
 ghost use Rattle.std.specs.Process.{exit_status};
-ghost use Rattle.tora_commands.specs.Endings.{EndsBy, EndsFile};
+ghost use Rattle.tora_simulate.specs.Endings.{EndsBy, EndsFile};
 ghost use Rattle.tora_arq.specs.Settings.{IsTimes};
 ghost use Rattle.tora_script.specs.SimulationText.{simulation_rules};
 
 use crate::flushing::simulate_telling_and_flush;
+use crate::statuses::{INPUT, MEMORY, status, stop};
 use crate::telling::{tell as tell_error, tell_at};
-use crate::{INPUT, MEMORY, status, stop};
 use std::io::{ErrorKind, Read};
 use std::process::ExitCode;
 use std::rt::Files;

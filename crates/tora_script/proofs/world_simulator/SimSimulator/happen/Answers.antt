@@ -2,7 +2,7 @@ use Rattle.std.proofs.Common.{◌≡◌, ◌∙◌, Some, ap, sym, arith}
 use Rattle.tora_world.specs.Errors.{sim_error_number}
 use Rattle.tora_sim.specs.Store.{world_of}
 use Rattle.tora_script.proofs.Starting.{stays, is_cause}
-use Rattle.tora_script.proofs.simulated.SimSimulator.happen.Goals as goal
+use Rattle.tora_script.proofs.world_simulator.SimSimulator.happen.Goals as goal
 
 pub returns-in-Ok-clause-refused : goal.returns-in-Ok-clause-refused
 returns-in-Ok-clause-refused c = sym c.in-Ok.ensures.accepted

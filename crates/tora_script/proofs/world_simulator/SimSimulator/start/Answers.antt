@@ -3,7 +3,7 @@ use Rattle.tora_world.specs.World.{first_world}
 use Rattle.tora_sim.specs.Store.{world_of}
 use Rattle.tora_script.specs.Simulator.{with_old_node}
 use Rattle.tora_script.proofs.Starting.{numbers_of, started_as}
-use Rattle.tora_script.proofs.simulated.SimSimulator.start.Goals as goal
+use Rattle.tora_script.proofs.world_simulator.SimSimulator.start.Goals as goal
 
 pub new-requires : goal.new-requires
 new-requires c = numbers_of c.args.links.now c.args.dests.now c.requires.links c.requires.dests

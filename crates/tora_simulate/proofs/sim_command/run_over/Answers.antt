@@ -1,7 +1,7 @@
 use Rattle.std.proofs.Common.{false}
 use Rattle.tora_script.specs.SimulationText.{simulation_rules}
-use Rattle.tora_commands.proofs.EndingLaws.{ends_from}
-use Rattle.tora_commands.proofs.sim_command.run_over.Goals as goal
+use Rattle.tora_simulate.proofs.EndingLaws.{ends_from}
+use Rattle.tora_simulate.proofs.sim_command.run_over.Goals as goal
 
 pub returns : goal.returns
 returns g c =

@@ -3,7 +3,7 @@ use Rattle.std.specs.Prelude.{◌≡◌, ◌≢◌, ◌⊎◌, ℕ, Bool, false,
 use Rattle.std.specs.Io.KnownBytes.{IsAtEnd}
 use Rattle.tora_lines.specs.Engine.{IsWholeText, IsFrontOfText}
 use Rattle.tora_lines.specs.LineText.{Rules, whole_text}
-use Rattle.tora_commands.specs.Statuses.{traced_status}
+use Rattle.tora_simulate.specs.Statuses.{traced_status}
 use Rattle.tora_lines.specs.declared.ended.Ended.{Ended}
 use Rattle.tora_lines.specs.declared.ended.Ended.TheVariants.{Whole}
 use Rattle.tora_lines.specs.declared.ended.ReplayError.{ReplayError}

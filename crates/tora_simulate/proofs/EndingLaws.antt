@@ -8,9 +8,9 @@ use Rattle.tora_lines.specs.declared.ended.ReplayError.{ReplayError}
 use Rattle.tora_lines.specs.declared.ended.ReplayError.TheVariants.{Write}
 use Rattle.tora_lines.specs.Engine.{IsWholeText, IsFrontOfText}
 use Rattle.tora_lines.specs.LineText.{Rules, whole_text}
-use Rattle.tora_commands.specs.Statuses.{traced_status}
+use Rattle.tora_simulate.specs.Statuses.{traced_status}
 use Rattle.tora_lines.specs.Flushing.{IsFlushed}
-use Rattle.tora_commands.specs.Endings.{EndsBy}
+use Rattle.tora_simulate.specs.Endings.{EndsBy}
 
 -- a reader that gives the same input was handed on
 pub ends_from : {S W : Type 0} (rules : Rules S) (contents : W → Option (List ℕ)) (did_flush : W → Bool → W → Type 0) (input given rest : Option (List ℕ)) (old new : W) (ended : Result Ended ReplayError) (is_lost : Bool) (status : ℕ)

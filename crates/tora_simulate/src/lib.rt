@@ -1,0 +1,18 @@
+//! The simulation of a file of lines as the program runs it: in its own simulator (`simulate`), and as the command `sim`
+//! (`sim_command`), which ends with an exit status (`status`).
+//!
+//! ```rust
+//! let ended = simulate(alloc, &mut reader, &mut writer)?;
+//! ```
+#![tactic(auto)]
+
+mod flushing;
+pub mod sim_command;
+mod simulated;
+mod statuses;
+mod telling;
+
+pub use flushing::simulate_telling_and_flush;
+pub use simulated::{simulate, simulate_with};
+pub use statuses::{INPUT, LIFE, MEMORY, SOCKET, USAGE, status, stop};
+pub use telling::{tell, tell_at};

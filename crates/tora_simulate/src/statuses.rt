@@ -1,0 +1,44 @@
+//! The exit statuses of the program, and the word that stands on standard error before one that tells of a fault.
+ghost use Rattle.std.specs.Prelude.{◌≡◌};
+ghost use Rattle.std.specs.Process.{exit_status};
+ghost use Rattle.tora_simulate.specs.Statuses.{status_of};
+
+use crate::telling::tell;
+use std::process::ExitCode;
+use tora_lines::{Ended, ReplayError};
+
+/// The exit status of a fault of input or configuration, and of a failed read or write. 0 stands for an end without a fault.
+pub const INPUT: u8 = 1;
+
+/// The exit status of a fault of usage.
+pub const USAGE: u8 = 2;
+
+/// The exit status where a socket can't be bound, or failed.
+pub const SOCKET: u8 = 3;
+
+/// The exit status where a life file can't be opened or gives no number.
+pub const LIFE: u8 = 4;
+
+/// The exit status where memory was refused.
+pub const MEMORY: u8 = 5;
+
+/// Says on standard error why the program stops.
+pub fn stop(rt: &impl Eprint, status: u8, cause: &str) -> ExitCode
+    ensures { exit_status result ≡ status }
+{
+    tell(rt, &cause);
+    ExitCode::from(status)
+}
+
+/// The exit status of a replay or a simulation, after its line on standard error.
+pub fn status(rt: &impl Eprint, ended: Result<Ended, ReplayError>) -> ExitCode
+    ensures { exit_status result ≡ status_of ended }
+{
+    match ended {
+        Ok(Ended::Whole) => ExitCode::SUCCESS,
+        Ok(Ended::Fault(_)) => stop(rt, INPUT, "input"),
+        Err(ReplayError::Memory) => stop(rt, MEMORY, "memory"),
+        Err(ReplayError::Read) => stop(rt, INPUT, "input"),
+        Err(ReplayError::Write) => stop(rt, INPUT, "input"),
+    }
+}
