@@ -3,8 +3,6 @@ use Rattle.std.specs.Prelude.{codes, List, [], ℕ, ◌++◌, Option, Some, None
 use Rattle.std.specs.Fmt.{decimal}
 use Rattle.tora_config.specs.declared.fault.Place.{Place}
 use Rattle.tora_config.specs.declared.fault.Place.TheVariants as At
-use Rattle.tora_config.specs.declared.fault.Reason.{Reason}
-use Rattle.tora_config.specs.declared.fault.Reason.TheVariants as Is
 
 abbrev pub place_text : Place → List ℕ
 place_text At.Node = codes "`node`"
@@ -16,17 +14,6 @@ place_text (At.Link n) = codes "`link`, number " ++ decimal n
 place_text (At.Peer n) = codes "`peer` of link " ++ decimal n
 place_text (At.Local n) = codes "`local` of link " ++ decimal n
 place_text (At.Remote n) = codes "`remote` of link " ++ decimal n
-
-abbrev pub reason_text : Reason → List ℕ
-reason_text Is.Missing = codes "is missing"
-reason_text Is.NoNumber = codes "is no whole number"
-reason_text Is.NoId = codes "is not from 1 to 4294967295"
-reason_text Is.NoPort = codes "is not from 1 to 65535"
-reason_text Is.NoText = codes "is no text"
-reason_text Is.NoList = codes "is no list"
-reason_text Is.NoTable = codes "is no table"
-reason_text Is.Repeated = codes "stands before already"
-reason_text Is.OwnId = codes "is the node itself"
 
 -- the number behind the words for a key, where it has one
 abbrev pub number_text : Option ℕ → List ℕ

@@ -1,28 +1,17 @@
 -- What is wrong with a table that is no configuration, and with each value of it.
-use Rattle.std.specs.Prelude.{ℕ, ◌^◌, ◌&&◌, nat_lt, if◌then◌else◌, ℤ, pos, negsuc, List, Option, Some, None, Result, Ok, Err}
+use Rattle.std.specs.Prelude.{ℕ, List, Option, Some, None, Result, Ok, Err}
 use Rattle.toml.specs.Data.{Data, Items, as_integer, as_str, as_array}
 use Rattle.tora_core.specs.declared.errors.CoreError.{CoreError}
 use Rattle.tora_config.specs.declared.fault.Place.{Place}
-use Rattle.tora_config.specs.declared.fault.Reason.{Reason}
-use Rattle.tora_config.specs.declared.fault.Reason.TheVariants as Is
+use Rattle.tora_values.specs.declared.reason.Reason.{Reason}
+use Rattle.tora_values.specs.declared.reason.Reason.TheVariants as Is
+use Rattle.tora_values.specs.Numbers.{id_in, port_in}
 
 pub data Fault : Type 0 where
   unknown_key : List ℕ → Fault
   unknown_link_key : ℕ → List ℕ → Fault
   refused : Place → Reason → Fault
   no_core : CoreError → Fault
-
--- the number of a node, from 1 to 2^32 - 1, or what is wrong with it
-abbrev pub id_in : Option ℤ → Result ℕ Reason
-id_in None = Err Is.NoNumber
-id_in (Some (negsuc n)) = Err Is.NoId
-id_in (Some (pos n)) = if nat_lt 0 n && nat_lt n (2 ^ 32) then Ok n else Err Is.NoId
-
--- a port, from 1 to 2^16 - 1, or what is wrong with it
-abbrev pub port_in : Option ℤ → Result ℕ Reason
-port_in None = Err Is.NoNumber
-port_in (Some (negsuc n)) = Err Is.NoPort
-port_in (Some (pos n)) = if nat_lt 0 n && nat_lt n (2 ^ 16) then Ok n else Err Is.NoPort
 
 -- what a look-up of a key says: nothing stands there, or this
 abbrev pub found : {A : Type 0} → (Data → Result A Reason) → Option Data → Result A Reason

@@ -4,6 +4,7 @@ use std::fmt;
 use std::fmt::{Display, Formatter};
 use thiserror::Error;
 use tora_core::CoreError;
+use tora_values::Reason;
 
 /// A key of a configuration. Links and destinations are counted from 1, in the order of the text.
 #[derive(Clone, Copy, Debug, PartialEq, Eq, Hash)]
@@ -61,62 +62,6 @@ impl Display for Place {
             (words, None) => f.write_str(words),
             (words, Some(n)) => write!(f, "{words}{n}"),
         }
-    }
-}
-
-/// What is wrong with the value of a key.
-#[derive(Clone, Copy, Debug, PartialEq, Eq, Hash)]
-pub enum Reason {
-    /// There is none.
-    Missing,
-    /// It is no whole number.
-    NoNumber,
-    /// It is a number that no node has.
-    NoId,
-    /// It is a number that no port has.
-    NoPort,
-    /// It is no text.
-    NoText,
-    /// It is no list.
-    NoList,
-    /// It is no table.
-    NoTable,
-    /// It stands before already.
-    Repeated,
-    /// It is the node itself.
-    OwnId,
-}
-
-impl Reason {
-    ghost use Rattle.std.specs.Prelude.{◌≡◌};
-    ghost use Rattle.tora_config.specs.FaultText.{reason_text};
-
-    /// The words for it.
-    fn words(self) -> &'static str
-        ensures { result.now ≡ reason_text self }
-    {
-        match self {
-            Reason::Missing => "is missing",
-            Reason::NoNumber => "is no whole number",
-            Reason::NoId => "is not from 1 to 4294967295",
-            Reason::NoPort => "is not from 1 to 65535",
-            Reason::NoText => "is no text",
-            Reason::NoList => "is no list",
-            Reason::NoTable => "is no table",
-            Reason::Repeated => "stands before already",
-            Reason::OwnId => "is the node itself",
-        }
-    }
-}
-
-impl Display for Reason {
-    ghost use Rattle.std.specs.Prelude.{Some};
-    ghost use Rattle.tora_config.specs.FaultText.{reason_text};
-
-    ghost output = { λ reason. Some (reason_text reason) };
-
-    fn fmt<W: fmt::Write>(&self, f: &mut Formatter<W>) -> fmt::Result {
-        f.write_str(self.words())
     }
 }
 

@@ -21,9 +21,10 @@ mod fault;
 mod reading;
 mod values;
 
-pub use fault::{ConfigError, Place, Reason};
+pub use fault::{ConfigError, Place};
 pub use reading::read_config;
 use tora_height::Id;
+pub use tora_values::Reason;
 
 /// A link to a neighbour, over UDP on the loopback.
 #[derive(Clone, Copy, Debug, PartialEq, Eq, Hash)]

@@ -1,55 +1,16 @@
 //! The values of keys.
-ghost use Rattle.std.specs.Prelude.{string_bytes, ◌≡◌, ◌<◌, pos, map, Some, None, Ok, Err, IfOk, IfErr};
-ghost use Rattle.toml.specs.Data.{as_integer, get_member};
+ghost use Rattle.std.specs.Prelude.{string_bytes, ◌≡◌, ◌<◌, pos, map, Some, None, IfOk, IfErr};
+ghost use Rattle.toml.specs.Data.{get_member};
 ghost use Rattle.tora_config.specs.Reading.{Gives};
 ghost use Rattle.toml.specs.View.{view, items_view, table_view};
-ghost use Rattle.tora_config.specs.Refusal.{id_in, port_in, id_at, port_at, text_at as text_said, list_at, at_place};
+ghost use Rattle.tora_config.specs.Refusal.{id_at, port_at, text_at as text_said, list_at, at_place};
 ghost use Rattle.tora_config.specs.NodeConfig.{number_at, text_at, IsListAt};
 
-use crate::fault::{ConfigError, Place, Reason};
+use crate::fault::{ConfigError, Place};
 use std::alloc::Global;
 use toml::{Table, Value};
 use tora_height::Id;
-
-/// The number of a node, which stands there.
-pub fn id_of(value: &Value) -> Result<Id, Reason>
-    ensures above { IfOk result (λ n. 0 < n) }
-    ensures exact { IfOk result (λ n. as_integer (view value.now) ≡ Some (pos n)) }
-    ensures all { result ≡ id_in (as_integer (view value.now)) }
-{
-    let Some(number) = value.as_integer() else {
-        return Err(Reason::NoNumber);
-    };
-    match u32::try_from(number) {
-        Ok(id) => {
-            if id == 0 {
-                return Err(Reason::NoId);
-            }
-            Ok(id)
-        }
-        Err(_) => Err(Reason::NoId),
-    }
-}
-
-/// A port, which stands there.
-pub fn port_of(value: &Value) -> Result<u16, Reason>
-    ensures above { IfOk result (λ n. 0 < n) }
-    ensures exact { IfOk result (λ n. as_integer (view value.now) ≡ Some (pos n)) }
-    ensures all { result ≡ port_in (as_integer (view value.now)) }
-{
-    let Some(number) = value.as_integer() else {
-        return Err(Reason::NoNumber);
-    };
-    match u16::try_from(number) {
-        Ok(port) => {
-            if port == 0 {
-                return Err(Reason::NoPort);
-            }
-            Ok(port)
-        }
-        Err(_) => Err(Reason::NoPort),
-    }
-}
+use tora_values::{Reason, id_of, port_of};
 
 /// The value at a key, which is required.
 pub fn value_at<'a>(table: &'a Table, key: &str, place: Place) -> Result<&'a Value, ConfigError>

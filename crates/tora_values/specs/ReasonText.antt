@@ -1,0 +1,15 @@
+-- The words for what is wrong with a value.
+use Rattle.std.specs.Prelude.{codes, List, ℕ}
+use Rattle.tora_values.specs.declared.reason.Reason.{Reason}
+use Rattle.tora_values.specs.declared.reason.Reason.TheVariants as Is
+
+abbrev pub reason_text : Reason → List ℕ
+reason_text Is.Missing = codes "is missing"
+reason_text Is.NoNumber = codes "is no whole number"
+reason_text Is.NoId = codes "is not from 1 to 4294967295"
+reason_text Is.NoPort = codes "is not from 1 to 65535"
+reason_text Is.NoText = codes "is no text"
+reason_text Is.NoList = codes "is no list"
+reason_text Is.NoTable = codes "is no table"
+reason_text Is.Repeated = codes "stands before already"
+reason_text Is.OwnId = codes "is the node itself"

@@ -1,0 +1,9 @@
+//! The values of a node's configuration: the numbers of nodes and ports (`id_of`, `port_of`), and what is wrong with a value
+//! (`Reason`).
+#![tactic(auto)]
+
+mod reason;
+mod values;
+
+pub use reason::Reason;
+pub use values::{id_of, port_of};

@@ -1,0 +1,49 @@
+//! The numbers that stand as values.
+ghost use Rattle.std.specs.Prelude.{◌≡◌, ◌<◌, pos, Some, IfOk};
+ghost use Rattle.toml.specs.Data.{as_integer};
+ghost use Rattle.toml.specs.View.{view};
+ghost use Rattle.tora_values.specs.Numbers.{id_in, port_in};
+
+use crate::reason::Reason;
+use toml::Value;
+use tora_height::Id;
+
+/// The number of a node, which stands there.
+pub fn id_of(value: &Value) -> Result<Id, Reason>
+    ensures above { IfOk result (λ n. 0 < n) }
+    ensures exact { IfOk result (λ n. as_integer (view value.now) ≡ Some (pos n)) }
+    ensures all { result ≡ id_in (as_integer (view value.now)) }
+{
+    let Some(number) = value.as_integer() else {
+        return Err(Reason::NoNumber);
+    };
+    match u32::try_from(number) {
+        Ok(id) => {
+            if id == 0 {
+                return Err(Reason::NoId);
+            }
+            Ok(id)
+        }
+        Err(_) => Err(Reason::NoId),
+    }
+}
+
+/// A port, which stands there.
+pub fn port_of(value: &Value) -> Result<u16, Reason>
+    ensures above { IfOk result (λ n. 0 < n) }
+    ensures exact { IfOk result (λ n. as_integer (view value.now) ≡ Some (pos n)) }
+    ensures all { result ≡ port_in (as_integer (view value.now)) }
+{
+    let Some(number) = value.as_integer() else {
+        return Err(Reason::NoNumber);
+    };
+    match u16::try_from(number) {
+        Ok(port) => {
+            if port == 0 {
+                return Err(Reason::NoPort);
+            }
+            Ok(port)
+        }
+        Err(_) => Err(Reason::NoPort),
+    }
+}
