@@ -6,19 +6,9 @@ use super::link_steps::Step::{
 };
 use super::link_steps::Told::Up;
 use super::link_steps::{End, LIFE, REVERSED, Step};
-use super::link_turns::Ends;
-use std::alloc::Global;
-use std::process::Abort;
+use super::link_turns::ends_do;
 use tora_arq::Verdict::{Accepted, Ahead, Foreign, Repeated};
 use tora_frame::Version;
-
-/// Does the steps of tables, one table after the other, at ends of version 2 and an old one.
-fn ends_do(rt: &impl Abort, alloc: Global, tables: &[&[(End, Step)]]) {
-    let mut ends = Ends::new(rt, alloc, Version::Two);
-    for steps in tables {
-        ends.does(rt, alloc, steps);
-    }
-}
 
 /// Both ends speak version 2, and each knows it of the other. They are bound at tick 0; nothing is owed and all events are
 /// polled.
@@ -74,7 +64,7 @@ const BATCHES: &[(End, Step)] = &[
 
 #[test]
 fn batches_of_sixteen_and_four(rt: HostRuntime) {
-    ends_do(&rt, rt.alloc(), &[NEW_LINK, BATCHES]);
+    ends_do(&rt, rt.alloc(), Version::Two, &[NEW_LINK, BATCHES]);
 }
 
 const FLOOD: &[(End, Step)] = &[
@@ -89,7 +79,7 @@ const FLOOD: &[(End, Step)] = &[
 
 #[test]
 fn flood_of_sixteen_queries_is_one_datagram(rt: HostRuntime) {
-    ends_do(&rt, rt.alloc(), &[NEW_LINK, FLOOD]);
+    ends_do(&rt, rt.alloc(), Version::Two, &[NEW_LINK, FLOOD]);
 }
 
 const FRAME_FOR_EACH: &[(End, Step)] = &[
@@ -143,7 +133,12 @@ const FRAME_FOR_EACH: &[(End, Step)] = &[
 
 #[test]
 fn old_peer_gets_a_frame_for_each_packet(rt: HostRuntime) {
-    ends_do(&rt, rt.alloc(), &[LINK_WITH_AN_OLD_PEER, FRAME_FOR_EACH]);
+    ends_do(
+        &rt,
+        rt.alloc(),
+        Version::Two,
+        &[LINK_WITH_AN_OLD_PEER, FRAME_FOR_EACH],
+    );
 }
 
 /// The batch of sixteen is lost, and that of four is not acknowledged.
@@ -164,7 +159,7 @@ const LOST_BATCH: &[(End, Step)] = &[
 
 #[test]
 fn lost_packets_of_a_batch_are_due_together(rt: HostRuntime) {
-    ends_do(&rt, rt.alloc(), &[NEW_LINK, LOST_BATCH]);
+    ends_do(&rt, rt.alloc(), Version::Two, &[NEW_LINK, LOST_BATCH]);
 }
 
 /// A HELLO of the old end comes at tick 0, and then one of version 2.
@@ -197,7 +192,7 @@ const HELLOS_OF_BOTH: &[(End, Step)] = &[
 
 #[test]
 fn hellos_of_both_versions_until_the_peer_is_known(rt: HostRuntime) {
-    ends_do(&rt, rt.alloc(), &[HELLOS_OF_BOTH]);
+    ends_do(&rt, rt.alloc(), Version::Two, &[HELLOS_OF_BOTH]);
 }
 
 const RIGHT_AFTER: &[(End, Step)] = &[
@@ -212,7 +207,7 @@ const RIGHT_AFTER: &[(End, Step)] = &[
 
 #[test]
 fn hello_of_version_one_comes_right_after_its_hello_of_version_two(rt: HostRuntime) {
-    ends_do(&rt, rt.alloc(), &[RIGHT_AFTER]);
+    ends_do(&rt, rt.alloc(), Version::Two, &[RIGHT_AFTER]);
 }
 
 const FOREIGN_TO_AN_OLD_END: &[(End, Step)] = &[
@@ -223,5 +218,10 @@ const FOREIGN_TO_AN_OLD_END: &[(End, Step)] = &[
 
 #[test]
 fn frame_of_version_two_is_foreign_to_an_old_end(rt: HostRuntime) {
-    ends_do(&rt, rt.alloc(), &[NEW_LINK, FOREIGN_TO_AN_OLD_END]);
+    ends_do(
+        &rt,
+        rt.alloc(),
+        Version::Two,
+        &[NEW_LINK, FOREIGN_TO_AN_OLD_END],
+    );
 }

@@ -5,6 +5,7 @@ use super::carried::{Carried, Parts, frame_of, packets_of};
 use super::sees::{bytes_of, prints_each, same, same_at};
 use arrayvec::ArrayVec;
 use std::alloc::Global;
+use std::fmt::Debug;
 use std::process::Abort;
 use tora_frame::{
     Body, BorrowedBody, BorrowedFrame, Frame, FrameError, GREATEST_NUMBER, Header, LONGEST_FRAME,
@@ -120,25 +121,31 @@ const BATCH: &str =
     "0202003000000001000000020000000000000005000000000000000900000000000000010000000000000000\
      0200000001010000000000040103000000000004000000000000000700000003";
 
+/// Sees what bytes are read as.
+fn reads<P: Debug>(rt: &impl Abort, bytes: &[u8], wanted: &Result<Frame, FrameError>, place: &P) {
+    same_at(rt, &decode(bytes), wanted, "the frame", place);
+}
+
 /// Sees that a frame is spelled by these digits.
-fn spells(rt: &impl Abort, alloc: Global, frame: &Frame, digits: &str) {
+fn spells(rt: &impl Abort, alloc: Global, frame: Frame, digits: &str) {
     let bytes = bytes_of(rt, alloc, digits);
-    let out = encode(frame);
+    let out = encode(&frame);
     same_at(rt, &out.as_slice(), &bytes.as_slice(), "the bytes", &digits);
-    same_at(
-        rt,
-        &decode(&bytes).as_ref(),
-        &Ok(frame),
-        "the frame",
-        &digits,
-    );
+    reads(rt, &bytes, &Ok(frame), &digits);
+}
+
+/// Sees that a frame is spelled by so many bytes, of which it is read.
+fn reads_back(rt: &impl Abort, frame: Frame, len: usize) {
+    let bytes = encode(&frame);
+    same(rt, &bytes.len(), &len, "the length");
+    reads(rt, &bytes, &Ok(frame), &len);
 }
 
 #[test]
 fn frame_vectors(rt: HostRuntime) {
     for (header, carried, text) in VECTORS {
         let frame = frame_of(&rt, *header, *carried);
-        spells(&rt, rt.alloc(), &frame, text);
+        spells(&rt, rt.alloc(), frame, text);
     }
     let ack = frame_of(&rt, FROM_TWO, Carried::Ack(1));
     same(&rt, ack.header(), &FROM_TWO, "the header");
@@ -214,10 +221,10 @@ fn borrowed_frames_are_the_frames_of_the_same_parts(rt: HostRuntime) {
     }
 }
 
-/// Sees that bytes spell no frame, and why; `what` tells the bytes.
-fn refuses(rt: &impl Abort, bytes: &[u8], error: FrameError, number: u8, what: &str) {
-    same_at(rt, &decode(bytes), &Err(error), "the error", &what);
-    same_at(rt, &error.number(), &number, "its number", &what);
+/// Sees that bytes spell no frame, and why.
+fn refuses<P: Debug>(rt: &impl Abort, bytes: &[u8], error: FrameError, number: u8, place: &P) {
+    reads(rt, bytes, &Err(error), place);
+    same_at(rt, &error.number(), &number, "its number", place);
 }
 
 /// Digits that spell no frame, the error, and its number.
@@ -306,14 +313,7 @@ fn batch_frame_vector_and_its_faults(rt: HostRuntime) {
         let mut bytes = bytes_of(&rt, rt.alloc(), BATCH);
         let byte = bytes.get_mut(*at).expect(&rt, "a byte");
         *byte = *value;
-        same_at(
-            &rt,
-            &decode(&bytes),
-            &Err(*error),
-            "the error",
-            &(*at, *value),
-        );
-        same_at(&rt, &error.number(), number, "its number", &(*at, *value));
+        refuses(&rt, &bytes, *error, *number, &(*at, *value));
     }
 }
 
@@ -326,9 +326,9 @@ const ONE_PACKET_MORE: &str =
 fn last_number_of_a_batch_is_in_its_range(rt: HostRuntime) {
     let carried = Carried::Data(GREATEST_NUMBER - 1, 0, QUERY_AND_CLEAR);
     let frame = frame_of(&rt, NEW_FROM_ONE, carried);
-    same(&rt, &decode(&encode(&frame)), &Ok(frame), "the last number");
+    reads_back(&rt, frame, 76);
     let bytes = bytes_of(&rt, rt.alloc(), ONE_PACKET_MORE);
-    refuses(&rt, &bytes, FrameError::Count, 10, "one packet more");
+    refuses(&rt, &bytes, FrameError::Count, 10, &"one packet more");
 }
 
 /// As many of the longest packets as a frame carries.
@@ -337,9 +337,7 @@ const MOST: &[Parts] = &[Parts::Update(7, 3, 1, -1, 2); MOST_PACKETS];
 #[test]
 fn longest_frame_is_read(rt: HostRuntime) {
     let frame = frame_of(&rt, NEW_FROM_TWO, Carried::Data(1, 0, MOST));
-    let bytes = encode(&frame);
-    same(&rt, &bytes.len(), &LONGEST_FRAME, "the length");
-    same(&rt, &decode(&bytes), &Ok(frame), "the frame");
+    reads_back(&rt, frame, LONGEST_FRAME);
 }
 
 #[test]
@@ -351,10 +349,7 @@ fn example_of_the_documentation(rt: HostRuntime) {
         life: 5,
         heard: 9,
     };
-    let frame = Frame::ack(header, 3);
-    let bytes = encode(&frame);
-    same(&rt, &bytes.len(), &36, "the length");
-    same(&rt, &decode(&bytes), &Ok(frame), "the frame");
+    reads_back(&rt, Frame::ack(header, 3), 36);
 }
 
 const CAUSES: &[(FrameError, &str)] = &[

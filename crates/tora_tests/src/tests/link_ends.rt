@@ -8,14 +8,14 @@ use super::link_steps::Step::{
 };
 use super::link_steps::Told::{Down, Up};
 use super::link_steps::{End, LIFE, REVERSED, Refusal, Step};
-use super::link_turns::{Ends, does, error_of, first_end, second_end};
+use super::link_turns::{does, ends_do, error_of, first_end};
 use super::made::query_of;
 use super::sees::{prints, same, same_text, sees};
 use std::alloc::Global;
 use std::process::Abort;
 use std::test::Fail;
 use tora_arq::Verdict::{Accepted, Ahead, Busy, Foreign, Repeated, Stale};
-use tora_arq::{ArqError, Life, LinkEnd, LinkEvent, Reason, Times, Verdict};
+use tora_arq::{ArqError, Life, LinkEnd, Reason, Times, Verdict};
 use tora_frame::Version;
 
 /// Does the steps at the end of node 1.
@@ -50,8 +50,7 @@ const THREE_HELLOS: &[(End, Step)] = &[
 
 #[test]
 fn three_hellos_bind_both_ends(rt: HostRuntime) {
-    let mut ends = Ends::new(&rt, rt.alloc(), Version::One);
-    ends.does(&rt, rt.alloc(), THREE_HELLOS);
+    ends_do(&rt, rt.alloc(), Version::One, &[THREE_HELLOS]);
 }
 
 const DELIVERED_ONCE: &[Step] = &[
@@ -101,9 +100,7 @@ const LOSS: &[(End, Step)] = &[
 
 #[test]
 fn window_delivers_in_order_after_a_loss(rt: HostRuntime) {
-    let mut ends = Ends::new(&rt, rt.alloc(), Version::One);
-    ends.does(&rt, rt.alloc(), THREE_HELLOS);
-    ends.does(&rt, rt.alloc(), LOSS);
+    ends_do(&rt, rt.alloc(), Version::One, &[THREE_HELLOS, LOSS]);
 }
 
 const WINDOW: &[Step] = &[
@@ -316,28 +313,24 @@ fn an_end_is_printed(rt: HostRuntime) -> Result<(), Fail> {
     Ok(())
 }
 
-/// Hands the frames due at tick 0 from one end to the other.
-fn exchange(from: &mut LinkEnd, to: &mut LinkEnd) {
-    for _ in 0..36 {
-        match from.poll_transmit(0) {
-            Some(frame) => {
-                let _verdict = to.on_frame(&frame, 0);
-            }
-            None => return,
-        }
-    }
-}
+/// In two turns each end sends all its frames to the other.
+const EXAMPLE: &[(End, Step)] = &[
+    (First, Sends(Version::One, 5, 0, Hello)),
+    (Second, Gets(0, Accepted)),
+    (First, SendsNone),
+    (Second, Sends(Version::One, 9, 5, Hello)),
+    (First, Gets(1, Accepted)),
+    (Second, SendsNone),
+    (First, Sends(Version::One, 5, 9, Hello)),
+    (Second, Gets(2, Accepted)),
+    (First, SendsNone),
+    (Second, SendsNone),
+    (First, Tells(Up(LIFE))),
+];
 
 #[test]
 fn example_of_the_documentation(rt: HostRuntime) {
-    let mut one = first_end(&rt, rt.alloc(), Version::One);
-    let mut two = second_end(&rt, rt.alloc(), Version::One);
-    for _ in 0..2 {
-        exchange(&mut one, &mut two);
-        exchange(&mut two, &mut one);
-    }
-    let up = LinkEvent::Up(Life { own: 5, peer: 9 });
-    same(&rt, &one.poll_event(), &Some(up), "the event");
+    ends_do(&rt, rt.alloc(), Version::One, &[EXAMPLE]);
 }
 
 /// An end that was made takes no memory any more: a life is opened and bound, packets wait until the queue is full, and the

@@ -43,14 +43,14 @@ impl Course {
     }
 }
 
-/// A closed end of a version.
-pub fn closed_end(
+/// The end of a link of node `me` to `peer` that speaks a version, opened with a number at tick 0.
+pub fn open_end(
     rt: &impl Abort,
     alloc: Global,
     version: Version,
-    me: Id,
-    peer: Id,
+    (me, peer): (Id, Id),
     times: Times,
+    life: u64,
 ) -> LinkEnd {
     assert!(rt; me > 0 && peer > 0 && me != peer);
     assert!(rt; times.hello > 0 && times.silent > 0 && times.retry > 0 && times.tries > 0);
@@ -58,43 +58,30 @@ pub fn closed_end(
         Version::One => LinkEnd::new_v1(alloc, me, peer, times),
         Version::Two => LinkEnd::new(alloc, me, peer, times),
     };
-    let end = end.expect(rt, "memory");
+    let mut end = end.expect(rt, "memory");
     same(rt, &(end.me(), end.peer()), &(me, peer), "the nodes");
     same(rt, &end.times(), &times, "the times");
     same(rt, &end.version(), &version, "the version");
+    opens(rt, &mut end, life, 0);
     end
 }
 
 /// Opens a closed end at a tick.
-pub fn opens(rt: &impl Abort, end: &mut LinkEnd, life: u64, now: u64) {
+fn opens(rt: &impl Abort, end: &mut LinkEnd, life: u64, now: u64) {
     assert!(rt; end.is_closed());
     assert!(rt; end.last_life() < life && life <= GREATEST_NUMBER);
     end.open(life, now);
     same(rt, &end.last_life(), &life, "the last life");
 }
 
-/// An end, opened at tick 0.
-fn open_end(
-    rt: &impl Abort,
-    alloc: Global,
-    version: Version,
-    me: Id,
-    peer: Id,
-    life: u64,
-) -> LinkEnd {
-    let mut end = closed_end(rt, alloc, version, me, peer, Times::STANDARD);
-    opens(rt, &mut end, life, 0);
-    end
-}
-
 /// The end of node 1 of the link to 2, opened with 5.
 pub fn first_end(rt: &impl Abort, alloc: Global, version: Version) -> LinkEnd {
-    open_end(rt, alloc, version, 1, 2, 5)
+    open_end(rt, alloc, version, (1, 2), Times::STANDARD, 5)
 }
 
 /// The end of node 2 of the link to 1, opened with 9.
-pub fn second_end(rt: &impl Abort, alloc: Global, version: Version) -> LinkEnd {
-    open_end(rt, alloc, version, 2, 1, 9)
+fn second_end(rt: &impl Abort, alloc: Global, version: Version) -> LinkEnd {
+    open_end(rt, alloc, version, (2, 1), Times::STANDARD, 9)
 }
 
 /// Takes a frame, with this verdict.
@@ -326,33 +313,35 @@ pub fn does(rt: &impl Abort, alloc: Global, end: &mut LinkEnd, steps: &[Step]) {
 
 /// The ends of a link.
 #[derive(Drop)]
-pub struct Ends {
+struct Ends {
     first: LinkEnd,
     second: LinkEnd,
     old: LinkEnd,
 }
 
-impl Ends {
-    /// The end of node 1 and that of node 2, both of a version, and the old one of node 2.
-    pub fn new(rt: &impl Abort, alloc: Global, version: Version) -> Ends {
-        Ends {
-            first: first_end(rt, alloc, version),
-            second: second_end(rt, alloc, version),
-            old: second_end(rt, alloc, Version::One),
-        }
+/// Does the steps, each at its end.
+fn each_does(rt: &impl Abort, alloc: Global, ends: &mut Ends, steps: &[(End, Step)]) {
+    let mut course = Course::new(alloc);
+    for (end, step) in steps {
+        course.row = course.row.saturating_add(1);
+        let end = match end {
+            End::First => &mut ends.first,
+            End::Second => &mut ends.second,
+            End::Old => &mut ends.old,
+        };
+        turn(rt, end, &mut course, step);
     }
+}
 
-    /// Does the steps, each at its end.
-    pub fn does(&mut self, rt: &impl Abort, alloc: Global, steps: &[(End, Step)]) {
-        let mut course = Course::new(alloc);
-        for (end, step) in steps {
-            course.row = course.row.saturating_add(1);
-            let end = match end {
-                End::First => &mut self.first,
-                End::Second => &mut self.second,
-                End::Old => &mut self.old,
-            };
-            turn(rt, end, &mut course, step);
-        }
+/// Does the steps of tables, one table after the other, at the ends of a link: both of a version, and beside them the old
+/// one.
+pub fn ends_do(rt: &impl Abort, alloc: Global, version: Version, tables: &[&[(End, Step)]]) {
+    let mut ends = Ends {
+        first: first_end(rt, alloc, version),
+        second: second_end(rt, alloc, version),
+        old: second_end(rt, alloc, Version::One),
+    };
+    for steps in tables {
+        each_does(rt, alloc, &mut ends, steps);
     }
 }

@@ -8,11 +8,12 @@ use std::process::Abort;
 use tora_frame::{FrameError, decode, encode};
 use tora_packet::PacketError;
 
-/// The number in `count` bytes from `from` on, the highest first.
+/// The number in `count` bytes from `from` on, the highest first; a byte that isn't there is 0.
 fn plain_number(bytes: &[u8], from: usize, count: usize) -> u64 {
     let mut number = 0u64;
-    for byte in bytes.iter().skip(from).take(count) {
-        number = (number << 8) | u64::from(*byte);
+    for at in from..from.saturating_add(count) {
+        let byte = bytes.get(at).copied().unwrap_or(0);
+        number = (number << 8) | u64::from(byte);
     }
     number
 }
@@ -124,20 +125,30 @@ fn check(rt: &impl Abort, bytes: &[u8]) {
     }
 }
 
+/// Looks at the bytes cut at each place.
+fn check_cut(rt: &impl Abort, bytes: &[u8]) {
+    for end in 0..=bytes.len() {
+        check(rt, &bytes[..end]);
+    }
+}
+
+/// Looks at the bytes with each of them changed to each of some values.
+fn check_changed(rt: &impl Abort, bytes: &mut [u8]) {
+    for index in 0..bytes.len() {
+        let old = bytes[index];
+        for value in [0, 1, 2, 3, 255] {
+            bytes[index] = value;
+            check(rt, bytes);
+        }
+        bytes[index] = old;
+    }
+}
+
 #[test]
 fn cut_and_changed_frames(rt: HostRuntime) {
     for (_, _, text) in VECTORS {
         let mut bytes = bytes_of(&rt, rt.alloc(), text);
-        for end in 0..=bytes.len() {
-            check(&rt, &bytes[..end]);
-        }
-        for index in 0..bytes.len() {
-            let old = bytes[index];
-            for value in [0, 1, 2, 3, 255] {
-                bytes[index] = value;
-                check(&rt, &bytes);
-            }
-            bytes[index] = old;
-        }
+        check_cut(&rt, &bytes);
+        check_changed(&rt, &mut bytes);
     }
 }
