@@ -1,9 +1,12 @@
 //! The tests of each crate, each over its public names.
 mod batches;
+mod carried;
 mod cores;
 mod frames;
 mod heights;
 mod link_ends;
+mod link_steps;
+mod link_turns;
 mod made;
 mod packets;
 mod plain_core;

@@ -1,135 +1,141 @@
 //! The byte vectors of the formats, and the refused packets.
-use super::made::{clear, query_for, update};
-use super::sees::{bytes_of, prints_each, same, same_at};
+use super::carried::Parts;
+use super::sees::{bytes_of, prints, prints_each, same, same_at};
 use std::alloc::Global;
 use std::process::Abort;
-use std::test::*;
 use tora_packet::*;
+
+/// Sees what bytes are read as.
+fn reads(rt: &impl Abort, bytes: &[u8], wanted: &Result<Packet, PacketError>, what: &str) {
+    same_at(rt, &decode(bytes), wanted, "the packet", &what);
+}
 
 /// Sees that a packet for 4 is spelled by these digits.
 fn spells(rt: &impl Abort, alloc: Global, packet: Packet, digits: &str) {
     let bytes = bytes_of(rt, alloc, digits);
     let out = encode(&packet);
     same_at(rt, &out.as_slice(), &bytes.as_slice(), "the bytes", &digits);
-    same_at(rt, &decode(&bytes), &Ok(packet), "the packet", &digits);
     same_at(rt, &packet.destination(), &4, "the destination", &digits);
+    reads(rt, &bytes, &Ok(packet), digits);
 }
 
-/// Sees that these digits spell no packet, and why.
-fn refuses(rt: &impl Abort, alloc: Global, digits: &str, error: PacketError, number: u8) {
-    let bytes = bytes_of(rt, alloc, digits);
-    same_at(rt, &decode(&bytes), &Err(error), "the error", &digits);
-    same_at(rt, &error.number(), &number, "its number", &digits);
-}
+const VECTORS: &[(Parts, &str)] = &[
+    (Parts::Query(4), "0101000000000004"),
+    (
+        Parts::Update(0, 0, 0, 1, 3),
+        "0102000000000004000000000000000000000000000000000000000100000003",
+    ),
+    (
+        Parts::Update(0, 0, 0, 2, 2),
+        "0102000000000004000000000000000000000000000000000000000200000002",
+    ),
+    (
+        Parts::Update(7, 3, 0, 0, 3),
+        "0102000000000004000000000000000700000003000000000000000000000003",
+    ),
+    (
+        Parts::Update(7, 3, 0, -1, 2),
+        "010200000000000400000000000000070000000300000000ffffffff00000002",
+    ),
+    (
+        Parts::Update(7, 3, 1, -1, 2),
+        "010200000000000400000000000000070000000301000000ffffffff00000002",
+    ),
+    (
+        Parts::Update(8, 2, 0, 0, 2),
+        "0102000000000004000000000000000800000002000000000000000000000002",
+    ),
+    (
+        Parts::Update(10, 2, 0, 0, 2),
+        "0102000000000004000000000000000a00000002000000000000000000000002",
+    ),
+    (
+        Parts::Update(0, 0, 0, 1073741824, 3),
+        "0102000000000004000000000000000000000000000000004000000000000003",
+    ),
+    (
+        Parts::Clear(7, 3),
+        "0103000000000004000000000000000700000003",
+    ),
+    (
+        Parts::Clear(7, 9),
+        "0103000000000004000000000000000700000009",
+    ),
+];
 
 #[test]
-fn packet_vectors(rt: HostRuntime) -> Result<(), Fail> {
-    let rows = [
-        (query_for(&rt, 4), "0101000000000004"),
-        (
-            update(&rt, 0, 0, 0, 1, 3),
-            "0102000000000004000000000000000000000000000000000000000100000003",
-        ),
-        (
-            update(&rt, 0, 0, 0, 2, 2),
-            "0102000000000004000000000000000000000000000000000000000200000002",
-        ),
-        (
-            update(&rt, 7, 3, 0, 0, 3),
-            "0102000000000004000000000000000700000003000000000000000000000003",
-        ),
-        (
-            update(&rt, 7, 3, 0, -1, 2),
-            "010200000000000400000000000000070000000300000000ffffffff00000002",
-        ),
-        (
-            update(&rt, 7, 3, 1, -1, 2),
-            "010200000000000400000000000000070000000301000000ffffffff00000002",
-        ),
-        (
-            update(&rt, 8, 2, 0, 0, 2),
-            "0102000000000004000000000000000800000002000000000000000000000002",
-        ),
-        (
-            update(&rt, 10, 2, 0, 0, 2),
-            "0102000000000004000000000000000a00000002000000000000000000000002",
-        ),
-        (
-            update(&rt, 0, 0, 0, 1073741824, 3),
-            "0102000000000004000000000000000000000000000000004000000000000003",
-        ),
-        (clear(&rt, 7, 3), "0103000000000004000000000000000700000003"),
-        (clear(&rt, 7, 9), "0103000000000004000000000000000700000009"),
-    ];
-    for (packet, text) in rows {
-        spells(&rt, rt.alloc(), packet, text);
+fn packet_vectors(rt: HostRuntime) {
+    for (parts, text) in VECTORS {
+        spells(&rt, rt.alloc(), parts.packet(&rt), text);
     }
-    Ok(())
 }
 
+/// Digits that spell no packet, the error, and its number.
+const REFUSED: &[(&str, PacketError, u8)] = &[
+    ("", PacketError::Short, 1),
+    ("02", PacketError::Short, 1),
+    ("01010000000000", PacketError::Short, 1),
+    ("010100000000000400", PacketError::Long, 2),
+    (
+        "0102000000000004000000000000000000000000000100000000000100000003",
+        PacketError::Reserved,
+        5,
+    ),
+    (
+        "010200000000000400000000000000000000000000000000ffffffff00000003",
+        PacketError::Height,
+        6,
+    ),
+];
+
 #[test]
-fn refused_packets(rt: HostRuntime) -> Result<(), Fail> {
-    let rows = [
-        ("", PacketError::Short, 1),
-        ("02", PacketError::Short, 1),
-        ("01010000000000", PacketError::Short, 1),
-        ("010100000000000400", PacketError::Long, 2),
-        (
-            "0102000000000004000000000000000000000000000100000000000100000003",
-            PacketError::Reserved,
-            5,
-        ),
-        (
-            "010200000000000400000000000000000000000000000000ffffffff00000003",
-            PacketError::Height,
-            6,
-        ),
-    ];
-    for (text, error, number) in rows {
-        refuses(&rt, rt.alloc(), text, error, number);
+fn refused_packets(rt: HostRuntime) {
+    for (text, error, number) in REFUSED {
+        let bytes = bytes_of(&rt, rt.alloc(), text);
+        reads(&rt, &bytes, &Err(*error), text);
+        same_at(&rt, &error.number(), number, "its number", text);
     }
-    Ok(())
 }
 
 #[test]
-fn the_default_packet_is_the_query_for_one(rt: HostRuntime) -> Result<(), Fail> {
+fn the_default_packet_is_the_query_for_one(rt: HostRuntime) {
     same(&rt, &Ok(Packet::default()), &Packet::qry(1), "the default");
-    Ok(())
 }
 
 #[test]
-fn example_of_the_documentation(rt: HostRuntime) -> Result<(), Fail> {
-    let packet = update(&rt, 0, 0, 0, 1, 3);
+fn example_of_the_documentation(rt: HostRuntime) {
+    let packet = Parts::Update(0, 0, 0, 1, 3).packet(&rt);
     let bytes = encode(&packet);
     same(&rt, &bytes.len(), &32, "the length");
-    same(&rt, &decode(&bytes), &Ok(packet), "the packet");
-    Ok(())
+    reads(&rt, &bytes, &Ok(packet), "the example");
 }
 
-#[test]
-fn packets_are_printed_in_words(rt: HostRuntime) -> Result<(), Fail> {
-    let rows = [
-        (query_for(&rt, 4), "QRY 4"),
-        (update(&rt, 0, 0, 0, 1, 3), "UPD 4 (0,0,0,1,3)"),
-        (clear(&rt, 7, 3), "CLR 4 7,3"),
-    ];
-    prints_each(&rt, rt.alloc(), &rows);
-    Ok(())
-}
+const TEXTS: &[(Parts, &str)] = &[
+    (Parts::Query(4), "QRY 4"),
+    (Parts::Update(0, 0, 0, 1, 3), "UPD 4 (0,0,0,1,3)"),
+    (Parts::Clear(7, 3), "CLR 4 7,3"),
+];
 
 #[test]
-fn errors_are_printed_with_their_cause(rt: HostRuntime) -> Result<(), Fail> {
-    let rows = [
-        (PacketError::Short, "too few bytes"),
-        (PacketError::Long, "too many bytes"),
-        (PacketError::Version, "the version is not 1"),
-        (PacketError::Kind, "the kind is not 1, 2 or 3"),
-        (PacketError::Reserved, "a byte that has to be zero is not"),
-        (
-            PacketError::Height,
-            "the destination, the height or the level is out of range",
-        ),
-    ];
-    prints_each(&rt, rt.alloc(), &rows);
-    Ok(())
+fn packets_are_printed_in_words(rt: HostRuntime) {
+    for (parts, text) in TEXTS {
+        prints(&rt, rt.alloc(), &parts.packet(&rt), text);
+    }
+}
+
+const CAUSES: &[(PacketError, &str)] = &[
+    (PacketError::Short, "too few bytes"),
+    (PacketError::Long, "too many bytes"),
+    (PacketError::Version, "the version is not 1"),
+    (PacketError::Kind, "the kind is not 1, 2 or 3"),
+    (PacketError::Reserved, "a byte that has to be zero is not"),
+    (
+        PacketError::Height,
+        "the destination, the height or the level is out of range",
+    ),
+];
+
+#[test]
+fn errors_are_printed_with_their_cause(rt: HostRuntime) {
+    prints_each(&rt, rt.alloc(), CAUSES);
 }

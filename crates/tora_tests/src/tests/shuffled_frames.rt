@@ -1,11 +1,12 @@
 //! Two ends over datagrams that are lost, repeated and reordered.
 
+use super::link_turns::open_end;
 use super::made::query_of;
 use super::sees::{same, same_at, sees};
 use std::alloc::Global;
 use std::process::Abort;
 use tora_arq::{LinkEnd, LinkEvent, Times};
-use tora_frame::Frame;
+use tora_frame::{Frame, Version};
 
 /// Numbers that a fixed seed gives.
 #[derive(Drop)]
@@ -42,20 +43,11 @@ struct Network {
 }
 
 impl Network {
-    /// Two ends that speak version 2, or of which the second speaks version 1.
-    fn new(rt: &impl Abort, alloc: Global, is_old: bool) -> Network {
-        let mut one = LinkEnd::new(alloc, 1, 2, PATIENT).expect(rt, "memory");
-        let two = if is_old {
-            LinkEnd::new_v1(alloc, 2, 1, PATIENT)
-        } else {
-            LinkEnd::new(alloc, 2, 1, PATIENT)
-        };
-        let mut two = two.expect(rt, "memory");
-        one.open(5, 0);
-        two.open(9, 0);
+    /// Two ends, of which the second speaks a version and the first version 2.
+    fn new(rt: &impl Abort, alloc: Global, second: Version) -> Network {
         Network {
-            one,
-            two,
+            one: open_end(rt, alloc, Version::Two, (1, 2), PATIENT, 5),
+            two: open_end(rt, alloc, second, (2, 1), PATIENT, 9),
             frames: Vec::new(alloc),
             dice: Dice { seed: 1 },
         }
@@ -66,12 +58,12 @@ impl Network {
         if self.frames.len() >= 64 {
             return;
         }
-        let due = if is_first {
-            self.one.poll_transmit(now)
+        let end = if is_first {
+            &mut self.one
         } else {
-            self.two.poll_transmit(now)
+            &mut self.two
         };
-        if let Some(frame) = due {
+        if let Some(frame) = end.poll_transmit(now) {
             if self.dice.roll(8) > 0 {
                 self.frames.push(frame).expect(rt, "memory");
             }
@@ -84,11 +76,12 @@ impl Network {
         let Some(frame) = self.frames.get(place) else {
             return false;
         };
-        if frame.header().receiver == 1 {
-            self.one.on_frame(frame, now);
+        let end = if frame.header().receiver == 1 {
+            &mut self.one
         } else {
-            self.two.on_frame(frame, now);
-        }
+            &mut self.two
+        };
+        end.on_frame(frame, now);
         if self.dice.roll(8) > 0 {
             self.frames.swap_remove(place);
         }
@@ -157,10 +150,10 @@ fn packets_come_out(rt: &impl Abort, mut network: Network) {
 
 #[test]
 fn packets_come_out_once_in_order_whatever_comes(rt: HostRuntime) {
-    packets_come_out(&rt, Network::new(&rt, rt.alloc(), false));
+    packets_come_out(&rt, Network::new(&rt, rt.alloc(), Version::Two));
 }
 
 #[test]
 fn packets_come_out_of_ends_of_two_versions(rt: HostRuntime) {
-    packets_come_out(&rt, Network::new(&rt, rt.alloc(), true));
+    packets_come_out(&rt, Network::new(&rt, rt.alloc(), Version::One));
 }

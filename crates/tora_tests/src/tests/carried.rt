@@ -1,0 +1,108 @@
+//! Packets and frames as rows of a table tell them, and the packets and frames that are made of them.
+use super::made::{clear, query_for, query_of, update};
+use super::sees::sees;
+use std::process::Abort;
+use tora_frame::{Body, Frame, GREATEST_NUMBER, Header, Packets, Version};
+use tora_height::Id;
+use tora_packet::Packet;
+
+/// A packet by its parts.
+#[derive(Clone, Copy)]
+pub enum Parts {
+    /// The query for a destination.
+    Query(Id),
+    /// The update for 4 of a height.
+    Update(u64, Id, u8, i32, Id),
+    /// The clear for 4 of a level.
+    Clear(u64, Id),
+}
+
+impl Parts {
+    /// The packet of these parts.
+    pub fn packet(self, rt: &impl Abort) -> Packet {
+        match self {
+            Parts::Query(destination) => query_for(rt, destination),
+            Parts::Update(tau, oid, r, delta, id) => update(rt, tau, oid, r, delta, id),
+            Parts::Clear(tau, oid) => clear(rt, tau, oid),
+        }
+    }
+}
+
+/// What a frame carries.
+#[derive(Clone, Copy)]
+pub enum Carried {
+    /// Nothing: the frame is a HELLO.
+    Hello,
+    /// The count of packets accepted.
+    Ack(u64),
+    /// The query for a number, as the packet with this number, behind no packet accepted.
+    Query(u64),
+    /// The queries for these numbers, first to last, as the packets with these numbers, behind no packet accepted.
+    Queries(u64, u64),
+    /// Packets, the first with this number, behind this count of packets accepted.
+    Data(u64, u64, &'static [Parts]),
+}
+
+/// The packets of these parts.
+pub fn packets_of(rt: &impl Abort, parts: &[Parts]) -> Packets {
+    let mut packets = Packets::new();
+    for one in parts {
+        push(rt, &mut packets, one.packet(rt));
+    }
+    packets
+}
+
+/// The queries for these numbers, first to last.
+fn queries(rt: &impl Abort, first: u64, last: u64) -> Packets {
+    let mut packets = Packets::new();
+    for number in first..=last {
+        push(rt, &mut packets, query_of(rt, number));
+    }
+    packets
+}
+
+/// Appends a packet, for which there is room.
+fn push(rt: &impl Abort, packets: &mut Packets, packet: Packet) {
+    sees(rt, packets.try_push(packet).is_ok(), "room for a packet");
+}
+
+/// The body of a frame that carries this.
+pub fn body_of(rt: &impl Abort, carried: Carried) -> Body {
+    match carried {
+        Carried::Hello => Body::Hello,
+        Carried::Ack(count) => Body::Ack(count),
+        Carried::Query(number) => Body::Data(number, 0, queries(rt, number, number)),
+        Carried::Queries(first, last) => Body::Data(first, 0, queries(rt, first, last)),
+        Carried::Data(number, count, parts) => Body::Data(number, count, packets_of(rt, parts)),
+    }
+}
+
+/// The frame with this header that carries this.
+pub fn frame_of(rt: &impl Abort, header: Header, carried: Carried) -> Frame {
+    let Header {
+        sender,
+        receiver,
+        ..
+    } = header;
+    assert!(rt; sender > 0 && receiver > 0 && sender != receiver);
+    assert!(rt; header.life > 0 && header.life <= GREATEST_NUMBER);
+    let (number, count, packets) = match body_of(rt, carried) {
+        Body::Hello => {
+            assert!(rt; header.heard <= GREATEST_NUMBER);
+            return Frame::hello(header);
+        }
+        Body::Ack(count) => (1, count, Packets::new()),
+        Body::Data(number, count, packets) => (number, count, packets),
+    };
+    assert!(rt; header.heard > 0 && header.heard <= GREATEST_NUMBER);
+    assert!(rt; number > 0 && number <= GREATEST_NUMBER && count <= GREATEST_NUMBER);
+    match packets.as_slice() {
+        [] => Frame::ack(header, count),
+        [packet] => Frame::one(header, number, count, *packet),
+        more => {
+            assert!(rt; header.version == Version::Two);
+            assert!(rt; number + more.len() as u64 <= GREATEST_NUMBER + 1);
+            Frame::data(header, number, count, packets)
+        }
+    }
+}
