@@ -1,5 +1,9 @@
-//! The heights and packets that the tests are made of.
+//! The heights, packets and cores that the tests are made of.
+ghost use Rattle.std.specs.Prelude.{◌≡◌, ◌<◌, true, All};
+
+use std::alloc::Global;
 use std::process::Abort;
+use tora_core::{Core, CoreError};
 use tora_height::{Height, Id};
 use tora_packet::{Clear, Packet, Update};
 
@@ -26,4 +30,30 @@ pub fn update(rt: &impl Abort, tau: u64, oid: Id, r: u8, delta: i32, id: Id) -> 
 /// The clear for 4 of this level.
 pub fn clear(rt: &impl Abort, tau: u64, oid: Id) -> Packet {
     Packet::Clr(Clear::new(4, tau, oid).expect(rt, "a clear"))
+}
+
+/// Whether no number is 0.
+pub fn are_numbers(numbers: &[Id]) -> bool
+    ensures { result ≡ true → All (λ n. 0 < n) numbers.now }
+{
+    for n in numbers {
+        if *n == 0 {
+            return false;
+        }
+    }
+    true
+}
+
+/// The core of a node with these neighbours and destinations, none of which is 0.
+pub fn core_of(
+    rt: &impl Abort,
+    alloc: Global,
+    me: Id,
+    neighbours: &[Id],
+    destinations: &[Id],
+) -> Result<Core, CoreError> {
+    let neighbours_are = are_numbers(neighbours);
+    let destinations_are = are_numbers(destinations);
+    assert!(rt; me > 0 && neighbours_are && destinations_are);
+    Core::new(alloc, me, neighbours, destinations)
 }
