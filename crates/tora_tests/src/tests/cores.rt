@@ -1,7 +1,8 @@
 //! Worked runs of the rules, cores that are made and refused, and texts.
-use super::made::core_of;
+use super::made::Numbers::{Counted, These};
+use super::made::{Numbers, core_of, list_of};
 use super::sees::{prints, prints_each, same, same_at, same_text, sees};
-use std::alloc::{AllocError, Global};
+use std::alloc::Global;
 use std::process::Abort;
 use std::test::Fail;
 use steps::Given::{Down, From, Need, Up};
@@ -95,29 +96,6 @@ fn text_of_each_direction(rt: HostRuntime) {
 fn example_of_the_documentation(rt: HostRuntime) {
     let steps = [tables::ANSWERING, tables::HOP];
     runs(&rt, rt.alloc(), tables::NEXT, &steps);
-}
-
-/// The numbers of neighbours or of destinations: these, or so many from the first on.
-#[derive(Clone, Copy)]
-enum Numbers {
-    These(&'static [Id]),
-    Counted(Id, u32),
-}
-
-use Numbers::{Counted, These};
-
-/// The list of numbers.
-fn list_of(alloc: Global, numbers: Numbers) -> Result<Vec<Id>, AllocError> {
-    match numbers {
-        Numbers::These(numbers) => Vec::from_slice(alloc, numbers),
-        Numbers::Counted(first, count) => {
-            let mut list = Vec::new(alloc);
-            for i in 0..count {
-                list.push(first.saturating_add(i))?;
-            }
-            Ok(list)
-        }
-    }
 }
 
 /// The core of a node with these neighbours and destinations.

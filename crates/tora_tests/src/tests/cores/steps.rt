@@ -1,17 +1,14 @@
 //! Worked runs of cores as tables of steps, and what takes them.
-use super::super::made::{clear, core_of, height, query_for, update};
+use super::super::made::{Parts, clear, core_of, entry_of, query_for, update};
 use super::super::sees::same_at;
 use std::alloc::Global;
 use std::process::Abort;
 use tora_core::{Core, Input, Sends};
-use tora_height::{Entry, Id};
+use tora_height::Id;
 use tora_packet::Packet;
 
 /// A node, its neighbours and the destinations of its table.
 pub type Node = (Id, &'static [Id], &'static [Id]);
-
-/// The parts of a height: tau, oid, r, delta and id.
-pub type Parts = (u64, Id, u8, i32, Id);
 
 /// A packet; an update or a clear is one for 4.
 #[derive(Clone, Copy, Debug)]
@@ -62,12 +59,6 @@ pub fn input_of(rt: &impl Abort, given: Given) -> Input {
         Given::Need(d) => Input::Need(d),
         Given::From(k, sent) => Input::Packet(k, packet_of(rt, sent)),
     }
-}
-
-/// The height that a row names.
-fn entry_of(rt: &impl Abort, parts: Option<Parts>) -> Entry {
-    let (tau, oid, r, delta, id) = parts?;
-    Some(height(rt, tau, oid, r, delta, id))
 }
 
 /// A core takes an input in, refuses it with this number or takes it, and sends just these packets.
