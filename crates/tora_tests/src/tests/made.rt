@@ -1,6 +1,10 @@
-//! The heights and packets that the tests are made of.
+//! The heights, packets and cores that the tests are made of.
+ghost use Rattle.std.specs.Prelude.{◌≡◌, ◌<◌, true, All};
+
+use std::alloc::{AllocError, Global};
 use std::process::Abort;
-use tora_height::{Height, Id};
+use tora_core::{Core, CoreError};
+use tora_height::{Entry, Height, Id};
 use tora_packet::{Clear, Packet, Update};
 
 /// The height of these parts.
@@ -26,4 +30,60 @@ pub fn update(rt: &impl Abort, tau: u64, oid: Id, r: u8, delta: i32, id: Id) -> 
 /// The clear for 4 of this level.
 pub fn clear(rt: &impl Abort, tau: u64, oid: Id) -> Packet {
     Packet::Clr(Clear::new(4, tau, oid).expect(rt, "a clear"))
+}
+
+/// The parts of a height: tau, oid, r, delta and id.
+pub type Parts = (u64, Id, u8, i32, Id);
+
+/// The entry of these parts, or none.
+pub fn entry_of(rt: &impl Abort, parts: Option<Parts>) -> Entry {
+    let (tau, oid, r, delta, id) = parts?;
+    Some(height(rt, tau, oid, r, delta, id))
+}
+
+/// The numbers of neighbours or of destinations: these, or so many from the first on.
+#[derive(Clone, Copy)]
+pub enum Numbers {
+    These(&'static [Id]),
+    Counted(Id, u32),
+}
+
+/// The list of numbers.
+pub fn list_of(alloc: Global, numbers: Numbers) -> Result<Vec<Id>, AllocError> {
+    match numbers {
+        Numbers::These(numbers) => Vec::from_slice(alloc, numbers),
+        Numbers::Counted(first, count) => {
+            let mut list = Vec::new(alloc);
+            for i in 0..count {
+                list.push(first.saturating_add(i))?;
+            }
+            Ok(list)
+        }
+    }
+}
+
+/// Whether no number is 0.
+pub fn are_numbers(numbers: &[Id]) -> bool
+    ensures { result ≡ true → All (λ n. 0 < n) numbers.now }
+{
+    for n in numbers {
+        if *n == 0 {
+            return false;
+        }
+    }
+    true
+}
+
+/// The core of a node with these neighbours and destinations, none of which is 0.
+pub fn core_of(
+    rt: &impl Abort,
+    alloc: Global,
+    me: Id,
+    neighbours: &[Id],
+    destinations: &[Id],
+) -> Result<Core, CoreError> {
+    let neighbours_are = are_numbers(neighbours);
+    let destinations_are = are_numbers(destinations);
+    assert!(rt; me > 0 && neighbours_are && destinations_are);
+    Core::new(alloc, me, neighbours, destinations)
 }

@@ -1,16 +1,19 @@
 //! Items served over lanes that fill up.
 
-use super::made::query_for;
-use super::sees::{prints_each, same, same_at, same_text, sees};
+use super::sees::{prints_each, same_at, same_text};
 use std::alloc::Global;
 use std::process::Abort;
 use std::test::Fail;
-use tora_arq::{Life, Reason};
-use tora_core::{Core, Input, StepError};
+use steps::Step::{Counts, Cuts, Fills, Hands, Lives, Offers, Serves, Steps, Waits};
+use steps::Told::{Beat, Need};
+use steps::{Given, Handed, Step, Told, made, runs};
+use tora_arq::Life;
+use tora_core::StepError;
 use tora_height::Id;
-use tora_seat::{Answer, Cargo, CoreSeat, Item, OutLanes, Stepped, What};
+use tora_seat::{Answer, Cargo, CoreSeat, Item, OutLanes, What};
 
 mod line;
+mod steps;
 
 /// How many cargoes a lane of the tests holds.
 const ROOM: usize = 256;
@@ -38,6 +41,15 @@ struct TestLanes {
 }
 
 impl TestLanes {
+    /// Lanes in which nothing waits.
+    fn new(alloc: Global) -> TestLanes {
+        TestLanes {
+            first: 0,
+            second: 0,
+            offers: Vec::new(alloc),
+        }
+    }
+
     /// Puts a cargo into a lane, where there is room.
     fn put(&mut self, place: usize) -> bool {
         if place == 0 {
@@ -71,120 +83,70 @@ impl OutLanes for TestLanes {
     }
 }
 
-/// Serves what a seat tells, and sees what is answered.
-fn serves(rt: &impl Abort, seat: &mut CoreSeat, lanes: &mut TestLanes, at: usize, what: What) {
-    assert!(rt; seat.core().neighbours().len() == 2);
-    let item = Item {
-        seat: at,
-        number: 1,
-        now: 1,
-        what,
-    };
-    let answer = seat.serve(&item, lanes);
-    same_at(rt, &answer, &Answer::Nothing, "the answer", &item);
-}
+/// Node 1 needs a route to each of 4 to 8, and the link to 2 is up.
+const NEEDING: &[Step] = &[
+    Serves(2, Need(4)),
+    Serves(2, Need(5)),
+    Serves(2, Need(6)),
+    Serves(2, Need(7)),
+    Serves(2, Need(8)),
+    Serves(0, Told::Up(FIRST)),
+    Counts(5),
+];
 
-/// Sees how many cargoes were offered.
-fn has_offered(rt: &impl Abort, lanes: &TestLanes, count: usize) {
-    same(rt, &lanes.offers.len(), &count, "how many cargoes");
-}
-
-/// Sees the inputs that were handed to the core at the last item.
-fn hands(rt: &impl Abort, seat: &CoreSeat, inputs: &[Input]) {
-    same(rt, &seat.inputs(), &inputs, "the inputs");
-}
-
-/// Sees the packet that the core took at the last item.
-fn steps(rt: &impl Abort, seat: &CoreSeat, stepped: Option<Stepped>) {
-    same(rt, &seat.stepped(), &stepped, "what was stepped");
-}
-
-/// Sees the current life of the link at a place.
-fn lives_in(rt: &impl Abort, seat: &CoreSeat, place: usize, life: Option<Life>) {
-    same_at(rt, &seat.current(place), &life, "the life", &place);
-}
-
-/// Sees the life at a place that is still to be cut.
-fn has_to_cut(rt: &impl Abort, seat: &CoreSeat, place: usize, life: Option<Life>) {
-    same_at(rt, &seat.pending(place), &life, "the life to cut", &place);
-}
-
-/// Node 1 needs a route to each of 4 to 8, the link to 2 is up, and so many cargoes wait in its lane.
-fn needing(rt: &impl Abort, alloc: Global, waiting: usize) -> Result<(CoreSeat, TestLanes), Fail> {
-    let core = Core::new(alloc, 1, &[2, 3], &[4, 5, 6, 7, 8]).expect(rt, "a core");
-    let mut seat = CoreSeat::new(alloc, core)?;
-    let mut lanes = TestLanes {
-        first: 0,
-        second: 0,
-        offers: Vec::new(alloc),
-    };
-    for d in 4..9 {
-        serves(rt, &mut seat, &mut lanes, 2, What::Need(d));
-    }
-    serves(rt, &mut seat, &mut lanes, 0, What::Up(FIRST));
-    has_offered(rt, &lanes, 5);
-    lanes.offers.clear();
+/// The seat of node 1 and its lanes, which need routes, where so many cargoes wait in the first lane.
+fn needing(rt: &impl Abort, alloc: Global, waiting: usize) -> (CoreSeat, TestLanes) {
+    let (mut seat, mut lanes) = made(rt, alloc, &[4, 5, 6, 7, 8]).expect(rt, "memory");
+    runs(rt, &mut seat, &mut lanes, NEEDING);
     lanes.first = waiting;
-    Ok((seat, lanes))
+    (seat, lanes)
 }
 
-/// Sees that just these cargoes were offered, each with its place and whether it was put.
-fn offers(rt: &impl Abort, lanes: &TestLanes, rows: &[(usize, Cargo, bool)]) {
-    has_offered(rt, lanes, rows.len());
-    for ((place, cargo, put), offered) in rows.iter().zip(lanes.offers.iter()) {
-        let expected = Offered {
-            place: *place,
-            cargo: *cargo,
-            put: *put,
-        };
-        same(rt, offered, &expected, "the cargo");
-    }
-}
-
-#[test]
-fn handed_back_packet_cuts_its_life(rt: HostRuntime) -> Result<(), Fail> {
-    let (mut seat, mut lanes) = needing(&rt, rt.alloc(), 254)?;
-    serves(&rt, &mut seat, &mut lanes, 1, What::Up(SECOND));
-    let to_2 = |d: Id| Cargo::Packet(FIRST, query_for(&rt, d));
-    let to_3 = |d: Id| Cargo::Packet(SECOND, query_for(&rt, d));
-    let expected = [
-        (0, to_2(4), true),
-        (1, to_3(4), true),
-        (0, to_2(5), true),
-        (1, to_3(5), true),
-        (0, to_2(6), false),
-        (1, to_3(6), true),
-        (1, to_3(7), true),
-        (1, to_3(8), true),
-    ];
-    offers(&rt, &lanes, &expected);
-    let inputs = [Input::LinkUp(3), Input::LinkDown(2)];
-    hands(&rt, &seat, &inputs);
-    lives_in(&rt, &seat, 0, None);
-    has_to_cut(&rt, &seat, 0, Some(FIRST));
-    lives_in(&rt, &seat, 1, Some(SECOND));
-    lanes.offers.clear();
-    let late = What::Packet(FIRST, query_for(&rt, 4));
-    serves(&rt, &mut seat, &mut lanes, 0, late);
-    offers(&rt, &lanes, &[(0, Cargo::Cut(FIRST), false)]);
-    hands(&rt, &seat, &[]);
-    steps(&rt, &seat, None);
-    Ok(())
-}
+/// The link to 3 comes up while the lane to 2 fills.
+const HANDED_BACK: &[Step] = &[
+    Serves(1, Told::Up(SECOND)),
+    Offers(&[
+        (0, Given::Packet(FIRST, 4), true),
+        (1, Given::Packet(SECOND, 4), true),
+        (0, Given::Packet(FIRST, 5), true),
+        (1, Given::Packet(SECOND, 5), true),
+        (0, Given::Packet(FIRST, 6), false),
+        (1, Given::Packet(SECOND, 6), true),
+        (1, Given::Packet(SECOND, 7), true),
+        (1, Given::Packet(SECOND, 8), true),
+    ]),
+    Hands(&[Handed::Up(3), Handed::Down(2)]),
+    Lives(0, None),
+    Cuts(0, Some(FIRST)),
+    Lives(1, Some(SECOND)),
+    Serves(0, Told::Packet(FIRST, 4)),
+    Offers(&[(0, Given::Cut(FIRST), false)]),
+    Hands(&[]),
+    Steps(None),
+];
 
 #[test]
-fn pending_cut_is_put_once_there_is_room(rt: HostRuntime) -> Result<(), Fail> {
-    let (mut seat, mut lanes) = needing(&rt, rt.alloc(), 254)?;
-    serves(&rt, &mut seat, &mut lanes, 1, What::Up(SECOND));
-    lanes.offers.clear();
-    lanes.first = 255;
-    serves(&rt, &mut seat, &mut lanes, 2, What::Beat);
-    offers(&rt, &lanes, &[(0, Cargo::Cut(FIRST), true)]);
-    has_to_cut(&rt, &seat, 0, None);
-    lanes.offers.clear();
-    serves(&rt, &mut seat, &mut lanes, 2, What::Beat);
-    offers(&rt, &lanes, &[]);
-    Ok(())
+fn handed_back_packet_cuts_its_life(rt: HostRuntime) {
+    let (mut seat, mut lanes) = needing(&rt, rt.alloc(), 254);
+    runs(&rt, &mut seat, &mut lanes, HANDED_BACK);
+}
+
+/// There is room again in the lane to 2 when the next item is served.
+const CUT_ONCE: &[Step] = &[
+    Serves(1, Told::Up(SECOND)),
+    Counts(8),
+    Fills(255),
+    Serves(2, Beat),
+    Offers(&[(0, Given::Cut(FIRST), true)]),
+    Cuts(0, None),
+    Serves(2, Beat),
+    Offers(&[]),
+];
+
+#[test]
+fn pending_cut_is_put_once_there_is_room(rt: HostRuntime) {
+    let (mut seat, mut lanes) = needing(&rt, rt.alloc(), 254);
+    runs(&rt, &mut seat, &mut lanes, CUT_ONCE);
 }
 
 /// How many cargoes were put into the first lane.
@@ -200,106 +162,78 @@ fn put_first(lanes: &TestLanes) -> usize {
 
 /// Sees whether the first link's life is cut, where so many cargoes waited.
 fn is_cut_first(rt: &impl Abort, seat: &CoreSeat, is_cut: bool, waiting: usize) {
-    let is_pending = seat.pending(0).is_some();
-    same_at(
-        rt,
-        &seat.current(0).is_none(),
-        &is_cut,
-        "the life is cut",
-        &waiting,
+    let found = (
+        seat.current(0).is_none(),
+        seat.pending(0).is_some(),
+        !seat.core().is_up(2),
     );
-    same_at(rt, &is_pending, &is_cut, "it is to be cut", &waiting);
-    same_at(
-        rt,
-        &seat.core().is_up(2),
-        &!is_cut,
-        "the link is up",
-        &waiting,
-    );
+    let wanted = (is_cut, is_cut, is_cut);
+    same_at(rt, &found, &wanted, "cut, to be cut, down", &waiting);
 }
 
+/// The link to 3 comes up.
+const SECOND_UP: &[Step] = &[Serves(1, Told::Up(SECOND))];
+
 #[test]
-fn life_is_cut_where_its_lane_is_short_of_room(rt: HostRuntime) -> Result<(), Fail> {
+fn life_is_cut_where_its_lane_is_short_of_room(rt: HostRuntime) {
     for waiting in 0..257 {
-        let (mut seat, mut lanes) = needing(&rt, rt.alloc(), waiting)?;
-        serves(&rt, &mut seat, &mut lanes, 1, What::Up(SECOND));
-        same_at(
-            &rt,
-            &put_first(&lanes),
-            &5.min(256 - waiting),
-            "what was put",
-            &waiting,
-        );
+        let (mut seat, mut lanes) = needing(&rt, rt.alloc(), waiting);
+        runs(&rt, &mut seat, &mut lanes, SECOND_UP);
+        let put = 5.min(256 - waiting);
+        same_at(&rt, &put_first(&lanes), &put, "what was put", &waiting);
         is_cut_first(&rt, &seat, waiting > 251, waiting);
     }
-    Ok(())
 }
 
+/// A packet of the current life, and one of another.
+const STEPPED: &[Step] = &[
+    Serves(0, Told::Packet(FIRST, 4)),
+    Steps(Some((2, FIRST, 4))),
+    Hands(&[Handed::Packet(2, 4)]),
+    Serves(0, Told::Packet(SECOND, 4)),
+    Steps(None),
+];
+
 #[test]
-fn packet_of_the_current_life_is_handed_to_the_core(rt: HostRuntime) -> Result<(), Fail> {
-    let (mut seat, mut lanes) = needing(&rt, rt.alloc(), 0)?;
-    serves(
-        &rt,
-        &mut seat,
-        &mut lanes,
-        0,
-        What::Packet(FIRST, query_for(&rt, 4)),
-    );
-    let stepped = Stepped {
-        from: 2,
-        life: FIRST,
-        packet: query_for(&rt, 4),
-    };
-    steps(&rt, &seat, Some(stepped));
-    hands(&rt, &seat, &[Input::Packet(2, query_for(&rt, 4))]);
-    serves(
-        &rt,
-        &mut seat,
-        &mut lanes,
-        0,
-        What::Packet(SECOND, query_for(&rt, 4)),
-    );
-    steps(&rt, &seat, None);
-    Ok(())
+fn packet_of_the_current_life_is_handed_to_the_core(rt: HostRuntime) {
+    let (mut seat, mut lanes) = needing(&rt, rt.alloc(), 0);
+    runs(&rt, &mut seat, &mut lanes, STEPPED);
 }
+
+/// What a seat serves without memory.
+const SERVED: &[Step] = &[
+    Serves(0, Told::Up(FIRST)),
+    Hands(&[Handed::Up(2)]),
+    Serves(2, Need(4)),
+    Hands(&[Handed::Need(4)]),
+    Waits(1),
+    Serves(0, Told::Up(SECOND)),
+    Hands(&[Handed::Down(2), Handed::Up(2)]),
+    Lives(0, Some(SECOND)),
+];
 
 // With each request for memory refused in turn: there is no seat, or one that serves without memory.
 #[test]
 fn want_of_memory_is_answered(rt: HostRuntime) {
-    let Ok(core) = Core::new(rt.alloc(), 1, &[2, 3], &[4]) else {
-        return;
-    };
-    let Ok(mut seat) = CoreSeat::new(rt.alloc(), core) else {
-        return;
-    };
-    let mut lanes = TestLanes {
-        first: 0,
-        second: 0,
-        offers: Vec::new(rt.alloc()),
-    };
-    serves(&rt, &mut seat, &mut lanes, 0, What::Up(FIRST));
-    hands(&rt, &seat, &[Input::LinkUp(2)]);
-    serves(&rt, &mut seat, &mut lanes, 2, What::Need(4));
-    hands(&rt, &seat, &[Input::Need(4)]);
-    same(&rt, &lanes.first, &1, "how many cargoes wait");
-    serves(&rt, &mut seat, &mut lanes, 0, What::Up(SECOND));
-    hands(&rt, &seat, &[Input::LinkDown(2), Input::LinkUp(2)]);
-    lives_in(&rt, &seat, 0, Some(SECOND));
+    if let Some((mut seat, mut lanes)) = made(&rt, rt.alloc(), &[4]) {
+        runs(&rt, &mut seat, &mut lanes, SERVED);
+    }
 }
 
+/// What answers are printed as.
+const ANSWERS: &[(Answer, &str)] = &[
+    (Answer::Nothing, "nothing"),
+    (
+        Answer::Refused(StepError::WrongSender),
+        "refused: the update is not of the neighbour that sent it",
+    ),
+    (Answer::Show, "show"),
+    (Answer::Quit, "quit"),
+];
+
 #[test]
-fn answers_are_shown(rt: HostRuntime) -> Result<(), Fail> {
-    let rows = [
-        (Answer::Nothing, "nothing"),
-        (
-            Answer::Refused(StepError::WrongSender),
-            "refused: the update is not of the neighbour that sent it",
-        ),
-        (Answer::Show, "show"),
-        (Answer::Quit, "quit"),
-    ];
-    prints_each(&rt, rt.alloc(), &rows);
-    Ok(())
+fn answers_are_shown(rt: HostRuntime) {
+    prints_each(&rt, rt.alloc(), ANSWERS);
 }
 
 #[test]

@@ -1,14 +1,18 @@
-// The line of four nodes, 1 - 2 - 3 - 4, by items that are made by hand: what one seat offers is handed to the next one.
-ghost use Rattle.std.specs.Prelude.{◌<◌, All};
+//! The line of four nodes, 1 - 2 - 3 - 4, by items that are made by hand: what one seat offers is handed to the next one.
+use super::super::made::{Parts, core_of, entry_of};
+use super::super::sees::{same, same_at, sees};
+use super::TestLanes;
+use std::alloc::Global;
+use std::process::Abort;
+use std::test::Fail;
+use tora_arq::{Life, Reason};
+use tora_height::Id;
+use tora_seat::{Answer, Cargo, CoreSeat, Item, What};
 
-use super::super::made;
-use super::*;
-use tora_height::Entry;
-
-// The life of every link, as both ends write it.
+/// The life of every link, as both ends write it.
 const LIFE: Life = Life { own: 1, peer: 1 };
 
-// A node of the line, with the cargoes that its seat has offered and that were not handed on.
+/// A node of the line, with the cargoes that its seat has offered and that were not handed on.
 #[derive(Drop)]
 struct Node {
     me: Id,
@@ -17,23 +21,16 @@ struct Node {
 }
 
 impl Node {
-    fn new(rt: &impl Abort, alloc: Global, me: Id, neighbours: &[Id]) -> Result<Node, Fail>
-        requires me { 0 < me }
-        requires neighbours { All (λ k. 0 < k) neighbours.now }
-    {
-        let core = Core::new(alloc, me, neighbours, &[4]).expect(rt, "a core");
+    fn new(rt: &impl Abort, alloc: Global, me: Id, neighbours: &[Id]) -> Result<Node, Fail> {
+        let core = core_of(rt, alloc, me, neighbours, &[4])?;
         Ok(Node {
             me,
             seat: CoreSeat::new(alloc, core)?,
-            lanes: TestLanes {
-                first: 0,
-                second: 0,
-                offers: Vec::new(alloc),
-            },
+            lanes: TestLanes::new(alloc),
         })
     }
 
-    // The place of a neighbour.
+    /// The place of a neighbour.
     fn place(&self, rt: &impl Abort, k: Id) -> usize {
         let mut place = 0usize;
         for n in self.seat.core().neighbours() {
@@ -46,7 +43,7 @@ impl Node {
         place
     }
 
-    // Serves what a seat tells; nothing is refused.
+    /// Serves what a seat tells; nothing is refused.
     fn serves(&mut self, rt: &impl Abort, seat: usize, now: u64, what: What) {
         assert!(rt; self.seat.core().neighbours().len() <= 2);
         let item = Item {
@@ -65,13 +62,13 @@ impl Node {
         );
     }
 
-    // Serves what the link to a neighbour tells.
+    /// Serves what the link to a neighbour tells.
     fn hears(&mut self, rt: &impl Abort, from: Id, now: u64, what: What) {
         let place = self.place(rt, from);
         self.serves(rt, place, now, what);
     }
 
-    // The first cargo that was offered and not handed on, and the neighbour that it is for.
+    /// The first cargo that was offered and not handed on, and the neighbour that it is for.
     fn gives(&mut self, rt: &impl Abort) -> Option<(Id, Cargo)> {
         if self.lanes.offers.is_empty() {
             return None;
@@ -82,7 +79,7 @@ impl Node {
     }
 }
 
-// Hands on every cargo until none is left.
+/// Hands on every cargo until none is left.
 fn hands_on(rt: &impl Abort, line: &mut [Node], now: u64) {
     for _ in 0..100 {
         for i in 0..line.len() {
@@ -105,7 +102,7 @@ fn hands_on(rt: &impl Abort, line: &mut [Node], now: u64) {
     }
 }
 
-// The four nodes, with every link up, and the route to 4 that node 1 has asked for.
+/// The four nodes, with every link up, and the route to 4 that node 1 has asked for.
 fn joined(rt: &impl Abort, alloc: Global) -> Result<[Node; 4], Fail> {
     let mut line = [
         Node::new(rt, alloc, 1, &[2])?,
@@ -123,58 +120,63 @@ fn joined(rt: &impl Abort, alloc: Global) -> Result<[Node; 4], Fail> {
     Ok(line)
 }
 
-// The height of these parts.
-fn height(rt: &impl Abort, tau: u64, oid: Id, r: u8, delta: i32, id: Id) -> Entry {
-    Some(made::height(rt, tau, oid, r, delta, id))
+/// Sees the height of a node, and its next hop.
+fn has(rt: &impl Abort, node: &Node, parts: Option<Parts>, hop: Option<Id>) {
+    let core = node.seat.core();
+    let wanted = Some(entry_of(rt, parts));
+    same_at(rt, &core.height(4), &wanted, "the height at node", &node.me);
+    same_at(
+        rt,
+        &core.next_hop(4),
+        &hop,
+        "the next hop at node",
+        &node.me,
+    );
 }
 
-// Sees the height of a node.
-fn has_height(rt: &impl Abort, node: &Node, entry: Entry) {
-    let height = node.seat.core().height(4);
-    same_at(rt, &height, &Some(entry), "the height at node", &node.me);
-}
-
-// Sees the next hop of a node.
-fn has_hop(rt: &impl Abort, node: &Node, hop: Option<Id>) {
-    let found = node.seat.core().next_hop(4);
-    same_at(rt, &found, &hop, "the next hop at node", &node.me);
-}
-
-// Sees the height of each node, and its next hop.
-fn has(rt: &impl Abort, line: &[Node], rows: &[(Entry, Option<Id>)]) {
+/// Sees the height of each node, and its next hop.
+fn have(rt: &impl Abort, line: &[Node], rows: &[(Option<Parts>, Option<Id>)]) {
     same(rt, &line.len(), &rows.len(), "how many nodes");
-    for (node, (entry, hop)) in line.iter().zip(rows.iter()) {
-        has_height(rt, node, *entry);
-        has_hop(rt, node, *hop);
+    for (node, (parts, hop)) in line.iter().zip(rows.iter()) {
+        has(rt, node, *parts, *hop);
     }
 }
 
+/// Every node has a route.
+const JOINED: &[(Option<Parts>, Option<Id>)] = &[
+    (Some((0, 0, 0, 3, 1)), Some(2)),
+    (Some((0, 0, 0, 2, 2)), Some(3)),
+    (Some((0, 0, 0, 1, 3)), Some(4)),
+    (Some((0, 0, 0, 0, 4)), None),
+];
+
 #[test]
 fn line_of_four_joins(rt: HostRuntime) -> Result<(), Fail> {
-    let line = joined(&rt, rt.alloc())?;
-    let rows = [
-        (height(&rt, 0, 0, 0, 3, 1), Some(2)),
-        (height(&rt, 0, 0, 0, 2, 2), Some(3)),
-        (height(&rt, 0, 0, 0, 1, 3), Some(4)),
-        (height(&rt, 0, 0, 0, 0, 4), None),
-    ];
-    has(&rt, &line, &rows);
+    have(&rt, &joined(&rt, rt.alloc())?, JOINED);
     Ok(())
 }
+
+/// No node but the destination has a height.
+const PARTED: &[(Option<Parts>, Option<Id>)] = &[
+    (None, None),
+    (None, None),
+    (None, None),
+    (Some((0, 0, 0, 0, 4)), None),
+];
 
 // Node 3 loses its link to 4: it defines a level, 2 propagates it, 1 reflects it, 3 detects the partition and clears.
 #[test]
 fn line_of_four_detects_a_partition(rt: HostRuntime) -> Result<(), Fail> {
     let mut line = joined(&rt, rt.alloc())?;
     line[2].hears(&rt, 4, 7, What::Down(LIFE, Reason::Silent));
-    has_height(&rt, &line[2], height(&rt, 7, 3, 0, 0, 3));
+    let defined = Some(entry_of(&rt, Some((7, 3, 0, 0, 3))));
+    same(
+        &rt,
+        &line[2].seat.core().height(4),
+        &defined,
+        "the height of 3",
+    );
     hands_on(&rt, &mut line, 7);
-    let rows = [
-        (None, None),
-        (None, None),
-        (None, None),
-        (height(&rt, 0, 0, 0, 0, 4), None),
-    ];
-    has(&rt, &line, &rows);
+    have(&rt, &line, PARTED);
     Ok(())
 }

@@ -1,7 +1,15 @@
 //! What stands where memory is refused: for a topology, for a first world, and at an event. Each test takes that answer or the
 //! other, so that it passes whichever call for memory is refused.
-use super::super::sees::sees as is_so;
-use super::*;
+use super::super::sees::{same, sees};
+use super::steps::Step::{Clock, Datagrams, Route};
+use super::steps::{Step, runs};
+use super::topologies::{ages, keeps, made, refused};
+use super::{LIFE, MEETING, ROW_ENDS, TIMES};
+use std::alloc::Global;
+use std::process::Abort;
+use tora_core::CoreError;
+use tora_height::Id;
+use tora_sim::{Event, Sim, SimError, Topology};
 
 /// A topology; `None` where memory is refused.
 fn made_or_refused(
@@ -27,23 +35,28 @@ fn want_of_memory_for_a_topology(rt: HostRuntime) {
         keeps(&rt, &topology, &[(3, 2), (1, 2)], &[3, 1]);
     }
     let links = [(1, 2), (2, 1)];
-    refused(&rt, alloc, &links, &[1], Some(CoreError::Repeated));
+    refused(&rt, alloc, &links, &[1], Some(CoreError::Repeated), 0);
 }
 
-/// Sees the first world of nodes 1, 2 and 3 in a row with the destination 3, or that memory was refused for it.
+/// What is read of the first world of nodes 1, 2 and 3 in a row, with the destination 3.
+const FIRST: &[Step] = &[
+    Clock(0),
+    Datagrams(0),
+    Route(3, 3, Some(Some((0, 0, 0, 0, 3))), None),
+    Route(1, 3, Some(None), None),
+];
+
+/// Sees the first world of nodes 1, 2 and 3 in a row, or that memory was refused for it.
 fn sees_first(rt: &impl Abort, alloc: Global, found: Result<Sim, SimError>) {
     match found {
         Err(error) => same(rt, &error, &SimError::Memory, "the error"),
-        Ok(sim) => {
-            has_counts(rt, &sim, 0, 0);
-            sees_route(rt, &sim, 3, 3, Some(Some(Height::zero(3))), None);
-            sees_route(rt, &sim, 1, 3, Some(None), None);
+        Ok(mut sim) => {
+            runs(rt, alloc, &mut sim, FIRST);
             if let Ok(nodes) = sim.nodes(alloc) {
                 same(rt, &nodes.as_slice(), &[1, 2, 3].as_slice(), "the nodes");
             }
             if let Ok(ends) = sim.ends(alloc) {
-                let expected = [(1, 2), (2, 1), (2, 3), (3, 2)];
-                same(rt, &ends.as_slice(), &expected.as_slice(), "the link ends");
+                same(rt, &ends.as_slice(), &ROW_ENDS, "the link ends");
             }
         }
     }
@@ -53,20 +66,14 @@ fn sees_first(rt: &impl Abort, alloc: Global, found: Result<Sim, SimError>) {
 #[test]
 fn want_of_memory_for_a_first_world(rt: HostRuntime) {
     let alloc = rt.alloc();
-    let times = Times {
-        hello: 2,
-        silent: 3,
-        retry: 1,
-        tries: 2,
-    };
     let Some(mut topology) = made_or_refused(&rt, alloc, &[(3, 2), (1, 2)], &[3]) else {
         return;
     };
-    ages(&rt, &mut topology, 1, Ok(()));
+    ages(&rt, &mut topology, &[(1, Ok(()), &[1])]);
     sees_first(&rt, alloc, Sim::new(alloc, &topology));
-    sees_first(&rt, alloc, Sim::with_times(alloc, &topology, times));
+    sees_first(&rt, alloc, Sim::with_times(alloc, &topology, TIMES));
     keeps(&rt, &topology, &[(3, 2), (1, 2)], &[3]);
-    has_olds(&rt, &topology, &[1]);
+    same(&rt, &topology.olds(), &[1].as_slice(), "the old nodes");
 }
 
 /// Lets one event happen; answers whether there was memory for it.
@@ -113,9 +120,8 @@ fn is_node_same(one: &Sim, other: &Sim, n: Id) -> bool {
 
 /// Whether two worlds tell the same of what was sent and taken at a link end in the first life of the link.
 fn is_lane_same(one: &Sim, other: &Sim, n: Id, k: Id) -> bool {
-    let life = Life { own: 1, peer: 1 };
-    one.sent_count(n, k, life) == other.sent_count(n, k, life)
-        && one.taken_count(n, k, life) == other.taken_count(n, k, life)
+    one.sent_count(n, k, LIFE) == other.sent_count(n, k, LIFE)
+        && one.taken_count(n, k, LIFE) == other.taken_count(n, k, LIFE)
 }
 
 /// Whether the same may happen in two worlds at the link end that stands at a place.
@@ -182,9 +188,9 @@ fn sees_run(rt: &impl Abort, alloc: Global, before: &[Event], events: &[Event]) 
     }
     if ran.is_err() {
         same(rt, &ran, &Err(SimError::Memory), "the run's error");
-        is_so(rt, goes_on, "the world is that before an event");
+        sees(rt, goes_on, "the world is that before an event");
     }
-    is_so(
+    sees(
         rt,
         are_same(&sim, &other),
         "the worlds are the same after all events",
@@ -194,11 +200,11 @@ fn sees_run(rt: &impl Abort, alloc: Global, before: &[Event], events: &[Event]) 
 /// Where memory is refused for a first link, its packets and its meeting.
 #[test]
 fn want_of_memory_at_a_meeting(rt: HostRuntime) {
-    sees_run(&rt, rt.alloc(), &[], &MEETING);
+    sees_run(&rt, rt.alloc(), &[], MEETING);
 }
 
 /// The events by which an update goes over the link, its sender restarts, and the receiver hears of that.
-const RESTARTING: [Event; 15] = [
+const RESTARTING: &[Event] = &[
     Event::Pull(1, 2),
     Event::Transmit(1, 2),
     Event::Deliver(4),
@@ -218,5 +224,5 @@ const RESTARTING: [Event; 15] = [
 
 #[test]
 fn want_of_memory_at_a_restart(rt: HostRuntime) {
-    sees_run(&rt, rt.alloc(), &MEETING, &RESTARTING);
+    sees_run(&rt, rt.alloc(), MEETING, RESTARTING);
 }

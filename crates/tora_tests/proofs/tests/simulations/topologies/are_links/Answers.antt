@@ -3,7 +3,7 @@ use Rattle.std.specs.List.{All}
 use Rattle.std.proofs.lemmas.List.{get_or-map, length-map}
 use Rattle.tora_world.specs.Topology.{Link}
 use Rattle.tora_sim.specs.Topologies.{link_in, links_in}
-use Rattle.tora_tests.proofs.tests.simulations.are_links.Goals as goal
+use Rattle.tora_tests.proofs.tests.simulations.topologies.are_links.Goals as goal
 
 all-links : (links : List (ℕ × ℕ)) (i : ℕ) → length links ≤ i → ((k : ℕ) → k < i → (0 < (get_or links k (0, 0)).0) × (0 < (get_or links k (0, 0)).1))
     → All (λ (link : Link). (0 < link.a) × (0 < link.b)) (links_in links)

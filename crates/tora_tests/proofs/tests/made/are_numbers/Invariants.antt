@@ -1,5 +1,5 @@
 use Rattle.std.proofs.Common.{ℕ, ◌<◌, get_or}
-use Rattle.tora_tests.proofs.tests.cores.are_numbers.Given as goal
+use Rattle.tora_tests.proofs.tests.made.are_numbers.Given as goal
 
 -- no number so far is 0
 abbrev pub invariant-loop-n : goal.invariant-loop-n

@@ -1,5 +1,5 @@
 use Rattle.std.proofs.Common.{ℕ, ◌<◌, get_or}
-use Rattle.tora_tests.proofs.tests.simulations.are_links.Given as goal
+use Rattle.tora_tests.proofs.tests.simulations.topologies.are_links.Given as goal
 
 -- no number of the links so far is 0
 abbrev pub invariant-loop-link : goal.invariant-loop-link

@@ -1,0 +1,136 @@
+//! A core beside the plain body of the rules, at inputs that are drawn.
+ghost use Rattle.std.specs.Prelude.{◌≤◌};
+
+use super::super::plain_core::{Plain, Told, told_by};
+use super::super::sees::{same, same_at, sees};
+use std::alloc::Global;
+use std::process::Abort;
+use tora_core::{Core, Input, Sends};
+use tora_height::{Height, Id};
+use tora_packet::{Clear, Packet, Update};
+
+/// A generator of numbers: xorshift on 64 bits.
+#[derive(Drop)]
+struct Random {
+    state: u64,
+}
+
+impl Random {
+    fn next(&mut self) -> u64 {
+        let mut x = self.state;
+        x ^= x.wrapping_shl(13);
+        x ^= x.wrapping_shr(7);
+        x ^= x.wrapping_shl(17);
+        self.state = x;
+        x
+    }
+
+    /// A number from 0 to `most`, at most 255.
+    fn up_to(&mut self, most: u8) -> u32
+        ensures { result ≤ most }
+    {
+        let n = u64::from(most) + 1;
+        ((self.next() >> 11) % n) as u32
+    }
+}
+
+/// A packet of neighbour `k` for a destination, sometimes with the height of another node.
+fn any_packet(random: &mut Random, now: u64, k: Id, d: Id) -> Option<Packet> {
+    let tau = now.saturating_sub(u64::from(random.up_to(9)));
+    let number = 1 + random.up_to(8);
+    let oid = if number == 9 { 100 } else { number };
+    match random.up_to(9) {
+        0 => Packet::qry(d).ok(),
+        1 => Some(Packet::Clr(Clear::new(d, tau.max(1), oid).ok()?)),
+        choice => {
+            let delta = random.up_to(6) as i32;
+            let id = if choice == 2 { k.saturating_add(1) } else { k };
+            let height = if random.up_to(2) == 0 {
+                Height::new(0, 0, 0, 1 + delta, id)
+            } else {
+                Height::new(tau, oid, random.up_to(1) as u8, delta - 3, id)
+            };
+            Some(Packet::Upd(Update::new(d, height.ok()?).ok()?))
+        }
+    }
+}
+
+/// An input, refused or not: neighbour 9 and destination 20 are not known.
+fn any_input(random: &mut Random, now: u64) -> Option<Input> {
+    let k = 1 + random.up_to(8);
+    let d = 5 + random.up_to(15);
+    match random.up_to(19) {
+        0 => Some(Input::LinkDown(k)),
+        1 | 2 => Some(Input::LinkUp(k)),
+        3 => Some(Input::Need(d)),
+        _ => Some(Input::Packet(k, any_packet(random, now, k, d)?)),
+    }
+}
+
+/// The packets of both bodies are the same.
+fn same_sends(rt: &impl Abort, sends: &Sends, told: &[Told]) {
+    same(rt, &sends.len(), &told.len(), "how many packets");
+    for (packet, told) in sends.iter().zip(told.iter()) {
+        same(rt, &told_by(packet), told, "the packet");
+    }
+}
+
+/// Both bodies take an input, and answer the same.
+fn same_step(
+    rt: &impl Abort,
+    alloc: Global,
+    core: &mut Core,
+    plain: &mut Plain,
+    input: &Input,
+    now: u64,
+    sends: &mut Sends,
+) {
+    let answer = core.step_into(input, now, sends);
+    match plain.step(alloc, input, now).expect(rt, "memory") {
+        Err(error) => {
+            same(rt, &answer.err(), &Some(error), "the refusal");
+            same_sends(rt, sends, &[]);
+        }
+        Ok(told) => {
+            sees(rt, answer.is_ok(), "an input that is taken");
+            same_sends(rt, sends, told.as_slice());
+        }
+    }
+}
+
+/// Both bodies show the same.
+fn same_tables(rt: &impl Abort, alloc: Global, core: &Core, plain: &Plain, turn: u32) {
+    let shown = core.show(alloc).expect(rt, "memory");
+    let other = plain.show(alloc).expect(rt, "memory");
+    same_at(rt, &shown.as_str(), &other.as_str(), "the tables", &turn);
+}
+
+#[test]
+fn plain_body_answers_alike(rt: HostRuntime) {
+    let neighbours = [1, 2, 3, 4, 5, 6, 7, 8];
+    let destinations = [5, 6, 7, 8, 9, 10, 11, 12, 13, 14, 15, 16, 17, 18, 19, 100];
+    let mut core = Core::new(rt.alloc(), 100, &neighbours, &destinations).expect(&rt, "a core");
+    let mut plain = Plain::new(rt.alloc(), 100, &neighbours, &destinations).expect(&rt, "memory");
+    let mut random = Random {
+        state: 88172645463325252,
+    };
+    let mut sends = Sends::new();
+    let mut now = 0u64;
+    for turn in 0..10_000 {
+        now = now.saturating_add(u64::from(random.up_to(2)));
+        if let Some(input) = any_input(&mut random, now) {
+            same_step(
+                &rt,
+                rt.alloc(),
+                &mut core,
+                &mut plain,
+                &input,
+                now,
+                &mut sends,
+            );
+        }
+        if turn % 100 == 99 {
+            same_tables(&rt, rt.alloc(), &core, &plain, turn);
+        }
+    }
+}

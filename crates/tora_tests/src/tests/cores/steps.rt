@@ -1,0 +1,151 @@
+//! Worked runs of cores as tables of steps, and what takes them.
+use super::super::made::{Parts, clear, core_of, entry_of, query_for, update};
+use super::super::sees::same_at;
+use std::alloc::Global;
+use std::process::Abort;
+use tora_core::{Core, Input, Sends};
+use tora_height::Id;
+use tora_packet::Packet;
+
+/// A node, its neighbours and the destinations of its table.
+pub type Node = (Id, &'static [Id], &'static [Id]);
+
+/// A packet; an update or a clear is one for 4.
+#[derive(Clone, Copy, Debug)]
+pub enum Sent {
+    Qry(Id),
+    Upd(u64, Id, u8, i32, Id),
+    Clr(u64, Id),
+}
+
+/// What comes in: a link, a need, or a packet of a neighbour.
+#[derive(Clone, Copy, Debug)]
+pub enum Given {
+    Up(Id),
+    Down(Id),
+    Need(Id),
+    From(Id, Sent),
+}
+
+/// A step of a run: what a node does at a tick, or what it has then.
+#[derive(Clone, Copy, Debug)]
+pub enum Step {
+    /// It takes an input, and broadcasts just these packets.
+    Takes(Id, u64, Given, &'static [Sent]),
+    /// It refuses an input, with this number.
+    Refuses(Id, u64, Given, u8),
+    /// It has this height for 4, or none.
+    Has(Id, Option<Parts>),
+    /// It has this next hop to 4, or none.
+    Goes(Id, Option<Id>),
+    /// It shows this text.
+    Shows(Id, &'static str),
+}
+
+/// The packet that a row names.
+pub fn packet_of(rt: &impl Abort, sent: Sent) -> Packet {
+    match sent {
+        Sent::Qry(destination) => query_for(rt, destination),
+        Sent::Upd(tau, oid, r, delta, id) => update(rt, tau, oid, r, delta, id),
+        Sent::Clr(tau, oid) => clear(rt, tau, oid),
+    }
+}
+
+/// The input that a row names.
+pub fn input_of(rt: &impl Abort, given: Given) -> Input {
+    match given {
+        Given::Up(k) => Input::LinkUp(k),
+        Given::Down(k) => Input::LinkDown(k),
+        Given::Need(d) => Input::Need(d),
+        Given::From(k, sent) => Input::Packet(k, packet_of(rt, sent)),
+    }
+}
+
+/// A core takes an input in, refuses it with this number or takes it, and sends just these packets.
+fn steps(
+    rt: &impl Abort,
+    core: &mut Core,
+    now: u64,
+    given: Given,
+    refusal: Option<u8>,
+    wanted: &[Sent],
+    row: &Step,
+) {
+    let mut sends = Sends::new();
+    let answer = core.step_into(&input_of(rt, given), now, &mut sends);
+    let number = answer.err().map(|error| error.number());
+    same_at(rt, &number, &refusal, "the refusal", row);
+    same_at(rt, &sends.len(), &wanted.len(), "how many packets", row);
+    for (packet, sent) in sends.iter().zip(wanted.iter()) {
+        same_at(rt, packet, &packet_of(rt, *sent), "the packet", row);
+    }
+}
+
+/// The core of a node.
+fn core_in<'a>(rt: &impl Abort, cores: &'a mut [Core], node: Id) -> &'a mut Core {
+    let found = cores.iter_mut().find(|core| core.me() == node);
+    found.expect(rt, "a node")
+}
+
+/// A node does what a step says.
+fn does(rt: &impl Abort, alloc: Global, cores: &mut [Core], row: &Step) {
+    match *row {
+        Step::Takes(node, now, given, sent) => {
+            steps(rt, core_in(rt, cores, node), now, given, None, sent, row);
+        }
+        Step::Refuses(node, now, given, number) => {
+            steps(
+                rt,
+                core_in(rt, cores, node),
+                now,
+                given,
+                Some(number),
+                &[],
+                row,
+            );
+        }
+        Step::Has(node, parts) => {
+            let wanted = Some(entry_of(rt, parts));
+            same_at(
+                rt,
+                &core_in(rt, cores, node).height(4),
+                &wanted,
+                "the height",
+                row,
+            );
+        }
+        Step::Goes(node, hop) => {
+            same_at(
+                rt,
+                &core_in(rt, cores, node).next_hop(4),
+                &hop,
+                "the next hop",
+                row,
+            );
+        }
+        Step::Shows(node, text) => {
+            let shown = core_in(rt, cores, node).show(alloc).expect(rt, "memory");
+            same_at(rt, &shown.as_str(), &text, "the text", row);
+        }
+    }
+}
+
+/// The cores of nodes, with no link up.
+fn cores_of(rt: &impl Abort, alloc: Global, nodes: &[Node]) -> Vec<Core> {
+    let mut cores = Vec::new(alloc);
+    for (me, neighbours, destinations) in nodes {
+        let core = core_of(rt, alloc, *me, neighbours, destinations).expect(rt, "a core");
+        cores.push(core).expect(rt, "memory");
+    }
+    cores
+}
+
+/// The cores of nodes do what the steps of each table say, one after the other.
+pub fn runs(rt: &impl Abort, alloc: Global, nodes: &[Node], tables: &[&[Step]]) {
+    let mut cores = cores_of(rt, alloc, nodes);
+    for table in tables {
+        for row in *table {
+            does(rt, alloc, cores.as_mut_slice(), row);
+        }
+    }
+}

@@ -1,0 +1,156 @@
+//! What a seat serves and what it makes of that, as tables of steps, and what takes them.
+use super::super::made::{core_of, query_for};
+use super::super::sees::{same, same_at};
+use super::{Offered, TestLanes};
+use std::alloc::Global;
+use std::process::Abort;
+use tora_arq::Life;
+use tora_core::Input;
+use tora_height::Id;
+use tora_seat::{Answer, Cargo, CoreSeat, Item, Stepped, What};
+
+/// What an item tells; a packet is the query for a destination.
+#[derive(Clone, Copy, Debug)]
+pub enum Told {
+    Up(Life),
+    Packet(Life, Id),
+    Beat,
+    Need(Id),
+}
+
+/// A cargo; a packet is the query for a destination.
+#[derive(Clone, Copy, Debug)]
+pub enum Given {
+    Packet(Life, Id),
+    Cut(Life),
+}
+
+/// An input of the core; a packet is the query for a destination.
+#[derive(Clone, Copy, Debug)]
+pub enum Handed {
+    Up(Id),
+    Down(Id),
+    Need(Id),
+    Packet(Id, Id),
+}
+
+/// A step of a run.
+#[derive(Clone, Copy, Debug)]
+pub enum Step {
+    /// An item of a seat is served, and nothing is to be said.
+    Serves(usize, Told),
+    /// Just these cargoes were offered since the last step that looked, each with its place and whether it was put.
+    Offers(&'static [(usize, Given, bool)]),
+    /// So many cargoes were offered since the last step that looked.
+    Counts(usize),
+    /// From here on so many cargoes wait in the first lane.
+    Fills(usize),
+    /// So many cargoes wait in the first lane.
+    Waits(usize),
+    /// The inputs that were handed to the core at the last item.
+    Hands(&'static [Handed]),
+    /// The query that the core took at the last item: its sender, its life and its destination.
+    Steps(Option<(Id, Life, Id)>),
+    /// The current life of the link at a place.
+    Lives(usize, Option<Life>),
+    /// The life at a place that is still to be cut.
+    Cuts(usize, Option<Life>),
+}
+
+/// The seat of node 1 between 2 and 3, and its lanes; none where memory is refused.
+pub fn made(rt: &impl Abort, alloc: Global, destinations: &[Id]) -> Option<(CoreSeat, TestLanes)> {
+    let core = core_of(rt, alloc, 1, &[2, 3], destinations).ok()?;
+    let seat = CoreSeat::new(alloc, core).ok()?;
+    Some((seat, TestLanes::new(alloc)))
+}
+
+/// Serves what a seat tells, and sees that nothing is to be said.
+fn serves(rt: &impl Abort, seat: &mut CoreSeat, lanes: &mut TestLanes, at: usize, told: Told) {
+    let what = match told {
+        Told::Up(life) => What::Up(life),
+        Told::Packet(life, d) => What::Packet(life, query_for(rt, d)),
+        Told::Beat => What::Beat,
+        Told::Need(d) => What::Need(d),
+    };
+    let item = Item {
+        seat: at,
+        number: 1,
+        now: 1,
+        what,
+    };
+    assert!(rt; seat.core().neighbours().len() == 2);
+    let answer = seat.serve(&item, lanes);
+    same_at(rt, &answer, &Answer::Nothing, "the answer", &item);
+}
+
+/// Sees that just these cargoes were offered.
+fn offers(rt: &impl Abort, lanes: &TestLanes, rows: &[(usize, Given, bool)]) {
+    same(rt, &lanes.offers.len(), &rows.len(), "how many cargoes");
+    for ((place, given, put), offered) in rows.iter().zip(lanes.offers.iter()) {
+        let cargo = match *given {
+            Given::Packet(life, d) => Cargo::Packet(life, query_for(rt, d)),
+            Given::Cut(life) => Cargo::Cut(life),
+        };
+        let wanted = Offered {
+            place: *place,
+            cargo,
+            put: *put,
+        };
+        same(rt, offered, &wanted, "the cargo");
+    }
+}
+
+/// Sees the inputs that were handed to the core at the last item.
+fn hands(rt: &impl Abort, seat: &CoreSeat, rows: &[Handed]) {
+    same(rt, &seat.inputs().len(), &rows.len(), "how many inputs");
+    for (handed, input) in rows.iter().zip(seat.inputs().iter()) {
+        let wanted = match *handed {
+            Handed::Up(k) => Input::LinkUp(k),
+            Handed::Down(k) => Input::LinkDown(k),
+            Handed::Need(d) => Input::Need(d),
+            Handed::Packet(k, d) => Input::Packet(k, query_for(rt, d)),
+        };
+        same(rt, input, &wanted, "the input");
+    }
+}
+
+/// Sees the packet that the core took at the last item.
+fn steps(rt: &impl Abort, seat: &CoreSeat, row: Option<(Id, Life, Id)>) {
+    let wanted = match row {
+        None => None,
+        Some((from, life, d)) => Some(Stepped {
+            from,
+            life,
+            packet: query_for(rt, d),
+        }),
+    };
+    same(rt, &seat.stepped(), &wanted, "what was stepped");
+}
+
+/// A seat does what a step says.
+fn does(rt: &impl Abort, seat: &mut CoreSeat, lanes: &mut TestLanes, row: &Step) {
+    match *row {
+        Step::Serves(at, told) => serves(rt, seat, lanes, at, told),
+        Step::Offers(rows) => {
+            offers(rt, lanes, rows);
+            lanes.offers.clear();
+        }
+        Step::Counts(count) => {
+            same_at(rt, &lanes.offers.len(), &count, "how many cargoes", row);
+            lanes.offers.clear();
+        }
+        Step::Fills(count) => lanes.first = count,
+        Step::Waits(count) => same_at(rt, &lanes.first, &count, "how many wait", row),
+        Step::Hands(rows) => hands(rt, seat, rows),
+        Step::Steps(stepped) => steps(rt, seat, stepped),
+        Step::Lives(at, life) => same_at(rt, &seat.current(at), &life, "the life", row),
+        Step::Cuts(at, life) => same_at(rt, &seat.pending(at), &life, "the life to cut", row),
+    }
+}
+
+/// A seat does what the steps of a table say, one after the other.
+pub fn runs(rt: &impl Abort, seat: &mut CoreSeat, lanes: &mut TestLanes, rows: &[Step]) {
+    for row in rows {
+        does(rt, seat, lanes, row);
+    }
+}

@@ -1,0 +1,154 @@
+//! Runs of a simulated world as tables of steps, and what takes them.
+use super::super::made::{Parts, entry_of};
+use super::super::sees::same_at;
+use super::topologies::topology_of;
+use std::alloc::Global;
+use std::process::Abort;
+use tora_arq::Life;
+use tora_height::Id;
+use tora_packet::{Packet, Update};
+use tora_sim::{Event, Sim, SimError};
+
+/// A step of a run: what happens, or what is read of the world then.
+#[derive(Clone, Copy, Debug)]
+pub enum Step {
+    /// An event happens.
+    Does(Event),
+    /// An event is not possible.
+    Cannot(Event),
+    /// The frame that is due from the first node to the second is sent and delivered.
+    HandsOver(Id, Id),
+    /// The core of a node is told what its link end to the second node has to tell.
+    Tells(Id, Id),
+    /// Whether an event may be possible, by the place of its node or end.
+    MayHappen(usize, Event, bool),
+    /// The clock.
+    Clock(u64),
+    /// How many datagrams were sent.
+    Datagrams(u64),
+    /// The sender and the receiver of a datagram, if there is one.
+    Datagram(u64, Option<(Id, Id)>),
+    /// The height of a node for a destination, if there are both, and the next hop.
+    Route(Id, Id, Option<Option<Parts>>, Option<Id>),
+    /// The heights, for 2, of the updates that the first node sent the second in a life, as the first writes it.
+    Sent(Id, Id, Life, &'static [Parts]),
+    /// The heights, for 2, of the updates that the first node took of the second in a life, as the first writes it.
+    Taken(Id, Id, Life, &'static [Parts]),
+    /// Whether the entries for a destination are exact.
+    Exact(Id, bool),
+    /// The walk of a node to a destination, if there is one.
+    Walk(Id, Id, Option<&'static [Id]>),
+    /// There is no such node, or no such destination.
+    NoNode(Id, Id),
+    /// Whether the world is at rest.
+    Rests(bool),
+}
+
+/// The simulator of a topology at its start.
+pub fn first_world(rt: &impl Abort, alloc: Global, links: &[(Id, Id)], destinations: &[Id]) -> Sim {
+    let topology = topology_of(rt, alloc, links, destinations);
+    Sim::new(alloc, &topology).expect(rt, "a simulator")
+}
+
+/// An event happens, which is possible.
+fn happens(rt: &impl Abort, sim: &mut Sim, event: Event, row: &Step) {
+    same_at(rt, &sim.step(&event), &Ok(()), "the answer", row);
+}
+
+/// Sees that packets are the updates of these heights for 2.
+fn are_updates(rt: &impl Abort, packets: &[Packet], heights: &[Parts], row: &Step) {
+    same_at(rt, &packets.len(), &heights.len(), "how many packets", row);
+    for (packet, parts) in packets.iter().zip(heights.iter()) {
+        let height = entry_of(rt, Some(*parts)).expect(rt, "a height");
+        let update = Update::new(2, height).expect(rt, "an update");
+        same_at(rt, packet, &Packet::Upd(update), "the packet", row);
+    }
+}
+
+/// Sees the walk of a node to a destination.
+fn walks(
+    rt: &impl Abort,
+    alloc: Global,
+    sim: &Sim,
+    n: Id,
+    d: Id,
+    nodes: Option<&[Id]>,
+    row: &Step,
+) {
+    let walk = sim.walk(alloc, n, d).expect(rt, "an answer");
+    match walk {
+        Some(walk) => same_at(rt, &Some(walk.as_slice()), &nodes, "the walk", row),
+        None => same_at(rt, &None, &nodes, "the walk", row),
+    }
+}
+
+/// What a step reads of the world is so.
+fn reads(rt: &impl Abort, alloc: Global, sim: &Sim, row: &Step) {
+    match *row {
+        Step::MayHappen(place, event, may) => {
+            same_at(
+                rt,
+                &sim.may_happen(place, &event),
+                &may,
+                "whether it may happen",
+                row,
+            );
+        }
+        Step::Clock(clock) => same_at(rt, &sim.clock(), &clock, "the clock", row),
+        Step::Datagrams(count) => same_at(rt, &sim.datagrams(), &count, "how many", row),
+        Step::Datagram(i, way) => same_at(rt, &sim.datagram(i), &way, "the datagram", row),
+        Step::Route(n, d, known, hop) => {
+            let height = known.map(|parts| entry_of(rt, parts));
+            same_at(rt, &sim.height(n, d), &height, "the height", row);
+            same_at(rt, &sim.next_hop(n, d), &hop, "the next hop", row);
+        }
+        Step::Sent(a, b, life, heights) => {
+            let sent = sim.sent(alloc, a, b, life).expect(rt, "memory");
+            are_updates(rt, sent.as_slice(), heights, row);
+            let count = sim.sent_count(a, b, life);
+            same_at(rt, &count, &heights.len(), "how many are sent", row);
+        }
+        Step::Taken(b, a, life, heights) => {
+            let taken = sim.taken(alloc, b, a, life).expect(rt, "memory");
+            are_updates(rt, taken.as_slice(), heights, row);
+            let count = sim.taken_count(b, a, life);
+            same_at(rt, &count, &heights.len(), "how many are taken", row);
+        }
+        Step::Exact(d, is_exact) => same_at(rt, &sim.exact(d), &is_exact, "exact entries", row),
+        Step::Walk(n, d, nodes) => walks(rt, alloc, sim, n, d, nodes, row),
+        Step::NoNode(n, d) => {
+            let error = sim.walk(alloc, n, d).err();
+            same_at(rt, &error, &Some(SimError::NoNode), "the error", row);
+        }
+        Step::Rests(rests) => same_at(rt, &sim.is_at_rest(), &rests, "at rest", row),
+        _ => {}
+    }
+}
+
+/// The world does what a step says.
+fn does(rt: &impl Abort, alloc: Global, sim: &mut Sim, row: &Step) {
+    match *row {
+        Step::Does(event) => happens(rt, sim, event, row),
+        Step::Cannot(event) => {
+            let refusal = Err(SimError::NotPossible);
+            same_at(rt, &sim.step(&event), &refusal, "the answer", row);
+        }
+        Step::HandsOver(a, b) => {
+            happens(rt, sim, Event::Transmit(a, b), row);
+            let last = sim.datagrams();
+            happens(rt, sim, Event::Deliver(last), row);
+        }
+        Step::Tells(n, k) => {
+            happens(rt, sim, Event::Pump(n, k), row);
+            happens(rt, sim, Event::CoreTurn(n), row);
+        }
+        _ => reads(rt, alloc, sim, row),
+    }
+}
+
+/// The world does what the steps of a table say, one after the other.
+pub fn runs(rt: &impl Abort, alloc: Global, sim: &mut Sim, rows: &[Step]) {
+    for row in rows {
+        does(rt, alloc, sim, row);
+    }
+}

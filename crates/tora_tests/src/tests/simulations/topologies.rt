@@ -1,0 +1,228 @@
+//! Topologies that are made and refused, as tables.
+ghost use Rattle.std.specs.Prelude.{◌≡◌, ◌<◌, true};
+ghost use Rattle.std.specs.List.{All};
+ghost use Rattle.tora_world.specs.Topology.{Link};
+ghost use Rattle.tora_sim.specs.Topologies.{links_in};
+
+use super::super::made::Numbers::{Counted, These};
+use super::super::made::{Numbers, are_numbers, list_of};
+use super::super::sees::{same, same_at};
+use std::alloc::{AllocError, Global};
+use std::process::Abort;
+use tora_core::CoreError;
+use tora_core::CoreError::{OwnId, Repeated, TooMany};
+use tora_height::Id;
+use tora_sim::{SimError, Topology, topology_fault};
+
+/// Whether no number in links is 0.
+fn are_links(links: &[(Id, Id)]) -> bool
+    ensures { result ≡ true → All (λ (link : Link). (0 < link.a) × (0 < link.b)) (links_in links.now) }
+{
+    for link in links {
+        if link.0 == 0 || link.1 == 0 {
+            return false;
+        }
+    }
+    true
+}
+
+/// A topology of numbers that are not 0.
+pub fn made(
+    rt: &impl Abort,
+    alloc: Global,
+    links: &[(Id, Id)],
+    destinations: &[Id],
+) -> Result<Topology, CoreError> {
+    let links_are = are_links(links);
+    let numbers_are = are_numbers(destinations);
+    assert!(rt; links_are && numbers_are);
+    Topology::new(alloc, links, destinations)
+}
+
+/// Links: these, those from each of so many nodes to the next, those from node 1 to so many others with these behind them,
+/// or the same so often.
+#[derive(Clone, Copy)]
+enum Links {
+    Listed(&'static [(Id, Id)]),
+    Chain(u32),
+    Star(u32, &'static [(Id, Id)]),
+    Often(u32, (Id, Id)),
+}
+
+/// The list of links.
+fn links_of(alloc: Global, links: Links) -> Result<Vec<(Id, Id)>, AllocError> {
+    let mut list = Vec::new(alloc);
+    match links {
+        Links::Listed(links) => return Vec::from_slice(alloc, links),
+        Links::Chain(nodes) => {
+            for n in 1..nodes {
+                list.push((n, n + 1))?;
+            }
+        }
+        Links::Star(others, more) => {
+            for n in 0..others {
+                list.push((n.saturating_add(2), 1))?;
+            }
+            for link in more {
+                list.push(*link)?;
+            }
+        }
+        Links::Often(count, link) => {
+            for _ in 0..count {
+                list.push(link)?;
+            }
+        }
+    }
+    Ok(list)
+}
+
+/// Sees that a topology is refused for this cause, or is made.
+pub fn refused(
+    rt: &impl Abort,
+    alloc: Global,
+    links: &[(Id, Id)],
+    destinations: &[Id],
+    cause: Option<CoreError>,
+    row: usize,
+) {
+    let fault = topology_fault(links, destinations);
+    same_at(rt, &fault, &cause, "the fault", &row);
+    let error = made(rt, alloc, links, destinations).err();
+    same_at(rt, &error, &cause, "the error", &row);
+}
+
+/// The links and the destinations of a topology, and the cause for which it is refused, if any.
+type Row = (Links, Numbers, Option<CoreError>);
+
+/// Sees of each row that it is refused for its cause, or is made.
+fn refuses(rt: &impl Abort, alloc: Global, rows: &[Row]) {
+    for (i, (links, destinations, cause)) in rows.iter().enumerate() {
+        let links = links_of(alloc, *links).expect(rt, "memory");
+        let destinations = list_of(alloc, *destinations).expect(rt, "memory");
+        refused(rt, alloc, &links, &destinations, *cause, i);
+    }
+}
+
+/// As many nodes, links of a node and destinations as there may be, and one more of each.
+const LIMITS: &[Row] = &[
+    (Links::Chain(64), These(&[1]), None),
+    (Links::Chain(65), These(&[1]), Some(TooMany)),
+    (Links::Star(32, &[]), These(&[1]), None),
+    (Links::Star(33, &[]), These(&[1]), Some(TooMany)),
+    (Links::Listed(&[(1, 2)]), Counted(1, 64), None),
+    (Links::Listed(&[(1, 2)]), Counted(1, 65), Some(TooMany)),
+];
+
+#[test]
+fn too_many_are_refused(rt: HostRuntime) {
+    refuses(&rt, rt.alloc(), LIMITS);
+}
+
+/// Links and destinations that are named twice, and a link of a node to itself.
+const REPEATS: &[Row] = &[
+    (
+        Links::Listed(&[(1, 2), (2, 3), (1, 2)]),
+        These(&[1]),
+        Some(Repeated),
+    ),
+    (
+        Links::Listed(&[(1, 2), (2, 3), (2, 1)]),
+        These(&[1]),
+        Some(Repeated),
+    ),
+    (
+        Links::Listed(&[(1, 2), (2, 3)]),
+        These(&[3, 1, 3]),
+        Some(Repeated),
+    ),
+    (Links::Listed(&[(1, 2), (2, 2)]), These(&[1]), Some(OwnId)),
+];
+
+#[test]
+fn repeats_and_own_links_are_refused(rt: HostRuntime) {
+    refuses(&rt, rt.alloc(), REPEATS);
+}
+
+/// Topologies with more than one cause.
+const CAUSES: &[Row] = &[
+    (
+        Links::Star(33, &[(1, 1), (1, 1)]),
+        These(&[1, 1]),
+        Some(TooMany),
+    ),
+    (
+        Links::Listed(&[(1, 1), (1, 1)]),
+        These(&[1]),
+        Some(Repeated),
+    ),
+    (
+        Links::Listed(&[(1, 1), (1, 2)]),
+        These(&[1, 1]),
+        Some(Repeated),
+    ),
+];
+
+#[test]
+fn first_cause_is_told(rt: HostRuntime) {
+    refuses(&rt, rt.alloc(), CAUSES);
+}
+
+/// One link, 20000 times.
+const LONG: &[Row] = &[(Links::Often(20000, (1, 2)), These(&[1]), Some(Repeated))];
+
+#[test]
+fn long_list_is_refused_soon(rt: HostRuntime) {
+    refuses(&rt, rt.alloc(), LONG);
+}
+
+/// Sees the lists of a topology.
+pub fn keeps(rt: &impl Abort, topology: &Topology, links: &[(Id, Id)], destinations: &[Id]) {
+    same(rt, &topology.links(), &links, "the links");
+    same(
+        rt,
+        &topology.destinations(),
+        &destinations,
+        "the destinations",
+    );
+}
+
+/// A topology that is made.
+pub fn topology_of(
+    rt: &impl Abort,
+    alloc: Global,
+    links: &[(Id, Id)],
+    destinations: &[Id],
+) -> Topology {
+    made(rt, alloc, links, destinations).expect(rt, "a topology")
+}
+
+#[test]
+fn topology_keeps_its_lists(rt: HostRuntime) {
+    let topology = topology_of(&rt, rt.alloc(), &[(3, 2), (1, 2)], &[3, 1]);
+    keeps(&rt, &topology, &[(3, 2), (1, 2)], &[3, 1]);
+    let empty = topology_of(&rt, rt.alloc(), &[], &[]);
+    same(&rt, &empty.links().len(), &0, "no links");
+}
+
+/// Makes nodes of a topology speak version 1 alone, one after the other; sees each answer, and the old nodes behind it.
+pub fn ages(rt: &impl Abort, topology: &mut Topology, rows: &[(Id, Result<(), SimError>, &[Id])]) {
+    for (n, answer, olds) in rows {
+        same_at(rt, &topology.set_old(*n), answer, "the answer for node", n);
+        same_at(rt, &topology.olds(), olds, "the old nodes behind", n);
+    }
+}
+
+/// Node 4 is none; nodes 3 and 1 become old, and 3 once more.
+const OLD_NODES: &[(Id, Result<(), SimError>, &[Id])] = &[
+    (4, Err(SimError::NoNode), &[]),
+    (3, Ok(()), &[3]),
+    (1, Ok(()), &[3, 1]),
+    (3, Ok(()), &[3, 1]),
+];
+
+#[test]
+fn old_nodes_are_kept(rt: HostRuntime) {
+    let mut topology = topology_of(&rt, rt.alloc(), &[(3, 2), (1, 2)], &[3]);
+    same(&rt, &topology.olds().len(), &0, "no old nodes");
+    ages(&rt, &mut topology, OLD_NODES);
+}
