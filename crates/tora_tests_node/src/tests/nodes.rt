@@ -1,165 +1,27 @@
 //! Nodes of several threads, in one process.
-ghost use Rattle.std.specs.Prelude.{All, ◌<◌, ◌≤◌};
+ghost use Rattle.std.specs.Prelude.{All, ◌<◌};
 
-use super::neighbours::total;
+use super::neighbours::{pair, total};
 use super::sees::{as_many, same, same_at, sees, sees_at, there};
+use byte_disk::ByteDisk;
 use std::alloc::Global;
 use std::io::{Read, Write};
 use std::net::Net;
 use std::process::Abort;
 use std::sync::Wait;
 use std::sync::atomic::{AtomicU64, Ordering};
-use std::test::Fail;
 use std::thread::Threads;
 use std::time::Duration;
-use std::{io, thread, time};
+use std::{thread, time};
+use streams::{Asking, Course, Meeting, Page, Screen, Waiting};
 use tora_core::CoreError;
 use tora_height::Id;
-use tora_life::{Disk, DiskError, LifeError};
-use tora_neighbour::{MemWire, NodeError, UdpWire, UnixClock, Wire, WireError};
+use tora_life::LifeError;
+use tora_neighbour::{MemWire, NodeError, UdpWire, UnixClock, Wire};
 use tora_node::*;
 
-/// The line of a core that has found its route.
-const FOUND: &[u8] = b"to 4 height (0,0,0,1,3) flag 0 hop 4";
-
-/// A disk of 64 bytes that never fails, and tells contracts no bytes.
-#[derive(Drop)]
-struct ByteDisk {
-    bytes: [u8; 80],
-    length: usize,
-    ghost within: { length ≤ 80 },
-}
-
-impl ByteDisk {
-    /// A disk with so many bytes of zero.
-    fn of_zeros(length: usize) -> ByteDisk
-        requires { length ≤ 80 }
-    {
-        ByteDisk {
-            bytes: [0; 80],
-            length,
-        }
-    }
-
-    /// A disk with two slots of zeros and this tag.
-    fn of_tag(tag: &[u8; 32]) -> ByteDisk {
-        let mut bytes = [0; 80];
-        bytes[32..64].copy_from_slice(tag);
-        ByteDisk { bytes, length: 64 }
-    }
-}
-
-impl Disk for ByteDisk {
-    ghost use Rattle.std.specs.Prelude.{[], false};
-    ghost use Rattle.std.proofs.Common.{rules};
-
-    ghost tells = { λ d. false };
-
-    ghost seen = { λ d. [] };
-
-    ghost may_leave = { λ d c. ⊥ };
-
-    ghost moment = { λ d. 0 };
-
-    ghost left_since = { λ d t c. ⊥ };
-
-    ghost failures = { λ d. 0 };
-
-    ghost reads = { λ d at buf answer bytes new. Unit {0} };
-
-    ghost writes = { λ d at bytes answer new. Unit {0} };
-
-    ghost syncs = { λ d answer new. Unit {0} };
-
-    ghost seen_may_stay = { Prim.search rules };
-
-    ghost counts_now = { λ d t c le now. now };
-
-    ghost only_now = { λ d c left. left };
-
-    fn read(&mut self, at: usize, buf: &mut [u8]) -> Result<usize, DiskError> {
-        let there = &self.bytes[..self.length];
-        let Some(rest) = there.get(at..) else {
-            return Ok(0);
-        };
-        let count = rest.len().min(buf.len());
-        buf[..count].copy_from_slice(&rest[..count]);
-        Ok(count)
-    }
-
-    fn write_at(&mut self, at: usize, bytes: &[u8]) -> Result<(), DiskError> {
-        if at > 80 || bytes.len() > 80 - at {
-            return Ok(());
-        }
-        let end = at + bytes.len();
-        self.bytes[at..end].copy_from_slice(bytes);
-        if end > self.length {
-            self.length = end;
-        }
-        Ok(())
-    }
-
-    fn sync(&mut self) -> Result<(), DiskError> {
-        Ok(())
-    }
-}
-
-/// What the two nodes of a test tell each other of their course.
-#[derive(Drop)]
-struct Course {
-    /// 1 once something was printed.
-    printed: AtomicU64,
-    /// 1 once the route was printed.
-    found: AtomicU64,
-}
-
-/// Where a node prints: it looks for the route.
-#[derive(Drop)]
-struct Screen<'a> {
-    course: &'a Course,
-}
-
-impl Write for Screen<'_> {
-    fn write(&mut self, buf: &[u8]) -> io::Result<usize> {
-        if buf.windows(FOUND.len()).any(|part| part == FOUND) {
-            self.course.found.store(1, Ordering::SeqCst);
-        }
-        self.course.printed.store(1, Ordering::SeqCst);
-        Ok(buf.len())
-    }
-
-    fn flush(&mut self) -> io::Result<()> {
-        Ok(())
-    }
-}
-
-/// Commands: one at first, and then `show` every 100 ms until the route is found, a hundred times at most.
-#[derive(Drop)]
-struct Asking<'a, R> {
-    rt: &'a R,
-    first: &'a [u8],
-    course: &'a Course,
-    asked: u64,
-}
-
-impl<R: time::Clock> Read for Asking<'_, R> {
-    fn read(&mut self, buf: &mut [u8]) -> io::Result<usize> {
-        let text: &[u8] = if self.asked == 0 {
-            self.first
-        } else if self.asked <= 100 && self.course.found.load(Ordering::SeqCst) == 0 {
-            thread::sleep(self.rt, Duration::from_millis(100));
-            b"show\n"
-        } else {
-            return Ok(0);
-        };
-        self.asked = self.asked.saturating_add(1);
-        let count = text.len().min(buf.len());
-        for (to, from) in buf.iter_mut().zip(text) {
-            *to = *from;
-        }
-        Ok(count)
-    }
-}
+mod byte_disk;
+mod streams;
 
 /// The configuration of a node with the destination 4.
 fn config_of(rt: &impl Abort, alloc: Global, me: u32, peers: &[u32]) -> Config
@@ -228,25 +90,6 @@ fn run_one<R: Threads + Wait + Sync + Net + time::Clock + log::Log + Abort>(
     run_over(rt, alloc, config, wires, disks, &mut commands, &mut screen).is_ok()
 }
 
-/// Two wires to each other, on two ports of the loopback that are free.
-fn pair<R: Net>(rt: &R) -> Option<(UdpWire, UdpWire)> {
-    for port in 44_400..44_900u16 {
-        let Ok(first) = UdpWire::bind(rt, port, port + 500) else {
-            continue;
-        };
-        let Ok(second) = UdpWire::bind(rt, port + 500, port) else {
-            continue;
-        };
-        return Some((first, second));
-    }
-    None
-}
-
-/// Sees what stands in a place that threads share.
-fn stands_at(rt: &impl Abort, place: &AtomicU64, wanted: u64, what: &str) {
-    same(rt, &place.load(Ordering::SeqCst), &wanted, what);
-}
-
 /// Waits until the other node has printed, 10 s at most.
 fn wait_for_print<R: time::Clock>(rt: &R, course: &Course) {
     for _ in 0..100 {
@@ -258,9 +101,9 @@ fn wait_for_print<R: time::Clock>(rt: &R, course: &Course) {
 }
 
 #[test]
-fn two_nodes_on_the_loopback(rt: HostRuntime) -> Result<(), Fail> {
+fn two_nodes_on_the_loopback(rt: HostRuntime) {
     let alloc = rt.alloc();
-    let (third, fourth) = there(&rt, pair(&rt), "a pair of free ports");
+    let (third, fourth) = there(&rt, pair(&rt, 44_400), "a pair of free ports");
     let course = Course {
         printed: AtomicU64::new(0),
         found: AtomicU64::new(0),
@@ -275,100 +118,51 @@ fn two_nodes_on_the_loopback(rt: HostRuntime) -> Result<(), Fail> {
         },
     );
     sees(&rt, three && four, "both nodes end well");
-    stands_at(&rt, &course.found, 1, "the route is found");
-    Ok(())
+    let found = course.found.load(Ordering::SeqCst);
+    same(&rt, &found, &1, "the route is found");
 }
 
-/// A wire on which nothing comes, that looks in its first `receive` whether another wire is in its own.
-#[derive(Drop)]
-struct Meeting<'a, R> {
-    rt: &'a R,
-    own: &'a AtomicU64,
-    other: &'a AtomicU64,
-    met: &'a AtomicU64,
-}
-
-impl<R: time::Clock> Wire for Meeting<'_, R> {
-    ghost use Rattle.std.specs.Prelude.{false, []};
-
-    ghost tells = { λ w. false };
-
-    ghost coming = { λ w. [] };
-
-    ghost tries = { λ w. [] };
-
-    ghost failures = { λ w. 0 };
-
-    ghost did_send = { λ w bytes answer after. Unit {0} };
-
-    ghost did_receive = { λ w answer buffer after. Unit {0} };
-
-    fn send(&mut self, _bytes: &[u8]) -> Result<(), WireError> {
-        Ok(())
+/// Runs node 1 with these neighbours, one or two, over wires that look for each other; the life file of the first is on this
+/// disk. Answers the fault, 1 where the first wire was asked for a datagram, and how many wires have met the other.
+fn run_meeting<R: Threads + Wait + Sync + time::Clock + log::Log + Abort>(
+    rt: &R,
+    alloc: Global,
+    peers: &[u32],
+    disk: ByteDisk,
+) -> (Option<NodeError>, u64, u64)
+    requires peers { All (λ n. 0 < n) peers.now }
+{
+    let (first, second, met) = (AtomicU64::new(0), AtomicU64::new(0), AtomicU64::new(0));
+    let config = config_of(rt, alloc, 1, peers);
+    let wire = Meeting {
+        rt,
+        own: &first,
+        other: &second,
+        met: &met,
+    };
+    let mut wires = list_of(rt, alloc, wire);
+    let mut disks = list_of(rt, alloc, disk);
+    if peers.len() > 1 {
+        let wire = Meeting {
+            rt,
+            own: &second,
+            other: &first,
+            met: &met,
+        };
+        let is_whole = wires.push(wire).is_ok() && disks.push(ByteDisk::of_zeros(0)).is_ok();
+        sees(rt, is_whole, "memory for a second link");
     }
-
-    fn receive(&mut self, _buf: &mut [u8]) -> Result<Option<usize>, WireError> {
-        if self.own.swap(1, Ordering::SeqCst) == 0 {
-            for _ in 0..10_000 {
-                if self.other.load(Ordering::SeqCst) == 1 {
-                    self.met.fetch_add(1, Ordering::SeqCst);
-                    break;
-                }
-                thread::sleep(self.rt, Duration::from_millis(1));
-            }
-        }
-        Ok(None)
-    }
-}
-
-/// Commands that end once both neighbours have met, after ten seconds at the latest.
-#[derive(Drop)]
-struct Waiting<'a, R> {
-    rt: &'a R,
-    met: &'a AtomicU64,
-}
-
-impl<R: time::Clock> Read for Waiting<'_, R> {
-    fn read(&mut self, _buf: &mut [u8]) -> io::Result<usize> {
-        for _ in 0..100 {
-            if self.met.load(Ordering::SeqCst) == 2 {
-                break;
-            }
-            thread::sleep(self.rt, Duration::from_millis(100));
-        }
-        Ok(0)
-    }
+    let mut commands = Waiting { rt, met: &met };
+    let mut screen = Vec::new(alloc);
+    let ended = run_over(rt, alloc, config, wires, disks, &mut commands, &mut screen);
+    let received = first.load(Ordering::SeqCst);
+    (ended.err(), received, met.load(Ordering::SeqCst))
 }
 
 #[test]
-fn neighbours_at_once(rt: HostRuntime) -> Result<(), Fail> {
-    let alloc = rt.alloc();
-    let (first, second, met) = (AtomicU64::new(0), AtomicU64::new(0), AtomicU64::new(0));
-    let config = config_of(&rt, alloc, 1, &[2, 3]);
-    let mut wires = list_of(
-        &rt,
-        alloc,
-        Meeting {
-            rt: &rt,
-            own: &first,
-            other: &second,
-            met: &met,
-        },
-    );
-    wires.push(Meeting {
-        rt: &rt,
-        own: &second,
-        other: &first,
-        met: &met,
-    })?;
-    let mut disks = list_of(&rt, alloc, ByteDisk::of_zeros(0));
-    disks.push(ByteDisk::of_zeros(0))?;
-    let mut commands = Waiting { rt: &rt, met: &met };
-    let mut screen = Vec::new(alloc);
-    let ended = run_over(&rt, alloc, config, wires, disks, &mut commands, &mut screen);
-    sees(&rt, ended.is_ok(), "the node ends well");
-    stands_at(&rt, &met, 2, "both neighbours have met");
-    Ok(())
+fn neighbours_at_once(rt: HostRuntime) {
+    let ended = run_meeting(&rt, rt.alloc(), &[2, 3], ByteDisk::of_zeros(0));
+    same(&rt, &ended, &(None, 1, 2), "both neighbours have met");
 }
 
 /// The tag of node 1 and peer 2.
@@ -377,79 +171,59 @@ const TAG: [u8; 32] = [
     0xb3, 0xb6, 0xb9, 0xcd, 0xff, 0xff, 0xff, 0xfe, 0xff, 0xff, 0xff, 0xfd,
 ];
 
-/// Runs node 1 with the one neighbour 3 over this life file, and answers the fault. No thread is started.
-fn fault_of<'a, R: Threads + Wait + Sync + time::Clock + log::Log + Abort>(
-    rt: &'a R,
-    alloc: Global,
-    first: &'a AtomicU64,
-    second: &'a AtomicU64,
-    met: &'a AtomicU64,
-    disk: ByteDisk,
-) -> Option<NodeError> {
-    let config = config_of(rt, alloc, 1, &[3]);
-    let wire = Meeting {
-        rt,
-        own: first,
-        other: second,
-        met,
-    };
-    let wires = list_of(rt, alloc, wire);
-    let disks = list_of(rt, alloc, disk);
-    let mut commands = Waiting { rt, met };
-    let mut screen = Vec::new(alloc);
-    let ended = run_over(rt, alloc, config, wires, disks, &mut commands, &mut screen);
-    stands_at(rt, first, 0, "nothing was received");
-    ended.err()
-}
-
-/// Sees the fault of a run over this life file.
+/// Sees the fault of a run over this life file of the one neighbour 3. No thread is started.
 fn fault_is<R: Threads + Wait + Sync + time::Clock + log::Log + Abort>(
     rt: &R,
     alloc: Global,
     disk: ByteDisk,
     wanted: LifeError,
 ) {
-    let (first, second, met) = (AtomicU64::new(0), AtomicU64::new(0), AtomicU64::new(0));
-    let fault = fault_of(rt, alloc, &first, &second, &met, disk);
-    same(rt, &fault, &Some(NodeError::Life(3, wanted)), "the fault");
+    let ended = run_meeting(rt, alloc, &[3], disk);
+    let wanted = (Some(NodeError::Life(3, wanted)), 0, 0);
+    same(rt, &ended, &wanted, "the fault, and nothing was received");
 }
 
 #[test]
-fn a_damaged_life_file_starts_no_thread(rt: HostRuntime) -> Result<(), Fail> {
+fn a_damaged_life_file_starts_no_thread(rt: HostRuntime) {
     fault_is(&rt, rt.alloc(), ByteDisk::of_zeros(65), LifeError::Damaged);
-    Ok(())
 }
 
 #[test]
-fn a_life_file_of_another_link_starts_no_thread(rt: HostRuntime) -> Result<(), Fail> {
+fn a_life_file_of_another_link_starts_no_thread(rt: HostRuntime) {
     fault_is(&rt, rt.alloc(), ByteDisk::of_tag(&TAG), LifeError::Foreign);
-    Ok(())
 }
 
-/// Sees the command that a line is.
-fn is_command(rt: &impl Abort, line: &[u8], wanted: Command) {
-    same_at(rt, &command_of(line), &wanted, "the command", &line);
+/// Lines, and the commands that they are.
+const LINES: &[(&[u8], Command)] = &[
+    (b"show", Command::Show),
+    (b"quit", Command::Quit),
+    (b"need 4", Command::Need(4)),
+    (b"need 4294967295", Command::Need(4_294_967_295)),
+    (b"", Command::Unknown),
+    (b"need", Command::Unknown),
+    (b"need ", Command::Unknown),
+    (b"need 0", Command::Unknown),
+    (b"need 04", Command::Unknown),
+    (b"need +4", Command::Unknown),
+    (b"need 4 ", Command::Unknown),
+    (b"need  4", Command::Unknown),
+    (b"need 4294967296", Command::Unknown),
+    (b"need 99999999999", Command::Unknown),
+    (b"Show", Command::Unknown),
+    (b"show ", Command::Unknown),
+    (b"quit\r", Command::Unknown),
+];
+
+/// Sees the command that each line is.
+fn each_is_command(rt: &impl Abort, rows: &[(&[u8], Command)]) {
+    for (line, wanted) in rows {
+        same_at(rt, &command_of(line), wanted, "the command", line);
+    }
 }
 
 #[test]
 fn lines_that_are_commands(rt: HostRuntime) {
-    is_command(&rt, b"show", Command::Show);
-    is_command(&rt, b"quit", Command::Quit);
-    is_command(&rt, b"need 4", Command::Need(4));
-    is_command(&rt, b"need 4294967295", Command::Need(4_294_967_295));
-    is_command(&rt, b"", Command::Unknown);
-    is_command(&rt, b"need", Command::Unknown);
-    is_command(&rt, b"need ", Command::Unknown);
-    is_command(&rt, b"need 0", Command::Unknown);
-    is_command(&rt, b"need 04", Command::Unknown);
-    is_command(&rt, b"need +4", Command::Unknown);
-    is_command(&rt, b"need 4 ", Command::Unknown);
-    is_command(&rt, b"need  4", Command::Unknown);
-    is_command(&rt, b"need 4294967296", Command::Unknown);
-    is_command(&rt, b"need 99999999999", Command::Unknown);
-    is_command(&rt, b"Show", Command::Unknown);
-    is_command(&rt, b"show ", Command::Unknown);
-    is_command(&rt, b"quit\r", Command::Unknown);
+    each_is_command(&rt, LINES);
 }
 
 /// Sees that the neighbours are 2 and 3.
@@ -458,33 +232,10 @@ fn peers_are(rt: &impl Abort, peers: &[u32]) {
 }
 
 #[test]
-fn documented_configuration(rt: HostRuntime) -> Result<(), Fail> {
+fn documented_configuration(rt: HostRuntime) {
     let config = config_of(&rt, rt.alloc(), 1, &[3, 2]);
     peers_are(&rt, config.peers());
-    is_command(&rt, b"need 4", Command::Need(4));
-    Ok(())
-}
-
-/// Where a node prints: 256 bytes at most.
-#[derive(Drop)]
-struct Page {
-    bytes: [u8; 256],
-    length: usize,
-    ghost within: { length ≤ 256 },
-}
-
-impl Write for Page {
-    fn write(&mut self, buf: &[u8]) -> io::Result<usize> {
-        let room = &mut self.bytes[self.length..];
-        let count = room.len().min(buf.len());
-        room[..count].copy_from_slice(&buf[..count]);
-        self.length += count;
-        Ok(count)
-    }
-
-    fn flush(&mut self) -> io::Result<()> {
-        Ok(())
-    }
+    each_is_command(&rt, &[(b"need 4", Command::Need(4))]);
 }
 
 #[test]
@@ -499,7 +250,7 @@ fn want_of_memory_refuses_a_configuration(rt: HostRuntime) {
 }
 
 /// Runs node 1 between nodes 2 and 3 over wires on which nothing comes, with these commands.
-fn run_in_memory<R: Threads + Wait + Sync + time::Clock + log::Log>(
+fn run_in_memory<R: Threads + Wait + Sync + time::Clock + log::Log + Abort>(
     rt: &R,
     alloc: Global,
     commands: &[u8],
@@ -516,13 +267,8 @@ fn run_in_memory<R: Threads + Wait + Sync + time::Clock + log::Log>(
             return Err(NodeError::Memory);
         }
     }
-    let links = config.peers().len();
-    if wires.len() != links || disks.len() != links {
-        return Err(NodeError::Lane);
-    }
-    let clock = UnixClock::new(rt);
     let mut reader = commands;
-    run_node(rt, alloc, config, wires, disks, &clock, &mut reader, page)
+    run_over(rt, alloc, config, wires, disks, &mut reader, page)
 }
 
 /// The node has a link to this peer, of which nothing was counted; or it has none.

@@ -1,12 +1,60 @@
-//! What the tests of the configuration read, and see of it.
-use super::super::sees::{ends, same, same_at, same_text};
+//! What the texts of a table are read as: the rows of the tests of the configuration, and the one function that goes over them.
+use super::super::sees::{same, same_at, same_text, sees_at};
 use std::alloc::Global;
 use std::process::Abort;
 use tora_config::*;
 use tora_core::CoreError;
 
+/// What a text is to be read as.
+pub enum Wanted {
+    /// A configuration.
+    Accepted,
+    /// The worked configuration.
+    Worked,
+    /// A configuration with links to these peers, in this order.
+    Peers(&'static [u32]),
+    /// No TOML.
+    NoToml,
+    /// More links or destinations than a core may have.
+    TooMany,
+    /// No configuration: it has this unknown key.
+    UnknownKey(&'static str),
+    /// No configuration: the value at this place is refused for this reason.
+    Refused(Place, Reason),
+    /// No configuration, which is said in these words.
+    Says(&'static str),
+}
+
+/// Sees what the text of each row is read as, which is made of these parts.
+pub fn each_is_read(rt: &impl Abort, alloc: Global, rows: &[(&[&str], Wanted)]) {
+    for (parts, wanted) in rows {
+        let text = joined(rt, alloc, parts);
+        match read(alloc, text.as_str()) {
+            Ok(config) => is_accepted(rt, &config, wanted, text.as_str()),
+            Err(error) => is_refused(rt, alloc, &error, wanted, text.as_str()),
+        }
+    }
+}
+
+/// Sees the same of texts that may be refused for want of memory, too.
+pub fn each_is_read_or_wants_memory(rt: &impl Abort, alloc: Global, rows: &[(&str, Wanted)]) {
+    for (text, wanted) in rows {
+        match read(alloc, text) {
+            Ok(config) => is_accepted(rt, &config, wanted, text),
+            Err(ConfigError::Memory) => {}
+            Err(error) => is_refused(rt, alloc, &error, wanted, text),
+        }
+    }
+}
+
+/// Sees the text of a fault.
+pub fn says(rt: &impl Abort, alloc: Global, fault: &ConfigError, wanted: &str, what: &str) {
+    let text = format!(in alloc; "{fault}").expect(rt, "memory");
+    same_text(rt, text.as_str(), wanted, what);
+}
+
 /// The text of these parts.
-pub fn joined(rt: &impl Abort, alloc: Global, parts: &[&str]) -> String {
+fn joined(rt: &impl Abort, alloc: Global, parts: &[&str]) -> String {
     let mut text = String::new(alloc);
     for part in parts {
         text.push_str(part).expect(rt, "memory");
@@ -14,146 +62,72 @@ pub fn joined(rt: &impl Abort, alloc: Global, parts: &[&str]) -> String {
     text
 }
 
-/// The configuration that a text spells.
-pub fn config_of(rt: &impl Abort, alloc: Global, text: &str) -> NodeConfig {
-    match read_config(alloc, text) {
-        Ok(config) => config,
-        Err(error) => panic!(rt; "{error}: {text}"),
+/// What a text is read as; nothing is known of it.
+fn read(alloc: Global, text: &str) -> Result<NodeConfig, ConfigError> {
+    read_config(alloc, text)
+}
+
+/// Sees that a text was to be accepted, as this configuration.
+fn is_accepted(rt: &impl Abort, config: &NodeConfig, wanted: &Wanted, text: &str) {
+    match wanted {
+        Wanted::Accepted => {}
+        Wanted::Worked => is_worked(rt, config),
+        Wanted::Peers(peers) => peers_are(rt, config, peers),
+        _ => panic!(rt; "it is accepted: {text}"),
     }
 }
 
-/// Why a text spells none.
-pub fn fault_of(rt: &impl Abort, alloc: Global, text: &str) -> ConfigError {
-    match read_config(alloc, text) {
-        Ok(_) => panic!(rt; "it is accepted: {text}"),
-        Err(error) => error,
+/// Sees that a text was to be refused, for this fault.
+fn is_refused(rt: &impl Abort, alloc: Global, fault: &ConfigError, wanted: &Wanted, text: &str) {
+    let is_so = match wanted {
+        Wanted::NoToml => matches!(fault, ConfigError::Syntax(_)),
+        Wanted::TooMany => matches!(fault, ConfigError::Core(CoreError::TooMany)),
+        Wanted::UnknownKey(key) => has_unknown_key(fault, key),
+        Wanted::Refused(place, reason) => is_at(fault, *place, *reason),
+        Wanted::Says(words) => {
+            says(rt, alloc, fault, words, text);
+            true
+        }
+        _ => false,
+    };
+    sees_at(rt, is_so, "the fault", &(fault, text));
+}
+
+/// The fault is an unknown key of this name.
+fn has_unknown_key(fault: &ConfigError, wanted: &str) -> bool {
+    match fault {
+        ConfigError::UnknownKey(key) => key.as_str() == wanted,
+        _ => false,
     }
 }
 
-/// The key that a text is refused for, and the reason.
-pub fn value_of(rt: &impl Abort, alloc: Global, text: &str) -> (Place, Reason) {
-    match fault_of(rt, alloc, text) {
-        ConfigError::Value(place, reason) => (place, reason),
-        other => panic!(rt; "{text}: {other:?}"),
-    }
-}
-
-pub fn is_refused(rt: &impl Abort, alloc: Global, parts: &[&str], place: Place, reason: Reason) {
-    let text = joined(rt, alloc, parts);
-    let wanted = (place, reason);
-    same_at(
-        rt,
-        &value_of(rt, alloc, text.as_str()),
-        &wanted,
-        "the fault",
-        &text.as_str(),
-    );
-}
-
-/// Sees the fault of each row, whose text stands behind these lines.
-pub fn each_is_refused(
-    rt: &impl Abort,
-    alloc: Global,
-    before: &str,
-    rows: &[(&str, Place, Reason)],
-) {
-    for (text, place, reason) in rows {
-        is_refused(rt, alloc, &[before, *text], *place, *reason);
-    }
-}
-
-/// The text of a fault.
-pub fn text_of(rt: &impl Abort, alloc: Global, fault: &ConfigError) -> String {
-    format!(in alloc; "{fault}").expect(rt, "memory")
-}
-
-/// Sees the text of a fault.
-pub fn says(rt: &impl Abort, alloc: Global, fault: &ConfigError, wanted: &str) {
-    same_text(
-        rt,
-        text_of(rt, alloc, fault).as_str(),
-        wanted,
-        "the text of a fault",
-    );
-}
-
-/// Sees the text of why it is refused.
-pub fn why_is(rt: &impl Abort, alloc: Global, parts: &[&str], wanted: &str) {
-    let text = joined(rt, alloc, parts);
-    let fault = fault_of(rt, alloc, text.as_str());
-    same_text(
-        rt,
-        text_of(rt, alloc, &fault).as_str(),
-        wanted,
-        text.as_str(),
-    );
-}
-
-/// Sees why each text of a table is refused.
-pub fn each_says(rt: &impl Abort, alloc: Global, rows: &[(&str, &str)]) {
-    for (text, words) in rows {
-        why_is(rt, alloc, &[*text], words);
-    }
-}
-
-/// Sees that the text is no TOML.
-pub fn is_no_toml(rt: &impl Abort, alloc: Global, parts: &[&str]) {
-    match fault_of(rt, alloc, joined(rt, alloc, parts).as_str()) {
-        ConfigError::Syntax(_) => {}
-        other => panic!(rt; "{other:?}"),
+/// The fault is of the value at this place, for this reason.
+fn is_at(fault: &ConfigError, wanted: Place, why: Reason) -> bool {
+    match fault {
+        ConfigError::Value(place, reason) => *place == wanted && *reason == why,
+        _ => false,
     }
 }
 
 /// Sees that it is the worked configuration.
-pub fn is_worked(rt: &impl Abort, config: &NodeConfig) {
+fn is_worked(rt: &impl Abort, config: &NodeConfig) {
     same(rt, &config.node, &1, "the node");
-    same(
-        rt,
-        &config.dests.as_slice(),
-        &[4].as_slice(),
-        "the destinations",
-    );
+    let dests = config.dests.as_slice();
+    same(rt, &dests, &[4].as_slice(), "the destinations");
     same_text(rt, config.life_dir.as_str(), "n1", "the folder");
     let link = LinkConfig {
         peer: 2,
         local: 4012,
         remote: 4021,
     };
-    same(
-        rt,
-        &config.links.as_slice(),
-        &[link].as_slice(),
-        "the links",
-    );
+    let links = config.links.as_slice();
+    same(rt, &links, &[link].as_slice(), "the links");
 }
 
-/// The lines of the link to this peer.
-pub fn link_to(rt: &impl Abort, alloc: Global, n: u32) -> String {
-    format!(in alloc; "[[link]]\npeer = {n}\nlocal = {n}\nremote = 1\n").expect(rt, "memory")
-}
-
-/// The text with a link to each of the peers 2 to 33.
-pub fn with_links(rt: &impl Abort, alloc: Global, text: &str) -> String {
-    let mut links = joined(rt, alloc, &[text]);
-    for n in 2..34u32 {
-        let link = link_to(rt, alloc, n);
-        links.push_str(link.as_str()).expect(rt, "memory");
-    }
-    links
-}
-
-/// Sees that the text has too many links or destinations for a core.
-pub fn has_too_many(rt: &impl Abort, alloc: Global, text: &str) {
-    match fault_of(rt, alloc, text) {
-        ConfigError::Core(CoreError::TooMany) => {}
-        other => panic!(rt; "{other:?}"),
-    }
-}
-
-/// Sees the peer of the link at this place.
-pub fn peer_is(rt: &impl Abort, config: &NodeConfig, at: usize, wanted: u32) {
-    match config.links.get(at) {
-        Some(link) => same_at(rt, &link.peer, &wanted, "the peer", &at),
-        None => ends(rt, "no link stands there"),
+/// Sees the peers of the links.
+fn peers_are(rt: &impl Abort, config: &NodeConfig, wanted: &[u32]) {
+    same(rt, &config.links.len(), &wanted.len(), "how many links");
+    for (at, (link, peer)) in config.links.iter().zip(wanted).enumerate() {
+        same_at(rt, &link.peer, peer, "the peer of a link", &at);
     }
 }

@@ -1,6 +1,6 @@
 //! Life files in a real folder.
-use super::super::sees::{same, same_bytes, sees};
-use super::refused;
+use super::super::sees::{same, same_at, sees};
+use super::steps::refused;
 use std::fs::{self, File, Files};
 use std::io::ErrorKind;
 use std::process::Abort;
@@ -62,69 +62,51 @@ fn drawn_numbers_rise_in_a_real_folder(rt: HostRuntime) -> Result<(), Fail> {
     Ok(())
 }
 
-// Sees what a read answers.
-fn reads(
-    rt: &impl Abort,
-    disk: &mut FileDisk,
-    at: usize,
-    buf: &mut [u8],
-    wanted: Result<usize, DiskError>,
-    what: &str,
-) {
-    same(rt, &disk.read(at, buf), &wanted, what);
+/// A call of a disk, and what it answers.
+enum Call {
+    /// A read at this place into six bytes, which then hold this.
+    Reads(usize, Result<usize, DiskError>, [u8; 6]),
+    /// A write at this place.
+    Writes(usize, &'static [u8], Result<(), DiskError>),
+    /// A sync, which passes.
+    Syncs,
 }
 
-// Sees what a write answers.
-fn writes(
-    rt: &impl Abort,
-    disk: &mut FileDisk,
-    at: usize,
-    bytes: &[u8],
-    wanted: Result<(), DiskError>,
-    what: &str,
-) {
-    same(rt, &disk.write_at(at, bytes), &wanted, what);
-}
+/// The calls of a new file, of which 65 bytes are written in the end. The bytes of a read go on into the next.
+const PLACES: &[Call] = &[
+    Call::Reads(0, Ok(0), [1; 6]),
+    Call::Writes(0, b"abcd", Ok(())),
+    Call::Writes(2, b"efg", Ok(())),
+    Call::Syncs,
+    Call::Reads(1, Ok(4), *b"befg\x01\x01"),
+    Call::Reads(9, Ok(0), *b"befg\x01\x01"),
+    Call::Reads(usize::MAX, Err(DiskError), *b"befg\x01\x01"),
+    Call::Writes(usize::MAX, b"h", Err(DiskError)),
+    Call::Writes(5, &[0; 60], Ok(())),
+];
 
-// Sees that a sync passes.
-fn syncs(rt: &impl Abort, disk: &mut FileDisk) {
-    same(rt, &disk.sync(), &Ok(()), "a sync");
-}
-
-// Goes over a new file, of which 65 bytes are written in the end.
-fn use_places(rt: &impl Abort, disk: &mut FileDisk) {
+/// Makes each call of a row.
+fn each_answers(rt: &impl Abort, disk: &mut FileDisk, calls: &[Call]) {
     let mut bytes = [1; 6];
-    reads(rt, disk, 0, &mut bytes, Ok(0), "a read of the new file");
-    writes(rt, disk, 0, b"abcd", Ok(()), "the first write");
-    writes(rt, disk, 2, b"efg", Ok(()), "a write over its end");
-    syncs(rt, disk);
-    reads(rt, disk, 1, &mut bytes, Ok(4), "a read to the end");
-    same_bytes(rt, &bytes, b"befg\x01\x01", "the bytes that were read");
-    reads(rt, disk, 9, &mut bytes, Ok(0), "a read behind the end");
-    reads(
-        rt,
-        disk,
-        usize::MAX,
-        &mut bytes,
-        Err(DiskError),
-        "a read too far",
-    );
-    writes(
-        rt,
-        disk,
-        usize::MAX,
-        b"h",
-        Err(DiskError),
-        "a write too far",
-    );
-    writes(rt, disk, 5, &[0; 60], Ok(()), "the last write");
+    for (at, call) in calls.iter().enumerate() {
+        match call {
+            Call::Reads(place, wanted, then) => {
+                same_at(rt, &disk.read(*place, &mut bytes), wanted, "a read", &at);
+                same_at(rt, &bytes, then, "the bytes that were read", &at);
+            }
+            Call::Writes(place, bytes, wanted) => {
+                same_at(rt, &disk.write_at(*place, bytes), wanted, "a write", &at);
+            }
+            Call::Syncs => same_at(rt, &disk.sync(), &Ok(()), "a sync", &at),
+        }
+    }
 }
 
 #[test]
 fn a_file_is_read_and_written_at_places(rt: HostRuntime) -> Result<(), Fail> {
     make_folder(&rt, OTHER_FOLDER)?;
     let mut disk = FileDisk::open(&rt, OTHER_PATH)?;
-    use_places(&rt, &mut disk);
+    each_answers(&rt, &mut disk, PLACES);
     let fault = refused(&rt, disk);
     same(&rt, &fault.error, &LifeError::Damaged, "65 bytes");
     let none = FileDisk::open(&rt, "tora_life_places_test/none/life-3");
@@ -149,7 +131,7 @@ fn a_life_file_is_locked_by_its_disk(rt: HostRuntime) -> Result<(), Fail> {
     sees(&rt, is_free(&rt)?, "free at first");
     let mut disk = FileDisk::open(&rt, LOCKED_PATH)?;
     sees(&rt, !is_free(&rt)?, "locked by its disk");
-    syncs(&rt, &mut disk);
+    each_answers(&rt, &mut disk, &[Call::Syncs]);
     sees(&rt, !is_free(&rt)?, "locked after a sync");
     drop(disk);
     sees(&rt, is_free(&rt)?, "free in the end");

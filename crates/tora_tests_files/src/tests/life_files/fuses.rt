@@ -1,40 +1,58 @@
 //! A disk whose calls fail on purpose.
 use super::super::sees::same_at;
-use super::{draws, fails, next_is, opened, refused};
+use super::steps::{draws, fails, opened, refused};
 use std::process::Abort;
-use std::test::Fail;
-use tora_life::{DiskCall, FuseDisk, FuseMode, LifeError, LifeFile, MemDisk};
+use tora_life::{DiskCall, FuseDisk, FuseMode, LifeError, MemDisk};
+
+/// How many calls of a new disk pass before all fail, and how many numbers are then drawn. `None` where the file isn't opened.
+const FUSED: &[(u64, Option<u64>)] = &[
+    (0, None),
+    (1, None),
+    (2, None),
+    (3, None),
+    (4, Some(0)),
+    (5, Some(0)),
+    (6, Some(16)),
+];
 
 fn fused(k: u64, mode: FuseMode) -> FuseDisk<MemDisk> {
     FuseDisk::new(MemDisk::new(), k, mode)
 }
 
-fn opened_with(rt: &impl Abort, k: u64) -> LifeFile<FuseDisk<MemDisk>> {
-    opened(rt, fused(k, FuseMode::Always))
+/// Sees that a disk whose calls fail from this one on gives no file.
+fn gives_none(rt: &impl Abort, k: u64) {
+    let fault = refused(rt, fused(k, FuseMode::Always));
+    same_at(rt, &fault.error, &LifeError::Disk, "the fault", &k);
+}
+
+/// Sees that a disk whose calls fail from this one on gives a file, of which so many numbers are drawn.
+fn gives_some(rt: &impl Abort, k: u64, count: u64) {
+    let mut file = opened(rt, fused(k, FuseMode::Always));
+    draws(rt, &mut file, 1, count.saturating_add(1), "a draw");
+    fails(rt, &mut file, k);
+}
+
+/// Sees what comes of the disk of each row.
+fn each_gives(rt: &impl Abort, rows: &[(u64, Option<u64>)]) {
+    for (k, drawn) in rows {
+        match drawn {
+            None => gives_none(rt, *k),
+            Some(count) => gives_some(rt, *k, *count),
+        }
+    }
 }
 
 #[test]
-fn fused_disk_fails_each_call(rt: HostRuntime) -> Result<(), Fail> {
-    for k in 0..4 {
-        let fault = refused(&rt, fused(k, FuseMode::Always));
-        same_at(&rt, &fault.error, &LifeError::Disk, "the fault", &k);
-    }
-    for k in 4..6 {
-        fails(&rt, &mut opened_with(&rt, k));
-    }
-    let mut file = opened_with(&rt, 6);
-    draws(&rt, &mut file, 1, 17);
-    fails(&rt, &mut file);
-    Ok(())
+fn fused_disk_fails_each_call(rt: HostRuntime) {
+    each_gives(&rt, FUSED);
 }
 
 // In mode Once the calls after the failed one pass, and one that the disk inside fails is handed on.
 #[test]
-fn one_call_fails(rt: HostRuntime) -> Result<(), Fail> {
+fn one_call_fails(rt: HostRuntime) {
     let fault = refused(&rt, fused(1, FuseMode::Once));
     let mut inner = fault.disk.into_inner();
     inner.arm(DiskCall::Read);
     let fault = refused(&rt, FuseDisk::new(inner, 9, FuseMode::Once));
-    next_is(&rt, &mut opened(&rt, fault.disk), Ok(1), "the first draw");
-    Ok(())
+    draws(&rt, &mut opened(&rt, fault.disk), 1, 2, "the first draw");
 }

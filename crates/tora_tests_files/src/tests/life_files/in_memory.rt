@@ -4,7 +4,7 @@ ghost use Rattle.tora_life.specs.Numbers.{numbers_after};
 ghost use Rattle.tora_life.specs.InMemory.{open_answer, open_state, draw_answer, draw_state};
 
 use super::super::sees::same;
-use super::{file_in, not_opened};
+use super::steps::{file_in, not_opened};
 use std::test::Fail;
 use tora_life::{LifeError, LifeFile, MemDisk, OpenFault};
 

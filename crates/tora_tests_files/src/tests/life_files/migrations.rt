@@ -1,13 +1,11 @@
 //! Files of version 1, half migrated ones and foreign ones, and a crash at each call of the disk.
-ghost use Rattle.std.specs.Prelude.{◌≡◌, ◌<◌, ◌≤◌, ◌≢◌};
+ghost use Rattle.std.specs.Prelude.{◌≡◌, ◌<◌, ◌≢◌};
 
 use super::super::sees::{ends, same, same_at, same_bytes, sees_at};
-use super::{
-    SLOT_OF_16, SLOT_OF_32, SLOT_OF_900, disk_of, draws, fault_in, first_draw, first_is, opened,
-    refused,
-};
+use super::steps::Step::{self, Draws, Holds};
+use super::steps::{disk_of, draws, each_goes, fault_in, first_draw, first_draws, opened, refused};
+use super::{SLOT_OF_16, SLOT_OF_32, SLOT_OF_900};
 use std::process::Abort;
-use std::test::Fail;
 use tora_life::{
     Disk, DiskCall, FuseDisk, FuseMode, LifeError, LifeFile, MemDisk, Owner, Tag, tag_bytes,
 };
@@ -17,29 +15,34 @@ const TAG_OF_1_AND_2: [u8; 32] = [
     0xb3, 0xb6, 0xb9, 0xcd, 0xff, 0xff, 0xff, 0xfe, 0xff, 0xff, 0xff, 0xfd,
 ];
 
-const SLOT_OF_48: [u8; 16] = [
-    0, 0, 0, 0, 0, 0, 0, 0x30, 0xff, 0xff, 0xff, 0xff, 0xff, 0xff, 0xff, 0xcf,
+/// The slots of 16 and 32, as version 1 left them.
+const TWO_SLOTS: [u8; 32] = [
+    0, 0, 0, 0, 0, 0, 0, 0x10, 0xff, 0xff, 0xff, 0xff, 0xff, 0xff, 0xff, 0xef, 0, 0, 0, 0, 0, 0, 0,
+    0x20, 0xff, 0xff, 0xff, 0xff, 0xff, 0xff, 0xff, 0xdf,
 ];
 
-// Two slots, and a tag.
-fn file_of(first: [u8; 16], second: [u8; 16], tag: [u8; 32]) -> [u8; 64] {
-    let mut file = [0; 64];
-    let (slots, back) = file.split_at_mut(32);
-    let (front, middle) = slots.split_at_mut(16);
-    front.copy_from_slice(&first);
-    middle.copy_from_slice(&second);
-    back.copy_from_slice(&tag);
+/// The slots of 48 and 32, as version 1 left them.
+const THIRD_WRITE: [u8; 32] = [
+    0, 0, 0, 0, 0, 0, 0, 0x30, 0xff, 0xff, 0xff, 0xff, 0xff, 0xff, 0xff, 0xcf, 0, 0, 0, 0, 0, 0, 0,
+    0x20, 0xff, 0xff, 0xff, 0xff, 0xff, 0xff, 0xff, 0xdf,
+];
+
+/// The slots of 16 and 32, and the tag of node 1 and peer 2.
+const TAGGED: [u8; 64] = [
+    0, 0, 0, 0, 0, 0, 0, 0x10, 0xff, 0xff, 0xff, 0xff, 0xff, 0xff, 0xff, 0xef, 0, 0, 0, 0, 0, 0, 0,
+    0x20, 0xff, 0xff, 0xff, 0xff, 0xff, 0xff, 0xff, 0xdf, 0x54, 0x4f, 0x52, 0x41, 0x4c, 0x49, 0x46,
+    0x32, 0, 0, 0, 1, 0, 0, 0, 2, 0xab, 0xb0, 0xad, 0xbe, 0xb3, 0xb6, 0xb9, 0xcd, 0xff, 0xff, 0xff,
+    0xfe, 0xff, 0xff, 0xff, 0xfd,
+];
+
+/// A file with the slots of 16 and 32, and this tag.
+fn file_of(tag: [u8; 32]) -> [u8; 64] {
+    let mut file = TAGGED;
+    file[32..].copy_from_slice(&tag);
     file
 }
 
-// The first bytes of a file.
-fn cut(file: &[u8; 64], length: usize) -> &[u8]
-    requires { length ≤ 64 }
-{
-    &file[..length]
-}
-
-// Sees why a file of these bytes is refused, and that it stays as it was.
+/// Sees why a file of these bytes is refused, and that it stays as it was.
 fn refusal_is(rt: &impl Abort, bytes: &[u8], owner: Owner, wanted: LifeError, what: &str)
     requires me { 0 < owner.node }
     requires peer { 0 < owner.peer }
@@ -51,55 +54,67 @@ fn refusal_is(rt: &impl Abort, bytes: &[u8], owner: Owner, wanted: LifeError, wh
     same(rt, &fault.error, &wanted, what);
 }
 
-// The owner with these numbers.
+/// The owner with these numbers.
 fn owner_of(node: u32, peer: u32) -> Owner
     ensures { result ≡ record { node = node; peer = peer } }
 {
     Owner { node, peer }
 }
 
+/// Sees what a tag is read as.
+fn reads_as(rt: &impl Abort, bytes: &[u8], wanted: Tag, what: &str, place: usize) {
+    same_at(rt, &Tag::read(bytes), &wanted, what, &place);
+}
+
+/// The file of these bytes after a crash while it was opened: all calls of the disk failed from this one on, and what was not
+/// synced is zeros.
+fn torn_while_opened(rt: &impl Abort, bytes: &[u8], k: u64) -> LifeFile<MemDisk> {
+    let fused = FuseDisk::new(disk_of(rt, bytes), k, FuseMode::Always);
+    let mut disk = refused(rt, fused).disk.into_inner();
+    disk.crash(Some([0; 16]));
+    opened(rt, disk)
+}
+
+const OF_ITS_OWNER: &[(&str, &[u8], Result<u64, LifeError>)] = &[(
+    "the file of the owner",
+    &TAGGED,
+    Ok(33),
+)];
+
+/// A file of version 1 after the draws 1 to 3.
+const MIGRATED: &[(&str, &[u8], &[Step])] = &[(
+    "the migrated file",
+    &SLOT_OF_16,
+    &[Draws(17, 18), Holds(&TAGGED)],
+)];
+
 #[test]
-fn life_file_is_tagged_and_migrated(rt: HostRuntime) -> Result<(), Fail> {
+fn life_file_is_tagged_and_migrated(rt: HostRuntime) {
     let owner = owner_of(1, 2);
     same_bytes(&rt, &tag_bytes(owner), &TAG_OF_1_AND_2, "the tag");
-    reads_as(&rt, &TAG_OF_1_AND_2, Tag::Of(owner), "the owner of the tag");
-    let tagged = file_of(SLOT_OF_16, SLOT_OF_32, TAG_OF_1_AND_2);
-    first_is(&rt, &tagged, Ok(33), "the file of the owner");
+    reads_as(&rt, &TAG_OF_1_AND_2, Tag::Of(owner), "the owner", 32);
+    first_draws(&rt, OF_ITS_OWNER);
     refusal_is(
         &rt,
-        &tagged,
+        &TAGGED,
         owner_of(1, 3),
         LifeError::Foreign,
         "another peer",
     );
     refusal_is(
         &rt,
-        &tagged,
+        &TAGGED,
         owner_of(2, 1),
         LifeError::Foreign,
         "another node",
     );
-
-    // A file of version 1 after the draws 1 to 3.
-    let mut file = opened(&rt, disk_of(&rt, &SLOT_OF_16));
-    draws(&rt, &mut file, 17, 18);
-    same_bytes(&rt, file.close().bytes(), &tagged, "the migrated file");
-
-    // A crash between the write of the migration and its sync, torn to zeros.
-    let fused = FuseDisk::new(disk_of(&rt, &SLOT_OF_16), 3, FuseMode::Always);
-    let mut disk = refused(&rt, fused).disk.into_inner();
-    disk.crash(Some([0; 16]));
-    let mut file = opened(&rt, disk);
-    draws(&rt, &mut file, 17, 18);
-    Ok(())
+    each_goes(&rt, MIGRATED);
+    // A crash between the write of the migration and its sync.
+    let mut file = torn_while_opened(&rt, &SLOT_OF_16, 3);
+    draws(&rt, &mut file, 17, 18, "the draw after the crash");
 }
 
-// Sees what a tag is read as.
-fn reads_as(rt: &impl Abort, bytes: &[u8], wanted: Tag, what: &str) {
-    same(rt, &Tag::read(bytes), &wanted, what);
-}
-
-// The tag with another byte at this place of it.
+/// The tag with another byte at this place of it.
 fn changed(place: usize) -> [u8; 32]
     requires { place < 32 }
 {
@@ -108,7 +123,7 @@ fn changed(place: usize) -> [u8; 32]
     tag
 }
 
-// The tag with another byte at this place of its first half, and at the same place of its second half.
+/// The tag with another byte at this place of its first half, and at the same place of its second half.
 fn changed_twice(place: usize) -> [u8; 32]
     requires { place < 16 }
 {
@@ -117,107 +132,96 @@ fn changed_twice(place: usize) -> [u8; 32]
     tag
 }
 
-// Sees why a file with this tag is refused.
-fn tag_is_refused(rt: &impl Abort, tag: [u8; 32], wanted: LifeError, what: &str) {
-    let file = file_of(SLOT_OF_16, SLOT_OF_32, tag);
-    refusal_is(rt, &file, owner_of(1, 2), wanted, what);
-}
-
-#[test]
-fn tags_are_read(rt: HostRuntime) -> Result<(), Fail> {
-    for length in 0..32 {
-        reads_as(
-            &rt,
-            &TAG_OF_1_AND_2[..length],
-            Tag::Absent,
-            "a part of the tag",
-        );
-    }
-    for place in 0..32 {
-        reads_as(
-            &rt,
-            &changed(place),
-            Tag::Absent,
-            "the tag with a changed byte",
-        );
-    }
-    // Complementary in each byte, with another beginning.
-    for place in 0..8 {
-        let tag = changed_twice(place);
-        reads_as(&rt, &tag, Tag::Strange, "the tag with another beginning");
-        tag_is_refused(
-            &rt,
-            tag,
+/// Sees why a file with the tag that is complementary in each byte, with another byte at this place, is refused: for its
+/// beginning, or for its numbers.
+fn tag_is_refused(rt: &impl Abort, place: usize)
+    requires { place < 16 }
+{
+    let tag = changed_twice(place);
+    let file = file_of(tag);
+    if place < 8 {
+        reads_as(rt, &tag, Tag::Strange, "another beginning", place);
+        refusal_is(
+            rt,
+            &file,
+            owner_of(1, 2),
             LifeError::Damaged,
-            "the file with another beginning",
+            "the beginning",
         );
+    } else {
+        refusal_is(rt, &file, owner_of(1, 2), LifeError::Foreign, "the numbers");
     }
-    // And with other numbers.
-    for place in 8..16 {
-        let tag = changed_twice(place);
-        tag_is_refused(&rt, tag, LifeError::Foreign, "the file with other numbers");
-    }
-    Ok(())
 }
 
-// What version 1 left after so many draws since the file was made (no byte, one slot, or two), and the next number.
 #[test]
-fn files_of_version_1_go_on_above_their_numbers(rt: HostRuntime) -> Result<(), Fail> {
-    let two = file_of(SLOT_OF_16, SLOT_OF_32, [0; 32]);
-    let three = file_of(SLOT_OF_48, SLOT_OF_32, [0; 32]);
-    first_is(&rt, &[], Ok(1), "no byte");
-    first_is(&rt, cut(&two, 16), Ok(17), "one slot");
-    first_is(&rt, cut(&two, 32), Ok(33), "two slots");
-    first_is(
-        &rt,
-        cut(&three, 32),
-        Ok(49),
-        "two slots after a third write",
-    );
-    let mut file = opened(&rt, disk_of(&rt, cut(&three, 32)));
-    draws(&rt, &mut file, 49, 90);
-    Ok(())
+fn tags_are_read(rt: HostRuntime) {
+    for place in 0..32 {
+        let part = &TAG_OF_1_AND_2[..place];
+        reads_as(&rt, part, Tag::Absent, "a part of the tag", place);
+        let other = changed(place);
+        reads_as(&rt, &other, Tag::Absent, "a changed byte", place);
+    }
+    for place in 0..16 {
+        tag_is_refused(&rt, place);
+    }
 }
 
-// Sees the first number of a file of version 1 of this length, which is opened twice.
-fn short_file_goes_on(rt: &impl Abort, bytes: &[u8], wanted: u64) {
+/// What version 1 left after so many draws since the file was made (no byte, one slot, or two), and the next number.
+const VERSION_1: &[(&str, &[u8], Result<u64, LifeError>)] = &[
+    ("no byte", &[], Ok(1)),
+    ("one slot", &SLOT_OF_16, Ok(17)),
+    ("two slots", &TWO_SLOTS, Ok(33)),
+    ("two slots after a third write", &THIRD_WRITE, Ok(49)),
+];
+
+const AFTER_A_THIRD_WRITE: &[(&str, &[u8], &[Step])] = &[(
+    "after a third write",
+    &THIRD_WRITE,
+    &[Draws(49, 90)],
+)];
+
+#[test]
+fn files_of_version_1_go_on_above_their_numbers(rt: HostRuntime) {
+    first_draws(&rt, VERSION_1);
+    each_goes(&rt, AFTER_A_THIRD_WRITE);
+}
+
+/// The tagged file with another byte in the second half of its tag.
+const HALF_TAGGED: [u8; 64] = [
+    0, 0, 0, 0, 0, 0, 0, 0x10, 0xff, 0xff, 0xff, 0xff, 0xff, 0xff, 0xff, 0xef, 0, 0, 0, 0, 0, 0, 0,
+    0x20, 0xff, 0xff, 0xff, 0xff, 0xff, 0xff, 0xff, 0xdf, 0x54, 0x4f, 0x52, 0x41, 0x4c, 0x49, 0x46,
+    0x32, 0, 0, 0, 1, 0, 0, 0, 2, 0, 0xb0, 0xad, 0xbe, 0xb3, 0xb6, 0xb9, 0xcd, 0xff, 0xff, 0xff,
+    0xfe, 0xff, 0xff, 0xff, 0xfd,
+];
+
+/// Sees the first number of the first bytes of a file, and the same where the file is closed and opened again.
+fn goes_on(rt: &impl Abort, bytes: &[u8], wanted: u64) {
+    let length = bytes.len();
+    let number = first_draw(rt, bytes);
+    same_at(rt, &number, &Ok(wanted), "the first number", &length);
     let file = opened(rt, disk_of(rt, bytes));
     let mut file = opened(rt, file.close());
-    same_at(
-        rt,
-        &file.draw(),
-        &Ok(wanted),
-        "the first number",
-        &bytes.len(),
-    );
+    same_at(rt, &file.draw(), &Ok(wanted), "once reopened", &length);
 }
 
-// A slot that is not wholly there counts as 0, as before, and one that is whole stays.
+// A slot that is not wholly there counts as 0, as before, and one that is whole stays. Any bytes behind the slots that are no
+// whole tag are written over.
 #[test]
-fn short_files_are_filled_up(rt: HostRuntime) -> Result<(), Fail> {
-    let two = file_of(SLOT_OF_16, SLOT_OF_32, [0; 32]);
-    for length in 0..33 {
-        let first = if length < 16 {
-            1
-        } else if length < 32 {
-            17
-        } else {
-            33
-        };
-        short_file_goes_on(&rt, cut(&two, length), first);
+fn short_files_are_filled_up(rt: HostRuntime) {
+    for length in 0..16 {
+        goes_on(&rt, &TWO_SLOTS[..length], 1);
     }
-    // Any bytes behind the slots that are no whole tag are written over.
-    let mut half = file_of(SLOT_OF_16, SLOT_OF_32, TAG_OF_1_AND_2);
-    half[48] = 0;
+    for length in 16..32 {
+        goes_on(&rt, &TWO_SLOTS[..length], 17);
+    }
+    goes_on(&rt, &TWO_SLOTS, 33);
     for length in 33..65 {
-        let number = first_draw(&rt, cut(&half, length));
-        same_at(&rt, &number, &Ok(33), "bytes that are no tag", &length);
+        goes_on(&rt, &HALF_TAGGED[..length], 33);
     }
-    Ok(())
 }
 
-// Opens the file of a disk and draws 40 numbers, as far as a call of the disk doesn't fail. Answers the disk, and the
-// greatest of the numbers drawn and of `drawn`.
+/// Opens the file of a disk and draws 40 numbers, as far as a call of the disk doesn't fail. Answers the disk, and the
+/// greatest of the numbers drawn and of `drawn`.
 fn run<D: Disk + Drop>(disk: D, drawn: u64) -> (D, u64) {
     let mut file = match LifeFile::open(disk, 1, 2) {
         Ok(file) => file,
@@ -233,7 +237,7 @@ fn run<D: Disk + Drop>(disk: D, drawn: u64) -> (D, u64) {
     (file.close(), greatest)
 }
 
-// The same, with a call armed before the file is opened (`stop` 0) or before a draw.
+/// The same, with a call armed before the file is opened (`stop` 0) or before a draw.
 fn run_armed(mut disk: MemDisk, stop: u64, call: DiskCall, drawn: u64) -> (MemDisk, u64) {
     if stop == 0 {
         disk.arm(call);
@@ -255,7 +259,13 @@ fn run_armed(mut disk: MemDisk, stop: u64, call: DiskCall, drawn: u64) -> (MemDi
     (file.close(), greatest)
 }
 
-// Opens the file again and draws. A call that is still armed may fail first.
+/// The same, where all calls fail from the call `stop` on. Answers the disk inside.
+fn run_fused(disk: MemDisk, stop: u64, drawn: u64) -> (MemDisk, u64) {
+    let (fused, greatest) = run(FuseDisk::new(disk, stop, FuseMode::Always), drawn);
+    (fused.into_inner(), greatest)
+}
+
+/// Opens the file again and draws. A call that is still armed may fail first.
 fn next_number(rt: &impl Abort, mut disk: MemDisk) -> u64 {
     for _ in 0..5 {
         match LifeFile::open(disk, 1, 2) {
@@ -269,106 +279,75 @@ fn next_number(rt: &impl Abort, mut disk: MemDisk) -> u64 {
     ends(rt, "no number is drawn")
 }
 
-// Crashes the disk, and answers the next number drawn. With `twice` this call of the disk fails while the file is opened
-// again, and then there is another crash.
-fn next_after_crash(
+/// The slots of 16 and 32, and eight zeros of a tag.
+const HALF_MIGRATED: [u8; 40] = [
+    0, 0, 0, 0, 0, 0, 0, 0x10, 0xff, 0xff, 0xff, 0xff, 0xff, 0xff, 0xff, 0xef, 0, 0, 0, 0, 0, 0, 0,
+    0x20, 0xff, 0xff, 0xff, 0xff, 0xff, 0xff, 0xff, 0xdf, 0, 0, 0, 0, 0, 0, 0, 0,
+];
+
+/// Each file that a crash may come over (new, of version 1, half migrated, or with its tag), and the greatest number that was
+/// drawn from it.
+const OLD: &[(&[u8], u64)] = &[
+    (&[], 0),
+    (&SLOT_OF_16, 16),
+    (&TWO_SLOTS, 32),
+    (&HALF_MIGRATED, 32),
+    (&TAGGED, 32),
+];
+
+/// What a crash leaves of what was not synced.
+const PATTERNS: &[Option<[u8; 16]>] = &[None, Some([0; 16]), Some(SLOT_OF_32), Some(SLOT_OF_900)];
+
+/// Sees that the next number is above those that were drawn, where the disk fails and then crashes: a call fails before the file
+/// is opened (0) or before the draw with this number, or with no call named all fail from the one with this number on. With
+/// `twice` this call of the disk fails while the file is opened again, and then there is another crash.
+fn goes_on_after(
     rt: &impl Abort,
-    mut disk: MemDisk,
+    (bytes, drawn): &(&[u8], u64),
+    (call, stop): (Option<DiskCall>, u64),
     torn: Option<[u8; 16]>,
     twice: Option<u64>,
-) -> u64 {
+) {
+    let disk = disk_of(rt, bytes);
+    let (mut disk, greatest) = match call {
+        Some(call) => run_armed(disk, stop, call, *drawn),
+        None => run_fused(disk, stop, *drawn),
+    };
     disk.crash(torn);
     if let Some(k) = twice {
-        let (fused, _) = run(FuseDisk::new(disk, k, FuseMode::Always), 0);
-        disk = fused.into_inner();
+        disk = run_fused(disk, k, 0).0;
         disk.crash(torn);
     }
-    next_number(rt, disk)
+    let is_above = next_number(rt, disk) > greatest;
+    let place = (bytes.len(), call, stop, torn, twice);
+    sees_at(rt, is_above, "above all before", &place);
 }
 
-// Each file that a crash may come over: new, of version 1, half migrated, or with its tag.
-fn old_disk(rt: &impl Abort, kind: u64) -> (MemDisk, u64) {
-    let half = file_of(SLOT_OF_16, SLOT_OF_32, [0; 32]);
-    match kind {
-        0 => (MemDisk::new(), 0),
-        1 => (disk_of(rt, &SLOT_OF_16), 16),
-        2 => (disk_of(rt, cut(&half, 32)), 32),
-        3 => (disk_of(rt, cut(&half, 40)), 32),
-        _ => (
-            disk_of(rt, &file_of(SLOT_OF_16, SLOT_OF_32, TAG_OF_1_AND_2)),
-            32,
-        ),
-    }
-}
-
-// Sees that the next number is above those that were drawn, where the disk fails from this call on and then crashes.
-fn goes_on_after_a_crash(
-    rt: &impl Abort,
-    kind: u64,
-    k: u64,
-    torn: Option<[u8; 16]>,
-    again: Option<u64>,
-) {
-    let (disk, drawn) = old_disk(rt, kind);
-    let (fused, greatest) = run(FuseDisk::new(disk, k, FuseMode::Always), drawn);
-    let next = next_after_crash(rt, fused.into_inner(), torn, again);
-    sees_at(
-        rt,
-        next > greatest,
-        "above all before",
-        &(kind, k, torn, again),
-    );
-}
-
-#[test]
-fn each_crash(rt: HostRuntime) -> Result<(), Fail> {
-    let patterns = [None, Some([0; 16]), Some(SLOT_OF_32), Some(SLOT_OF_900)];
-    let twice = [None, Some(0), Some(1), Some(2), Some(3)];
-    for kind in 0..5 {
-        for torn in patterns {
+/// Sees this for each old file, each pattern, and each call of the second opening.
+fn each_goes_on_after(rt: &impl Abort, fault: (Option<DiskCall>, u64), twice: &[Option<u64>]) {
+    for old in OLD {
+        for torn in PATTERNS {
             for again in twice {
-                for k in 0..12 {
-                    goes_on_after_a_crash(&rt, kind, k, torn, again);
-                }
+                goes_on_after(rt, old, fault, *torn, *again);
             }
         }
     }
-    Ok(())
 }
 
-// The same where one call fails, before the file is opened (`stop` 0) or before a draw.
-fn goes_on_after_a_call(
-    rt: &impl Abort,
-    (kind, call, stop): (u64, DiskCall, u64),
-    torn: Option<[u8; 16]>,
-    again: Option<u64>,
-) {
-    let (disk, drawn) = old_disk(rt, kind);
-    let (disk, greatest) = run_armed(disk, stop, call, drawn);
-    let next = next_after_crash(rt, disk, torn, again);
-    sees_at(
-        rt,
-        next > greatest,
-        "above all before",
-        &(kind, stop, torn, again),
-    );
+#[test]
+fn each_crash(rt: HostRuntime) {
+    for k in 0..12 {
+        let twice = &[None, Some(0), Some(1), Some(2), Some(3)];
+        each_goes_on_after(&rt, (None, k), twice);
+    }
 }
 
 // A write that fails may have done a part of its work.
 #[test]
-fn each_failed_call_and_crash(rt: HostRuntime) -> Result<(), Fail> {
-    let patterns = [None, Some([0; 16]), Some(SLOT_OF_32), Some(SLOT_OF_900)];
-    let twice = [None, Some(1), Some(3)];
-    for kind in 0..5 {
-        for call in [DiskCall::Read, DiskCall::Write, DiskCall::Sync] {
-            for torn in patterns {
-                for again in twice {
-                    for stop in 0..42 {
-                        goes_on_after_a_call(&rt, (kind, call, stop), torn, again);
-                    }
-                }
-            }
+fn each_failed_call_and_crash(rt: HostRuntime) {
+    for call in [DiskCall::Read, DiskCall::Write, DiskCall::Sync] {
+        for stop in 0..42 {
+            each_goes_on_after(&rt, (Some(call), stop), &[None, Some(1), Some(3)]);
         }
     }
-    Ok(())
 }

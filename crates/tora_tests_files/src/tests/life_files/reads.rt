@@ -1,9 +1,9 @@
 //! A reader that gives one byte a call, is interrupted, and then fails.
 ghost use Rattle.std.specs.Prelude.{◌≡◌};
 
-use super::super::sees::{same, same_bytes, sees};
+use super::super::sees::{ends, same_at, same_bytes, sees_at};
 use std::io::{self, ErrorKind};
-use std::test::Fail;
+use std::process::Abort;
 use tora_life::{ReadFrom, read_whole};
 
 /// Five bytes, of which each call gives one. Each second call is interrupted, and all fail from one on.
@@ -45,24 +45,34 @@ fn five_bytes(fails_from: u64) -> Dripping {
     }
 }
 
-// How many bytes are read from this place on, by a reader that fails from this call on. `None` where it fails.
-fn read_five(fails_from: u64, at: usize, buf: &mut [u8]) -> Option<usize> {
-    read_whole(&mut five_bytes(fails_from), at, buf).ok()
+/// A read of five bytes: from which call on the reader fails, from which place on and into how many bytes it reads, and how many
+/// come, with what then stands in seven bytes that were 9. `None` where the read fails.
+const READS: &[(u64, usize, usize, Option<(usize, &[u8])>)] = &[
+    (100, 1, 7, Some((4, &[2, 3, 4, 5, 9, 9, 9]))),
+    (100, 0, 3, Some((3, &[1, 2, 3, 9, 9, 9, 9]))),
+    (100, 5, 3, Some((0, &[9, 9, 9, 9, 9, 9, 9]))),
+    (4, 0, 3, None),
+];
+
+/// Sees what each read gives.
+fn each_reads(rt: &impl Abort, rows: &[(u64, usize, usize, Option<(usize, &[u8])>)]) {
+    for (at, (fails_from, place, size, wanted)) in rows.iter().enumerate() {
+        let mut buffer = [9u8; 7];
+        let Some(part) = buffer.get_mut(..*size) else {
+            ends(rt, "seven bytes at most are read")
+        };
+        let read = read_whole(&mut five_bytes(*fails_from), *place, part);
+        match wanted {
+            Some((count, bytes)) => {
+                same_at(rt, &read.ok(), &Some(*count), "how many bytes", &at);
+                same_bytes(rt, &buffer, bytes, "the bytes");
+            }
+            None => sees_at(rt, read.is_err(), "a failure is told", &at),
+        }
+    }
 }
 
 #[test]
-fn short_and_interrupted_reads_are_gone_on_with(rt: HostRuntime) -> Result<(), Fail> {
-    let mut long = [9u8; 7];
-    same(&rt, &read_five(100, 1, &mut long), &Some(4), "a long read");
-    same_bytes(&rt, &long, &[2, 3, 4, 5, 9, 9, 9], "its bytes");
-    let mut short = [9u8; 3];
-    same(&rt, &read_five(100, 0, &mut short), &Some(3), "a short one");
-    same_bytes(&rt, &short, &[1, 2, 3], "the three bytes");
-    same(&rt, &read_five(100, 5, &mut short), &Some(0), "at the end");
-    sees(
-        &rt,
-        read_five(4, 0, &mut short).is_none(),
-        "a failure is told",
-    );
-    Ok(())
+fn short_and_interrupted_reads_are_gone_on_with(rt: HostRuntime) {
+    each_reads(&rt, READS);
 }

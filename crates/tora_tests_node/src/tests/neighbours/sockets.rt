@@ -2,23 +2,8 @@
 ghost use Rattle.std.specs.Prelude.{◌≢◌, ◌<◌};
 
 use super::*;
-use std::net::Net;
 use std::thread;
 use std::thread::Threads;
-
-// Two wires to each other, on two ports of the loopback that are free.
-fn pair<R: Net>(rt: &R) -> Option<(UdpWire, UdpWire)> {
-    for port in 42_400..42_900u16 {
-        let Ok(first) = UdpWire::bind(rt, port, port + 500) else {
-            continue;
-        };
-        let Ok(second) = UdpWire::bind(rt, port + 500, port) else {
-            continue;
-        };
-        return Some((first, second));
-    }
-    None
-}
 
 // Sees what a receive answers.
 fn receives(
@@ -33,7 +18,7 @@ fn receives(
 
 #[test]
 fn datagrams_go_over_the_loopback(rt: HostRuntime) -> Result<(), Fail> {
-    let (mut first, mut second) = there(&rt, pair(&rt), "a pair of free ports");
+    let (mut first, mut second) = there(&rt, pair(&rt, 42_400), "a pair of free ports");
     let mut buffer = [0u8; 4];
     receives(&rt, &mut second, &mut buffer, Ok(None), "nothing at first");
     same(&rt, &first.send(&[]), &Ok(()), "a send of no byte");
@@ -110,7 +95,7 @@ fn run_both<R: Threads + Wait + Abort + Sync>(
 // Both draw 1 from an empty file.
 #[test]
 fn two_threads_bind_a_life_over_the_loopback(rt: HostRuntime) -> Result<(), Fail> {
-    let (first, second) = there(&rt, pair(&rt), "a pair of free ports");
+    let (first, second) = there(&rt, pair(&rt, 42_400), "a pair of free ports");
     let lives = run_both(&rt, rt.alloc(), first, second);
     let life = Some(Life { own: 1, peer: 1 });
     same(&rt, &lives, &(life, life), "the lives of both");

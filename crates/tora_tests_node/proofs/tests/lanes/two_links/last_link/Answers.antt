@@ -3,7 +3,7 @@ use Rattle.tora_lane.specs.Out.{SendEnd, ReceiveEnd}
 use Rattle.tora_lane.specs.Ports.{InEnd}
 use Rattle.tora_lane.specs.NodeLanes.{AreLinks}
 use Rattle.tora_lane.proofs.Links.{last_link}
-use Rattle.tora_tests_node.proofs.tests.lanes.last_link.Goals as goal
+use Rattle.tora_tests_node.proofs.tests.lanes.two_links.last_link.Goals as goal
 
 pub returns-clause-others : goal.returns-clause-others
 returns-clause-others g c =

@@ -1,0 +1,135 @@
+//! The steps of a test over a life file of node 1 and peer 2, and the functions that go them.
+use super::super::sees::{ends, same_at, same_bytes};
+use std::process::Abort;
+use tora_life::{Disk, DiskCall, LifeError, LifeFile, MemDisk, OpenFault};
+
+/// A step of a test over a file on a disk in memory.
+pub enum Step {
+    /// Draws the numbers from this one on, up to before that one.
+    Draws(u64, u64),
+    /// A draw fails for this reason.
+    Fails(LifeError),
+    /// The disk's next call of this kind is to fail.
+    Arms(DiskCall),
+    /// The file is closed and opened again.
+    Reopens,
+    /// The file is closed, its disk crashes and leaves this, and the file is opened again.
+    Crashes(Option<[u8; 16]>),
+    /// The file is closed, holds these bytes, and is opened again.
+    Holds(&'static [u8]),
+}
+
+/// Goes the steps of each row, over a file of these bytes.
+pub fn each_goes(rt: &impl Abort, rows: &[(&str, &[u8], &[Step])]) {
+    for (row, bytes, steps) in rows {
+        let mut file = opened(rt, disk_of(rt, bytes));
+        for (at, step) in steps.iter().enumerate() {
+            file = goes(rt, file, step, row, at);
+        }
+    }
+}
+
+/// Goes one step, and answers the file behind it.
+fn goes(
+    rt: &impl Abort,
+    file: LifeFile<MemDisk>,
+    step: &Step,
+    row: &str,
+    at: usize,
+) -> LifeFile<MemDisk> {
+    let mut file = file;
+    match step {
+        Step::Draws(from, to) => draws(rt, &mut file, *from, *to, row),
+        Step::Fails(error) => same_at(rt, &file.draw(), &Err(*error), row, &at),
+        Step::Arms(call) => file.arm(*call),
+        Step::Reopens => return opened(rt, file.close()),
+        Step::Crashes(torn) => {
+            let mut disk = file.close();
+            disk.crash(*torn);
+            return opened(rt, disk);
+        }
+        Step::Holds(bytes) => {
+            let disk = file.close();
+            same_bytes(rt, disk.bytes(), bytes, row);
+            return opened(rt, disk);
+        }
+    }
+    file
+}
+
+/// Draws the numbers from this one on, up to before that one.
+pub fn draws<D: Disk + Drop>(
+    rt: &impl Abort,
+    file: &mut LifeFile<D>,
+    from: u64,
+    to: u64,
+    what: &str,
+) {
+    for n in from..to {
+        same_at(rt, &file.draw(), &Ok(n), what, &n);
+    }
+}
+
+/// Sees that the next draw fails at the disk, and the one after it for that reason.
+pub fn fails<D: Disk + Drop>(rt: &impl Abort, file: &mut LifeFile<D>, k: u64) {
+    for error in [LifeError::Disk, LifeError::Failed] {
+        same_at(rt, &file.draw(), &Err(error), "a draw that fails", &k);
+    }
+}
+
+/// The disk with a file of these bytes.
+pub fn disk_of(rt: &impl Abort, bytes: &[u8]) -> MemDisk {
+    MemDisk::of(bytes).expect(rt, "80 bytes at most")
+}
+
+/// Ends the test: a file is not opened.
+pub fn not_opened(rt: &impl Abort, error: LifeError) -> ! {
+    panic!(rt; "not opened: {error:?}")
+}
+
+/// What an opening answers: the file, where it is opened.
+pub fn file_in<D: Disk + Drop>(
+    rt: &impl Abort,
+    answer: Result<LifeFile<D>, OpenFault<D>>,
+) -> LifeFile<D> {
+    match answer {
+        Ok(file) => file,
+        Err(fault) => not_opened(rt, fault.error),
+    }
+}
+
+/// What an opening answers: the fault, where the file is not opened.
+pub fn fault_in<D: Disk + Drop>(
+    rt: &impl Abort,
+    answer: Result<LifeFile<D>, OpenFault<D>>,
+) -> OpenFault<D> {
+    match answer {
+        Ok(_) => ends(rt, "opened"),
+        Err(fault) => fault,
+    }
+}
+
+/// The file of this disk, of node 1 and peer 2.
+pub fn opened<D: Disk + Drop>(rt: &impl Abort, disk: D) -> LifeFile<D> {
+    file_in(rt, LifeFile::open(disk, 1, 2))
+}
+
+/// Why this disk has no file of node 1 and peer 2.
+pub fn refused<D: Disk + Drop>(rt: &impl Abort, disk: D) -> OpenFault<D> {
+    fault_in(rt, LifeFile::open(disk, 1, 2))
+}
+
+/// The first number that is drawn from a file of these bytes.
+pub fn first_draw(rt: &impl Abort, bytes: &[u8]) -> Result<u64, LifeError> {
+    match LifeFile::open(disk_of(rt, bytes), 1, 2) {
+        Ok(mut file) => file.draw(),
+        Err(fault) => Err(fault.error),
+    }
+}
+
+/// Sees what is drawn first from the file of each row.
+pub fn first_draws(rt: &impl Abort, rows: &[(&str, &[u8], Result<u64, LifeError>)]) {
+    for (row, bytes, wanted) in rows {
+        same_at(rt, &first_draw(rt, bytes), wanted, "the first draw", row);
+    }
+}

@@ -1,0 +1,151 @@
+//! What nodes of a test read, print and receive.
+ghost use Rattle.std.specs.Prelude.{◌≤◌};
+
+use std::io::{self, Read, Write};
+use std::sync::atomic::{AtomicU64, Ordering};
+use std::time::Duration;
+use std::{thread, time};
+use tora_neighbour::{Wire, WireError};
+
+/// The line of a core that has found its route.
+const FOUND: &[u8] = b"to 4 height (0,0,0,1,3) flag 0 hop 4";
+
+/// What the two nodes of a test tell each other of their course.
+#[derive(Drop)]
+pub struct Course {
+    /// 1 once something was printed.
+    pub printed: AtomicU64,
+    /// 1 once the route was printed.
+    pub found: AtomicU64,
+}
+
+/// Where a node prints: it looks for the route.
+#[derive(Drop)]
+pub struct Screen<'a> {
+    pub course: &'a Course,
+}
+
+impl Write for Screen<'_> {
+    fn write(&mut self, buf: &[u8]) -> io::Result<usize> {
+        if buf.windows(FOUND.len()).any(|part| part == FOUND) {
+            self.course.found.store(1, Ordering::SeqCst);
+        }
+        self.course.printed.store(1, Ordering::SeqCst);
+        Ok(buf.len())
+    }
+
+    fn flush(&mut self) -> io::Result<()> {
+        Ok(())
+    }
+}
+
+/// Commands: one at first, and then `show` every 100 ms until the route is found, a hundred times at most.
+#[derive(Drop)]
+pub struct Asking<'a, R> {
+    pub rt: &'a R,
+    pub first: &'a [u8],
+    pub course: &'a Course,
+    pub asked: u64,
+}
+
+impl<R: time::Clock> Read for Asking<'_, R> {
+    fn read(&mut self, buf: &mut [u8]) -> io::Result<usize> {
+        let text: &[u8] = if self.asked == 0 {
+            self.first
+        } else if self.asked <= 100 && self.course.found.load(Ordering::SeqCst) == 0 {
+            thread::sleep(self.rt, Duration::from_millis(100));
+            b"show\n"
+        } else {
+            return Ok(0);
+        };
+        self.asked = self.asked.saturating_add(1);
+        let count = text.len().min(buf.len());
+        for (to, from) in buf.iter_mut().zip(text) {
+            *to = *from;
+        }
+        Ok(count)
+    }
+}
+
+/// A wire on which nothing comes, that looks in its first `receive` whether another wire is in its own.
+#[derive(Drop)]
+pub struct Meeting<'a, R> {
+    pub rt: &'a R,
+    pub own: &'a AtomicU64,
+    pub other: &'a AtomicU64,
+    pub met: &'a AtomicU64,
+}
+
+impl<R: time::Clock> Wire for Meeting<'_, R> {
+    ghost use Rattle.std.specs.Prelude.{false, []};
+
+    ghost tells = { λ w. false };
+
+    ghost coming = { λ w. [] };
+
+    ghost tries = { λ w. [] };
+
+    ghost failures = { λ w. 0 };
+
+    ghost did_send = { λ w bytes answer after. Unit {0} };
+
+    ghost did_receive = { λ w answer buffer after. Unit {0} };
+
+    fn send(&mut self, _bytes: &[u8]) -> Result<(), WireError> {
+        Ok(())
+    }
+
+    fn receive(&mut self, _buf: &mut [u8]) -> Result<Option<usize>, WireError> {
+        if self.own.swap(1, Ordering::SeqCst) == 0 {
+            for _ in 0..10_000 {
+                if self.other.load(Ordering::SeqCst) == 1 {
+                    self.met.fetch_add(1, Ordering::SeqCst);
+                    break;
+                }
+                thread::sleep(self.rt, Duration::from_millis(1));
+            }
+        }
+        Ok(None)
+    }
+}
+
+/// Commands that end once both neighbours have met, after ten seconds at the latest.
+#[derive(Drop)]
+pub struct Waiting<'a, R> {
+    pub rt: &'a R,
+    pub met: &'a AtomicU64,
+}
+
+impl<R: time::Clock> Read for Waiting<'_, R> {
+    fn read(&mut self, _buf: &mut [u8]) -> io::Result<usize> {
+        for _ in 0..100 {
+            if self.met.load(Ordering::SeqCst) == 2 {
+                break;
+            }
+            thread::sleep(self.rt, Duration::from_millis(100));
+        }
+        Ok(0)
+    }
+}
+
+/// Where a node prints: 256 bytes at most.
+#[derive(Drop)]
+pub struct Page {
+    pub bytes: [u8; 256],
+    pub length: usize,
+    ghost within: { length ≤ 256 },
+}
+
+impl Write for Page {
+    fn write(&mut self, buf: &[u8]) -> io::Result<usize> {
+        let room = &mut self.bytes[self.length..];
+        let count = room.len().min(buf.len());
+        room[..count].copy_from_slice(&buf[..count]);
+        self.length += count;
+        Ok(count)
+    }
+
+    fn flush(&mut self) -> io::Result<()> {
+        Ok(())
+    }
+}
