@@ -9,7 +9,6 @@ use steps::Told::{Beat, Need};
 use steps::{Given, Handed, Step, Told, made, runs};
 use tora_arq::Life;
 use tora_core::StepError;
-use tora_height::Id;
 use tora_seat::{Answer, Cargo, CoreSeat, Item, OutLanes, What};
 
 mod line;

@@ -5,13 +5,13 @@ use std::process::Abort;
 use std::test::Fail;
 use steps::Step::{
     Cannot, Clock, Datagram, Datagrams, Does, Exact, HandsOver, MayHappen, NoNode, Route, Sent,
-    Taken, Tells, Walk,
+    Taken, Walk,
 };
 use steps::{Step, first_world, runs};
 use topologies::topology_of;
 use tora_arq::{Life, Times};
 use tora_height::Id;
-use tora_sim::{Event, Sim, SimError};
+use tora_sim::{Event, Sim};
 
 mod memory;
 mod rest;

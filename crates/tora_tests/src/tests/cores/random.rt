@@ -2,7 +2,7 @@
 ghost use Rattle.std.specs.Prelude.{◌≤◌};
 
 use super::super::plain_core::{Plain, Told, told_by};
-use super::super::sees::{same, same_at, sees};
+use super::super::sees::same_at;
 use std::alloc::Global;
 use std::process::Abort;
 use tora_core::{Core, Input, Sends};
@@ -67,11 +67,11 @@ fn any_input(random: &mut Random, now: u64) -> Option<Input> {
     }
 }
 
-/// The packets of both bodies are the same.
-fn same_sends(rt: &impl Abort, sends: &Sends, told: &[Told]) {
-    same(rt, &sends.len(), &told.len(), "how many packets");
+/// The packets of both bodies are the same, at an input.
+fn same_sends(rt: &impl Abort, sends: &Sends, told: &[Told], input: &Input) {
+    same_at(rt, &sends.len(), &told.len(), "how many packets", input);
     for (packet, told) in sends.iter().zip(told.iter()) {
-        same(rt, &told_by(packet), told, "the packet");
+        same_at(rt, &told_by(packet), told, "the packet", input);
     }
 }
 
@@ -88,12 +88,12 @@ fn same_step(
     let answer = core.step_into(input, now, sends);
     match plain.step(alloc, input, now).expect(rt, "memory") {
         Err(error) => {
-            same(rt, &answer.err(), &Some(error), "the refusal");
-            same_sends(rt, sends, &[]);
+            same_at(rt, &answer.err(), &Some(error), "the refusal", input);
+            same_sends(rt, sends, &[], input);
         }
         Ok(told) => {
-            sees(rt, answer.is_ok(), "an input that is taken");
-            same_sends(rt, sends, told.as_slice());
+            same_at(rt, &answer.err(), &None, "the refusal", input);
+            same_sends(rt, sends, told.as_slice(), input);
         }
     }
 }

@@ -1,6 +1,6 @@
 //! What a seat serves and what it makes of that, as tables of steps, and what takes them.
 use super::super::made::{core_of, query_for};
-use super::super::sees::{same, same_at};
+use super::super::sees::same_at;
 use super::{Offered, TestLanes};
 use std::alloc::Global;
 use std::process::Abort;
@@ -84,8 +84,14 @@ fn serves(rt: &impl Abort, seat: &mut CoreSeat, lanes: &mut TestLanes, at: usize
 }
 
 /// Sees that just these cargoes were offered.
-fn offers(rt: &impl Abort, lanes: &TestLanes, rows: &[(usize, Given, bool)]) {
-    same(rt, &lanes.offers.len(), &rows.len(), "how many cargoes");
+fn offers(rt: &impl Abort, lanes: &TestLanes, rows: &[(usize, Given, bool)], row: &Step) {
+    same_at(
+        rt,
+        &lanes.offers.len(),
+        &rows.len(),
+        "how many cargoes",
+        row,
+    );
     for ((place, given, put), offered) in rows.iter().zip(lanes.offers.iter()) {
         let cargo = match *given {
             Given::Packet(life, d) => Cargo::Packet(life, query_for(rt, d)),
@@ -96,13 +102,19 @@ fn offers(rt: &impl Abort, lanes: &TestLanes, rows: &[(usize, Given, bool)]) {
             cargo,
             put: *put,
         };
-        same(rt, offered, &wanted, "the cargo");
+        same_at(rt, offered, &wanted, "the cargo", row);
     }
 }
 
 /// Sees the inputs that were handed to the core at the last item.
-fn hands(rt: &impl Abort, seat: &CoreSeat, rows: &[Handed]) {
-    same(rt, &seat.inputs().len(), &rows.len(), "how many inputs");
+fn hands(rt: &impl Abort, seat: &CoreSeat, rows: &[Handed], row: &Step) {
+    same_at(
+        rt,
+        &seat.inputs().len(),
+        &rows.len(),
+        "how many inputs",
+        row,
+    );
     for (handed, input) in rows.iter().zip(seat.inputs().iter()) {
         let wanted = match *handed {
             Handed::Up(k) => Input::LinkUp(k),
@@ -110,13 +122,13 @@ fn hands(rt: &impl Abort, seat: &CoreSeat, rows: &[Handed]) {
             Handed::Need(d) => Input::Need(d),
             Handed::Packet(k, d) => Input::Packet(k, query_for(rt, d)),
         };
-        same(rt, input, &wanted, "the input");
+        same_at(rt, input, &wanted, "the input", row);
     }
 }
 
 /// Sees the packet that the core took at the last item.
-fn steps(rt: &impl Abort, seat: &CoreSeat, row: Option<(Id, Life, Id)>) {
-    let wanted = match row {
+fn steps(rt: &impl Abort, seat: &CoreSeat, stepped: Option<(Id, Life, Id)>, row: &Step) {
+    let wanted = match stepped {
         None => None,
         Some((from, life, d)) => Some(Stepped {
             from,
@@ -124,7 +136,7 @@ fn steps(rt: &impl Abort, seat: &CoreSeat, row: Option<(Id, Life, Id)>) {
             packet: query_for(rt, d),
         }),
     };
-    same(rt, &seat.stepped(), &wanted, "what was stepped");
+    same_at(rt, &seat.stepped(), &wanted, "what was stepped", row);
 }
 
 /// A seat does what a step says.
@@ -132,7 +144,7 @@ fn does(rt: &impl Abort, seat: &mut CoreSeat, lanes: &mut TestLanes, row: &Step)
     match *row {
         Step::Serves(at, told) => serves(rt, seat, lanes, at, told),
         Step::Offers(rows) => {
-            offers(rt, lanes, rows);
+            offers(rt, lanes, rows, row);
             lanes.offers.clear();
         }
         Step::Counts(count) => {
@@ -141,8 +153,8 @@ fn does(rt: &impl Abort, seat: &mut CoreSeat, lanes: &mut TestLanes, row: &Step)
         }
         Step::Fills(count) => lanes.first = count,
         Step::Waits(count) => same_at(rt, &lanes.first, &count, "how many wait", row),
-        Step::Hands(rows) => hands(rt, seat, rows),
-        Step::Steps(stepped) => steps(rt, seat, stepped),
+        Step::Hands(rows) => hands(rt, seat, rows, row),
+        Step::Steps(stepped) => steps(rt, seat, stepped, row),
         Step::Lives(at, life) => same_at(rt, &seat.current(at), &life, "the life", row),
         Step::Cuts(at, life) => same_at(rt, &seat.pending(at), &life, "the life to cut", row),
     }
