@@ -83,7 +83,11 @@ fn is_refused(rt: &impl Abort, alloc: Global, fault: &ConfigError, wanted: &Want
         Wanted::NoToml => matches!(fault, ConfigError::Syntax(_)),
         Wanted::TooMany => matches!(fault, ConfigError::Core(CoreError::TooMany)),
         Wanted::UnknownKey(key) => has_unknown_key(fault, key),
-        Wanted::Refused(place, reason) => is_at(fault, *place, *reason),
+        Wanted::Refused(place, reason) => {
+            let wanted = Some((*place, *reason));
+            same_at(rt, &value_in(fault), &wanted, "the value", &text);
+            true
+        }
         Wanted::Says(words) => {
             says(rt, alloc, fault, words, text);
             true
@@ -101,11 +105,11 @@ fn has_unknown_key(fault: &ConfigError, wanted: &str) -> bool {
     }
 }
 
-/// The fault is of the value at this place, for this reason.
-fn is_at(fault: &ConfigError, wanted: Place, why: Reason) -> bool {
+/// The place of the value that is refused, and the reason.
+fn value_in(fault: &ConfigError) -> Option<(Place, Reason)> {
     match fault {
-        ConfigError::Value(place, reason) => *place == wanted && *reason == why,
-        _ => false,
+        ConfigError::Value(place, reason) => Some((*place, *reason)),
+        _ => None,
     }
 }
 

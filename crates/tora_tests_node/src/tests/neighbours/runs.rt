@@ -286,7 +286,8 @@ fn each_ends<R: Wait + Abort>(
             same(rt, &file.draw(), &Err(LifeError::Disk), "the draw");
         }
         let fault = there(rt, fault_of(rt, alloc, file).ok(), "memory");
-        fault_is(rt, fault, Some(NodeError::Life(2, *reason)));
+        let wanted = Some(NodeError::Life(2, *reason));
+        same_at(rt, &fault, &wanted, "the fault", armed);
     }
 }
 
