@@ -76,12 +76,11 @@ impl Network {
         let Some(frame) = self.frames.get(place) else {
             return false;
         };
-        let end = if frame.header().receiver == 1 {
-            &mut self.one
+        if frame.header().receiver == 1 {
+            self.one.on_frame(frame, now);
         } else {
-            &mut self.two
-        };
-        end.on_frame(frame, now);
+            self.two.on_frame(frame, now);
+        }
         if self.dice.roll(8) > 0 {
             self.frames.swap_remove(place);
         }
