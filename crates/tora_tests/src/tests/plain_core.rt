@@ -98,11 +98,14 @@ impl Plain {
             Input::LinkDown(k) => (*k, true),
             Input::Packet(k, _) => (*k, true),
         };
-        match (self.is_up(k), wants_up) {
-            (None, _) => return Some(StepError::UnknownNeighbour),
-            (Some(true), false) => return Some(StepError::AlreadyUp),
-            (Some(false), true) => return Some(StepError::NotUp),
-            _ => {}
+        let Some(is_up) = self.is_up(k) else {
+            return Some(StepError::UnknownNeighbour);
+        };
+        if wants_up && !is_up {
+            return Some(StepError::NotUp);
+        }
+        if is_up && !wants_up {
+            return Some(StepError::AlreadyUp);
         }
         match input {
             Input::Packet(_, Packet::Upd(update)) if parts_of(update).2 != k => {
