@@ -122,8 +122,53 @@ fn two_nodes_on_the_loopback(rt: HostRuntime) {
     same(&rt, &found, &1, "the route is found");
 }
 
+/// What two wires that look for each other tell: whether each was asked for a datagram, and how many have met the other.
+struct Asked {
+    first: AtomicU64,
+    second: AtomicU64,
+    met: AtomicU64,
+}
+
 /// Runs node 1 with these neighbours, one or two, over wires that look for each other; the life file of the first is on this
-/// disk. Answers the fault, 1 where the first wire was asked for a datagram, and how many wires have met the other.
+/// disk. Answers the fault.
+fn run_over_meeting<'a, R: Threads + Wait + Sync + time::Clock + log::Log + Abort>(
+    rt: &'a R,
+    alloc: Global,
+    peers: &[u32],
+    disk: ByteDisk,
+    asked: &'a Asked,
+) -> Option<NodeError>
+    requires peers { All (λ n. 0 < n) peers.now }
+{
+    let config = config_of(rt, alloc, 1, peers);
+    let wire = Meeting {
+        rt,
+        own: &asked.first,
+        other: &asked.second,
+        met: &asked.met,
+    };
+    let mut wires = list_of(rt, alloc, wire);
+    let mut disks = list_of(rt, alloc, disk);
+    if peers.len() > 1 {
+        let wire = Meeting {
+            rt,
+            own: &asked.second,
+            other: &asked.first,
+            met: &asked.met,
+        };
+        let is_whole = wires.push(wire).is_ok() && disks.push(ByteDisk::of_zeros(0)).is_ok();
+        sees(rt, is_whole, "memory for a second link");
+    }
+    let mut commands = Waiting {
+        rt,
+        met: &asked.met,
+    };
+    let mut screen = Vec::new(alloc);
+    let ended = run_over(rt, alloc, config, wires, disks, &mut commands, &mut screen);
+    ended.err()
+}
+
+/// The same, with what the wires tell: the fault, 1 where the first was asked for a datagram, and how many have met the other.
 fn run_meeting<R: Threads + Wait + Sync + time::Clock + log::Log + Abort>(
     rt: &R,
     alloc: Global,
@@ -132,31 +177,14 @@ fn run_meeting<R: Threads + Wait + Sync + time::Clock + log::Log + Abort>(
 ) -> (Option<NodeError>, u64, u64)
     requires peers { All (λ n. 0 < n) peers.now }
 {
-    let (first, second, met) = (AtomicU64::new(0), AtomicU64::new(0), AtomicU64::new(0));
-    let config = config_of(rt, alloc, 1, peers);
-    let wire = Meeting {
-        rt,
-        own: &first,
-        other: &second,
-        met: &met,
+    let asked = Asked {
+        first: AtomicU64::new(0),
+        second: AtomicU64::new(0),
+        met: AtomicU64::new(0),
     };
-    let mut wires = list_of(rt, alloc, wire);
-    let mut disks = list_of(rt, alloc, disk);
-    if peers.len() > 1 {
-        let wire = Meeting {
-            rt,
-            own: &second,
-            other: &first,
-            met: &met,
-        };
-        let is_whole = wires.push(wire).is_ok() && disks.push(ByteDisk::of_zeros(0)).is_ok();
-        sees(rt, is_whole, "memory for a second link");
-    }
-    let mut commands = Waiting { rt, met: &met };
-    let mut screen = Vec::new(alloc);
-    let ended = run_over(rt, alloc, config, wires, disks, &mut commands, &mut screen);
-    let received = first.load(Ordering::SeqCst);
-    (ended.err(), received, met.load(Ordering::SeqCst))
+    let fault = run_over_meeting(rt, alloc, peers, disk, &asked);
+    let received = asked.first.load(Ordering::SeqCst);
+    (fault, received, asked.met.load(Ordering::SeqCst))
 }
 
 #[test]
