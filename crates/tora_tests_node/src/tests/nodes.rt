@@ -123,6 +123,7 @@ fn two_nodes_on_the_loopback(rt: HostRuntime) {
 }
 
 /// What two wires that look for each other tell: whether each was asked for a datagram, and how many have met the other.
+#[derive(Drop)]
 struct Asked {
     first: AtomicU64,
     second: AtomicU64,

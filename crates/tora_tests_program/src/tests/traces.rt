@@ -22,9 +22,9 @@ type Left = (
 );
 
 /// Simulates once, and hands the trace on.
-fn traced_once<T: AllocGlobal + Eprint>(
+fn traced_once<'a, T: AllocGlobal + Eprint>(
     rt: &T,
-    (front, end): (&str, &str),
+    (front, end): (&'a str, &'a str),
     (output, trace, is_verbose): How,
 ) -> Left {
     let mut reader = LinesReader::new((front, "", 0, end));
@@ -45,7 +45,7 @@ fn traced_once<T: AllocGlobal + Eprint>(
 
 /// Simulates the front of an input and its end, and hands the trace on. Where memory was refused it is simulated again,
 /// since one refusal is no reason for a second.
-fn traced<T: AllocGlobal + Eprint>(rt: &T, lines: (&str, &str), how: How) -> Left {
+fn traced<'a, T: AllocGlobal + Eprint>(rt: &T, lines: (&'a str, &'a str), how: How) -> Left {
     let left = traced_once(rt, lines, how);
     if is_memory(left.0) {
         return traced_once(rt, lines, how);
