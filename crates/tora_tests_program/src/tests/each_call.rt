@@ -1,7 +1,6 @@
 //! A call that fails at any place among the events of a run.
-use super::sees::{sees, sees_at};
-use std::alloc::{AllocError, Global};
-use std::process::Abort;
+use super::*;
+use std::alloc::AllocError;
 use tora_arq::{Life, Times};
 use tora_core::CoreError;
 use tora_height::{Entry, Height, Id};
