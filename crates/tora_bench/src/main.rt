@@ -6,29 +6,16 @@
 //! batches, and each of them as frames and as bytes. `tora_bench codec N` encodes and decodes N updates, then N DATA frames
 //! of version 1 with an update each, and then N DATA frames of version 2 with sixteen updates each. Each line is a name,
 //! nanoseconds an operation (the best of seven runs), and a number that depends on every result.
-//!
-//! `tora_bench lane N` puts N items from each of three threads into the lane into the core while the core takes them, and
-//! sends N cargoes from one thread to another through one lane. Each line is a name, nanoseconds an operation (the best of
-//! seven runs), and how many operations went through.
-//!
-//! `tora_bench udp N` binds two sockets of the loopback, runs `run_neighbour` at each end, and hands N updates of 32 bytes
-//! from one to the other, each in a DATA frame of 76 bytes, 32 under way at most. It prints nanoseconds a packet, from the
-//! first that was submitted to the last that was delivered, and how many were delivered.
 #![tactic(auto)]
 
 mod codec;
 mod inputs;
-mod lane_runs;
-mod lanes;
 mod links;
-mod paced_hub;
-mod udp;
 
 use codec::Coded;
 use inputs::{
     Size, fresh_core, mixed_inputs, quiet_update, reacting_update, routed_core, small_core,
 };
-use lanes::time_lanes;
 use links::{Passed, run_link, run_window};
 use std::alloc::Global;
 use std::io;
@@ -36,12 +23,11 @@ use std::time::{Duration, Instant};
 use tora_core::{Core, Input, Sends};
 use tora_frame::Version;
 use tora_packet::Packet;
-use udp::time_link;
 
 /// How often each mix is run; the best run counts.
 const RUNS: u32 = 7;
 
-/// The steps of one run, the items of each thread, the cargoes and the packets, where no number is given.
+/// The steps of one run where no number is given.
 const STEPS: u32 = 200_000;
 
 /// Adds what a result says to a running number.
@@ -227,13 +213,23 @@ fn hold(rt: &HostRuntime, size: Size, count: u32) -> io::Result<()> {
     println!(rt; "{held} cores")
 }
 
-/// Times the mixes whose names begin with a word.
-fn time_mixes(rt: &HostRuntime, word: &str, steps: u32) -> io::Result<()> {
+fn main(rt: HostRuntime) -> io::Result<()> {
+    let words = std::env::args(&rt)?.collect::<Vec<String>>(rt.alloc())?;
+    let Some(word) = words.get(1) else {
+        return Ok(());
+    };
+    let steps = match words.get(2) {
+        Some(number) => number.as_str().parse::<u32>().unwrap_or(STEPS),
+        None => STEPS,
+    };
+    if let Some(size) = size_named(word.as_str()) {
+        return hold(&rt, size, steps);
+    }
     for size in [Size::Small, Size::Large] {
         let inputs = mixed_inputs(rt.alloc(), size, steps)?;
         for mix in [Mix::Mixed(size), Mix::Quiet(size), Mix::Links(size)] {
-            if mix.name().starts_with(word) {
-                time(rt, mix, inputs.as_slice(), steps)?;
+            if mix.name().starts_with(word.as_str()) {
+                time(&rt, mix, inputs.as_slice(), steps)?;
             }
         }
     }
@@ -248,28 +244,9 @@ fn time_mixes(rt: &HostRuntime, word: &str, steps: u32) -> io::Result<()> {
         Mix::Codec(Coded::Frame),
         Mix::Codec(Coded::Batch),
     ] {
-        if mix.name().starts_with(word) {
-            time(rt, mix, &[], steps)?;
+        if mix.name().starts_with(word.as_str()) {
+            time(&rt, mix, &[], steps)?;
         }
     }
     Ok(())
-}
-
-fn main(rt: HostRuntime) -> io::Result<()> {
-    let words = std::env::args(&rt)?.collect::<Vec<String>>(rt.alloc())?;
-    let Some(word) = words.get(1) else {
-        return Ok(());
-    };
-    let steps = match words.get(2) {
-        Some(number) => number.as_str().parse::<u32>().unwrap_or(STEPS),
-        None => STEPS,
-    };
-    if let Some(size) = size_named(word.as_str()) {
-        return hold(&rt, size, steps);
-    }
-    match word.as_str() {
-        "lane" => time_lanes(&rt, rt.alloc(), steps),
-        "udp" => time_link(&rt, rt.alloc(), steps),
-        mixes => time_mixes(&rt, mixes, steps),
-    }
 }
