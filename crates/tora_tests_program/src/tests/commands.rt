@@ -1,207 +1,198 @@
-//! The commands around the engines: statuses, what is handed on, real files, and the words of the command line.
-use super::simulations::{FOUND_AND_LOST, FOUR_FOUND_AND_LOST};
-use super::words::{matched, parsed};
-use super::*;
+//! The commands around the engines: statuses, what is handed on, real files, and the statuses of command lines.
+use super::expected::{expect_few_refusals, expect_written};
+use super::failing_streams::{ArrayWriter, Fails, LinesReader};
+use super::replay_rows::{LOSS_TEXT, ROUTE_AND_LOSS};
+use super::route_rows::{FOUND_AND_LOST, FOUR_FOUND_AND_LOST};
+use super::sees::{same_at, sees, sees_at};
+use super::words::parsed;
 use std::fs::{self, File, Files};
+use std::io::Read;
+use std::process::{Abort, ExitCode};
 use std::test::Fail;
 use tora_arq::Times;
+use tora_commands::{
+    INPUT, MEMORY, USAGE, replay_command, sim_command, simulate_file, traced_command, usage,
+};
+use tora_sim::Sim;
 use tora_traced::TraceOut;
 
-/// A command, over lines of its kind.
-#[derive(Clone, Copy, Debug, PartialEq)]
+/// A command over lines of its kind, which writes a trace where it is traced.
+#[derive(Clone, Copy)]
 enum Run {
     Replay,
     Simulation,
     Traced,
 }
 
-/// What a run left: its status, what it wrote, and its trace.
-#[derive(Drop)]
-struct Left {
-    status: ExitCode,
-    writer: ArrayWriter,
-    out: TraceOut<ArrayWriter>,
-}
-
-fn replay_lines<T: AllocGlobal + Eprint>(
-    rt: &T,
-    lines: &str,
-    is_verbose: bool,
-    writer: &mut ArrayWriter,
-) -> ExitCode {
-    replay_command::run(rt, lines.as_bytes(), is_verbose, writer)
-}
-
-fn simulate_lines<T: AllocGlobal + Eprint>(
-    rt: &T,
-    lines: &str,
-    is_verbose: bool,
-    writer: &mut ArrayWriter,
-) -> ExitCode {
-    sim_command::run_over::<Sim, T, &[u8], ArrayWriter>(
-        rt,
-        Times::STANDARD,
-        lines.as_bytes(),
-        is_verbose,
-        writer,
-    )
-}
-
-fn trace_lines<T: AllocGlobal + Eprint>(
-    rt: &T,
-    lines: &str,
-    is_verbose: bool,
-    writer: &mut ArrayWriter,
-    out: &mut TraceOut<ArrayWriter>,
-) -> ExitCode {
-    traced_command::run_over::<Sim, T, &[u8], ArrayWriter, ArrayWriter>(
-        rt,
-        Times::STANDARD,
-        lines.as_bytes(),
-        is_verbose,
-        writer,
-        "trace",
-        out,
-    )
-}
-
 impl Run {
-    /// Lines without a fault, and what is printed for them.
-    fn lines(self) -> (&'static str, &'static str) {
+    /// The status of a run over lines, which writes to these writers.
+    fn status<T: AllocGlobal + Eprint>(
+        self,
+        rt: &T,
+        lines: &str,
+        is_verbose: bool,
+        writer: &mut ArrayWriter,
+        out: &mut TraceOut<ArrayWriter>,
+    ) -> ExitCode {
+        let reader = LinesReader::new((lines, "", 0, ""));
         match self {
-            Run::Replay => (ROUTE_AND_LOSS, LOSS_TEXT),
-            Run::Simulation | Run::Traced => (FOUR_FOUND_AND_LOST, FOUND_AND_LOST),
+            Run::Replay => replay_command::run(rt, reader, is_verbose, writer),
+            Run::Simulation => sim_command::run_over::<Sim, T, LinesReader<'_>, ArrayWriter>(
+                rt,
+                Times::STANDARD,
+                reader,
+                is_verbose,
+                writer,
+            ),
+            Run::Traced => {
+                traced_command::run_over::<Sim, T, LinesReader<'_>, ArrayWriter, ArrayWriter>(
+                    rt,
+                    Times::STANDARD,
+                    reader,
+                    is_verbose,
+                    writer,
+                    "trace",
+                    out,
+                )
+            }
         }
-    }
-
-    fn once<T: AllocGlobal + Eprint>(
-        self,
-        rt: &T,
-        lines: &str,
-        is_verbose: bool,
-        (mut writer, trace): (ArrayWriter, ArrayWriter),
-    ) -> Left {
-        let mut out = TraceOut::new(trace);
-        let status = match self {
-            Run::Replay => replay_lines(rt, lines, is_verbose, &mut writer),
-            Run::Simulation => simulate_lines(rt, lines, is_verbose, &mut writer),
-            Run::Traced => trace_lines(rt, lines, is_verbose, &mut writer, &mut out),
-        };
-        Left {
-            status,
-            writer,
-            out,
-        }
-    }
-
-    /// Runs over lines, with an output and a trace that fail at a call or keep what was written. Where memory was refused
-    /// it runs again, since one refusal is no reason for a second.
-    fn over<T: AllocGlobal + Eprint>(
-        self,
-        rt: &T,
-        lines: &str,
-        is_verbose: bool,
-        (output, trace): ((u64, bool), (u64, bool)),
-    ) -> Left {
-        let left = self.once(rt, lines, is_verbose, (writer_of(output), writer_of(trace)));
-        if is_status(left.status, MEMORY) {
-            return self.once(rt, lines, is_verbose, (writer_of(output), writer_of(trace)));
-        }
-        left
     }
 }
 
-fn writer_of((until_failure, keeps): (u64, bool)) -> ArrayWriter {
-    let mut writer = ArrayWriter::new(until_failure);
-    writer.keeps = keeps;
-    writer
-}
-
-const RUNS: &[Run] = &[Run::Replay, Run::Simulation, Run::Traced];
+/// A command, its lines and what they print, where its output and its trace fail, and its status.
+type Row = (Run, &'static str, &'static str, (Fails, Fails), u8);
 
 /// Whether an exit status is this number.
 fn is_status(status: ExitCode, wanted: u8) -> bool {
     status == ExitCode::from(wanted)
 }
 
-/// A run, told by two texts, ends with this status.
-fn expect_status(rt: &impl Abort, run: (&str, &str), status: ExitCode, wanted: u8) {
-    sees_at(rt, is_status(status, wanted), &(run, "not", wanted));
-}
-
-/// Runs over lines with an output and a trace that fail so, and expects a status and what is written. Says whether the trace
-/// failed.
-fn expect_run<T: AllocGlobal + Eprint + Abort>(
+/// What a run of a row left: its status, its output, and whether its trace is lost.
+fn left<T: AllocGlobal + Eprint>(
     rt: &T,
-    (run, is_verbose): (Run, bool),
-    (lines, text): (&str, &str),
-    fails: ((u64, bool), (u64, bool)),
-    status: u8,
-) -> bool {
-    let left = run.over(rt, lines, is_verbose, fails);
-    expect_status(rt, (lines, text), left.status, status);
-    expect_written(rt, (lines, text), left.writer.text(), text);
-    left.out.failure().is_some()
+    (run, lines, _, (output, trace), _): Row,
+    is_verbose: bool,
+) -> (ExitCode, ArrayWriter, bool) {
+    let mut writer = ArrayWriter::new(output);
+    let mut out = TraceOut::new(ArrayWriter::new(trace));
+    let status = run.status(rt, lines, is_verbose, &mut writer, &mut out);
+    (status, writer, out.failure().is_some())
 }
 
-/// 0 at the end of the lines, 1 at a fault, and all is written.
-fn expect_whole_run<T: AllocGlobal + Eprint + Abort>(rt: &T, run: Run, is_verbose: bool) {
-    let fine = ((0, false), (0, false));
-    let is_lost = expect_run(rt, (run, is_verbose), run.lines(), fine, SUCCESS);
-    sees_at(rt, !is_lost, &run);
-    expect_run(rt, (run, is_verbose), ("", "fault 1\n"), fine, INPUT);
+/// A run prints its text and ends with its status, and its trace is lost where it fails. Where memory was refused it runs
+/// again, since one refusal is no reason for a second.
+fn expect_status<T: AllocGlobal + Eprint + Abort>(rt: &T, row: Row, is_verbose: bool) {
+    let (_, lines, text, (output, trace), wanted) = row;
+    let (mut status, mut writer, mut is_lost) = left(rt, row, is_verbose);
+    if is_status(status, MEMORY) {
+        (status, writer, is_lost) = left(rt, row, is_verbose);
+    }
+    let place = (lines, output, trace, wanted);
+    sees_at(rt, is_status(status, wanted), &place);
+    expect_written(rt, (lines, "", 0, ""), writer.text(), text);
+    sees_at(rt, is_lost == (trace != Fails::Never), &place);
+}
+
+/// Each of these runs prints its text and ends with its status, and with `-v` the same.
+fn expect_statuses<T: AllocGlobal + Eprint + Abort>(rt: &T, rows: &[Row]) {
+    for row in rows {
+        expect_status(rt, *row, false);
+        expect_status(rt, *row, true);
+    }
 }
 
 /// The exit status of an end without a fault.
 const SUCCESS: u8 = 0;
 
+const FINE: (Fails, Fails) = (Fails::Never, Fails::Never);
+
+/// Lines without a fault, and none.
+const WHOLE: &[Row] = &[
+    (Run::Replay, ROUTE_AND_LOSS, LOSS_TEXT, FINE, SUCCESS),
+    (
+        Run::Simulation,
+        FOUR_FOUND_AND_LOST,
+        FOUND_AND_LOST,
+        FINE,
+        SUCCESS,
+    ),
+    (
+        Run::Traced,
+        FOUR_FOUND_AND_LOST,
+        FOUND_AND_LOST,
+        FINE,
+        SUCCESS,
+    ),
+    (Run::Replay, "", "fault 1\n", FINE, INPUT),
+    (Run::Simulation, "", "fault 1\n", FINE, INPUT),
+    (Run::Traced, "", "fault 1\n", FINE, INPUT),
+];
+
 /// 0 at the end of the lines, 1 at a fault, and all is written; with `-v` the same.
 #[test]
 fn statuses_of_runs(rt: HostRuntime) {
-    for run in RUNS {
-        expect_whole_run(&rt, *run, false);
-        expect_whole_run(&rt, *run, true);
-    }
+    expect_statuses(&rt, WHOLE);
 }
 
-/// 1 where a write fails, and where only the last flush does; all was written then.
-fn expect_failed_output<T: AllocGlobal + Eprint + Abort>(rt: &T, run: Run, is_verbose: bool) {
-    let (lines, text) = run.lines();
-    let fails = ((1, false), (0, false));
-    expect_run(rt, (run, is_verbose), (lines, ""), fails, INPUT);
-    let keeps = ((0, true), (0, false));
-    expect_run(rt, (run, is_verbose), (lines, text), keeps, INPUT);
-}
+const NO_WRITE: (Fails, Fails) = (Fails::Write(1), Fails::Never);
+
+const NO_FLUSH: (Fails, Fails) = (Fails::Flush, Fails::Never);
+
+const FAILED_OUTPUTS: &[Row] = &[
+    (Run::Replay, ROUTE_AND_LOSS, "", NO_WRITE, INPUT),
+    (Run::Replay, ROUTE_AND_LOSS, LOSS_TEXT, NO_FLUSH, INPUT),
+    (Run::Simulation, FOUR_FOUND_AND_LOST, "", NO_WRITE, INPUT),
+    (
+        Run::Simulation,
+        FOUR_FOUND_AND_LOST,
+        FOUND_AND_LOST,
+        NO_FLUSH,
+        INPUT,
+    ),
+    (Run::Traced, FOUR_FOUND_AND_LOST, "", NO_WRITE, INPUT),
+    (
+        Run::Traced,
+        FOUR_FOUND_AND_LOST,
+        FOUND_AND_LOST,
+        NO_FLUSH,
+        INPUT,
+    ),
+];
 
 /// 1 where a write fails, and where only the last flush does; all was written then.
 #[test]
 fn statuses_of_failed_outputs(rt: HostRuntime) {
-    for run in RUNS {
-        expect_failed_output(&rt, *run, false);
-        expect_failed_output(&rt, *run, true);
-    }
+    expect_statuses(&rt, FAILED_OUTPUTS);
 }
 
-/// 1 where the trace can't be written or not be handed on; what is printed is whole.
-fn expect_lost_trace<T: AllocGlobal + Eprint + Abort>(
-    rt: &T,
-    trace: (u64, bool),
-    is_verbose: bool,
-) {
-    let fails = ((0, false), trace);
-    let lines = Run::Traced.lines();
-    let is_lost = expect_run(rt, (Run::Traced, is_verbose), lines, fails, INPUT);
-    sees_at(rt, is_lost, &trace);
-}
+const LOST_TRACES: &[Row] = &[
+    (
+        Run::Traced,
+        FOUR_FOUND_AND_LOST,
+        FOUND_AND_LOST,
+        (Fails::Never, Fails::Write(1)),
+        INPUT,
+    ),
+    (
+        Run::Traced,
+        FOUR_FOUND_AND_LOST,
+        FOUND_AND_LOST,
+        (Fails::Never, Fails::Write(2)),
+        INPUT,
+    ),
+    (
+        Run::Traced,
+        FOUR_FOUND_AND_LOST,
+        FOUND_AND_LOST,
+        (Fails::Never, Fails::Flush),
+        INPUT,
+    ),
+];
 
 /// 1 where the trace can't be written or not be handed on; what is printed is whole.
 #[test]
 fn statuses_of_lost_traces(rt: HostRuntime) {
-    for is_verbose in [false, true] {
-        expect_lost_trace(&rt, (1, false), is_verbose);
-        expect_lost_trace(&rt, (2, false), is_verbose);
-        expect_lost_trace(&rt, (0, true), is_verbose);
-    }
+    expect_statuses(&rt, LOST_TRACES);
 }
 
 const FOLDER: &str = "tora_commands_test";
@@ -217,12 +208,12 @@ const LINES: &str = "dests 2\nlink 1 2\nneed 1 2\nturn 1\nneed 3 2\n";
 const RECORDS: &str = "0 need 1 2\n0 qry 1 2 0\n";
 
 /// What is asked of a simulation of a file: times, its path, and the path of its trace.
-type Asked<'a> = (Option<&'a str>, &'a str, Option<&'a str>);
+type Asked = (Option<&'static str>, &'static str, Option<&'static str>);
 
 /// Simulates a file once.
 fn simulated_once<T: Files + AllocGlobal + Eprint>(
     rt: &T,
-    (times, path, trace): Asked<'_>,
+    (times, path, trace): Asked,
     writer: &mut ArrayWriter,
 ) -> ExitCode {
     simulate_file(rt, times, path, trace, false, writer)
@@ -231,18 +222,18 @@ fn simulated_once<T: Files + AllocGlobal + Eprint>(
 /// Simulates a file, and expects its status and what is printed. Where memory was refused it simulates again.
 fn expect_simulated<T: Files + AllocGlobal + Eprint + Abort>(
     rt: &T,
-    asked: Asked<'_>,
+    asked: Asked,
     wanted: u8,
     text: &str,
 ) {
-    let mut writer = ArrayWriter::new(0);
+    let mut writer = ArrayWriter::new(Fails::Never);
     let mut status = simulated_once(rt, asked, &mut writer);
     if is_status(status, MEMORY) {
-        writer = ArrayWriter::new(0);
+        writer = ArrayWriter::new(Fails::Never);
         status = simulated_once(rt, asked, &mut writer);
     }
-    expect_status(rt, (asked.1, text), status, wanted);
-    expect_written(rt, (asked.1, text), writer.text(), text);
+    sees_at(rt, is_status(status, wanted), &(asked, wanted));
+    expect_written(rt, (asked.1, "", 0, ""), writer.text(), text);
 }
 
 /// Whether a file holds a text.
@@ -265,29 +256,26 @@ fn make_folder<R: Files<File = File> + AllocGlobal>(rt: &R) -> Result<(), Fail> 
     Ok(())
 }
 
-/// What is asked of simulations that write nothing, and their status.
-const FAILING: &[(Asked<'static>, u8)] = &[
-    ((None, FILE, Some(FILE)), INPUT),
-    ((None, MISSING, None), INPUT),
-    ((None, MISSING, Some(TRACE)), INPUT),
-    ((None, FILE, Some(FOLDER)), INPUT),
-    ((Some("10,50,5"), FILE, None), USAGE),
-    ((Some("10,0,5,8"), FILE, Some(FILE)), USAGE),
+/// What is asked of simulations one after another, their status, what they print, and whether there is a trace then.
+const ASKED: &[(Asked, u8, &str, bool)] = &[
+    ((None, FILE, None), SUCCESS, "refused 2\n", false),
+    ((None, FILE, Some(TRACE)), SUCCESS, "refused 2\n", true),
+    ((None, FILE, Some(FILE)), INPUT, "", true),
+    ((None, MISSING, None), INPUT, "", true),
+    ((None, MISSING, Some(TRACE)), INPUT, "", true),
+    ((None, FILE, Some(FOLDER)), INPUT, "", true),
+    ((Some("10,50,5"), FILE, None), USAGE, "", true),
+    ((Some("10,0,5,8"), FILE, Some(FILE)), USAGE, "", true),
 ];
 
 /// The file named is read, the trace is written to the other, and neither takes the place of the other.
 #[test]
 fn files_are_those_named(rt: HostRuntime) -> Result<(), Fail> {
     make_folder(&rt)?;
-    for (trace, makes) in [(None, false), (Some(TRACE), true)] {
-        expect_simulated(&rt, (None, FILE, trace), SUCCESS, "refused 2\n");
-        same_at(&rt, &holds(&rt, TRACE, RECORDS), &makes, &trace);
+    for (asked, wanted, text, has_trace) in ASKED {
+        expect_simulated(&rt, *asked, *wanted, *text);
+        same_at(&rt, &holds(&rt, TRACE, RECORDS), has_trace, asked);
         sees(&rt, holds(&rt, FILE, LINES), "the file stays");
-    }
-    for (asked, wanted) in FAILING {
-        expect_simulated(&rt, *asked, *wanted, "");
-        sees(&rt, holds(&rt, FILE, LINES), "the file stays");
-        sees(&rt, holds(&rt, TRACE, RECORDS), "the trace stays");
     }
     fs::remove_dir_all(&rt, FOLDER)?;
     Ok(())
@@ -327,40 +315,6 @@ fn statuses_of_words(rt: HostRuntime) {
     let mut refused = 0u64;
     for (words, wanted) in STATUSES {
         if status_of_words(&rt, *words) != Some(ExitCode::from(*wanted)) {
-            refused = refused.saturating_add(1);
-        }
-    }
-    expect_few_refusals(&rt, refused);
-}
-
-/// Whether the words ask for a simulation of `f` with the times `1,2,3,4` and the trace `t`.
-fn asks_for_all(alloc: Global, words: &[&str]) -> bool {
-    let Some(matches) = matched(alloc, words) else {
-        return false;
-    };
-    match matches.subcommand() {
-        Some(("sim", sim)) => {
-            sim.get_str("FILE") == Some("f")
-                && sim.get_str("times") == Some("1,2,3,4")
-                && sim.get_str("trace") == Some("t")
-        }
-        _ => false,
-    }
-}
-
-/// The options of `sim` in each order.
-const OPTIONS: &[&[&str]] = &[
-    &["tora", "sim", "--times", "1,2,3,4", "--trace", "t", "f"],
-    &["tora", "sim", "--trace", "t", "--times", "1,2,3,4", "f"],
-    &["tora", "sim", "f", "--times", "1,2,3,4", "--trace", "t"],
-];
-
-/// The options of `sim` stand before or behind its file.
-#[test]
-fn options_of_sim(rt: HostRuntime) {
-    let mut refused = 0u64;
-    for words in OPTIONS {
-        if !asks_for_all(rt.alloc(), *words) {
             refused = refused.saturating_add(1);
         }
     }

@@ -1,6 +1,7 @@
 //! A call that fails at any place among the events of a run.
-use super::*;
-use std::alloc::AllocError;
+use super::sees::{sees, sees_at};
+use std::alloc::{AllocError, Global};
+use std::process::Abort;
 use tora_arq::{Life, Times};
 use tora_core::CoreError;
 use tora_height::{Entry, Height, Id};

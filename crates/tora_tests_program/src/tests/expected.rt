@@ -1,20 +1,21 @@
 //! What every test of a run expects: how it ends, and what is written.
+use super::failing_streams::Lines;
 use super::sees::{same_at, sees_at};
 use std::process::Abort;
 use tora_lines::{Ended, ReplayError};
 
-/// A run of lines, in two parts, ends as it should.
+/// A run of lines ends as it should.
 pub fn expect_ended(
     rt: &impl Abort,
-    lines: (&str, &str),
+    lines: Lines<'_>,
     found: Result<Ended, ReplayError>,
     wanted: Result<Ended, ReplayError>,
 ) {
     same_at(rt, &found, &wanted, &lines);
 }
 
-/// A run of lines, in two parts, wrote what it should.
-pub fn expect_written(rt: &impl Abort, lines: (&str, &str), written: &[u8], text: &str) {
+/// A run of lines wrote what it should.
+pub fn expect_written(rt: &impl Abort, lines: Lines<'_>, written: &[u8], text: &str) {
     same_at(rt, &written, &text.as_bytes(), &lines);
 }
 

@@ -1,5 +1,7 @@
 //! Lines of replay files, and what is printed for them.
+use super::runs::{Files, NOTHING, Row};
 use tora_core::CoreError;
+use tora_lines::Ended;
 use tora_replay::Cause;
 
 pub const ROUTE: &str = "node 3 links 2,4 dests 4\n1 up 2\n1 up 4\n2 from 2 0101000000000004\n\
@@ -8,7 +10,7 @@ pub const ROUTE: &str = "node 3 links 2,4 dests 4\n1 up 2\n1 up 4\n2 from 2 0101
 pub const ROUTE_TEXT: &str =
     "send 0102000000000004000000000000000000000000000000000000000100000003\n";
 
-pub const LOSS: &str = "7 down 4\n7 show\n\
+const LOSS: &str = "7 down 4\n7 show\n\
     8 from 2 010200000000000400000000000000070000000300000000ffffffff00000002\n\
     9 from 2 010200000000000400000000000000070000000301000000ffffffff00000002\n9 show\n";
 
@@ -25,8 +27,69 @@ pub const LOSS_TEXT: &str =
     send 0103000000000004000000000000000700000003\n\
     to 4 height - flag 0 hop -\nvia 2 - none\n";
 
+pub const QUERY: &[Row] = &[(
+    &[ROUTE],
+    &["3 show\n"],
+    "send 0102000000000004000000000000000000000000000000000000000100000003\n\
+    to 4 height (0,0,0,1,3) flag 0 hop 4\nvia 2 (0,0,0,2,2) up\nvia 4 (0,0,0,0,4) down\n",
+    Ended::Whole,
+)];
+
+pub const PARTITION: &[Row] = &[(&[ROUTE], &[LOSS], LOSS_TEXT, Ended::Whole)];
+
+pub const DELTA_OUT_OF_RANGE: &[Row] = &[(
+    &["node 2 links 3 dests 4\n1 up 3\n2 need 4\n"],
+    &["3 from 3 0102000000000004000000000000000000000000000000004000000000000003\n3 show\n"],
+    "send 0101000000000004\nto 4 height - flag 0 hop 3\nvia 3 (0,0,0,1073741824,3) down\n",
+    Ended::Whole,
+)];
+
+pub const TOLD_NEIGHBOUR: &[Row] = &[(
+    &[ROUTE],
+    &["4 from 2 0101000000000004\n5 down 2\n6 up 2\n6 from 2 0101000000000004\n"],
+    "send 0102000000000004000000000000000000000000000000000000000100000003\n\
+    send 0102000000000004000000000000000000000000000000000000000100000003\n",
+    Ended::Whole,
+)];
+
+pub const REFUSED_PACKETS: &[Row] = &[(
+    &["node 3 links 2 dests 4\n1 up 2\n"],
+    &[
+        "2 from 2 -\n2 from 2 02\n2 from 2 01010000000000\n2 from 2 010100000000000400\n\
+    2 from 2 0102000000000004000000000000000000000000000100000000000100000003\n\
+    2 from 2 010200000000000400000000000000070000000300000000ffffffff00000002\n\
+    2 from 2 010200000000000400000000000000000000000000000000ffffffff00000002\n",
+    ],
+    "bad 1\nbad 1\nbad 1\nbad 2\nbad 5\nbad 6\n",
+    Ended::Whole,
+)];
+
+pub const REFUSED_INPUTS: &[Row] = &[(
+    &["node 3 links 2,4 dests 4\n1 up 9\n1 down 2\n1 up 2\n1 up 2\n"],
+    &[
+        "1 from 4 0101000000000004\n1 need 99\n\
+    1 from 2 0102000000000004000000000000000000000000000000000000000100000005\n",
+    ],
+    "refused 1\nrefused 3\nrefused 2\nrefused 3\nrefused 5\nrefused 4\n",
+    Ended::Whole,
+)];
+
+pub const EMPTY: &[Row] = &[
+    (&[""], &[""], "fault 1\n", Ended::Fault(1)),
+    (&["\n"], &[""], "fault 1\n", Ended::Fault(1)),
+];
+
+pub const TWO_DESTINATIONS: &[Row] = &[(
+    &["node 3 links 2,4 dests 5,4\n1 up 2\n"],
+    &["1 need 5\n1 need 4\n2 up 4\n"],
+    "send 0101000000000005\nsend 0101000000000004\n\
+    send 0102000000000004000000000000000000000000000000000000000100000003\n\
+    send 0101000000000005\n",
+    Ended::Whole,
+)];
+
 /// First lines that are taken.
-pub const ACCEPTED: &[&str] = &[
+const ACCEPTED: &[&str] = &[
     "node 3 links - dests -",
     "node 3 links - dests -\n",
     "node 4 links 2 dests 4",
@@ -41,7 +104,7 @@ pub const ACCEPTED: &[&str] = &[
 ];
 
 /// First lines that are faults.
-pub const REFUSED: &[&str] = &[
+const REFUSED: &[&str] = &[
     "node 0 links 2 dests 4",
     "node 03 links 2 dests 4",
     "node 4294967296 links 2 dests 4",
@@ -73,10 +136,16 @@ pub const REFUSED: &[&str] = &[
     "1 show",
 ];
 
+/// First lines with nothing behind them.
+pub const FIRST_LINES: &[Row] = &[
+    (ACCEPTED, NOTHING, "", Ended::Whole),
+    (REFUSED, NOTHING, "fault 1\n", Ended::Fault(1)),
+];
+
 pub const FIRST: &str = "node 3 links 2 dests 4\n";
 
 /// Lines behind it that are faults.
-pub const FAULTS: &[&str] = &[
+const NO_LINES: &[&str] = &[
     "\n",
     " ",
     "1",
@@ -119,7 +188,9 @@ pub const FAULTS: &[&str] = &[
     "\u{fffd}",
 ];
 
-/// Lines behind it, with what is printed for them.
+pub const FAULTS: &[Row] = &[(&[FIRST], NO_LINES, "fault 2\n", Ended::Fault(2))];
+
+/// Lines behind a first line, with what is printed for them.
 pub const ENDS_OF_RANGES: &[(&str, &str)] = &[
     ("0 show", "to 4 height - flag 0 hop -\n"),
     (
@@ -132,42 +203,75 @@ pub const ENDS_OF_RANGES: &[(&str, &str)] = &[
     ("1 from 2 0101000000000004", "refused 3\n"),
 ];
 
+pub const EMPTY_LINE: &[Row] = &[(
+    &[FIRST],
+    &["1 show\n\n"],
+    "to 4 height - flag 0 hop -\nfault 3\n",
+    Ended::Fault(3),
+)];
+
+/// A line of 4,096 bytes, and a longer one.
+pub const LONGEST_LINES: &[Files] = &[
+    Files {
+        front: "node 3 links 2 dests 4\n12 from 2 ",
+        middles: &["0"],
+        times: 4086,
+        end: "",
+        text: "bad 3\n",
+        ended: Ended::Whole,
+    },
+    Files {
+        front: "node 3 links 2 dests 4\n123 from 2 ",
+        middles: &["0"],
+        times: 4086,
+        end: "",
+        text: "fault 2\n",
+        ended: Ended::Fault(2),
+    },
+];
+
 /// Lines behind the first, and why they are faults.
-pub const CAUSES: &[(&str, Cause)] = &[
-    ("", Cause::Empty),
-    ("1 show\r", Cause::CarriageReturn),
-    ("1 show ", Cause::TrailingBlank),
-    ("show", Cause::Time),
-    ("01 show", Cause::Time),
-    ("18446744073709551616 show", Cause::Time),
-    ("1", Cause::NoOrder),
-    ("1 open 2", Cause::Word),
-    ("1 up 0", Cause::Id),
-    ("1 down", Cause::Id),
-    ("1 need 4294967296", Cause::Id),
-    ("1 from 2", Cause::From),
-    ("1 from 0 -", Cause::From),
-    ("1 from 2 0g", Cause::Digits),
-    ("1 from 2 010", Cause::Digits),
-    ("1 show 4", Cause::Show),
+pub const CAUSES: &[(Option<&str>, Cause)] = &[
+    (Some(""), Cause::Empty),
+    (Some("1 show\r"), Cause::CarriageReturn),
+    (Some("1 show "), Cause::TrailingBlank),
+    (Some("show"), Cause::Time),
+    (Some("01 show"), Cause::Time),
+    (Some("18446744073709551616 show"), Cause::Time),
+    (Some("1"), Cause::NoOrder),
+    (Some("1 open 2"), Cause::Word),
+    (Some("1 up 0"), Cause::Id),
+    (Some("1 down"), Cause::Id),
+    (Some("1 need 4294967296"), Cause::Id),
+    (Some("1 from 2"), Cause::From),
+    (Some("1 from 0 -"), Cause::From),
+    (Some("1 from 2 0g"), Cause::Digits),
+    (Some("1 from 2 010"), Cause::Digits),
+    (Some("1 show 4"), Cause::Show),
 ];
 
 /// First lines, and why they are faults.
-pub const FIRST_CAUSES: &[(&str, Cause)] = &[
-    ("1 show", Cause::Header),
-    ("node 3 links 2 dests 4 5", Cause::Header),
-    ("node 3 links 2  dests 4", Cause::Header),
-    ("node 0 links 2 dests 4", Cause::HeaderNumber),
-    ("node 3 links 2, dests 4", Cause::HeaderNumber),
+pub const FIRST_CAUSES: &[(Option<&str>, Cause)] = &[
+    (None, Cause::Missing),
+    (Some("1 show"), Cause::Header),
+    (Some("node 3 links 2 dests 4 5"), Cause::Header),
+    (Some("node 3 links 2  dests 4"), Cause::Header),
+    (Some("node 0 links 2 dests 4"), Cause::HeaderNumber),
+    (Some("node 3 links 2, dests 4"), Cause::HeaderNumber),
     (
-        "node 3 links 2,2 dests 4",
+        Some("node 3 links 2,2 dests 4"),
         Cause::Refused(CoreError::Repeated),
     ),
-    ("node 3 links 3 dests 4", Cause::Refused(CoreError::OwnId)),
     (
-        "node 34 links 1,2,3,4,5,6,7,8,9,10,11,12,13,14,15,16,\
+        Some("node 3 links 3 dests 4"),
+        Cause::Refused(CoreError::OwnId),
+    ),
+    (
+        Some(
+            "node 34 links 1,2,3,4,5,6,7,8,9,10,11,12,13,14,15,16,\
     17,18,19,20,21,22,23,24,25,26,27,28,29,30,31,32,\
     33 dests 4",
+        ),
         Cause::Refused(CoreError::TooMany),
     ),
 ];

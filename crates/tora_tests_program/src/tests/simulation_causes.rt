@@ -1,9 +1,13 @@
-//! Why lines of simulation files are faults, and the words of the command line.
-use super::words::matched;
-use super::*;
+//! Why lines of simulation files are faults.
+use super::route_rows::NO_RESTS;
+use super::runs::{Way, expect_rows};
+use super::sees::sees_at;
+use std::alloc::Global;
+use std::process::Abort;
 use tora_arq::Times;
 use tora_lines::{FileKind, LONGEST_LINE};
 use tora_script::{Simulation, SimulationCause, simulation_cause};
+use tora_sim::Sim;
 
 /// Takes a line; whether it is none that is a fault, and there is memory.
 fn is_taken(alloc: Global, state: &mut Simulation<Sim>, line: &str) -> bool {
@@ -28,31 +32,23 @@ fn cause_behind(alloc: Global, lines: &[&str], line: &str) -> Option<SimulationC
     Some(simulation_cause(&state.stage, line.as_bytes()))
 }
 
-/// Whether a cause is the one that is wanted.
-fn is_cause(found: Option<SimulationCause>, cause: SimulationCause) -> bool {
-    found == Some(cause)
-}
+/// Lines, and further ones with the cause for which each is a fault behind them.
+type Causes = (
+    &'static [&'static str],
+    &'static [(&'static str, SimulationCause)],
+);
 
-/// Behind these lines a line is a fault for this cause, as `-v` says it. Where another is found it is asked for again, since
-/// memory may have been refused.
-fn expect_cause(
-    rt: &impl Abort,
-    alloc: Global,
-    lines: &[&str],
-    line: &str,
-    cause: SimulationCause,
-) {
-    let mut found = cause_behind(alloc, lines, line);
-    if !is_cause(found, cause) {
-        found = cause_behind(alloc, lines, line);
-    }
-    sees_at(rt, is_cause(found, cause), &(line, found));
-}
-
-/// Behind these lines each of the rows is a line and the cause for which it is a fault.
-fn expect_causes<T: AllocGlobal + Abort>(rt: &T, lines: &[&str], rows: &[(&str, SimulationCause)]) {
-    for (line, cause) in rows {
-        expect_cause(rt, rt.alloc(), lines, *line, *cause);
+/// Behind its lines each of the further ones is a fault for its cause, as `-v` says it. Where another is found it is asked for
+/// again, since memory may have been refused.
+fn expect_causes(rt: &impl Abort, alloc: Global, groups: &[Causes]) {
+    for (lines, rows) in groups {
+        for (line, cause) in *rows {
+            let mut found = cause_behind(alloc, *lines, *line);
+            if found != Some(*cause) {
+                found = cause_behind(alloc, *lines, *line);
+            }
+            sees_at(rt, found == Some(*cause), &(lines, line, found));
+        }
     }
 }
 
@@ -75,17 +71,29 @@ const LINK_CAUSES: &[(&str, SimulationCause)] = &[
     ("link 1 0", SimulationCause::Pair),
 ];
 
-/// Lines, and why the line `tick` behind them is a fault.
-const TOPOLOGY_CAUSES: &[(&[&str], SimulationCause)] = &[
+/// Lines behind two links.
+const SECOND_LINK_CAUSES: &[(&str, SimulationCause)] = &[
+    ("link 3", SimulationCause::Pair),
+    ("link 3 4 ", SimulationCause::TrailingBlank),
+    ("turns", SimulationCause::Word),
+];
+
+/// First lines, links, and the line behind them.
+const EARLY_CAUSES: &[Causes] = &[
+    (&[], FIRST_CAUSES),
+    (&["dests 4"], LINK_CAUSES),
     (
         &["dests 4", "link 1 2", "link 3 2", "link 2 1", "link 2 3"],
-        SimulationCause::RepeatedLink(2, 4),
+        &[("tick", SimulationCause::RepeatedLink(2, 4))],
     ),
     (
         &["dests 4,5,6,5,4", "link 1 2"],
-        SimulationCause::RepeatedDestination(4),
+        &[("tick", SimulationCause::RepeatedDestination(4))],
     ),
-    (&["dests 4", "link 1 1"], SimulationCause::OwnLink),
+    (
+        &["dests 4", "link 1 1"],
+        &[("tick", SimulationCause::OwnLink)],
+    ),
     (
         &[
             "dests 1,2,3,4,5,6,7,8,9,10,11,12,13,14,15,16,\
@@ -95,28 +103,15 @@ const TOPOLOGY_CAUSES: &[(&[&str], SimulationCause)] = &[
             65",
             "link 1 2",
         ],
-        SimulationCause::TooMany,
+        &[("tick", SimulationCause::TooMany)],
     ),
-];
-
-const THREE: &[&str] = &["dests 4", "link 1 2", "link 2 3"];
-
-/// Lines behind two links.
-const SECOND_LINK_CAUSES: &[(&str, SimulationCause)] = &[
-    ("link 3", SimulationCause::Pair),
-    ("link 3 4 ", SimulationCause::TrailingBlank),
-    ("turns", SimulationCause::Word),
+    (&["dests 4", "link 1 2", "link 2 3"], SECOND_LINK_CAUSES),
 ];
 
 /// Why a first line or a link is a fault, as `-v` says it.
 #[test]
 fn causes_of_faults_before_a_simulation_runs(rt: HostRuntime) {
-    expect_causes(&rt, &[], FIRST_CAUSES);
-    expect_causes(&rt, &["dests 4"], LINK_CAUSES);
-    for (lines, cause) in TOPOLOGY_CAUSES {
-        expect_cause(&rt, rt.alloc(), *lines, "tick", *cause);
-    }
-    expect_causes(&rt, THREE, SECOND_LINK_CAUSES);
+    expect_causes(&rt, rt.alloc(), EARLY_CAUSES);
 }
 
 /// Old nodes behind two links.
@@ -136,24 +131,25 @@ const LATE_CAUSES: &[(&str, SimulationCause)] = &[
     ("dests 4", SimulationCause::LateDests),
 ];
 
-/// Lines, and why the line `old 1` behind them is a fault.
-const OLD_PLACE_CAUSES: &[(&[&str], SimulationCause)] = &[
-    (&["dests 4", "link 1 1"], SimulationCause::OwnLink),
-    (&["dests 4"], SimulationCause::NoLink),
+/// Old nodes behind links, behind an old node, and out of their place.
+const CAUSES_OF_OLD_NODES: &[Causes] = &[
+    (&["dests 4", "link 1 2", "link 2 3"], OLD_CAUSES),
+    (&["dests 4", "link 1 2", "old 2"], LATE_CAUSES),
+    (
+        &["dests 4", "link 1 1"],
+        &[("old 1", SimulationCause::OwnLink)],
+    ),
+    (&["dests 4"], &[("old 1", SimulationCause::NoLink)]),
     (
         &["dests 4", "link 1 2", "old 2", "tick"],
-        SimulationCause::LateOld,
+        &[("old 1", SimulationCause::LateOld)],
     ),
 ];
 
 /// Why an old node is a fault, as `-v` says it.
 #[test]
 fn causes_of_faults_of_old_nodes(rt: HostRuntime) {
-    expect_causes(&rt, THREE, OLD_CAUSES);
-    expect_causes(&rt, &["dests 4", "link 1 2", "old 2"], LATE_CAUSES);
-    for (lines, cause) in OLD_PLACE_CAUSES {
-        expect_cause(&rt, rt.alloc(), *lines, "old 1", *cause);
-    }
+    expect_causes(&rt, rt.alloc(), CAUSES_OF_OLD_NODES);
 }
 
 /// Lines of a running simulation.
@@ -184,49 +180,28 @@ const RUNNING_CAUSES: &[(&str, SimulationCause)] = &[
     ("heights 4", SimulationCause::NoSuchDestination),
 ];
 
+const LATER_CAUSES: &[Causes] = &[(
+    &["dests 3,7", "link 1 2", "link 2 3", "tick"],
+    RUNNING_CAUSES,
+)];
+
 /// Why a line behind the links is a fault, as `-v` says it.
 #[test]
 fn causes_of_faults_of_a_simulation(rt: HostRuntime) {
-    let lines = ["dests 3,7", "link 1 2", "link 2 3", "tick"];
-    expect_causes(&rt, &lines, RUNNING_CAUSES);
+    expect_causes(&rt, rt.alloc(), LATER_CAUSES);
 }
 
-/// Whether the words of a simulation have `-v`, and whether its path is `a.sim`; nothing where they are none.
-fn path_of(alloc: Global, words: &[&str]) -> Option<(bool, bool)> {
-    let matches = matched(alloc, words)?;
-    let is_verbose = matches.get_flag("verbose");
-    match matches.subcommand() {
-        Some(("sim", sim)) => Some((is_verbose, sim.get_str("FILE") == Some("a.sim"))),
-        _ => None,
-    }
-}
+const CAUSES_OF_RESTS: &[Causes] = &[(
+    &["dests 4", "link 1 2", "link 2 3", "link 3 4", "rest"],
+    &[
+        ("rest 4", SimulationCause::Rest),
+        ("rests", SimulationCause::Word),
+    ],
+)];
 
-/// Words of a simulation, and whether `-v` is among them.
-const WORDS: &[(&[&str], bool)] = &[
-    (&["tora", "sim", "a.sim"], false),
-    (&["tora", "-v", "sim", "a.sim"], true),
-    (&["tora", "sim", "-v", "a.sim"], true),
-    (&["tora", "sim", "a.sim", "-v"], true),
-];
-
-/// Words that are no simulation of one file.
-const NO_WORDS: &[&[&str]] = &[
-    &["tora", "sim"],
-    &["tora", "sim", "a.sim", "b.sim"],
-    &["tora", "a.sim"],
-];
-
+/// Nothing stands behind `rest`.
 #[test]
-fn words_of_a_simulation(rt: HostRuntime) {
-    let mut refused = 0u64;
-    for (words, is_verbose) in WORDS {
-        match path_of(rt.alloc(), *words) {
-            None => refused = refused.saturating_add(1),
-            Some(found) => same_at(&rt, &found, &(*is_verbose, true), words),
-        }
-    }
-    expect_few_refusals(&rt, refused);
-    for words in NO_WORDS {
-        sees_at(&rt, path_of(rt.alloc(), *words).is_none(), words);
-    }
+fn words_behind_rest_are_faults(rt: HostRuntime) {
+    expect_rows(&rt, Way::Simulation, NO_RESTS);
+    expect_causes(&rt, rt.alloc(), CAUSES_OF_RESTS);
 }

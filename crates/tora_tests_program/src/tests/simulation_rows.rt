@@ -1,15 +1,10 @@
-//! Lines of simulation files, and what is printed for them.
-/// What stands before and after a call that is armed to fail.
-pub const PLACES: &[(&str, &str)] = &[
-    ("", "need 1 4\nrounds 63\nheights 4\n"),
-    ("need 1 4\n", "rounds 63\nheights 4\n"),
-    ("need 1 4\nrounds 1\n", "rounds 62\nheights 4\n"),
-    ("need 1 4\nrounds 2\n", "rounds 61\nheights 4\n"),
-    ("need 1 4\nrounds 3\n", "rounds 60\nheights 4\n"),
-];
+//! Lines of simulation files that are taken or faults, and what is printed for them.
+use super::route_rows::{FOUR, STAR};
+use super::runs::{Files, NOTHING, Row};
+use tora_lines::Ended;
 
 /// Lines of walks that name no node or no destination, or too few.
-pub const NO_WALKS: &[&str] = &[
+const NO_WALKS: &[&str] = &[
     "exact 3\n",
     "walk 5 4\n",
     "walk 1 3\n",
@@ -17,8 +12,18 @@ pub const NO_WALKS: &[&str] = &[
     "walk 4\n",
 ];
 
+pub const WALKS: &[Row] = &[
+    (&[FOUR], NO_WALKS, "fault 5\n", Ended::Fault(5)),
+    (
+        &[FOUR],
+        &["walk 4 4\nwalk 1 4\n"],
+        "walk 4\nwalk -\n",
+        Ended::Whole,
+    ),
+];
+
 /// First lines that are taken.
-pub const DESTINATIONS: &[&str] = &[
+const DESTINATIONS: &[&str] = &[
     "dests -\n",
     "dests 4\n",
     "dests 4294967295\n",
@@ -30,7 +35,7 @@ pub const DESTINATIONS: &[&str] = &[
 ];
 
 /// First lines that are faults.
-pub const NO_DESTINATIONS: &[&str] = &[
+const NO_DESTINATIONS: &[&str] = &[
     "",
     "\n",
     "dests\n",
@@ -54,40 +59,84 @@ pub const NO_DESTINATIONS: &[&str] = &[
     "node 3 links 2 dests 4\n",
 ];
 
-/// First lines, and two links of which the second is refused.
-pub const TWO_LINKS: &[(&str, &str)] = &[
-    ("dests 4\n", "link 1 2\nlink 1 2"),
-    ("dests 4\n", "link 1 2\nlink 2 1"),
-    ("dests 4\n", "link 1 2\nlink 3 3"),
-    ("dests 4,4\n", "link 1 2\nlink 2 3"),
+/// First lines, and a link behind them.
+pub const FIRST_LINES: &[Row] = &[
     (
-        "dests 1,2,3,4,5,6,7,8,9,10,11,12,13,14,15,16,\
-        17,18,19,20,21,22,23,24,25,26,27,28,29,30,31,32,\
-        33,34,35,36,37,38,39,40,41,42,43,44,45,46,47,48,\
-        49,50,51,52,53,54,55,56,57,58,59,60,61,62,63,64,\
-        65\n",
-        "link 1 2\nlink 2 3",
+        DESTINATIONS,
+        &["link 1 2", "link 1 2\ntick\n"],
+        "",
+        Ended::Whole,
+    ),
+    (DESTINATIONS, &["", "tick"], "fault 2\n", Ended::Fault(2)),
+    (NO_DESTINATIONS, NOTHING, "fault 1\n", Ended::Fault(1)),
+];
+
+/// A first line and two links, of which the second or the first line is refused by what stands behind them.
+const TWO_LINKS: &[&str] = &[
+    "dests 4\nlink 1 2\nlink 1 2",
+    "dests 4\nlink 1 2\nlink 2 1",
+    "dests 4\nlink 1 2\nlink 3 3",
+    "dests 4,4\nlink 1 2\nlink 2 3",
+    "dests 1,2,3,4,5,6,7,8,9,10,11,12,13,14,15,16,\
+    17,18,19,20,21,22,23,24,25,26,27,28,29,30,31,32,\
+    33,34,35,36,37,38,39,40,41,42,43,44,45,46,47,48,\
+    49,50,51,52,53,54,55,56,57,58,59,60,61,62,63,64,\
+    65\nlink 1 2\nlink 2 3",
+];
+
+/// What may stand behind those links.
+const BEHIND_LINKS: &[&str] = &["\ntick\n", "\n\n", "\nlink 5 0\n", "\nheights 4\ntick\n"];
+
+/// A topology that is refused is a fault of the line behind the links, whatever it is, or of the last link.
+pub const TOPOLOGIES: &[Row] = &[
+    (TWO_LINKS, NOTHING, "fault 3\n", Ended::Fault(3)),
+    (TWO_LINKS, BEHIND_LINKS, "fault 4\n", Ended::Fault(4)),
+    (&["dests 4\n"], &[STAR], "", Ended::Whole),
+    (
+        &["dests 4\nlink 34 1\n"],
+        &[STAR],
+        "fault 34\n",
+        Ended::Fault(34),
     ),
 ];
 
-/// A node with 32 neighbours.
-pub const STAR: &str =
-    "link 1 2\nlink 1 3\nlink 1 4\nlink 1 5\nlink 1 6\nlink 1 7\nlink 1 8\nlink 1 9\n\
-    link 1 10\nlink 1 11\nlink 1 12\nlink 1 13\nlink 1 14\nlink 1 15\nlink 1 16\nlink 1 17\n\
-    link 1 18\nlink 1 19\nlink 1 20\nlink 1 21\nlink 1 22\nlink 1 23\nlink 1 24\nlink 1 25\n\
-    link 1 26\nlink 1 27\nlink 1 28\nlink 1 29\nlink 1 30\nlink 1 31\nlink 1 32\nlink 1 33\n";
+/// A line of 64 nodes, and one more.
+pub const LINES_OF_NODES: &[Files] = &[
+    Files {
+        front: "dests 4\n",
+        middles: &[LINKS_OF_A_LINE],
+        times: 1,
+        end: "",
+        text: "",
+        ended: Ended::Whole,
+    },
+    Files {
+        front: "dests 4\n",
+        middles: &[LINKS_OF_A_LINE],
+        times: 1,
+        end: "link 64 65\n",
+        text: "fault 65\n",
+        ended: Ended::Fault(65),
+    },
+];
 
-pub const STAR_FOUND: &str = "node 1 (0,0,0,1,1) hop 2\nnode 2 (0,0,0,0,2) hop -\n\
-    node 3 - hop 1\nnode 4 - hop 1\nnode 5 - hop 1\nnode 6 - hop 1\nnode 7 - hop 1\n\
-    node 8 - hop 1\nnode 9 - hop 1\nnode 10 - hop 1\nnode 11 - hop 1\nnode 12 - hop 1\n\
-    node 13 - hop 1\nnode 14 - hop 1\nnode 15 - hop 1\nnode 16 - hop 1\nnode 17 - hop 1\n\
-    node 18 - hop 1\nnode 19 - hop 1\nnode 20 - hop 1\nnode 21 - hop 1\nnode 22 - hop 1\n\
-    node 23 - hop 1\nnode 24 - hop 1\nnode 25 - hop 1\nnode 26 - hop 1\nnode 27 - hop 1\n\
-    node 28 - hop 1\nnode 29 - hop 1\nnode 30 - hop 1\nnode 31 - hop 1\nnode 32 - hop 1\n\
-    node 33 (0,0,0,2,33) hop 1\n";
+const LINKS_OF_A_LINE: &str = "link 1 2\nlink 2 3\nlink 3 4\nlink 4 5\nlink 5 6\nlink 6 7\n\
+    link 7 8\nlink 8 9\nlink 9 10\nlink 10 11\nlink 11 12\nlink 12 13\n\
+    link 13 14\nlink 14 15\nlink 15 16\nlink 16 17\nlink 17 18\nlink 18 19\n\
+    link 19 20\nlink 20 21\nlink 21 22\nlink 22 23\nlink 23 24\nlink 24 25\n\
+    link 25 26\nlink 26 27\nlink 27 28\nlink 28 29\nlink 29 30\nlink 30 31\n\
+    link 31 32\nlink 32 33\nlink 33 34\nlink 34 35\nlink 35 36\nlink 36 37\n\
+    link 37 38\nlink 38 39\nlink 39 40\nlink 40 41\nlink 41 42\nlink 42 43\n\
+    link 43 44\nlink 44 45\nlink 45 46\nlink 46 47\nlink 47 48\nlink 48 49\n\
+    link 49 50\nlink 50 51\nlink 51 52\nlink 52 53\nlink 53 54\nlink 54 55\n\
+    link 55 56\nlink 56 57\nlink 57 58\nlink 58 59\nlink 59 60\nlink 60 61\n\
+    link 61 62\nlink 62 63\nlink 63 64\n";
+
+/// Two links, and what is printed behind them.
+pub const THREE: &str = "dests 3,7\nlink 1 2\nlink 2 3\n";
 
 /// Lines behind the links that are faults.
-pub const NO_LINKS: &[&str] = &[
+const NO_LINKS: &[&str] = &[
     "link\n",
     "link \n",
     "link 4\n",
@@ -106,6 +155,37 @@ pub const NO_LINKS: &[&str] = &[
     "link 4 5\r\n",
     "Link 4 5\n",
     "dests 4\n",
+];
+
+pub const LINKS: &[Row] = &[
+    (
+        &[THREE],
+        &["link 4294967295 1\n", "link 3 4", "link 1 3\n"],
+        "",
+        Ended::Whole,
+    ),
+    (&[THREE], NO_LINKS, "fault 4\n", Ended::Fault(4)),
+    (
+        &[THREE],
+        &["tick\nlink 4 5\n"],
+        "fault 5\n",
+        Ended::Fault(5),
+    ),
+];
+
+pub const MOST_ROUNDS: &[Row] = &[
+    (
+        &["dests -\nlink 1 2\nrounds "],
+        &["10000"],
+        "",
+        Ended::Whole,
+    ),
+    (
+        &["dests -\nlink 1 2\nrounds "],
+        &["10001"],
+        "fault 3\n",
+        Ended::Fault(3),
+    ),
 ];
 
 /// Each kind of line behind the links, and what it prints.
@@ -158,185 +238,4 @@ pub const TAKEN: &[(&str, &str)] = &[
     ),
     ("sent 1 2 1 4611686018427387904", "count 0\n"),
     ("taken 1 2 4611686018427387904 1", "count 0\n"),
-];
-
-/// Lines that name what there is not.
-pub const OTHER_LINKS: &[&str] = &[
-    "part 1 3",
-    "part 1 1",
-    "part 1 9",
-    "mend 1 3",
-    "mend 9 1",
-    "sent 1 3 1 1",
-    "sent 2 2 1 1",
-    "taken 3 1 1 1",
-    "taken 9 1 1 1",
-    "heights 1",
-    "heights 4",
-];
-
-/// Events of two numbers that are faults.
-pub const NO_PAIRS: &[&str] = &[
-    "need",
-    "need ",
-    "need 1",
-    "need 1 ",
-    "need 1 3 ",
-    "need 1 3 4",
-    "need 1  3",
-    " need 1 3",
-    "need 0 3",
-    "need 1 0",
-    "need 01 3",
-    "need 1 03",
-    "need 1 4294967296",
-    "need -1 3",
-    "need 1,3",
-    "need 1 -",
-    "Need 1 3",
-    "needs 1 3",
-    "1 need 3",
-    "open 1",
-    "open 1 2 3",
-    "open 0 2",
-    "open 1 0",
-    "open 1 2 ",
-    "open 01 2",
-    "pull 1",
-    "pull 1 2 3",
-    "pull 0 2",
-    "pull 1 02",
-    "pull 1 2 ",
-    "transmit 1",
-    "transmit 1 2 3",
-    "transmit 1 0",
-    "transmit 01 2",
-    "transmit 1 2 ",
-    "pump 1",
-    "pump 1 2 3",
-    "pump 1 0",
-    "pump 1 02",
-    "pump 1 2 ",
-];
-
-/// Other events that are faults.
-pub const NO_EVENTS: &[&str] = &[
-    "\n",
-    " ",
-    "tick ",
-    "tick 1",
-    " tick",
-    "Tick",
-    "ticks",
-    "1 tick",
-    "tick\r",
-    "deliver",
-    "deliver ",
-    "deliver 01",
-    "deliver -1",
-    "deliver 1 ",
-    "deliver 1 2",
-    "deliver 18446744073709551616",
-    "deliver 1a",
-    "turn",
-    "turn ",
-    "turn 0",
-    "turn 01",
-    "turn 1 ",
-    "turn 1 2",
-    "turn 4294967296",
-    "\u{e9}",
-    "tick\u{0}",
-];
-
-/// Calls and restarts that are faults.
-pub const NO_CALLS: &[&str] = &[
-    "arm",
-    "arm 1",
-    "arm 1 ",
-    "arm 0 read",
-    "arm 01 read",
-    "arm read",
-    "arm 1 read ",
-    "arm 1 read write",
-    "arm 1  read",
-    "arm 1 Read",
-    "arm 1 send",
-    "arm 1 send-",
-    "arm 1 lost",
-    "arm 1 receives",
-    "arm 1 syn",
-    "restart",
-    "restart 1",
-    "restart 1 ",
-    "restart 0 -",
-    "restart 01 -",
-    "restart 1 --",
-    "restart 1 - ",
-    "restart 1 - -",
-    "restart 1  -",
-    "restart 1 0123456789abcdef0123456789abcde",
-    "restart 1 0123456789abcdef0123456789abcdef0",
-    "restart 1 0123456789abcdef0123456789abcdef01",
-    "restart 1 0123456789abcdef0123456789abcdeg",
-    "restart 1 0123456789abcdef 123456789abcdef",
-    "restart 1 0x23456789abcdef0123456789abcdef",
-    "restart 1 0123456789abcdef0123456789abcdef ",
-];
-
-/// Orders that are faults.
-pub const NO_ORDERS: &[&str] = &[
-    "rounds",
-    "rounds ",
-    "rounds 01",
-    "rounds -1",
-    "rounds 10001",
-    "rounds 1 ",
-    "rounds 1 2",
-    "rounds 18446744073709551616",
-    "round 1",
-    "part 1",
-    "part 1 2 3",
-    "part 0 2",
-    "part 1 2 ",
-    "part 01 2",
-    "part 1 4294967298",
-    "mend 1",
-    "mend 1 2 3",
-    "mend 1 0",
-    "mend 1 2 ",
-    "heights",
-    "heights ",
-    "heights 0",
-    "heights 03",
-    "heights 3 ",
-    "heights 3,7",
-    "heights -",
-    "heights 3 7",
-    "height 3",
-    "sent 1 2",
-    "sent 1 2 1",
-    "sent 1 2 1 ",
-    "sent 1 2 1 1 1",
-    "sent 1 2 1 1 ",
-    "sent 0 2 1 1",
-    "sent 1 0 1 1",
-    "sent 1 2 0 1",
-    "sent 1 2 1 0",
-    "sent 1 2 01 1",
-    "sent 1 2 1 01",
-    "sent 1 2 1 4611686018427387905",
-    "sent 1 2 4611686018427387905 1",
-    "sent 1 2  1 1",
-    "taken 1 2",
-    "taken 1 2 1",
-    "taken 1 2 1 1 1",
-    "taken 1 2 1 1 ",
-    "taken 0 2 1 1",
-    "taken 1 2 0 1",
-    "taken 1 2 1 0",
-    "taken 1 2 1 4611686018427387905",
-    "show",
-    "1 show",
-    "quit",
 ];

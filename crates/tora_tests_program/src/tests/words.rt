@@ -1,6 +1,9 @@
 //! The words of a command line, taken by the program's command.
+use super::expected::expect_few_refusals;
+use super::sees::sees_at;
 use clap::{ArgMatches, Error as WordError};
 use std::alloc::Global;
+use std::process::Abort;
 use tora_commands::command;
 
 /// What the words of a command line ask for, or what is wrong with them; nothing where memory was refused for the command.
@@ -12,7 +15,108 @@ pub fn parsed<'a>(
     Some(command.try_get_matches_from(words))
 }
 
-/// What the words of a command line ask for; nothing where they are none, or memory was refused.
-pub fn matched<'a>(alloc: Global, words: &'a [&'a str]) -> Option<ArgMatches<'a>> {
-    parsed(alloc, words)?.ok()
+/// What words are to ask for.
+#[derive(Clone, Copy)]
+pub enum Asked {
+    /// They are no command line.
+    Nothing,
+    /// With `-v` among them, or without.
+    Verbose(bool),
+    /// A simulation of a file, with times and a trace, without `-v`.
+    Sim(&'static str, Option<&'static str>, Option<&'static str>),
+    /// A simulation of a file with `-v` alone.
+    VerboseSim(&'static str),
+}
+
+/// Whether there is a simulation of this file, with these times and this trace, and `-v` or not.
+fn is_sim(
+    matches: &ArgMatches<'_>,
+    is_verbose: bool,
+    (file, times, trace): (&str, Option<&str>, Option<&str>),
+) -> bool {
+    match matches.subcommand() {
+        Some(("sim", sim)) => {
+            matches.get_flag("verbose") == is_verbose
+                && sim.get_str("FILE") == Some(file)
+                && sim.get_str("times") == times
+                && sim.get_str("trace") == trace
+        }
+        _ => false,
+    }
+}
+
+/// Whether the words ask for this; nothing where they are no command line, or memory was refused.
+fn asks_for(alloc: Global, words: &[&str], wanted: Asked) -> Option<bool> {
+    let matches = parsed(alloc, words)?.ok()?;
+    Some(match wanted {
+        Asked::Nothing => false,
+        Asked::Verbose(is_verbose) => matches.get_flag("verbose") == is_verbose,
+        Asked::Sim(file, times, trace) => is_sim(&matches, false, (file, times, trace)),
+        Asked::VerboseSim(file) => is_sim(&matches, true, (file, None, None)),
+    })
+}
+
+/// Each of these words ask for what stands beside them.
+pub fn expect_words(rt: &impl Abort, alloc: Global, rows: &[(&[&str], Asked)]) {
+    let mut refused = 0u64;
+    for (words, wanted) in rows {
+        let found = asks_for(alloc, *words, *wanted);
+        if found.is_none() && !matches!(wanted, Asked::Nothing) {
+            refused = refused.saturating_add(1);
+        }
+        sees_at(rt, found.is_none() || found == Some(true), words);
+    }
+    expect_few_refusals(rt, refused);
+}
+
+const VERBOSE: &[(&[&str], Asked)] = &[
+    (&["tora", "-v", "replay"], Asked::Verbose(true)),
+    (&["tora", "replay", "-v"], Asked::Verbose(true)),
+    (&["tora", "replay", "--verbose"], Asked::Verbose(true)),
+    (&["tora", "-v"], Asked::Verbose(true)),
+    (&["tora", "replay"], Asked::Verbose(false)),
+    (&["tora"], Asked::Verbose(false)),
+];
+
+/// `-v` stands before or behind the word.
+#[test]
+fn verbose_words(rt: HostRuntime) {
+    expect_words(&rt, rt.alloc(), VERBOSE);
+}
+
+const SIMULATIONS: &[(&[&str], Asked)] = &[
+    (&["tora", "sim", "a.sim"], Asked::Sim("a.sim", None, None)),
+    (&["tora", "-v", "sim", "a.sim"], Asked::VerboseSim("a.sim")),
+    (&["tora", "sim", "-v", "a.sim"], Asked::VerboseSim("a.sim")),
+    (&["tora", "sim", "a.sim", "-v"], Asked::VerboseSim("a.sim")),
+    (&["tora", "sim"], Asked::Nothing),
+    (&["tora", "sim", "a.sim", "b.sim"], Asked::Nothing),
+    (&["tora", "a.sim"], Asked::Nothing),
+];
+
+#[test]
+fn words_of_a_simulation(rt: HostRuntime) {
+    expect_words(&rt, rt.alloc(), SIMULATIONS);
+}
+
+/// The options of `sim` in each order.
+const OPTIONS: &[(&[&str], Asked)] = &[
+    (
+        &["tora", "sim", "--times", "1,2,3,4", "--trace", "t", "f"],
+        Asked::Sim("f", Some("1,2,3,4"), Some("t")),
+    ),
+    (
+        &["tora", "sim", "--trace", "t", "--times", "1,2,3,4", "f"],
+        Asked::Sim("f", Some("1,2,3,4"), Some("t")),
+    ),
+    (
+        &["tora", "sim", "f", "--times", "1,2,3,4", "--trace", "t"],
+        Asked::Sim("f", Some("1,2,3,4"), Some("t")),
+    ),
+];
+
+/// The options of `sim` stand before or behind its file.
+#[test]
+fn options_of_sim(rt: HostRuntime) {
+    expect_words(&rt, rt.alloc(), OPTIONS);
 }

@@ -1,0 +1,204 @@
+//! Readers and writers that fail, under replays and simulations.
+use super::expected::{expect_few_refusals, is_end, is_memory};
+use super::failing_streams::{ArrayWriter, Fails, Lines, LinesReader};
+use super::replay_rows::{LOSS_TEXT, ROUTE, ROUTE_AND_LOSS, ROUTE_TEXT};
+use super::route_rows::{FOUND_AND_LOST, FOUR_FOUND_AND_LOST};
+use super::runs::{Way, expect_run};
+use super::sees::sees_at;
+use std::alloc::Global;
+use std::io::ErrorKind as IoErrorKind;
+use std::process::Abort;
+use tora_lines::{Ended, Recent, ReplayError};
+use tora_replay::replay;
+
+/// A way to run lines, the lines, what they print, and a number.
+type Run = (Way, &'static str, &'static str, usize);
+
+/// The lines of a run are taken and print its text, unless memory was refused: the answer says whether it was not.
+fn expect_whole<T: AllocGlobal + Eprint + Abort>(
+    rt: &T,
+    (way, lines, text, _): Run,
+    size: usize,
+    interrupted_read: u64,
+) -> bool {
+    let mut reader = LinesReader::new((lines, "", 0, ""));
+    reader.size = size;
+    reader.until_failure = interrupted_read;
+    reader.kind = IoErrorKind::Interrupted;
+    let mut writer = ArrayWriter::new(Fails::Never);
+    let found = way.run(rt, &mut reader, &mut writer);
+    if is_memory(found) {
+        return false;
+    }
+    let is_whole = is_end(found, Ok(Ended::Whole)) && writer.text() == text.as_bytes();
+    sees_at(rt, is_whole, &("pieces of", size, "read", interrupted_read));
+    true
+}
+
+/// Where a call fails a run ends so, or memory was refused before, and what was written begins the text.
+fn expect_failure<T: AllocGlobal + Eprint + Abort>(
+    rt: &T,
+    (way, lines, text, _): Run,
+    (size, failing_read, fails): (usize, u64, Fails),
+    error: ReplayError,
+) {
+    let mut reader = LinesReader::new((lines, "", 0, ""));
+    reader.size = size;
+    reader.until_failure = failing_read;
+    let mut writer = ArrayWriter::new(fails);
+    let found = way.run(rt, &mut reader, &mut writer);
+    let is_told = is_end(found, Err(error)) || is_memory(found);
+    let begins = text.as_bytes().starts_with(writer.text());
+    sees_at(rt, is_told && begins, &("read", failing_read, fails));
+}
+
+/// Runs, and below how many bytes each size of pieces is tried.
+const PIECES: &[Run] = &[
+    (Way::Replay, ROUTE_AND_LOSS, LOSS_TEXT, 80),
+    (Way::Simulation, FOUR_FOUND_AND_LOST, FOUND_AND_LOST, 40),
+];
+
+/// Runs, and below which read each one fails.
+const READS: &[Run] = &[
+    (Way::Replay, ROUTE_AND_LOSS, LOSS_TEXT, 64),
+    (Way::Simulation, FOUR_FOUND_AND_LOST, FOUND_AND_LOST, 20),
+];
+
+/// Runs, and below which read each one is interrupted.
+const INTERRUPTED: &[Run] = &[
+    (Way::Replay, ROUTE_AND_LOSS, LOSS_TEXT, 80),
+    (Way::Simulation, FOUR_FOUND_AND_LOST, FOUND_AND_LOST, 20),
+];
+
+/// Runs, and below which write each one fails.
+const WRITES: &[Run] = &[
+    (Way::Replay, ROUTE_AND_LOSS, LOSS_TEXT, 6),
+    (Way::Simulation, FOUR_FOUND_AND_LOST, FOUND_AND_LOST, 3),
+];
+
+#[test]
+fn input_in_pieces(rt: HostRuntime) {
+    for run in PIECES {
+        for size in 1..run.3 {
+            let is_whole = expect_whole(&rt, *run, size, 0) || expect_whole(&rt, *run, size, 0);
+            sees_at(&rt, is_whole, &("pieces of", size));
+        }
+    }
+}
+
+#[test]
+fn failed_reads(rt: HostRuntime) {
+    for run in READS {
+        for call in 1..run.3 {
+            expect_failure(&rt, *run, (5, call as u64, Fails::Never), ReplayError::Read);
+        }
+    }
+}
+
+#[test]
+fn interrupted_reads_are_made_again(rt: HostRuntime) {
+    let mut refused = 0u64;
+    for run in INTERRUPTED {
+        for call in 1..run.3 {
+            if !expect_whole(&rt, *run, 5, call as u64) {
+                refused = refused.saturating_add(1);
+            }
+        }
+    }
+    expect_few_refusals(&rt, refused);
+}
+
+#[test]
+fn failed_writes(rt: HostRuntime) {
+    for run in WRITES {
+        for call in 1..run.3 {
+            expect_failure(
+                &rt,
+                *run,
+                (1000, 0, Fails::Write(call as u64)),
+                ReplayError::Write,
+            );
+        }
+    }
+}
+
+/// Whether a fault of the third line ends the replay of its pieces, and the line is found in what was read last.
+fn is_third_line_kept(alloc: Global, size: usize) -> bool {
+    let mut pieces = LinesReader::new((
+        "node 3 links 2 dests 4\n1 up 2\n1 shows\n1 show\n",
+        "",
+        0,
+        "",
+    ));
+    pieces.size = size;
+    let mut reader = Recent::new(alloc, pieces);
+    let mut writer = ArrayWriter::new(Fails::Never);
+    let found = replay(alloc, &mut reader, &mut writer);
+    is_end(found, Ok(Ended::Fault(3))) && reader.line(3) == Some(b"1 shows".as_slice())
+}
+
+/// The line of a fault is found in what was read last, whatever the pieces.
+#[test]
+fn recent_lines_are_kept(rt: HostRuntime) {
+    let mut refused = 0u64;
+    for size in 1..60 {
+        if !is_third_line_kept(rt.alloc(), size) {
+            refused = refused.saturating_add(1);
+        }
+    }
+    expect_few_refusals(&rt, refused);
+}
+
+/// Lines that are run by a call which hands on, what they print, and how they end where that does not fail.
+type Handed = (Way, &'static str, &'static str, Ended);
+
+/// Each of these prints its text, and ends so where what was written can be handed on, and else with a failed write.
+fn expect_handed<T: AllocGlobal + Eprint + Abort>(rt: &T, rows: &[Handed]) {
+    for (way, lines, text, ended) in rows {
+        let lines: Lines<'_> = (*lines, "", 0, "");
+        expect_run(rt, *way, lines, Fails::Never, *text, Ok(*ended));
+        expect_run(
+            rt,
+            *way,
+            lines,
+            Fails::Flush,
+            *text,
+            Err(ReplayError::Write),
+        );
+    }
+}
+
+const HANDED_REPLAYS: &[Handed] = &[
+    (Way::FlushedReplay, ROUTE, ROUTE_TEXT, Ended::Whole),
+    (Way::FlushedReplay, "", "fault 1\n", Ended::Fault(1)),
+];
+
+const HANDED_SIMULATIONS: &[Handed] = &[(
+    Way::FlushedSimulation,
+    FOUR_FOUND_AND_LOST,
+    FOUND_AND_LOST,
+    Ended::Whole,
+)];
+
+/// A flush that fails at the end is a failed write, also behind a fault; all was written.
+#[test]
+fn failed_flushes(rt: HostRuntime) {
+    expect_handed(&rt, HANDED_REPLAYS);
+}
+
+/// A flush that fails at the end is a failed write; all was written.
+#[test]
+fn failed_flushes_of_a_simulation(rt: HostRuntime) {
+    expect_handed(&rt, HANDED_SIMULATIONS);
+}
+
+/// Where memory is refused, that is answered, and what was written begins the text.
+#[test]
+fn want_of_memory_in_a_simulation(rt: HostRuntime) {
+    let lines = (FOUR_FOUND_AND_LOST, "", 0, "");
+    let (found, writer) = Way::Simulation.once(&rt, lines, Fails::Never);
+    let begins = FOUND_AND_LOST.as_bytes().starts_with(writer.text());
+    let is_all = begins && FOUND_AND_LOST.len() == writer.text().len();
+    let is_whole = is_end(found, Ok(Ended::Whole)) && is_all;
+    sees_at(&rt, is_whole || is_memory(found) && begins, &found);
+}
