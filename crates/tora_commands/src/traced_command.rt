@@ -110,7 +110,7 @@ pub fn run<S: Watched, T: Files + AllocGlobal + Eprint, W: Output>(
     }
     let file = match fs::open(rt, path) {
         Ok(file) => file,
-        Err(error) => return refuse(rt, path, &error, is_verbose),
+        Err(error) => return refuse(rt, path, &error),
     };
     let made = match fs::create(rt, trace) {
         Ok(made) => made,

@@ -17,7 +17,7 @@ use tora_lines::{Ended, LONGEST_LINE, Output, Recent, ReplayError};
 use tora_script::{SimulationCause, Simulator, tell_cause};
 
 /// Says why there is no file, and ends with the status of the cause. The cause is said without `-v`, too.
-pub fn refuse<R: Eprint>(rt: &R, path: &str, error: &io::Error, _is_verbose: bool) -> ExitCode
+pub fn refuse<R: Eprint>(rt: &R, path: &str, error: &io::Error) -> ExitCode
     ensures { (exit_status result ≡ 1) ⊎ (exit_status result ≡ 5) }
 {
     if error.kind() == ErrorKind::OutOfMemory {
@@ -83,6 +83,6 @@ pub fn run<S: Simulator, T: Files + AllocGlobal + Eprint, W: Output>(
 {
     match fs::open(rt, path) {
         Ok(file) => run_over::<S, T, T::File, W>(rt, times, file, is_verbose, writer),
-        Err(error) => refuse(rt, path, &error, is_verbose),
+        Err(error) => refuse(rt, path, &error),
     }
 }

@@ -141,10 +141,7 @@ fn tells(trace: &str, line: &str, d: &str) -> bool {
 type Run = (&'static str, &'static str, &'static str, usize);
 
 /// The trace of these lines tells each height and next hop for a destination that is printed behind them, of so many nodes.
-fn expect_told<T: AllocGlobal + Eprint + Abort>(
-    rt: &T,
-    (front, d, end, count): Run,
-) {
+fn expect_told<T: AllocGlobal + Eprint + Abort>(rt: &T, (front, d, end, count): Run) {
     let (found, writer, out) = traced(rt, (front, end), FINE);
     expect_ended(rt, (front, "", 0, end), found, Ok(Ended::Whole));
     sees_at(rt, out.failure().is_none(), &front);
