@@ -31,7 +31,7 @@ for program in "$work"/kept/*/; do
   low=$(basename "$program")
   if [ -d "$programs/$low" ]; then mv "$program" "$work/crates/$low/out"; fi
 done
-cat "$top/crates.txt" "$programs/crates.txt" >"$work/crates.txt"
+cat "$top/crates.txt" "$programs/list" >"$work/crates.txt"
 cp "$top/HANDLES" "$work/"
 (cd "$work/crates/$name" && rt run >"$work/$name.log" 2>&1) || { tail -n 5 "$work/$name.log" >&2; exit 1; }
 echo "$work/crates/$name/out/$name"
