@@ -8,9 +8,9 @@ base=${2:?the folder of the baseline}
 steps=${3:-300000}
 rounds=${4:-5}
 . "$top/bench/baseline.sh" "$base"
-program=$("$top/bench/program.sh" tora_bench)
+(cd "$top/crates/tora_bench" && rt run >/dev/null 2>&1)
 for _ in $(seq "$rounds"); do
-  "$program" "$what" "$steps" >>"$work/ours"
+  "$top/crates/tora_bench/out/tora_bench" "$what" "$steps" >>"$work/ours"
   "$bin" bench "$steps" >>"$work/theirs"
 done
 python3 - "$work/ours" "$work/theirs" "$what" <<'P'

@@ -7,7 +7,7 @@
 set -eu
 here=$(cd "$(dirname "$0")" && pwd)
 "$here/beside.sh" core "$@"
-python3 - "$("$here/program.sh" tora_bench)" <<'P'
+python3 - "$here/../crates/tora_bench/out/tora_bench" <<'P'
 import os
 import subprocess
 import sys

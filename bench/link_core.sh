@@ -15,9 +15,9 @@ trap 'rm -rf "$work"' EXIT
 if [ $# -ge 3 ]; then
   gcc -O2 -o "$work/link_bench" "$3/link_bench.c" -lenet
 fi
-program=$("$top/bench/program.sh" tora_bench)
+(cd "$top/crates/tora_bench" && rt run >/dev/null 2>&1)
 for _ in $(seq "$rounds"); do
-  "$program" link "$packets" >>"$work/ours"
+  "$top/crates/tora_bench/out/tora_bench" link "$packets" >>"$work/ours"
   if [ $# -ge 3 ]; then
     for mode in enet tcp; do
       timeout 60 "$work/link_bench" "$mode" "$packets" 500 >>"$work/theirs"

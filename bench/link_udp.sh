@@ -12,9 +12,9 @@ rounds=${3:-5}
 work=$(mktemp -d)
 trap 'rm -rf "$work"' EXIT
 gcc -O2 -o "$work/link_bench" "$yardstick/link_bench.c" -lenet
-program=$("$top/bench/program.sh" tora_bench_link)
+(cd "$top/crates/tora_bench_link" && rt run >/dev/null 2>&1)
 for _ in $(seq "$rounds"); do
-  "$program" link "$count" >>"$work/ours"
+  "$top/crates/tora_bench_link/out/tora_bench_link" link "$count" >>"$work/ours"
   for mode in enet tcp w32; do
     timeout 60 "$work/link_bench" "$mode" "$count" 1000 >>"$work/$mode"
   done
