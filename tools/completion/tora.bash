@@ -5,13 +5,14 @@ _tora() {
   COMPREPLY=()
   for ((at = 1; at < COMP_CWORD; at++)); do
     case ${COMP_WORDS[at]} in
-      --times | --trace) at=$((at + 1)) ;;
+      --times | --trace | --log) at=$((at + 1)) ;;
       -*) ;;
       *) command=${COMP_WORDS[at]} && break ;;
     esac
   done
   case $before in
     --times) return ;;
+    --log) mapfile -t COMPREPLY < <(compgen -W 'off error warn info debug trace' -- "$word") && return ;;
     --trace) mapfile -t COMPREPLY < <(compgen -f -- "$word") && return ;;
   esac
   case $command in
@@ -21,7 +22,7 @@ _tora() {
       if [ -f "$(dirname "${COMP_WORDS[0]}")/tools/build.py" ]; then words+=' build test install uninstall'; fi
       ;;
     sim) words+=' --times --trace' files='*.sim' ;;
-    node) words+=' --check' files='*.toml' ;;
+    node) words+=' --check --log --log-time' files='*.toml' ;;
     help) words='replay sim node' ;;
     install | uninstall) words='-h --help' files='*/' ;;
     build | test) words='-h --help --jobs' ;;

@@ -4,6 +4,8 @@
 //! a node over UDP on the loopback. The commands themselves are those of `tora_commands`.
 #![tactic(auto)]
 
+use clap::ArgMatches;
+use log::{LevelFilter, Logged};
 use std::io;
 use std::io::BufWriter;
 use std::process::ExitCode;
@@ -11,6 +13,7 @@ use tora_commands::{
     MEMORY, USAGE, command, node_command, replay_command, simulate_file, stop, usage,
 };
 pub use tora_lines::{Ended, ReplayError, numbers_are_read_as_printed};
+use tora_log::LogLines;
 pub use tora_replay::{
     fault_is_the_first, first_lines_are_read_as_written, lines_are_read_as_written, replay,
 };
@@ -41,6 +44,14 @@ fn simulate_to_output(
     simulate_file(rt, times, path, trace, is_verbose, &mut writer)
 }
 
+/// The runtime with the log of a node: up to which level, and whether with the time, its options say.
+fn logging<R: Copy>(rt: R, node: &ArgMatches<'_>) -> Logged<R, LogLines<R>> {
+    let level = node
+        .get_one::<LevelFilter>("log")
+        .unwrap_or(LevelFilter::Info);
+    Logged::new(rt, level, LogLines::new(rt, node.get_flag("log-time")))
+}
+
 fn main(rt: HostRuntime) -> ExitCode {
     let alloc = rt.alloc();
     let words = match std::env::args(&rt) {
@@ -63,8 +74,16 @@ fn main(rt: HostRuntime) -> ExitCode {
                 Some(("node", node)) => {
                     let path = node.get_str("CONFIG").unwrap_or("");
                     let is_check = node.get_flag("check");
+                    let logged = logging(rt, node);
                     let (mut reader, mut writer) = (rt.stdin(), io::writer(&rt));
-                    node_command::run(&rt, path, is_check, is_verbose, &mut reader, &mut writer)
+                    node_command::run(
+                        &logged,
+                        path,
+                        is_check,
+                        is_verbose,
+                        &mut reader,
+                        &mut writer,
+                    )
                 }
                 Some(("sim", sim)) => {
                     let path = sim.get_str("FILE").unwrap_or("");

@@ -174,6 +174,18 @@ fn sim<'a>(alloc: Global) -> Result<Command<'a>, AllocError> {
         .arg(file)
 }
 
+/// The levels of `--log`, from the one that logs nothing on.
+const LEVELS: &[&str] = &["off", "error", "warn", "info", "debug", "trace"];
+
+/// `--log` of `node`.
+fn level<'a>(alloc: Global) -> Arg<'a> {
+    Arg::new(alloc, "log")
+        .long("log")
+        .value_name("LEVEL")
+        .value_parser(LEVELS)
+        .help("Logs what is of this level or graver, on standard error; info without it")
+}
+
 /// `node`.
 fn node<'a>(alloc: Global) -> Result<Command<'a>, AllocError> {
     let config = required(alloc, "CONFIG", "The configuration, a TOML file");
@@ -182,11 +194,18 @@ fn node<'a>(alloc: Global) -> Result<Command<'a>, AllocError> {
         "check",
         "Reads the configuration, says what is wrong with it, and ends",
     );
+    let time = flag(
+        alloc,
+        "log-time",
+        "Puts the time before each line of the log, in UTC",
+    );
     Command::new(alloc, "node")
         .about("Runs a node over UDP on the loopback, with its commands on standard input")
         .after_help(NODE)
         .arg(config)?
-        .arg(check)
+        .arg(check)?
+        .arg(level(alloc))?
+        .arg(time)
 }
 
 /// `--verbose`, with each command.

@@ -1,0 +1,66 @@
+//! Log lines on standard error, with the time where it is asked for.
+#![tactic(auto)]
+
+ghost use Rattle.std.specs.Prelude.{◌≡◌, true, [], Some};
+
+use jiff::Timestamp;
+use log::kv::Source;
+use log::span::Spans;
+use log::{Line, Log, Metadata, Record};
+use std::fmt::Display;
+use std::time::Clock;
+
+/// Writes each record to the standard error of `R`, a line each; a write that fails is dropped.
+///
+/// With `has_time` the time stands before each line: in UTC, by RFC 3339, with thousandths of a second and a blank, as
+/// `2026-11-25T15:00:02.125Z `. Where the clock can't be read, or tells a time that no date has, the line stands without it.
+/// The line itself is that of the crate `log`: `[INFO tora_node::log_hub] link 2 up`. Own profile.
+#[derive(Clone, Copy, Debug, Drop)]
+pub struct LogLines<R> {
+    rt: R,
+    has_time: bool,
+}
+
+impl<R> LogLines<R> {
+    /// Lines to the standard error of `rt`.
+    pub fn new(rt: R, has_time: bool) -> LogLines<R>
+        ensures { result ≡ record { rt = rt; has_time = has_time } }
+    {
+        LogLines { rt, has_time }
+    }
+}
+
+impl<R: Eprint + Clock> LogLines<R> {
+    /// The time that stands before a line.
+    fn time(&self) -> Option<Timestamp> {
+        if self.has_time {
+            Timestamp::now(&self.rt).ok()
+        } else {
+            None
+        }
+    }
+}
+
+impl<R: Eprint + Clock> Log for LogLines<R> {
+    ghost enables = { λ _ _ _. Some true };
+
+    ghost target_of = { λ _. Some [] };
+
+    fn enabled(&self, _metadata: &Metadata<'_>) -> bool {
+        true
+    }
+
+    fn log<D: Display, K: Source, S: Spans>(&self, record: &Record<'_, D, K, S>) {
+        let line = Line::new(record);
+        let _ = match self.time() {
+            Some(time) => self.rt.eprintln(format_args!("{time:.3} {line}")),
+            None => self.rt.eprintln(line),
+        };
+    }
+
+    fn flush(&self) {}
+
+    fn target(&self) -> &str {
+        ""
+    }
+}
