@@ -3,6 +3,7 @@ mod commands;
 mod each_call;
 mod expected;
 mod failing_streams;
+mod log_lines;
 mod mixed_networks;
 mod replay_rows;
 mod replays;

@@ -1,0 +1,101 @@
+//! The lines of a node's log.
+use super::failing_streams::{ArrayWriter, Fails};
+use super::sees::same_at;
+use log::{LevelFilter, Log, Logged, debug, info, warn};
+use std::cell::RefCell;
+use std::fmt::Display;
+use std::io::{Error, ErrorKind as IoErrorKind, Write};
+use std::process::Abort;
+use std::time::{Clock, Duration};
+use std::{io, str};
+use tora_log::LogLines;
+
+/// A standard error that is kept, and a clock that stands or can't be read.
+#[derive(Drop)]
+struct Desk {
+    told: RefCell<ArrayWriter>,
+    now: Option<Duration>,
+}
+
+impl Desk {
+    fn tell<D: Display + Drop>(&self, value: D, end: &str) -> io::Result<()> {
+        match self.told.try_borrow_mut() {
+            Ok(mut told) => write!(told, "{value}{end}"),
+            Err(_) => Err(Error::from(IoErrorKind::Other)),
+        }
+    }
+}
+
+impl Eprint for Desk {
+    fn eprint<D: Display + Drop>(&self, value: D) -> io::Result<()> {
+        self.tell(value, "")
+    }
+
+    fn eprintln<D: Display + Drop>(&self, value: D) -> io::Result<()> {
+        self.tell(value, "\n")
+    }
+}
+
+impl Clock for Desk {
+    fn monotonic(&self) -> io::Result<Duration> {
+        Ok(Duration::ZERO)
+    }
+
+    fn since_1970(&self) -> io::Result<Duration> {
+        self.now.ok_or(Error::from(IoErrorKind::Other))
+    }
+}
+
+/// Three records of different levels.
+fn log_three<L: Log>(log: &L) {
+    warn!(log; target: "a", "one");
+    info!(log; target: "a", "link {} up", 2);
+    debug!(log; target: "a", "three");
+}
+
+/// A clock, whether the time is asked for, up to which level is logged, and what is written.
+type Row = (Option<(u64, u32)>, bool, LevelFilter, &'static str);
+
+const ROWS: &[Row] = &[
+    (
+        Some((1_795_618_802, 125_000_000)),
+        true,
+        LevelFilter::Info,
+        "2026-11-25T15:00:02.125Z [WARN  a] one\n2026-11-25T15:00:02.125Z [INFO  a] link 2 up\n",
+    ),
+    (
+        Some((0, 0)),
+        true,
+        LevelFilter::Warn,
+        "1970-01-01T00:00:00.000Z [WARN  a] one\n",
+    ),
+    (
+        Some((1_795_618_802, 0)),
+        false,
+        LevelFilter::Trace,
+        "[WARN  a] one\n[INFO  a] link 2 up\n[DEBUG a] three\n",
+    ),
+    (None, true, LevelFilter::Warn, "[WARN  a] one\n"),
+    (Some((0, 0)), true, LevelFilter::Off, ""),
+];
+
+/// A row's records are written so.
+fn expect_lines<T: Abort>(rt: &T, row: &Row) {
+    let (now, has_time, level, wanted) = *row;
+    let desk = Desk {
+        told: RefCell::new(ArrayWriter::new(Fails::Never)),
+        now: now.map(|(seconds, nanoseconds)| Duration::new(seconds, nanoseconds)),
+    };
+    log_three(&Logged::new(&desk, level, LogLines::new(&desk, has_time)));
+    let Desk { told, now: _ } = desk;
+    let told = told.into_inner();
+    same_at(rt, &str::from_utf8(told.text()).unwrap_or(""), &wanted, row);
+}
+
+/// Lines have their level and module, and the time where it is asked for and the clock can be read.
+#[test]
+fn log_lines_have_levels_and_times(rt: HostRuntime) {
+    for row in ROWS {
+        expect_lines(&rt, row);
+    }
+}
