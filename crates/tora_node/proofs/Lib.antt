@@ -5,3 +5,4 @@ mod Digits
 mod Numerals
 mod Faults
 mod Commanding
+mod Runs

@@ -4,3 +4,4 @@ pub mod CommandRuns
 pub mod CommandSteps
 pub mod NodeRuns
 pub mod NewLinks
+pub mod LinkRuns

@@ -1,5 +1,5 @@
 -- What a node ends with.
-use Rattle.std.specs.Prelude.{◌≡◌, ◌⊎◌, ℕ, ◌<◌, ◌==◌, List, [], ◌∷◌, length, slice_get, Option, Some, None, option_and_then}
+use Rattle.std.specs.Prelude.{◌≡◌, ◌⊎◌, ℕ, ◌<◌, ◌==◌, Bool, List, [], ◌∷◌, length, slice_get, Option, Some, None, option_and_then}
 use Rattle.std.specs.List.{position}
 use Rattle.tora_core.specs.CoreRun.{CoreView, core_after_all}
 use Rattle.tora_neighbour.specs.declared.fault.NodeError.{NodeError}
@@ -7,10 +7,10 @@ use Rattle.tora_neighbour.specs.declared.fault.NodeError.TheVariants as Fault
 use Rattle.tora_neighbour.specs.declared.tally.Tally.{Tally}
 use Rattle.tora_seat.specs.Serving.{SeatState}
 use Rattle.tora_seat.specs.Rows.{SeatView, state_of, first_seat}
-use Rattle.tora_node.specs.declared.node.LinkFault.{LinkFault}
-use Rattle.tora_node.specs.declared.node.LinkFault.TheVariants as Of
-use Rattle.tora_node.specs.declared.node.Outcome.{Outcome}
-use Rattle.tora_node.specs.CoreRuns.{ServedItem, AreServed, inputs_stepped}
+use Rattle.tora_node.specs.declared.threads.LinkFault.{LinkFault}
+use Rattle.tora_node.specs.declared.threads.LinkFault.TheVariants as Of
+use Rattle.tora_node.specs.declared.threads.Outcome.{Outcome}
+use Rattle.tora_node.specs.CoreRuns.{ServedItem, AreServed, inputs_stepped, EndsSo}
 
 -- the core as the node left it, and the tally of each neighbour, in ascending order
 pub record EndedView : Type 0 where
@@ -80,16 +80,18 @@ IsCoreFault (Some (Fault.Life peer error)) = ⊥
 IsCoreFault (Some (Fault.Wire peer)) = ⊥
 IsCoreFault (Some Fault.Output) = Unit {0}
 
--- Some items were served one after another from a seat on, and the core is the run of the inputs that serving made of them.
-abbrev pub IsServedCore : SeatView → CoreView → Type 0
-IsServedCore first core =
-    (xs : List ServedItem) × (after : SeatState) × AreServed first.core.neighbours (state_of first) xs after
+-- Some items were served one after another from a seat on, and the core is the run of the inputs that serving made of them. Only the
+-- last item may be Quit, and what it is fits the fault
+abbrev pub IsServedCore : SeatView → Option NodeError → CoreView → Type 0
+IsServedCore first fault core =
+    (xs : List ServedItem) × (after : SeatState) × (gone : Bool) × AreServed first.core.neighbours (state_of first) xs after
     × (core ≡ core_after_all first.core (inputs_stepped first.core.neighbours (state_of first) xs))
+    × EndsSo fault xs gone
 
 -- what a core's thread comes to
 abbrev pub IsCoreRun : SeatView → SeatView → Option NodeError → Type 0
-IsCoreRun first last fault = IsServedCore first last.core × (last.core.neighbours ≡ first.core.neighbours) × IsCoreFault fault
+IsCoreRun first last fault = IsServedCore first fault last.core × (last.core.neighbours ≡ first.core.neighbours) × IsCoreFault fault
 
--- the core of a node that began with this one
+-- the core of a node that began with this one and has ended without a fault
 abbrev pub IsRunOf : CoreView → CoreView → Type 0
-IsRunOf first core = IsServedCore (first_seat first) core
+IsRunOf first core = IsServedCore (first_seat first) None core

@@ -15,6 +15,9 @@ mod config;
 mod core_thread;
 mod log_hub;
 mod node;
+mod start;
+mod starting;
+mod threads;
 mod words;
 
 pub use commands::{

@@ -1,0 +1,110 @@
+-- What the threads of a node's links come to.
+use Rattle.std.specs.Prelude.{◌≡◌, ◌⊎◌, ℕ, List, [], ◌∷◌, ◌++◌, map, slice_get, Option, Some, None}
+use Rattle.std.specs.declared.thread.PromisedHandle.{PromisedHandle}
+use Rattle.tora_arq.specs.LinkEnd.{EndState, first_end}
+use Rattle.tora_arq.specs.Settings.{Settings, settings_of}
+use Rattle.tora_arq.specs.declared.TheConstants.Times.{STANDARD}
+use Rattle.tora_core.specs.CoreRun.{CoreView}
+use Rattle.tora_frame.specs.declared.parts.Version.TheVariants.{Two}
+use Rattle.tora_life.specs.declared.disk.Disk as Disk
+use Rattle.tora_neighbour.specs.Causes.{fault_of}
+use Rattle.tora_neighbour.specs.Tally.{first_tally}
+use Rattle.tora_neighbour.specs.Turns.{Turn, IsTurnRun, tally_after}
+use Rattle.tora_neighbour.specs.declared.ending.Ending.{Ending}
+use Rattle.tora_neighbour.specs.declared.fault.NodeError.{NodeError}
+use Rattle.tora_neighbour.specs.declared.fault.NodeError.TheVariants as Fault
+use Rattle.tora_neighbour.specs.declared.tally.Tally.{Tally}
+use Rattle.tora_neighbour.specs.declared.wire.Wire as Wire
+use Rattle.tora_seat.specs.Rows.{SeatView, first_seat}
+use Rattle.tora_node.specs.declared.start.NewEnd.{NewEnd}
+use Rattle.tora_node.specs.declared.start.NewLink.{NewLink}
+use Rattle.tora_node.specs.declared.start.Start.{Start}
+use Rattle.tora_node.specs.declared.threads.LinkFault.{LinkFault}
+use Rattle.tora_node.specs.declared.threads.LinkName.{LinkName}
+use Rattle.tora_node.specs.declared.threads.Outcome.{Outcome}
+use Rattle.tora_node.specs.NodeRuns.{link_fault, first_fault, IsNodeFault, IsCoreRun}
+
+-- ---- which link it is
+
+-- the link of a node to this peer
+abbrev pub name_of : ℕ → ℕ → LinkName
+name_of me peer = record { me = me; peer = peer }
+
+-- the link that a link end is made for
+abbrev pub name_in : Settings → LinkName
+name_in settings = name_of settings.me settings.peer
+
+abbrev pub link_ended : NewEnd → LinkName
+link_ended new = name_in new.end.settings
+
+module _ {D W : Type 0} {disk : Disk.Ghosts D} {wire : Wire.Ghosts W} where
+  abbrev pub link_made : NewLink D W disk wire → LinkName
+  link_made new = name_in new.link.end.settings
+
+  abbrev pub link_started : {C : Type 0} → Start D W C disk wire → LinkName
+  link_started start = link_made start.new
+
+-- the link that the thread of a handle runs
+abbrev pub promised : PromisedHandle Outcome LinkName → LinkName
+promised handle = handle.promise
+
+-- the links of a node whose core begins as this one, in ascending order of their peers
+abbrev pub links_of : CoreView → List LinkName
+links_of first = map (name_of first.me) first.neighbours
+
+-- ---- what its thread comes to
+
+-- The thread of a link: whole turns and a last one, of an end of version 2 with the standard times that was never opened. It has
+-- counted the datagrams that came in them, and its fault is that of the way in which the last one ends
+pub record IsLinkRun (me peer : ℕ) (fault : Option LinkFault) (tally : Tally) : Type 0 where
+  pub turns : List Turn
+  pub last : Turn
+  pub ending : Ending
+  pub after : EndState
+  pub runs : IsTurnRun (settings_of Two me peer STANDARD) first_end turns last ending after
+  pub fault_is : fault ≡ link_fault (fault_of peer ending)
+  pub tally_is : tally ≡ tally_after first_tally (turns ++ last ∷ [])
+
+-- each link had a thread, and these are what they came to, in the same order
+abbrev pub AreLinkRuns : List LinkName → List Outcome → Type 0
+AreLinkRuns [] [] = Unit {0}
+AreLinkRuns [] (outcome ∷ outcomes) = ⊥
+AreLinkRuns (link ∷ links) [] = ⊥
+AreLinkRuns (link ∷ links) (outcome ∷ outcomes) = IsLinkRun link.me link.peer outcome.fault outcome.tally × AreLinkRuns links outcomes
+
+-- each link had a thread, which ended without a fault, and these are their tallies, in the same order
+abbrev pub AreFaultless : List LinkName → List Tally → Type 0
+AreFaultless [] [] = Unit {0}
+AreFaultless [] (tally ∷ tallies) = ⊥
+AreFaultless (link ∷ links) [] = ⊥
+AreFaultless (link ∷ links) (tally ∷ tallies) = IsLinkRun link.me link.peer None tally × AreFaultless links tallies
+
+-- ---- why a node ends with a fault
+
+-- memory is gone, or the life file of one of these links did not open
+abbrev pub IsOpening : List LinkName → NodeError → Type 0
+IsOpening links Fault.Memory = Unit {0}
+IsOpening links Fault.Lane = ⊥
+IsOpening links (Fault.Life peer error) = (place : ℕ) × (link : LinkName) × (slice_get links place ≡ Some link) × (link.peer ≡ peer)
+IsOpening links (Fault.Wire peer) = ⊥
+IsOpening links Fault.Output = ⊥
+
+-- before its threads were started, or because one could not be
+abbrev pub IsStartFault : CoreView → NodeError → Type 0
+IsStartFault first Fault.Memory = Unit {0}
+IsStartFault first Fault.Lane = IsNodeFault first.neighbours Fault.Lane
+IsStartFault first (Fault.Life peer error) = IsNodeFault first.neighbours (Fault.Life peer error)
+IsStartFault first (Fault.Wire peer) = ⊥
+IsStartFault first Fault.Output = ⊥
+
+-- the first fault of what the threads of its core and its links came to
+pub record IsThreadsFault (first : CoreView) (e : NodeError) : Type 0 where
+  pub last : SeatView
+  pub fault : Option NodeError
+  pub outcomes : List Outcome
+  pub core : IsCoreRun (first_seat first) last fault
+  pub links : AreLinkRuns (links_of first) outcomes
+  pub first_is : first_fault fault first.neighbours outcomes ≡ Some e
+
+abbrev pub IsCause : CoreView → NodeError → Type 0
+IsCause first e = IsStartFault first e ⊎ IsThreadsFault first e

@@ -1,0 +1,118 @@
+//! Making the links and the lanes of a node, before its threads are started.
+ghost use Rattle.std.specs.Prelude.{◌≡◌, ◌⊎◌, ◌<◌, ◌≤◌, IfErr, IfOk, IfSome, length, map};
+ghost use Rattle.tora_neighbour.specs.declared.fault.NodeError.{NodeError};
+ghost use Rattle.tora_node.specs.LinkRuns.{name_of, link_ended, link_made, link_started, IsOpening};
+
+use crate::start::{NewEnd, NewLink, Start};
+use std::alloc::Global;
+use std::sync::Wait;
+use tora_arq::{LinkEnd, Times};
+use tora_core::Core;
+use tora_lane::{InPort, LaneError, Lanes, MOST_LINKS, OutTake, lanes};
+use tora_life::{Disk, LifeError, LifeFile};
+use tora_neighbour::{LaneHub, Link, NodeError, Wire};
+
+/// The ends of a node's links, by ascending neighbour, never opened.
+pub(crate) fn new_ends(alloc: Global, core: &Core) -> Option<Vec<NewEnd>>
+    ensures { IfSome result (λ ends. map link_ended ends.items ≡ map (name_of core.now.me) core.now.neighbours) }
+{
+    let me = core.me();
+    let mut ends = Vec::new(alloc);
+    for peer in core.neighbours() {
+        let Ok(end) = LinkEnd::new(alloc, me, *peer, Times::STANDARD) else {
+            return None;
+        };
+        let Ok(()) = ends.push(NewEnd { end }) else {
+            return None;
+        };
+    }
+    Some(ends)
+}
+
+/// The lanes of a node with so many links.
+pub(crate) fn new_lanes<R: Wait>(rt: &R, alloc: Global, links: usize) -> Result<Lanes, NodeError>
+    ensures made { IfOk result (λ l. (length l.outs.items ≡ links) × (length l.links.items ≡ links) × (0 < links) × (links ≤ MOST_LINKS)) }
+    ensures refused { IfErr result (λ e. (e ≡ NodeError.Memory) ⊎ ((e ≡ NodeError.Lane) × ((links ≡ 0) ⊎ (MOST_LINKS < links)))) }
+{
+    match lanes(rt, alloc, links) {
+        Ok(lanes) => Ok(lanes),
+        Err(LaneError::Memory) => Err(NodeError::Memory),
+        Err(LaneError::TooMany) => Err(NodeError::Lane),
+    }
+}
+
+/// Opens the life files in the order of the ends, and puts the parts of each link together.
+pub(crate) fn new_links<D: Disk + Drop, W: Wire + Drop>(
+    alloc: Global,
+    ends: Vec<NewEnd>,
+    disks: Vec<D>,
+    wires: Vec<W>,
+) -> Result<Vec<NewLink<D, W>>, NodeError>
+    requires disks { length disks.items ≡ length ends.items }
+    requires wires { length wires.items ≡ length ends.items }
+    ensures made { IfOk result (λ links. map link_made links.items ≡ map link_ended ends.items) }
+    ensures fault { IfErr result (IsOpening (map link_ended ends.items)) }
+{
+    let mut links = Vec::new(alloc);
+    let mut disks = disks.into_iter();
+    let mut wires = wires.into_iter();
+    for new in ends {
+        let peer = new.end.peer();
+        let Some(disk) = disks.next() else {
+            unreachable!()
+        };
+        let Some(wire) = wires.next() else {
+            unreachable!()
+        };
+        match new_link(new, disk, wire) {
+            Ok(link) => {
+                let Ok(()) = links.push(link) else {
+                    return Err(NodeError::Memory);
+                };
+            }
+            Err(error) => return Err(NodeError::Life(peer, error)),
+        }
+    }
+    Ok(links)
+}
+
+/// Opens the life file of a link, and puts its parts together.
+fn new_link<D: Disk + Drop, W: Wire + Drop>(
+    new: NewEnd,
+    disk: D,
+    wire: W,
+) -> Result<NewLink<D, W>, LifeError>
+    ensures { IfOk result (λ link. link_made link ≡ link_ended new) }
+{
+    let NewEnd { end } = new;
+    match LifeFile::open(disk, end.me(), end.peer()) {
+        Ok(file) => Ok(NewLink {
+            link: Link { end, file, wire },
+        }),
+        Err(fault) => Err(fault.error),
+    }
+}
+
+/// Puts the work of each neighbour's thread together.
+pub(crate) fn new_starts<'a, D: Disk + Drop, W: Wire + Drop, C>(
+    alloc: Global,
+    links: Vec<NewLink<D, W>>,
+    hubs: Vec<(InPort, OutTake)>,
+    clock: &'a C,
+) -> Option<Vec<Start<'a, D, W, C>>>
+    requires { length hubs.items ≡ length links.items }
+    ensures { IfSome result (λ starts. map link_started starts.items ≡ map link_made links.items) }
+{
+    let mut starts = Vec::new(alloc);
+    let mut hubs = hubs.into_iter();
+    for new in links {
+        let Some((port, outs)) = hubs.next() else {
+            unreachable!()
+        };
+        let hub = LaneHub { port, outs };
+        let Ok(()) = starts.push(Start { new, hub, clock }) else {
+            return None;
+        };
+    }
+    Some(starts)
+}
