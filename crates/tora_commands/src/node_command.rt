@@ -1,8 +1,7 @@
 //! `tora node CONFIG`: a node over UDP on the loopback and real life files.
 ghost use Rattle.std.specs.Prelude.{◌≡◌, IfOk};
 ghost use Rattle.std.specs.Process.{exit_status};
-ghost use Rattle.tora_commands.specs.Statuses.{status_of_node, status_of_fault, EndsNode};
-ghost use Rattle.tora_node.specs.declared.node.Ended.{Ended};
+ghost use Rattle.tora_commands.specs.Statuses.{core_of, status_of_node, status_of_fault, EndsNode};
 ghost use Rattle.tora_config.specs.NodeConfig.{IsNodeConfig};
 
 use crate::{INPUT, LIFE, MEMORY, SOCKET, stop};
@@ -281,7 +280,7 @@ pub fn run<
     Rd: Read,
     W: Write + Send,
 >(rt: &R, path: &str, is_check: bool, is_verbose: bool, reader: &mut Rd, writer: &mut W) -> ExitCode
-    ensures { EndsNode Ended is_check (exit_status result) }
+    ensures { EndsNode is_check (exit_status result) }
 {
     let alloc = rt.alloc();
     let config = match read(rt, path) {
@@ -324,6 +323,7 @@ pub fn run<
 /// The node of a configuration.
 fn node_of(alloc: Global, config: &NodeConfig) -> Result<Config, Fault>
     requires { IsNodeConfig config.now }
+    ensures { IfOk result (λ node. node ≡ core_of config.now) }
 {
     let Ok(peers) = config
         .links

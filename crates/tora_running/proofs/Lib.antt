@@ -5,4 +5,6 @@ pub mod RunsOfParts
 pub mod SameWalks
 pub mod WorldLaws
 pub mod ThreadHistories
+pub mod ThreadExchanges
+pub mod NodeHistories
 pub mod LinkHistories

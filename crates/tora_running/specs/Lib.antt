@@ -1,5 +1,7 @@
 pub mod Parts
 pub mod Network
 pub mod Histories
+pub mod Exchanges
+pub mod Nodes
 pub mod Laws
 pub mod Worked

@@ -1,16 +1,22 @@
 //! The laws of running nodes. Each stands over the definitions alone: a function without parameters that does nothing.
 ghost use Rattle.tora_running.specs.Laws.{BindsOnce, CoresFollow, EveryNetwork, HoldsOfSound, IsOfWorld, IsWithoutGap, RefusesOnlyNeeds, RestingEntriesAreHeights, RestingRoutesArrive, TakenBeginsSent, WalksArrive};
-ghost use Rattle.std.specs.Prelude.{◌≡◌, ℕ, true, List, ◌++◌, Option};
+ghost use Rattle.std.specs.Prelude.{◌≡◌, ℕ, true, List, [], ◌∷◌, ◌++◌, map, Option};
 ghost use Rattle.tora_arq.specs.LinkEnd.{EndState};
 ghost use Rattle.tora_arq.specs.Settings.{Settings};
 ghost use Rattle.tora_neighbour.specs.Turns.{Turn, AreTurns, IsLastTurn, IsTurnRun};
 ghost use Rattle.tora_neighbour.specs.declared.ending.Ending.{Ending};
+ghost use Rattle.tora_core.specs.CoreRun.{CoreView};
+ghost use Rattle.tora_neighbour.specs.declared.fault.NodeError.{NodeError};
+ghost use Rattle.tora_neighbour.specs.declared.tally.Tally.{Tally};
+ghost use Rattle.tora_node.specs.LinkRuns.{AreFaultless, IsThreadsFault, links_of};
 ghost use Rattle.tora_node.specs.CoreRuns.{ServedItem, AreServed, items_served};
 ghost use Rattle.tora_seat.specs.Serving.{SeatState};
 ghost use Rattle.tora_seat.specs.declared.Item.{Item};
 ghost use Rattle.tora_world.specs.Topology.{is_node};
+ghost use Rattle.tora_running.specs.Exchanges.{ExchangeTheSame};
 ghost use Rattle.tora_running.specs.Histories.{IsAfterRefused, IsNotStarted, parts_of_last, parts_of_link, parts_of_turns, parts_served, served_in};
 ghost use Rattle.tora_running.specs.Network.{IsRun, Network, Part, after_parts, neighbours_at, settings_at};
+ghost use Rattle.tora_running.specs.Nodes.{HaveHistories};
 ghost use Rattle.tora_running.specs.Parts.{AreLinkParts};
 ghost use Rattle.tora_running.specs.Worked.{start, first_parts, parted, second_parts, met, HandsBack, HasMet, drawn_again, TakesTwice};
 
@@ -115,6 +121,10 @@ pub fn histories_are_of_the_threads()
     // And so is the whole run of a link's thread, as the contract of `run_neighbour` tells it.
     ensures run { (s : Settings) (e : EndState) (turns : List Turn) (last : Turn) (ending : Ending) (after : EndState) → IsTurnRun s e turns last ending after
         → (between : EndState) × AreLinkParts s e (parts_of_turns turns ++ parts_of_last ending last) between × IsAfterRefused between last.refused after }
+    // These parts exchange with the thread's file, lanes and wire what `Traffic` says of its turns: the numbers drawn, the cargoes taken,
+    // the frames sent, the frames that came, and what was put.
+    ensures exchanges { (s : Settings) (e : EndState) (turns : List Turn) (last : Turn) (ending : Ending) (after : EndState) → IsTurnRun s e turns last ending after
+        → ExchangeTheSame (parts_of_turns turns ++ parts_of_last ending last) (turns ++ last ∷ []) }
     // Items that a core's thread has served one after another, as the contract of `run_core` tells them, are a run of parts
     // where they wait in its lane, and it leaves the same seat.
     ensures served { (w : Network) (n : ℕ) (xs : List ServedItem) (rest : List Item) (after : SeatState) → is_node w.topology n ≡ true
@@ -126,6 +136,15 @@ pub fn histories_are_of_the_threads()
         → AreLinkParts (settings_at w n k) (w.ends n k) (parts_of_link n k parts) ((after_parts parts w).ends n k) }
     ensures cores { (w : Network) (parts : List Part) (n : ℕ) → IsRun w parts → IsNotStarted n parts
         → AreServed (neighbours_at w n) (w.seats n) (served_in n parts) ((after_parts parts w).seats n) }
+{}
+
+/// What `run_node` says of its links' threads are histories: each link has a thread whose parts are made of a new end of version 2 with
+/// the standard times, one after another, and they exchange what the turns do whose tally is told of it.
+pub fn nodes_have_histories()
+    // A node that ended without a fault, as the clause `links` of `run_node` has it.
+    ensures links { (first : CoreView) (tallies : List Tally) → AreFaultless (links_of first) tallies → HaveHistories first.me first.neighbours tallies }
+    // A node whose threads were started and which ended with the first of their faults, as its clause `cause` has it.
+    ensures threads { (first : CoreView) (e : NodeError) (h : IsThreadsFault first e) → HaveHistories first.me first.neighbours (map (λ o. o.tally) h.outcomes) }
 {}
 
 /// Two running nodes, computed: what the laws say of a run of parts is not empty.

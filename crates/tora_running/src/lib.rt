@@ -4,8 +4,9 @@
 mod laws;
 
 pub use laws::{
-    histories_are_of_the_threads, running_cores_follow, running_cores_refuse_only_needs,
-    running_entries_at_rest_are_heights, running_nodes_are_a_world,
-    running_nodes_keep_the_no_gap_law, running_nodes_keep_the_prefix_law,
-    running_routes_at_rest_arrive, running_walks_arrive, worked_networks_hold,
+    histories_are_of_the_threads, nodes_have_histories, running_cores_follow,
+    running_cores_refuse_only_needs, running_entries_at_rest_are_heights,
+    running_nodes_are_a_world, running_nodes_keep_the_no_gap_law,
+    running_nodes_keep_the_prefix_law, running_routes_at_rest_arrive, running_walks_arrive,
+    worked_networks_hold,
 };

@@ -1,4 +1,5 @@
 use Rattle.tora_running.proofs.ThreadHistories.{turns_are, last_is, run_is, served_are}
+use Rattle.tora_running.proofs.ThreadExchanges.{run_exchanges}
 use Rattle.tora_running.proofs.LinkHistories.{link_parts, core_parts}
 use Rattle.tora_running.proofs.laws.histories_are_of_the_threads.Goals as goal
 
@@ -10,6 +11,9 @@ returns-clause-last c = λ s last_beat e t ending after h. last_is s last_beat e
 
 pub returns-clause-run : goal.returns-clause-run
 returns-clause-run c = λ s e turns last ending after h. run_is s e turns last ending after h
+
+pub returns-clause-exchanges : goal.returns-clause-exchanges
+returns-clause-exchanges c = λ s e turns last ending after h. run_exchanges s e turns last ending after h
 
 pub returns-clause-served : goal.returns-clause-served
 returns-clause-served c = λ w n xs rest after node lane h. served_are w n node xs rest after lane h

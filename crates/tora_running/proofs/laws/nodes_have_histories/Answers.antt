@@ -1,0 +1,8 @@
+use Rattle.tora_running.proofs.NodeHistories.{faultless_have, runs_have}
+use Rattle.tora_running.proofs.laws.nodes_have_histories.Goals as goal
+
+pub returns-clause-links : goal.returns-clause-links
+returns-clause-links c = λ first tallies h. faultless_have first.me first.neighbours tallies h
+
+pub returns-clause-threads : goal.returns-clause-threads
+returns-clause-threads c = λ first e h. runs_have first.me first.neighbours h.outcomes h.links

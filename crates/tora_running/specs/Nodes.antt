@@ -1,0 +1,28 @@
+-- The histories of a node's threads, out of what `run_node` says of them.
+use Rattle.std.specs.Prelude.{◌≡◌, ℕ, List, [], ◌∷◌}
+use Rattle.tora_arq.specs.LinkEnd.{EndState, first_end}
+use Rattle.tora_arq.specs.Settings.{settings_of}
+use Rattle.tora_arq.specs.declared.TheConstants.Times.{STANDARD}
+use Rattle.tora_frame.specs.declared.parts.Version.TheVariants.{Two}
+use Rattle.tora_neighbour.specs.Tally.{first_tally}
+use Rattle.tora_neighbour.specs.Turns.{Turn, tally_after}
+use Rattle.tora_neighbour.specs.declared.tally.Tally.{Tally}
+use Rattle.tora_running.specs.Parts.{LinkPart, AreLinkParts}
+use Rattle.tora_running.specs.Exchanges.{ExchangeTheSame}
+
+-- The thread of the link from one node to another has made these parts of a new end, one after another; they exchange what turns do whose
+-- tally this is
+pub record HasHistory (me peer : ℕ) (tally : Tally) : Type 0 where
+  pub parts : List LinkPart
+  pub between : EndState
+  pub made : AreLinkParts (settings_of Two me peer STANDARD) first_end parts between
+  pub turns : List Turn
+  pub exchange : ExchangeTheSame parts turns
+  pub tally_is : tally ≡ tally_after first_tally turns
+
+-- the link to each of these neighbours has such a thread, in the same order
+abbrev pub HaveHistories : ℕ → List ℕ → List Tally → Type 0
+HaveHistories me [] [] = Unit {0}
+HaveHistories me [] (tally ∷ tallies) = ⊥
+HaveHistories me (k ∷ ks) [] = ⊥
+HaveHistories me (k ∷ ks) (tally ∷ tallies) = HasHistory me k tally × HaveHistories me ks tallies
