@@ -44,7 +44,7 @@ fn simulate_to_output(
     simulate_file(rt, times, path, trace, is_verbose, &mut writer)
 }
 
-/// The runtime with the log of a node: up to which level, and whether with the time, its options say.
+/// The runtime with the log of a node: up to which level, and whether with the time, its options say. It has no sockets.
 fn logging<R: Copy>(rt: R, node: &ArgMatches<'_>) -> Logged<R, LogLines<R>> {
     let level = node
         .get_one::<LevelFilter>("log")
@@ -52,19 +52,27 @@ fn logging<R: Copy>(rt: R, node: &ArgMatches<'_>) -> Logged<R, LogLines<R>> {
     Logged::new(rt, level, LogLines::new(rt, node.get_flag("log-time")))
 }
 
-fn main(rt: HostRuntime) -> ExitCode {
-    let alloc = rt.alloc();
-    let words = match std::env::args(&rt) {
+/// The words of the command line, or the status where they can't be had, after its line on standard error.
+fn words_of(rt: &HostRuntime) -> Result<Vec<String>, ExitCode> {
+    let words = match std::env::args(rt) {
         Ok(words) => words,
         Err(error) if error.kind() == io::ErrorKind::OutOfMemory => {
-            return stop(&rt, MEMORY, "memory");
+            return Err(stop(rt, MEMORY, "memory"));
         }
-        Err(_) => return stop(&rt, USAGE, "a word of the command line is not UTF-8"),
+        Err(_) => return Err(stop(rt, USAGE, "a word of the command line is not UTF-8")),
     };
-    let Ok(words) = words.collect::<Vec<String>>(alloc) else {
-        return stop(&rt, MEMORY, "memory");
+    match words.collect::<Vec<String>>(rt.alloc()) {
+        Ok(words) => Ok(words),
+        Err(_) => Err(stop(rt, MEMORY, "memory")),
+    }
+}
+
+fn main(rt: HostRuntime) -> ExitCode {
+    let words = match words_of(&rt) {
+        Ok(words) => words,
+        Err(code) => return code,
     };
-    let Ok(command) = command(alloc) else {
+    let Ok(command) = command(rt.alloc()) else {
         return stop(&rt, MEMORY, "memory");
     };
     match command.try_get_matches_from(words.as_slice()) {
@@ -73,17 +81,9 @@ fn main(rt: HostRuntime) -> ExitCode {
             match matches.subcommand() {
                 Some(("node", node)) => {
                     let path = node.get_str("CONFIG").unwrap_or("");
-                    let is_check = node.get_flag("check");
-                    let logged = logging(rt, node);
+                    let (check, log) = (node.get_flag("check"), logging(rt, node));
                     let (mut reader, mut writer) = (rt.stdin(), io::writer(&rt));
-                    node_command::run(
-                        &logged,
-                        path,
-                        is_check,
-                        is_verbose,
-                        &mut reader,
-                        &mut writer,
-                    )
+                    node_command::run(&rt, &log, path, check, is_verbose, &mut reader, &mut writer)
                 }
                 Some(("sim", sim)) => {
                     let path = sim.get_str("FILE").unwrap_or("");

@@ -269,17 +269,27 @@ fn tell_ended<R: Files<File = File> + AllocGlobal + Eprint>(
     }
 }
 
-/// Reads the configuration, binds the sockets, opens the life files, and runs the node until its commands end it.
+/// Reads the configuration, binds the sockets, opens the life files, and runs the node, which logs to `log`, until its
+/// commands end it.
 ///
 /// The first fault ends it before a thread is started: the configuration (status 1), then a socket, by ascending
 /// neighbour (3), then a life file, likewise (4), memory at any point (5). With `is_check` it reads the
 /// configuration, says that it is one, and ends. Standard error has the cause of a fault, and with `is_verbose` of a life file of
 /// another node whose it is.
 pub fn run<
-    R: Files<File = File> + AllocGlobal + Eprint + Net + Threads + Wait + Sync + Clock + Log,
+    R: Files<File = File> + AllocGlobal + Eprint + Net + Clock + Sync,
+    L: Threads + Wait + Log + Sync,
     Rd: Read,
     W: Write + Send,
->(rt: &R, path: &str, is_check: bool, is_verbose: bool, reader: &mut Rd, writer: &mut W) -> ExitCode
+>(
+    rt: &R,
+    log: &L,
+    path: &str,
+    is_check: bool,
+    is_verbose: bool,
+    reader: &mut Rd,
+    writer: &mut W,
+) -> ExitCode
     ensures { EndsNode is_check (exit_status result) }
 {
     let alloc = rt.alloc();
@@ -308,7 +318,7 @@ pub fn run<
         return code_of(say(rt, Fault::Config));
     }
     let clock = UnixClock::new(rt);
-    let ended = run_node(rt, alloc, node, wires, disks, &clock, reader, writer);
+    let ended = run_node(log, alloc, node, wires, disks, &clock, reader, writer);
     let cause = match &ended {
         Ok(_) => None,
         Err(error) => Some(*error),
