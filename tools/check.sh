@@ -334,8 +334,27 @@ check_lock() {
   exec 9>&-
 }
 
+# The log of a node: what it tells at each level, and the time before a line. A node that can't bind its socket has another status.
+check_log() {
+  local program=$here/../crates/tora/out/tora time='20[0-9-]{8}T[0-9:]{8}\.[0-9]{3}Z '
+  [ -x "$program" ] || return 0
+  printf 'node = 1\ndests = [2]\nlife_dir = "%s"\n[[link]]\npeer = 2\nlocal = 40512\nremote = 40521\n' "$work/logged" >"$work/5.toml"
+  echo other >"$work/words"
+  refuses 0 '[WARN  tora_node::commands] ' "$program" node "$work/5.toml" <"$work/words"
+  refuses 0 '[INFO  tora_node::threads] link 2 bad datagrams 0' "$program" node "$work/5.toml" <"$work/words"
+  refuses 0 '' "$program" node --log warn --log-time "$work/5.toml" <"$work/words"
+  cp "$work/err" "$work/told"
+  holds 'a line of the log has its time' grep -qE "^$time\[WARN  tora_node::commands\] " "$work/told"
+  holds 'a node logs up to its level' test "$(wc -l <"$work/told")" = 1
+  refuses 0 '' "$program" node --log off "$work/5.toml" <"$work/words"
+  cp "$work/err" "$work/told"
+  holds 'a node logs nothing' test ! -s "$work/told"
+  refuses 2 "invalid value 'loud'" "$program" node --log loud "$work/5.toml" <"$work/words"
+}
+
 check_simulator
 check_lock
+check_log
 check_study
 check_traffic
 check_units
