@@ -16,11 +16,12 @@ use std::{thread, time};
 use streams::{Asking, Course, Meeting, Page, Screen, Waiting};
 use tora_core::CoreError;
 use tora_height::Id;
-use tora_life::LifeError;
+use tora_life::{Disk, LifeError};
 use tora_neighbour::{MemWire, NodeError, UdpWire, UnixClock, Wire};
 use tora_node::*;
 
 mod byte_disk;
+mod faults;
 mod streams;
 
 /// The configuration of a node with the destination 4.
@@ -46,6 +47,7 @@ fn list_of<T: Drop>(rt: &impl Abort, alloc: Global, value: T) -> Vec<T> {
 fn run_over<
     R: Threads + Wait + Sync + time::Clock + log::Log + Abort,
     W: Wire + Send + Drop,
+    D: Disk + Send + Drop,
     C: Read,
     S: Write + Send,
 >(
@@ -53,7 +55,7 @@ fn run_over<
     alloc: Global,
     config: Config,
     wires: Vec<W>,
-    disks: Vec<ByteDisk>,
+    disks: Vec<D>,
     commands: &mut C,
     screen: &mut S,
 ) -> Result<Ended, NodeError> {

@@ -28,6 +28,17 @@ impl ByteDisk {
         bytes[32..64].copy_from_slice(tag);
         ByteDisk { bytes, length: 64 }
     }
+
+    /// The bytes 32 to 63, eight to a number.
+    pub fn tag(&self) -> [u64; 4] {
+        let mut words = [0; 4];
+        for (place, word) in words.iter_mut().enumerate() {
+            for byte in &self.bytes[32 + 8 * place..40 + 8 * place] {
+                *word = *word << 8 | u64::from(*byte);
+            }
+        }
+        words
+    }
 }
 
 impl Disk for ByteDisk {

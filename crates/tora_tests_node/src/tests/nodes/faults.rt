@@ -1,0 +1,310 @@
+//! What a node answers where its output, its wires or both fail, what its tallies are, and the tags of its life files.
+//!
+//! Each node is node 1 between nodes 2 and 3, with the destination 4. It is told to end once each of its wires has settled: it
+//! is broken, or all its datagrams have come. The wire to 3 settles first.
+use super::*;
+use devices::{Output, Paper, Settled, Settling, Shown, Tag};
+use hex::decode_to_slice;
+use tora_life::Disk;
+use tora_neighbour::{FuseMode, FuseWire};
+
+mod devices;
+mod tallies;
+
+/// A node between two neighbours.
+struct Run {
+    /// How many calls of the wires to 2 and to 3 pass before all fail.
+    fuses: (u64, u64),
+    /// How its output goes.
+    output: Output,
+    /// What it is told once its wires have settled.
+    commands: &'static [u8],
+    /// How it ends.
+    fault: Option<NodeError>,
+    /// What it has printed.
+    printed: &'static [u8],
+}
+
+/// The calls of a wire that does not break.
+const WHOLE: u64 = u64::MAX;
+
+/// The calls of a wire that breaks once a HELLO of each version has gone out, before a datagram was asked for.
+const BROKEN: u64 = 2;
+
+/// A datagram in hexadecimal digits, and how often it comes.
+type Coming = (u8, &'static str);
+
+/// The datagram that the digits spell, of 64 bytes at most.
+fn datagram_of(rt: &impl Abort, alloc: Global, digits: &str) -> Vec<u8> {
+    let mut bytes = [0u8; 64];
+    let size = (digits.len() / 2).min(64);
+    let is_spelt = decode_to_slice(digits, &mut bytes[..size]).is_ok();
+    sees(rt, is_spelt, digits);
+    let mut datagram = Vec::new(alloc);
+    let is_whole = datagram.extend_from_slice(&bytes[..size]).is_ok();
+    sees(rt, is_whole, "memory for a datagram");
+    datagram
+}
+
+/// The datagrams of these rows, in order.
+fn datagrams_of(rt: &impl Abort, alloc: Global, rows: &[Coming]) -> Vec<Vec<u8>> {
+    let mut datagrams = Vec::new(alloc);
+    for (times, digits) in rows {
+        for _ in 0..*times {
+            let datagram = datagram_of(rt, alloc, digits);
+            let is_whole = datagrams.push(datagram).is_ok();
+            sees(rt, is_whole, "memory for datagrams");
+        }
+    }
+    datagrams
+}
+
+/// A wire over which so many calls pass, on which these datagrams come.
+fn wire_of<'a, R: Abort>(
+    rt: &'a R,
+    alloc: Global,
+    fuse: u64,
+    after: u64,
+    rows: &[Coming],
+    settled: &'a AtomicU64,
+) -> Settling<'a, R, FuseWire<MemWire<32>>> {
+    let wire = MemWire::<32>::new(datagrams_of(rt, alloc, rows));
+    Settling {
+        rt,
+        wire: FuseWire::new(wire, fuse, FuseMode::Always),
+        after,
+        settled,
+        failed: 0,
+        is_settled: false,
+    }
+}
+
+/// A list of two.
+fn list_of_two<T: Drop>(rt: &impl Abort, alloc: Global, first: T, second: T) -> Vec<T> {
+    let mut list = list_of(rt, alloc, first);
+    sees(rt, list.push(second).is_ok(), "memory for a list of two");
+    list
+}
+
+/// Runs node 1 over these wires and disks, with commands that come once both wires have settled.
+fn run_settled<
+    'a,
+    R: Threads + Wait + Sync + time::Clock + log::Log + Abort,
+    D: Disk + Send + Drop,
+>(
+    rt: &'a R,
+    alloc: Global,
+    wires: Vec<Settling<'a, R, FuseWire<MemWire<32>>>>,
+    disks: Vec<D>,
+    commands: &'static [u8],
+    settled: &'a AtomicU64,
+    paper: &mut Paper,
+) -> Result<Ended, NodeError> {
+    let config = config_of(rt, alloc, 1, &[3, 2]);
+    let mut reader = Settled {
+        rt,
+        settled,
+        count: 2,
+        commands,
+    };
+    run_over(rt, alloc, config, wires, disks, &mut reader, paper)
+}
+
+/// An output on which nothing is printed.
+fn paper_of(output: Output) -> Paper {
+    let page = Page {
+        bytes: [0; 256],
+        length: 0,
+    };
+    Paper { page, output }
+}
+
+/// Two empty disks.
+fn new_disks(rt: &impl Abort, alloc: Global) -> Vec<ByteDisk> {
+    list_of_two(rt, alloc, ByteDisk::of_zeros(0), ByteDisk::of_zeros(0))
+}
+
+/// The fault of a run.
+fn fault_of<'a, R: Threads + Wait + Sync + time::Clock + log::Log + Abort>(
+    rt: &'a R,
+    alloc: Global,
+    run: &Run,
+    settled: &'a AtomicU64,
+    paper: &mut Paper,
+) -> Option<NodeError> {
+    let second = wire_of(rt, alloc, run.fuses.0, 1, &[], settled);
+    let third = wire_of(rt, alloc, run.fuses.1, 0, &[], settled);
+    let wires = list_of_two(rt, alloc, second, third);
+    let disks = new_disks(rt, alloc);
+    run_settled(rt, alloc, wires, disks, run.commands, settled, paper).err()
+}
+
+/// Makes a run, and sees how it ends and what it prints.
+fn ends_so<R: Threads + Wait + Sync + time::Clock + log::Log + Abort>(
+    rt: &R,
+    alloc: Global,
+    run: &Run,
+) {
+    let settled = AtomicU64::new(0);
+    let mut paper = paper_of(run.output);
+    let fault = fault_of(rt, alloc, run, &settled, &mut paper);
+    same_at(rt, &fault, &run.fault, "the fault", &run.commands);
+    let printed = &paper.page.bytes[..paper.page.length];
+    same_at(rt, &printed, &run.printed, "what is printed", &run.commands);
+}
+
+/// Makes each run of a table.
+fn each_ends_so<R: Threads + Wait + Sync + time::Clock + log::Log + Abort>(
+    rt: &R,
+    alloc: Global,
+    runs: &[Run],
+) {
+    for run in runs {
+        ends_so(rt, alloc, run);
+    }
+}
+
+/// Outputs that fail as soon as something is printed.
+const OUTPUTS: &[Run] = &[
+    Run {
+        fuses: (WHOLE, WHOLE),
+        output: Output::NoWrite,
+        commands: b"show\n",
+        fault: Some(NodeError::Output),
+        printed: b"",
+    },
+    Run {
+        fuses: (WHOLE, WHOLE),
+        output: Output::Full,
+        commands: b"need 9\nquit\n",
+        fault: Some(NodeError::Output),
+        printed: b"",
+    },
+    Run {
+        fuses: (WHOLE, WHOLE),
+        output: Output::NoFlush,
+        commands: b"need 9\nshow\n",
+        fault: Some(NodeError::Output),
+        printed: b"refused 5\n",
+    },
+    // Nothing is printed of a need that is not refused, nor behind `quit`.
+    Run {
+        fuses: (WHOLE, WHOLE),
+        output: Output::NoWrite,
+        commands: b"need 4\nquit\nshow\n",
+        fault: None,
+        printed: b"",
+    },
+];
+
+#[test]
+fn an_output_that_fails_ends_a_node(rt: HostRuntime) {
+    each_ends_so(&rt, rt.alloc(), OUTPUTS);
+}
+
+/// Wires that break. The node goes on until it is told to end, and then answers the fault of the least neighbour that has one.
+const WIRES: &[Run] = &[
+    Run {
+        fuses: (BROKEN, WHOLE),
+        output: Output::Whole,
+        commands: b"show\nneed 9\nquit\n",
+        fault: Some(NodeError::Wire(2)),
+        printed: b"to 4 height - flag 0 hop -\nrefused 5\n",
+    },
+    Run {
+        fuses: (WHOLE, BROKEN),
+        output: Output::Whole,
+        commands: b"need 9\nshow\n",
+        fault: Some(NodeError::Wire(3)),
+        printed: b"refused 5\nto 4 height - flag 0 hop -\n",
+    },
+    // The wire to 3 has broken before that to 2.
+    Run {
+        fuses: (BROKEN, BROKEN),
+        output: Output::Whole,
+        commands: b"show\n",
+        fault: Some(NodeError::Wire(2)),
+        printed: b"to 4 height - flag 0 hop -\n",
+    },
+];
+
+#[test]
+fn a_broken_wire_is_answered_once_a_node_is_told_to_end(rt: HostRuntime) {
+    each_ends_so(&rt, rt.alloc(), WIRES);
+}
+
+/// An output that fails after the wires have broken: the fault of the core is answered.
+const BOTH: &[Run] = &[
+    Run {
+        fuses: (BROKEN, WHOLE),
+        output: Output::NoWrite,
+        commands: b"show\n",
+        fault: Some(NodeError::Output),
+        printed: b"",
+    },
+    Run {
+        fuses: (BROKEN, BROKEN),
+        output: Output::Full,
+        commands: b"need 9\n",
+        fault: Some(NodeError::Output),
+        printed: b"",
+    },
+];
+
+#[test]
+fn the_fault_of_the_core_is_answered_before_those_of_links(rt: HostRuntime) {
+    each_ends_so(&rt, rt.alloc(), BOTH);
+}
+
+/// Runs the node over two empty disks, whose tags are shown.
+fn run_shown<'a, R: Threads + Wait + Sync + time::Clock + log::Log + Abort>(
+    rt: &'a R,
+    alloc: Global,
+    second: &'a Tag,
+    third: &'a Tag,
+    settled: &'a AtomicU64,
+) -> Option<NodeError> {
+    let wires = list_of_two(
+        rt,
+        alloc,
+        wire_of(rt, alloc, WHOLE, 1, &[], settled),
+        wire_of(rt, alloc, WHOLE, 0, &[], settled),
+    );
+    let disk = Shown {
+        disk: ByteDisk::of_zeros(0),
+        tag: second,
+    };
+    let other = Shown {
+        disk: ByteDisk::of_zeros(0),
+        tag: third,
+    };
+    let disks = list_of_two(rt, alloc, disk, other);
+    let mut paper = paper_of(Output::Whole);
+    run_settled(rt, alloc, wires, disks, b"quit\n", settled, &mut paper).err()
+}
+
+/// The tags of node 1 and its peers 2 and 3: the text `TORALIF2`, the node and the peer, and the complement of these bytes.
+const TAGS: [[u64; 4]; 2] = [
+    [
+        0x544f_5241_4c49_4632,
+        0x0000_0001_0000_0002,
+        0xabb0_adbe_b3b6_b9cd,
+        0xffff_fffe_ffff_fffd,
+    ],
+    [
+        0x544f_5241_4c49_4632,
+        0x0000_0001_0000_0003,
+        0xabb0_adbe_b3b6_b9cd,
+        0xffff_fffe_ffff_fffc,
+    ],
+];
+
+#[test]
+fn a_node_tags_its_life_files(rt: HostRuntime) {
+    let settled = AtomicU64::new(0);
+    let (second, third) = (Tag::new(), Tag::new());
+    let fault = run_shown(&rt, rt.alloc(), &second, &third, &settled);
+    same(&rt, &fault, &None, "the fault");
+    same(&rt, &second.get(), &TAGS[0], "the tag for 2");
+    same(&rt, &third.get(), &TAGS[1], "the tag for 3");
+}

@@ -1,0 +1,228 @@
+//! The wires, commands, outputs and disks of the nodes whose faults, tallies and files are looked at.
+ghost use Rattle.std.specs.Prelude.{◌≡◌};
+
+use super::super::byte_disk::ByteDisk;
+use super::super::streams::Page;
+use std::io::{self, Error, ErrorKind, Read, Write};
+use std::sync::atomic::{AtomicU64, Ordering};
+use std::time::Duration;
+use std::{thread, time};
+use tora_life::{Disk, DiskError};
+use tora_neighbour::{Wire, WireError};
+
+/// Waits until so many wires have settled, 10 s at most.
+fn wait_for<R: time::Clock>(rt: &R, settled: &AtomicU64, count: u64) {
+    for _ in 0..10_000 {
+        if settled.load(Ordering::SeqCst) >= count {
+            return;
+        }
+        thread::sleep(rt, Duration::from_millis(1));
+    }
+}
+
+/// A wire around another one, that tells once when it has settled: a hundred of its calls in a row have failed, or no datagram
+/// was there.
+#[derive(Drop)]
+pub struct Settling<'a, R, W: Wire> {
+    pub rt: &'a R,
+    pub wire: W,
+    /// How many wires have to settle before its calls return.
+    pub after: u64,
+    /// How many wires have settled.
+    pub settled: &'a AtomicU64,
+    pub failed: u64,
+    pub is_settled: bool,
+}
+
+impl<'a, R: time::Clock, W: Wire> Settling<'a, R, W> {
+    /// Waits for the wires that settle before it.
+    fn wait(&self) {
+        wait_for(self.rt, self.settled, self.after);
+    }
+
+    /// Notes whether a call has failed, and whether it told that no datagram was there.
+    fn note(&mut self, has_failed: bool, is_empty: bool)
+        ensures { self.new.wire ≡ self.old.wire }
+    {
+        self.failed = if has_failed {
+            self.failed.saturating_add(1)
+        } else {
+            0
+        };
+        if !self.is_settled && (is_empty || self.failed == 100) {
+            self.is_settled = true;
+            self.settled.fetch_add(1, Ordering::SeqCst);
+        }
+        if is_empty {
+            thread::sleep(self.rt, Duration::from_millis(1));
+        }
+    }
+}
+
+impl<R: time::Clock, W: Wire> Wire for Settling<'_, R, W> {
+    ghost use Rattle.std.specs.Prelude.{false, []};
+
+    ghost tells = { λ w. false };
+
+    ghost coming = { λ w. [] };
+
+    ghost tries = { λ w. [] };
+
+    ghost failures = { λ w. W.failures w.wire };
+
+    ghost did_send = { λ w bytes answer after. Unit {0} };
+
+    ghost did_receive = { λ w answer buffer after. Unit {0} };
+
+    fn send(&mut self, bytes: &[u8]) -> Result<(), WireError> {
+        self.wait();
+        let answer = self.wire.send(bytes);
+        self.note(answer.is_err(), false);
+        answer
+    }
+
+    fn receive(&mut self, buf: &mut [u8]) -> Result<Option<usize>, WireError> {
+        self.wait();
+        let answer = self.wire.receive(buf);
+        self.note(answer.is_err(), answer == Ok(None));
+        answer
+    }
+}
+
+/// Commands that are given once so many wires have settled, and 50 ms later: by then a node that ends by itself has ended.
+#[derive(Drop)]
+pub struct Settled<'a, R> {
+    pub rt: &'a R,
+    pub settled: &'a AtomicU64,
+    pub count: u64,
+    pub commands: &'static [u8],
+}
+
+impl<R: time::Clock> Read for Settled<'_, R> {
+    fn read(&mut self, buf: &mut [u8]) -> io::Result<usize> {
+        wait_for(self.rt, self.settled, self.count);
+        thread::sleep(self.rt, Duration::from_millis(50));
+        let count = self.commands.len().min(buf.len());
+        buf[..count].copy_from_slice(&self.commands[..count]);
+        self.commands = &self.commands[count..];
+        Ok(count)
+    }
+}
+
+/// How an output goes.
+#[derive(Clone, Copy, Debug)]
+pub enum Output {
+    /// All is written.
+    Whole,
+    /// No byte fits.
+    Full,
+    /// A write fails.
+    NoWrite,
+    /// What is written can't be flushed.
+    NoFlush,
+}
+
+/// Where a node prints: a page, if the output is whole or can't be flushed.
+#[derive(Drop)]
+pub struct Paper {
+    pub page: Page,
+    pub output: Output,
+}
+
+impl Write for Paper {
+    fn write(&mut self, buf: &[u8]) -> io::Result<usize> {
+        match self.output {
+            Output::Full => Ok(0),
+            Output::NoWrite => Err(Error::from(ErrorKind::BrokenPipe)),
+            Output::Whole | Output::NoFlush => self.page.write(buf),
+        }
+    }
+
+    fn flush(&mut self) -> io::Result<()> {
+        match self.output {
+            Output::NoFlush => Err(Error::from(ErrorKind::BrokenPipe)),
+            _ => Ok(()),
+        }
+    }
+}
+
+/// The bytes 32 to 63 of a disk, as four numbers.
+#[derive(Drop)]
+pub struct Tag {
+    pub words: [AtomicU64; 4],
+}
+
+impl Tag {
+    /// A tag of zeros.
+    pub fn new() -> Tag {
+        Tag {
+            words: [
+                AtomicU64::new(0),
+                AtomicU64::new(0),
+                AtomicU64::new(0),
+                AtomicU64::new(0),
+            ],
+        }
+    }
+
+    /// The four numbers.
+    pub fn get(&self) -> [u64; 4] {
+        [
+            self.words[0].load(Ordering::SeqCst),
+            self.words[1].load(Ordering::SeqCst),
+            self.words[2].load(Ordering::SeqCst),
+            self.words[3].load(Ordering::SeqCst),
+        ]
+    }
+}
+
+/// A disk that shows the bytes 32 to 63 at each sync.
+#[derive(Drop)]
+pub struct Shown<'a> {
+    pub disk: ByteDisk,
+    pub tag: &'a Tag,
+}
+
+impl Disk for Shown<'_> {
+    ghost use Rattle.std.specs.Prelude.{[], false};
+    ghost use Rattle.std.proofs.Common.{rules};
+
+    ghost tells = { λ d. false };
+
+    ghost seen = { λ d. [] };
+
+    ghost may_leave = { λ d c. ⊥ };
+
+    ghost moment = { λ d. 0 };
+
+    ghost left_since = { λ d t c. ⊥ };
+
+    ghost failures = { λ d. 0 };
+
+    ghost reads = { λ d at buf answer bytes new. Unit {0} };
+
+    ghost writes = { λ d at bytes answer new. Unit {0} };
+
+    ghost syncs = { λ d answer new. Unit {0} };
+
+    ghost seen_may_stay = { Prim.search rules };
+
+    ghost counts_now = { λ d t c le now. now };
+
+    ghost only_now = { λ d c left. left };
+
+    fn read(&mut self, at: usize, buf: &mut [u8]) -> Result<usize, DiskError> {
+        self.disk.read(at, buf)
+    }
+
+    fn write_at(&mut self, at: usize, bytes: &[u8]) -> Result<(), DiskError> {
+        self.disk.write_at(at, bytes)
+    }
+
+    fn sync(&mut self) -> Result<(), DiskError> {
+        for (word, number) in self.tag.words.iter().zip(self.disk.tag()) {
+            word.store(number, Ordering::SeqCst);
+        }
+        self.disk.sync()
+    }
+}
