@@ -50,8 +50,8 @@ impl<R: Eprint + Clock> Log for LogLines<R> {
         true
     }
 
-    fn log<D: Display, K: Source, S: Spans>(&self, record: &Record<'_, D, K, S>) {
-        let line = Line::new(record);
+    fn log<D: Display, K: Source, S: Spans>(&self, entry: &Record<'_, D, K, S>) {
+        let line = Line::new(entry);
         let _ = match self.time() {
             Some(time) => self.rt.eprintln(format_args!("{time:.3} {line}")),
             None => self.rt.eprintln(line),

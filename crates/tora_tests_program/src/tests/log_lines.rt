@@ -53,30 +53,30 @@ fn log_three<L: Log>(log: &L) {
     debug!(log; target: "a", "three");
 }
 
-/// A clock, whether the time is asked for, up to which level is logged, and what is written.
-type Row = (Option<(u64, u32)>, bool, LevelFilter, &'static str);
+/// What the clock reads, in milliseconds since 1970, whether the time is asked for, up to which level is logged, and what is written.
+type Row = (Option<u64>, bool, LevelFilter, &'static str);
 
 const ROWS: &[Row] = &[
     (
-        Some((1_795_618_802, 125_000_000)),
+        Some(1_795_618_802_125),
         true,
         LevelFilter::Info,
         "2026-11-25T15:00:02.125Z [WARN  a] one\n2026-11-25T15:00:02.125Z [INFO  a] link 2 up\n",
     ),
     (
-        Some((0, 0)),
+        Some(0),
         true,
         LevelFilter::Warn,
         "1970-01-01T00:00:00.000Z [WARN  a] one\n",
     ),
     (
-        Some((1_795_618_802, 0)),
+        Some(1_795_618_802_000),
         false,
         LevelFilter::Trace,
         "[WARN  a] one\n[INFO  a] link 2 up\n[DEBUG a] three\n",
     ),
     (None, true, LevelFilter::Warn, "[WARN  a] one\n"),
-    (Some((0, 0)), true, LevelFilter::Off, ""),
+    (Some(0), true, LevelFilter::Off, ""),
 ];
 
 /// A row's records are written so.
@@ -84,7 +84,7 @@ fn expect_lines<T: Abort>(rt: &T, row: &Row) {
     let (now, has_time, level, wanted) = *row;
     let desk = Desk {
         told: RefCell::new(ArrayWriter::new(Fails::Never)),
-        now: now.map(|(seconds, nanoseconds)| Duration::new(seconds, nanoseconds)),
+        now: now.map(Duration::from_millis),
     };
     log_three(&Logged::new(&desk, level, LogLines::new(&desk, has_time)));
     let Desk { told, now: _ } = desk;
