@@ -1,0 +1,6 @@
+-- the bytes so far, and zeros
+use Rattle.std.proofs.Common.{◌≡◌, ◌++◌, ℕ, length, take, drop, replicate, bytes_eq, ◌+◌, ◌-◌, ◌*◌, ◌<◌, ◌≤◌}
+use Rattle.tora_key.proofs.key.block_with.Given as goal
+
+abbrev pub invariant-loop-i : goal.invariant-loop-i
+invariant-loop-i l = l.block ≡ take l.i l.bytes ++ replicate (64 - l.i) 0

@@ -1,0 +1,9 @@
+-- no bit has differed so far where the bytes so far are the same
+use Rattle.std.proofs.Common.{◌≡◌, take}
+use Rattle.tora_key.proofs.key.is_same.Given as goal
+
+abbrev pub invariant-loop-i : goal.invariant-loop-i
+invariant-loop-i l = record {
+  same : l.differing ≡ 0 → take l.i l.a ≡ take l.i l.b;
+  none : take l.i l.a ≡ take l.i l.b → l.differing ≡ 0;
+}
