@@ -25,8 +25,8 @@ pub struct Key {
 }
 
 impl Key {
-    #[tactic(auto, unfolding(crate::specs::Hmac::padded))]
     /// The key of these bytes. More than 64 of them are hashed first, as the RFC says.
+    #[tactic(auto, unfolding(crate::specs::Hmac::padded))]
     pub fn new(bytes: &[u8]) -> Key
         ensures { block_of result ≡ padded bytes.now }
     {
@@ -49,8 +49,8 @@ impl Key {
         digest_of(&self.block, OUTER_PAD, &inner)
     }
 
-    #[tactic(auto, unfolding(crate::specs::Hmac::tag_of))]
     /// The tag of a message: the first 16 bytes of its HMAC-SHA-256.
+    #[tactic(auto, unfolding(crate::specs::Hmac::tag_of))]
     pub fn tag(&self, message: &[u8]) -> [u8; TAG]
         ensures { result ≡ tag_of (block_of self.now) message.now }
     {

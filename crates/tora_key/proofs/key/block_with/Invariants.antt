@@ -1,5 +1,5 @@
 -- the bytes so far, and zeros
-use Rattle.std.proofs.Common.{◌≡◌, ◌++◌, ℕ, length, take, drop, replicate, bytes_eq, ◌+◌, ◌-◌, ◌*◌, ◌<◌, ◌≤◌}
+use Rattle.std.proofs.Common.{◌≡◌, ◌++◌, take, replicate, ◌-◌}
 use Rattle.tora_key.proofs.key.block_with.Given as goal
 
 abbrev pub invariant-loop-i : goal.invariant-loop-i

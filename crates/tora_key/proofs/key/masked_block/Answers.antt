@@ -1,4 +1,4 @@
-use Rattle.std.proofs.Common.{◌≡◌, ◌++◌, ◌∷◌, [], ℕ, ◌+◌, ◌<◌, ◌≤◌, List, length, take, get_or, set, map, bit_xor, ap, sym, ◌∙◌, arith, rules, length-set}
+use Rattle.std.proofs.Common.{◌≡◌, ◌++◌, ◌∷◌, [], ℕ, ◌+◌, ◌<◌, ◌≤◌, List, length, take, get_or, set, bit_xor, ap, sym, ◌∙◌, rules, length-set}
 use Rattle.std.proofs.lemmas.List.{take_more, take_more_set, take_all, map-append}
 use Rattle.tora_key.specs.Hmac.{masked, masked_byte}
 use Rattle.tora_key.proofs.key.masked_block.Goals as goal

@@ -1,0 +1,3 @@
+//! The tests of each crate, each over its public names.
+mod hmacs;
+mod sees;
