@@ -138,8 +138,9 @@ pub fn histories_are_of_the_threads()
         → AreServed (neighbours_at w n) (w.seats n) (served_in n parts) ((after_parts parts w).seats n) }
 {}
 
-/// What `run_node` says of its links' threads are histories: each link has a thread whose parts are made of a new end of version 2 with
-/// the standard times, one after another, and they exchange what the turns do whose tally is told of it.
+/// What `run_node` says of its links is what histories come to: for each link there are parts of a new end of version 2 with the
+/// standard times, made one after another, and they exchange what the turns do whose tally is told of it. That these parts are
+/// those of the thread of that link it does not say.
 pub fn nodes_have_histories()
     // A node that ended without a fault, as the clause `links` of `run_node` has it.
     ensures links { (first : CoreView) (tallies : List Tally) → AreFaultless (links_of first) tallies → HaveHistories first.me first.neighbours tallies }
