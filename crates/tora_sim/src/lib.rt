@@ -18,6 +18,7 @@ mod datagrams;
 mod files;
 mod first;
 mod hints;
+mod kept_frames;
 mod lanes;
 mod links;
 mod nodes;

@@ -1,6 +1,6 @@
 use Rattle.std.proofs.Common.{◌≡◌, ◌+◌, ◌++◌, take}
 use Rattle.std.specs.Prelude.{vec_len, vec_capacity}
-use Rattle.tora_sim.proofs.datagrams.keep_packets.Given as goal
+use Rattle.tora_sim.proofs.kept_frames.keep_packets.Given as goal
 
 -- the packets so far are kept, and there is room for all
 abbrev pub invariant-loop-packet : goal.invariant-loop-packet
