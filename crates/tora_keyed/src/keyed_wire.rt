@@ -30,12 +30,15 @@ pub struct KeyedWire<W: Wire> {
 }
 
 impl<W: Wire> Model for KeyedWire<W> {
+    ghost use Rattle.std.specs.Prelude.{◌≡◌, length};
     ghost use Rattle.tora_key.specs.Hmac.{block_of};
     ghost use Rattle.tora_keyed.specs.Keyed.{KeyedView};
 
     ghost Value = { KeyedView W };
 
     ghost view = { λ f. record { wire = f.wire; key = block_of f.key; told = f.told; unauthenticated = f.unauthenticated; failures = f.failures } };
+
+    ghost invariant = { λ f. length f.room ≡ 577 };
 }
 
 impl<W: Wire> KeyedWire<W> {
