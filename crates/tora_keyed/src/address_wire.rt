@@ -13,7 +13,8 @@ const LONGEST_WAIT: u64 = 4;
 
 /// A wire over a UDP socket between two addresses. It tells contracts no datagrams. It doesn't look at who sent one.
 ///
-/// A send that takes fewer bytes than it is given has failed. A receive that waits in vain or is interrupted gives no
+/// A send that takes fewer bytes than it is given has failed. Where no way leads to the other end, as long as an interface is down, the
+/// datagram is lost, and the call has not failed. A receive that waits in vain or is interrupted gives no
 /// datagram, and one of no bytes is a datagram too.
 #[derive(Drop)]
 pub struct AddressWire {
@@ -46,6 +47,15 @@ impl AddressWire {
     }
 }
 
+/// Whether a datagram that could not be sent for this reason is lost as the network loses datagrams: no way leads to the other end
+/// for now.
+fn is_lost(kind: ErrorKind) -> bool {
+    matches!(
+        kind,
+        ErrorKind::HostUnreachable | ErrorKind::NetworkUnreachable | ErrorKind::NetworkDown
+    )
+}
+
 impl Wire for AddressWire {
     ghost tells = { λ w. false };
 
@@ -62,6 +72,7 @@ impl Wire for AddressWire {
     fn send(&mut self, bytes: &[u8]) -> Result<(), WireError> {
         match self.socket.send_to(bytes, self.remote) {
             Ok(count) if count == bytes.len() => Ok(()),
+            Err(error) if is_lost(error.kind()) => Ok(()),
             _ => {
                 self.failures = self.failures.saturating_add(1);
                 Err(WireError)
