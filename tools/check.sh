@@ -352,8 +352,48 @@ check_log() {
   refuses 2 "invalid value 'loud'" "$program" node --log loud "$work/5.toml" <"$work/words"
 }
 
+# Keys: two nodes have a link where their keys are the same; with two keys, or one of them without, each says that what comes is
+# not authentic (the one without a key finds no frame in it). A file that holds no key, or can't be read, is told and never what it holds.
+check_keys() {
+  local program=$here/../crates/tora/out/tora it n
+  [ -x "$program" ] || return 0
+  for it in one other; do (umask 077 && "$program" key >"$work/$it.key"); done
+  holds 'a key has 64 digits' grep -qE '^[0-9a-f]{64}$' "$work/one.key"
+  holds 'no two keys are the same' test "$(cat "$work/one.key")" != "$(cat "$work/other.key")"
+  linked() {
+    for n in 1 2; do
+      printf 'node = %d\ndests = [2]\nlife_dir = "%s"\n[[link]]\npeer = %d\nlocal = 4070%d\nremote = "127.0.0.1:4070%d"\n' $n "$work/keyed$n" $((3 - n)) $n $((3 - n)) >"$work/$n.toml"
+      [ -z "${!n}" ] || printf 'key_file = "%s"\n' "$work/${!n}.key" >>"$work/$n.toml"
+      sleep 2.5 | "$program" node "$work/$n.toml" >/dev/null 2>"$work/keyed$n.log" &
+    done
+    wait
+  }
+  linked one one
+  holds 'nodes with one key have a link' grep -q 'link 2 up' "$work/keyed1.log"
+  holds 'all that comes is authentic' test "$(grep -c unauthenticated "$work/keyed1.log" "$work/keyed2.log" | grep -c ':0$')" = 2
+  linked one other
+  holds 'nodes with two keys have no link' test "$(cat "$work"/keyed?.log | grep -c ' up ')" = 0
+  holds 'each says so once' test "$(grep -c 'link [12] unauthenticated datagrams 1$' "$work/keyed1.log" "$work/keyed2.log" | grep -c ':1$')" = 2
+  linked one ''
+  holds 'a node without the key has no link' test "$(cat "$work"/keyed?.log | grep -c ' up ')" = 0
+  holds 'the one with a key says so' grep -q 'link 2 unauthenticated datagrams 1' "$work/keyed1.log"
+  holds 'the one without finds no frame' grep -qE 'link 1 bad datagrams [1-9]' "$work/keyed2.log"
+  head -c 63 "$work/one.key" >"$work/short.key"
+  sed -i 's/one.key/short.key/' "$work/1.toml"
+  refuses 1 "tora: input: $work/short.key: is no key" "$program" node --check "$work/1.toml"
+  holds 'what the file holds is not told' test "$(grep -cF "$(head -c 8 "$work/short.key")" "$work/err")" = 0
+  rm "$work/short.key"
+  refuses 1 "tora: input: $work/short.key: " "$program" node --check "$work/1.toml"
+  cp "$work/one.key" "$work/short.key"
+  chmod 644 "$work/short.key"
+  refuses 0 "tora: warning: $work/short.key: others can read" "$program" node --check "$work/1.toml"
+  sed -i '/key_file/d; s/127.0.0.1/10.9.9.9/' "$work/1.toml"
+  refuses 1 'is missing, and the link leaves the loopback' "$program" node --check "$work/1.toml"
+}
+
 check_simulator
 check_lock
+check_keys
 check_log
 check_study
 check_traffic

@@ -10,7 +10,7 @@ use std::io;
 use std::io::BufWriter;
 use std::process::ExitCode;
 use tora_commands::{
-    MEMORY, USAGE, command, node_command, replay_command, simulate_file, stop, usage,
+    MEMORY, USAGE, command, key_command, node_command, replay_command, simulate_file, stop, usage,
 };
 pub use tora_lines::{Ended, ReplayError, numbers_are_read_as_printed};
 use tora_log::LogLines;
@@ -90,6 +90,7 @@ fn main(rt: HostRuntime) -> ExitCode {
                     let (times, trace) = (sim.get_str("times"), sim.get_str("trace"));
                     simulate_to_output(&rt, times, path, trace, is_verbose)
                 }
+                Some(("key", _)) => key_command::run(&rt, &mut io::writer(&rt)),
                 _ => replay_input(&rt, is_verbose),
             }
         }

@@ -101,7 +101,8 @@ Exit statuses:
 
 /// What `--help` of `node` says of its configuration and commands.
 const NODE: &str = "\
-The configuration, a TOML file, has every one of these keys and no other:
+The configuration, a TOML file, has every one of these keys but the last, and
+no other:
   node = I           the number of the node
   dests = [D, ..]    the destinations of its table, at most 64
   life_dir = \"DIR\"   the folder of its life files, made where it is missing
@@ -109,6 +110,9 @@ The configuration, a TOML file, has every one of these keys and no other:
   peer = K           its neighbour
   local = PORT       the UDP port of 127.0.0.1 that is bound for it
   remote = PORT      the port of 127.0.0.1 that the neighbour binds for it
+  key_file = \"PATH\"  the file with the key of the link, as `tora key` prints it
+A PORT may also be an address, as \"10.0.0.1:7001\" or \"[::1]:7001\". A link that
+leaves the loopback needs a key; both of its ends have the same.
 
 Commands on standard input, each a line:
   need D             a route to destination D is needed
@@ -119,7 +123,7 @@ Another line is told on standard error and passed over.
 
 Exit statuses:
   0  a command or the end of the input ended it
-  1  the configuration is at fault, or output failed
+  1  the configuration or a key is at fault, or output failed
   2  usage
   3  a socket can't be bound, or it failed
   4  a life file can't be opened or gives no number
@@ -200,12 +204,17 @@ fn node<'a>(alloc: Global) -> Result<Command<'a>, AllocError> {
         "Puts the time before each line of the log, in UTC",
     );
     Command::new(alloc, "node")
-        .about("Runs a node over UDP on the loopback, with its commands on standard input")
+        .about("Runs a node over UDP, with its commands on standard input")
         .after_help(NODE)
         .arg(config)?
         .arg(check)?
         .arg(level(alloc))?
         .arg(time)
+}
+
+/// `key`.
+fn key<'a>(alloc: Global) -> Command<'a> {
+    Command::new(alloc, "key").about("Prints a new key for the two ends of a link")
 }
 
 /// `--verbose`, with each command.
@@ -224,5 +233,6 @@ pub fn command<'a>(alloc: Global) -> Result<Command<'a>, AllocError> {
         .arg(verbose(alloc))?
         .subcommand(replay(alloc))?
         .subcommand(sim(alloc)?)?
-        .subcommand(node(alloc)?)
+        .subcommand(node(alloc)?)?
+        .subcommand(key(alloc))
 }

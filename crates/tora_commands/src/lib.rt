@@ -14,6 +14,9 @@ ghost use Rattle.tora_simulate.specs.Endings.{EndsFile, EndsTraced};
 
 mod command_line;
 mod flushing;
+pub mod key_command;
+mod key_file;
+mod link_wires;
 pub mod node_command;
 pub mod replay_command;
 mod times_word;
