@@ -22,11 +22,13 @@ mod world_simulator;
 
 pub use causes::{SimulationCause, simulation_cause};
 pub use link_lines::LinkLines;
-pub use parse::{simulation_line, simulation_lines_are_read_as_written};
+pub use parse::{is_word, link, old, simulation_line, simulation_lines_are_read_as_written};
 pub use rounds::{is_parted, make_rounds};
 pub use running::{Running, mend, part};
 pub use script_line::SimulationLine;
-pub use simulating::{simulate_in, simulation_fault_is_the_first};
+pub use simulating::{
+    first_line, simulate_in, simulation_fault_is_the_first, take_link, take_old,
+};
 pub use simulation::{Simulation, Stage};
 pub use simulator::Simulator;
 pub use told::{Told, simulate_telling, simulate_told, tell_cause};

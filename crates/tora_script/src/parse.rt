@@ -19,8 +19,9 @@ const MOST_ROUNDS: u64 = 10_000;
 /// The greatest number of a life.
 const GREATEST_LIFE: u64 = 0x4000_0000_0000_0000;
 
+/// Whether the text is this word.
 #[tactic(auto, unfolding(crate::specs::SimulationLines::is_word))]
-fn is_word(word: &[u8], text: &[u8]) -> bool
+pub fn is_word(word: &[u8], text: &[u8]) -> bool
     ensures { result ≡ is_word word.now text.now }
 {
     text.len() == word.len() && after(word, text).is_some()

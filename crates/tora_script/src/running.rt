@@ -214,7 +214,8 @@ impl<S: Simulator> Running<S> {
     }
 
     fn part(&mut self, a: Id, b: Id) -> Result<(), LineError>
-        ensures { Gives (λ _. ((running_view S.world self.new), [])) result (where_linked (running_view S.world self.old) a b (record (running_view S.world self.old) { parted = with_parted a b (running_view S.world self.old).parted }, [])) }
+        ensures gives { Gives (λ _. ((running_view S.world self.new), [])) result (where_linked (running_view S.world self.old) a b (record (running_view S.world self.old) { parted = with_parted a b (running_view S.world self.old).parted }, [])) }
+        ensures kept { result ≡ Err LineError.Fault → running_view S.world self.new ≡ running_view S.world self.old }
     {
         if !has_end(a, b, &self.ends) {
             return Err(LineError::Fault);
@@ -224,7 +225,8 @@ impl<S: Simulator> Running<S> {
     }
 
     fn mend(&mut self, a: Id, b: Id) -> Result<(), LineError>
-        ensures { Gives (λ _. ((running_view S.world self.new), [])) result (where_linked (running_view S.world self.old) a b (record (running_view S.world self.old) { parted = without_parted a b (running_view S.world self.old).parted }, [])) }
+        ensures gives { Gives (λ _. ((running_view S.world self.new), [])) result (where_linked (running_view S.world self.old) a b (record (running_view S.world self.old) { parted = without_parted a b (running_view S.world self.old).parted }, [])) }
+        ensures kept { result ≡ Err LineError.Fault → running_view S.world self.new ≡ running_view S.world self.old }
     {
         if !has_end(a, b, &self.ends) {
             return Err(LineError::Fault);
@@ -297,11 +299,12 @@ impl<S: Simulator> Running<S> {
         write_at_rest(out, self.sim.is_at_rest())
     }
 
-    /// Does what a line asks for, and puts what is printed for it behind an empty text.
+    /// Does what a line asks for, and puts what is printed for it behind an empty text. A line that is a fault changes nothing.
     #[tactic(auto, unfolding(crate::specs::SimulationText::running_reply))]
-    fn answer(&mut self, line: SimulationLine, out: &mut String) -> Result<(), LineError>
+    pub fn answer(&mut self, line: SimulationLine, out: &mut String) -> Result<(), LineError>
         requires { string_bytes out.old ≡ [] }
-        ensures { Gives (λ _. ((running_view S.world self.new), string_bytes out.new)) result (running_reply (running_view S.world self.old) line) }
+        ensures gives { Gives (λ _. ((running_view S.world self.new), string_bytes out.new)) result (running_reply (running_view S.world self.old) line) }
+        ensures kept { result ≡ Err LineError.Fault → running_view S.world self.new ≡ running_view S.world self.old }
     {
         match line {
             SimulationLine::Happens(event) => {

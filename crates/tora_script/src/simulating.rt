@@ -23,8 +23,8 @@ use tora_lines::words::LineError;
 use tora_lines::{Ended, FileKind, ReplayError, read_lines};
 use tora_sim::topology_fault;
 
-/// The first line.
-fn first(alloc: Global, line: &[u8]) -> Result<LinkLines, LineError>
+/// Takes the first line.
+pub fn first_line(alloc: Global, line: &[u8]) -> Result<LinkLines, LineError>
     ensures { Gives (λ lines. Progress.Links lines.dests.items lines.links.items lines.olds.items) result (first_progress line.now) }
 {
     let dests = parse::dests(alloc, line)?;
@@ -35,11 +35,12 @@ fn first(alloc: Global, line: &[u8]) -> Result<LinkLines, LineError>
     })
 }
 
-/// Takes a link; it is a fault behind an old node.
-fn take_link(lines: &mut LinkLines, link: (Id, Id)) -> Result<(), LineError>
+/// Takes a link; it is a fault behind an old node, and then changes nothing.
+pub fn take_link(lines: &mut LinkLines, link: (Id, Id)) -> Result<(), LineError>
     requires { (0 < link.0) × (0 < link.1) }
-    ensures { Gives (λ _. Progress.Links lines.new.dests.items lines.new.links.items lines.new.olds.items) result
+    ensures gives { Gives (λ _. Progress.Links lines.new.dests.items lines.new.links.items lines.new.olds.items) result
         (with_link lines.old.dests.items lines.old.links.items lines.old.olds.items link) }
+    ensures kept { result ≡ Err LineError.Fault → lines.new ≡ lines.old }
 {
     if !lines.olds.is_empty() {
         return Err(LineError::Fault);
@@ -55,10 +56,11 @@ pub fn is_linked(n: Id, links: &[(Id, Id)]) -> bool
     links.iter().any(|link| link.0 == n || link.1 == n)
 }
 
-/// Takes an old node; it is a fault where no link names the node, or there is no topology of the links.
-fn take_old(lines: &mut LinkLines, n: Id) -> Result<(), LineError>
-    ensures { Gives (λ _. Progress.Links lines.new.dests.items lines.new.links.items lines.new.olds.items) result
+/// Takes an old node; it is a fault where no link names the node, or there is no topology of the links, and then changes nothing.
+pub fn take_old(lines: &mut LinkLines, n: Id) -> Result<(), LineError>
+    ensures gives { Gives (λ _. Progress.Links lines.new.dests.items lines.new.links.items lines.new.olds.items) result
         (with_old_line lines.old.dests.items lines.old.links.items lines.old.olds.items n) }
+    ensures kept { result ≡ Err LineError.Fault → lines.new ≡ lines.old }
 {
     if !is_linked(n, &lines.links) {
         return Err(LineError::Fault);
@@ -133,7 +135,7 @@ fn take_line<S: Simulator>(
 {
     match stage {
         Stage::First => {
-            *stage = Stage::Links(first(alloc, line)?);
+            *stage = Stage::Links(first_line(alloc, line)?);
             Ok(())
         }
         Stage::Links(lines) => {

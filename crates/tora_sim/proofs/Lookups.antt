@@ -5,7 +5,7 @@ use Rattle.std.proofs.lemmas.List.{at_drop_more, append_assoc, append-nil}
 use Rattle.std.proofs.lemmas.Option.{slice_get-get_or}
 use Rattle.tora_packet.specs.declared.Packet.{Packet}
 use Rattle.tora_arq.specs.declared.Life.{Life}
-use Rattle.tora_core.specs.CoreRun.{height_of, entry_of, hop_of}
+use Rattle.tora_core.specs.CoreRun.{height_of, entry_of, hop_of, flag_of}
 use Rattle.tora_seat.specs.declared.Cargo.{Cargo}
 use Rattle.tora_seat.specs.declared.Cargo.TheVariants as Gives
 use Rattle.tora_world.specs.Topology.{is_node}
@@ -16,6 +16,7 @@ use Rattle.tora_sim.specs.Nodes.{NodeView, is_of}
 use Rattle.tora_sim.specs.Links.{LinkView, is_at, parcel_in}
 use Rattle.tora_sim.specs.Store.{SimState, IsStore, node_at, link_at, seat_in, put_in, steps_in, world_of}
 use Rattle.tora_world.specs.Walks.{height_at, hop_at, entry_at}
+use Rattle.tora_sim.specs.Readers.{flag_at}
 use Rattle.tora_sim.proofs.Keys.{found}
 
 -- ---- one node
@@ -38,6 +39,10 @@ module _ (s : SimState) (h : IsStore s) (n i : ℕ) (x : NodeView) (first : IsFi
   pub hop_found : (d : ℕ) → hop_of x.seat.core d ≡ hop_at (world_of s) n d
   hop_found d =
       sym (ap (λ b. if b then hop_of (seat_in s.topology n (node_at s.nodes n)).core d else None) named ∙ ap (λ o. hop_of (seat_in s.topology n o).core d) node_found)
+
+  pub flag_found : (d : ℕ) → flag_of x.seat.core d ≡ flag_at (world_of s) n d
+  flag_found d =
+      sym (ap (λ b. if b then flag_of (seat_in s.topology n (node_at s.nodes n)).core d else false) named ∙ ap (λ o. flag_of (seat_in s.topology n o).core d) node_found)
 
 -- ---- one link end
 

@@ -1,6 +1,8 @@
-//! What a trace reads of a simulated world: what waits for a core, what it accepted, and what was sent.
+//! What a trace or a drive reads of a simulated world: what waits for a core, what it accepted and requires, and what was sent.
 ghost use Rattle.std.specs.Prelude.{◌≡◌, slice_get};
 ghost use Rattle.tora_world.specs.World.{datagram};
+ghost use Rattle.tora_core.specs.CoreRun.{flag_of};
+ghost use Rattle.tora_sim.specs.Readers.{flag_at};
 ghost use Rattle.tora_sim.specs.Store.{world_of};
 
 use crate::nodes::{NodeSlot, place as node_place};
@@ -32,6 +34,16 @@ impl Sim {
         }
     }
 
+    /// Whether the core of a node requires a route to a destination; not so where there is no such node or destination.
+    pub fn flag(&self, n: Id, d: Id) -> bool
+        ensures { result ≡ flag_at (world_of self.now) n d }
+    {
+        match node_place(&self.nodes, &self.hints, n) {
+            Some(at) => self.nodes[at].flag(d),
+            None => false,
+        }
+    }
+
     /// A datagram by its number, from 1 on; `None` where there is no such datagram.
     pub fn frame(&self, i: u64) -> Option<Frame>
         ensures { result ≡ datagram (world_of self.now) i }
@@ -47,6 +59,13 @@ impl NodeSlot {
         ensures { result ≡ slice_get self.now.items 0 }
     {
         self.items.front().copied()
+    }
+
+    /// Whether its core requires a route to a destination.
+    fn flag(&self, d: Id) -> bool
+        ensures { result ≡ flag_of self.now.seat.core d }
+    {
+        self.seat.core().flag(d)
     }
 
     /// The inputs that its core accepted since its last restart.
