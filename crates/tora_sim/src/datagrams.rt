@@ -7,13 +7,10 @@ ghost use Rattle.tora_sim.specs.SentFrames.{IsMore};
 use crate::kept_frames::KeptFrames;
 use std::alloc::{AllocError, Global};
 use std::marker::Model;
-use tora_frame::{BorrowedBody, BorrowedFrame};
+use tora_frame::{BorrowedBody, BorrowedFrame, Version};
 
-/// How many guesses there are.
-const GUESSES: usize = 16_384;
-
-/// The bits of a number that a guess does not go by.
-const PASSED_BITS: u32 = 18;
+/// How many forms of frames there are: HELLOs of either version, DATA frames, and ACKs.
+const FORMS: usize = 4;
 
 /// The most frames that are kept: the place of each fits 32 bits.
 const MOST_FRAMES: usize = 0xffff_ffff;
@@ -21,8 +18,8 @@ const MOST_FRAMES: usize = 0xffff_ffff;
 /// All datagrams that were ever sent, in order.
 ///
 /// Most of them say what one before them said, as every HELLO does but the first of a life: such a frame without packets is kept
-/// once, and a datagram is the place of its frame, four bytes. Where the frame of a datagram may stand already is a guess by its sender,
-/// receiver, version and kind; what stands there is compared with it whole, so a wrong guess costs memory and nothing else.
+/// once, and a datagram is the place of its frame, four bytes. Where the frame of a datagram may stand already is a guess: where the last one
+/// of its form stands that this link end sent; what stands there is compared with it whole, so a wrong guess costs memory and nothing else.
 #[derive(Drop)]
 pub struct Datagrams {
     frames: KeptFrames,
@@ -62,8 +59,8 @@ impl Datagrams {
         count(&self.places)
     }
 
-    /// Makes room for one more.
-    pub fn reserve(&mut self) -> Result<(), AllocError>
+    /// Makes room for one more, which the link end at a place sends.
+    pub fn reserve(&mut self, end: usize) -> Result<(), AllocError>
         ensures items { self.new.items ≡ self.old.items }
         ensures room { OnOk result (HasRoom self.new) }
     {
@@ -72,18 +69,19 @@ impl Datagrams {
         }
         self.frames.reserve()?;
         self.places.reserve(1)?;
-        if self.guesses.is_empty() {
-            self.guesses.resize(GUESSES, 0)?;
+        let guesses = first_guess(end).saturating_add(FORMS);
+        if self.guesses.len() < guesses {
+            self.guesses.resize(guesses, 0)?;
         }
         Ok(())
     }
 
-    /// Appends a datagram. There must be room for it.
-    pub fn push(&mut self, frame: &BorrowedFrame<'_>)
+    /// Appends a datagram that the link end at a place sends. There must be room for it.
+    pub fn push(&mut self, end: usize, frame: &BorrowedFrame<'_>)
         requires { HasRoom self.old }
         ensures { self.new.items ≡ self.old.items ++ frame.now ∷ [] }
     {
-        let place = place_of(&mut self.frames, &mut self.guesses, frame);
+        let place = place_of(&mut self.frames, &mut self.guesses, end, frame);
         self.places.push_reserved(place);
     }
 
@@ -110,17 +108,22 @@ fn place_at(places: &[u32], at: usize) -> Option<u32>
     places.get(at).copied()
 }
 
-/// Where the guess for a frame stands: by its sender, its receiver, its version and its kind.
-fn guess_of(frame: &BorrowedFrame<'_>) -> usize {
-    let header = frame.header();
-    let kind = match frame.body() {
-        BorrowedBody::Hello => 0,
-        BorrowedBody::Data(..) => 3,
-        BorrowedBody::Ack(_) => 6,
+/// Where the guesses of a link end begin.
+fn first_guess(end: usize) -> usize {
+    end.saturating_mul(FORMS)
+}
+
+/// Where the guess for a frame of a link end stands.
+fn guess_of(end: usize, frame: &BorrowedFrame<'_>) -> usize {
+    let form = match frame.body() {
+        BorrowedBody::Hello => match frame.header().version {
+            Version::One => 0,
+            Version::Two => 1,
+        },
+        BorrowedBody::Data(..) => 2,
+        BorrowedBody::Ack(_) => 3,
     };
-    let form = u32::from(header.version.number()).wrapping_add(kind);
-    let ends = header.sender.wrapping_mul(0x9e37_79b1) ^ header.receiver.wrapping_mul(0x85eb_ca77);
-    (ends ^ form.wrapping_mul(0xc2b2_ae3d)).wrapping_shr(PASSED_BITS) as usize
+    first_guess(end).saturating_add(form)
 }
 
 /// Whether two bodies are seen to be the same: a body with packets is never.
@@ -152,13 +155,18 @@ fn found(frames: &KeptFrames, guess: Option<u32>, frame: &BorrowedFrame<'_>) -> 
 }
 
 /// The place of a frame, which is kept now if it was not.
-fn place_of(frames: &mut KeptFrames, guesses: &mut [u32], frame: &BorrowedFrame<'_>) -> u32
+fn place_of(
+    frames: &mut KeptFrames,
+    guesses: &mut [u32],
+    end: usize,
+    frame: &BorrowedFrame<'_>,
+) -> u32
     requires room { HasRoom frames.old }
     requires places { length frames.old.items < 2 ^ 32 }
     ensures is { slice_get frames.new.items result ≡ Some frame.now }
     ensures more { IsMore frames.old.items frames.new.items }
 {
-    let at = guess_of(frame);
+    let at = guess_of(end, frame);
     if let Some(place) = found(frames, guesses.get(at).copied(), frame) {
         return place;
     }
