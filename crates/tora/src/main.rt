@@ -1,7 +1,7 @@
 //! The program `tora`: a TORA router node on files of lines, a simulator, and a running node.
 //!
 //! `replay` reads the inputs of one node from standard input and writes what the node sends; `sim` simulates a file; `node` runs
-//! a node over UDP on the loopback. The commands themselves are those of `tora_commands`.
+//! a node over UDP; `key` prints a new key. The commands themselves are those of `tora_commands`.
 #![tactic(auto)]
 
 use clap::ArgMatches;

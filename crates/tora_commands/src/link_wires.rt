@@ -1,4 +1,8 @@
 //! The wires of a node's links.
+ghost use Rattle.std.specs.Prelude.{◌≡◌, IfOk, option_map, is_some};
+ghost use Rattle.tora_key.specs.Hmac.{block_of};
+ghost use Rattle.tora_keyed.specs.Links.{over};
+
 use crate::key_file::key_at;
 use crate::node_command::{Fault, say};
 use log::Log;
@@ -13,18 +17,21 @@ use tora_keyed::{AddressWire, Key, LinkWire, NoticedWire};
 use tora_neighbour::UnixClock;
 use tora_simulate::tell_at;
 
-/// How the datagrams of a link go, and the key that it has, if any.
+/// How the datagrams of a link go, and its key: there is one just where it has a file with a key.
 #[derive(Drop)]
 pub(crate) struct KeyedWay {
     way: LinkWay,
     key: Option<Key>,
+    ghost keyed: { is_some key ≡ is_some way.key_file },
 }
 
 /// The wire of a link of the program.
 pub(crate) type ProgramWire<'a, R, L> = NoticedWire<'a, AddressWire, UnixClock<&'a R>, L>;
 
 /// The key of a link, where it has one.
-fn key_of<R: Files<File = File> + Eprint>(rt: &R, way: &LinkWay) -> Result<Option<Key>, Fault> {
+fn key_of<R: Files<File = File> + Eprint>(rt: &R, way: &LinkWay) -> Result<Option<Key>, Fault>
+    ensures { IfOk result (λ key. is_some key ≡ is_some way.now.key_file) }
+{
     match &way.key_file {
         Some(path) => {
             let key = key_at(rt, path.as_str())?;
@@ -67,7 +74,29 @@ fn tell_socket(rt: &impl Eprint, way: &LinkWay, error: &impl Display) {
     let _ = rt.eprintln(format_args!("tora: socket: port {port} of the link to {peer}: {error}"));
 }
 
-/// Binds the socket of each link, in this order, and puts a wire with its key over it, where it has one, which logs to `log`.
+/// Binds the socket of a link, and puts a wire over it, with its key where it has one, which logs to `log`.
+fn wire_of<'a, R: Net + Eprint + Clock, L: Log>(
+    rt: &'a R,
+    log: &'a L,
+    keyed: KeyedWay,
+) -> Result<ProgramWire<'a, R, L>, Fault>
+    ensures { IfOk result (λ wire. wire ≡ over 0 (option_map block_of keyed.key)) }
+{
+    let KeyedWay { way, key } = keyed;
+    match AddressWire::bind(rt, way.local, way.remote) {
+        Ok(wire) => {
+            let wire = LinkWire::over(wire, key);
+            Ok(NoticedWire::new(wire, way.peer, UnixClock::new(rt), log))
+        }
+        Err(error) => {
+            let fault = say(rt, Fault::Socket);
+            tell_socket(rt, &way, &error);
+            Err(fault)
+        }
+    }
+}
+
+/// Binds the socket of each link, in this order, and puts a wire over it.
 pub(crate) fn bind<'a, R: Net + Eprint + Clock, L: Log>(
     rt: &'a R,
     log: &'a L,
@@ -75,21 +104,8 @@ pub(crate) fn bind<'a, R: Net + Eprint + Clock, L: Log>(
     ways: Vec<KeyedWay>,
 ) -> Result<Vec<ProgramWire<'a, R, L>>, Fault> {
     let mut wires = Vec::new(alloc);
-    for keyed in ways {
-        let KeyedWay { way, key } = keyed;
-        let wire = match AddressWire::bind(rt, way.local, way.remote) {
-            Ok(wire) => wire,
-            Err(error) => {
-                let fault = say(rt, Fault::Socket);
-                tell_socket(rt, &way, &error);
-                return Err(fault);
-            }
-        };
-        let wire = match key {
-            Some(key) => LinkWire::keyed(wire, key),
-            None => LinkWire::plain(wire),
-        };
-        let wire = NoticedWire::new(wire, way.peer, UnixClock::new(rt), log);
+    for way in ways {
+        let wire = wire_of(rt, log, way)?;
         let Ok(()) = wires.push(wire) else {
             return Err(say(rt, Fault::Memory));
         };

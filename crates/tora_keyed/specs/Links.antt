@@ -1,11 +1,16 @@
 -- What contracts see of the wire of a link, with a key or without one.
-use Rattle.std.specs.Prelude.{ℕ, ◌&&◌, Bool, List, filter_map, Option, Result}
+use Rattle.std.specs.Prelude.{ℕ, ◌&&◌, Bool, true, List, filter_map, Option, Some, None, Result}
 use Rattle.tora_neighbour.specs.declared.wire.WireError.{WireError}
 use Rattle.tora_keyed.specs.Keyed.{KeyedView, SendsSealed, ReceivesLetIn, let_in}
 
 pub data LinkView (W : Type 0) : Type 0 where
   plain : W → LinkView W
   keyed : KeyedView W → LinkView W
+
+-- the wire of a link with the block of a key, or without one
+abbrev pub over : {W : Type 0} → W → Option (List ℕ) → LinkView W
+over wire None = plain wire
+over wire (Some key) = keyed (record { wire = wire; key = key; told = true; unauthenticated = 0; failures = 0 })
 
 abbrev pub tells_of : {W : Type 0} → (W → Bool) → LinkView W → Bool
 tells_of tells (plain w) = tells w

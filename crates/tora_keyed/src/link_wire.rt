@@ -1,7 +1,7 @@
 //! The wire of a link, with a key or without one.
-ghost use Rattle.std.specs.Prelude.{◌≡◌, true};
+ghost use Rattle.std.specs.Prelude.{◌≡◌, true, option_map};
 ghost use Rattle.tora_key.specs.Hmac.{block_of};
-ghost use Rattle.tora_keyed.specs.Links.{plain, keyed, unauthenticated_of};
+ghost use Rattle.tora_keyed.specs.Links.{plain, keyed, over, unauthenticated_of};
 
 use crate::keyed_wire::KeyedWire;
 use std::marker::Model;
@@ -45,6 +45,16 @@ impl<W: Wire> LinkWire<W> {
     {
         LinkWire {
             way: Way::Keyed(KeyedWire::new(wire, key)),
+        }
+    }
+
+    /// The wire of a link with this key, or without one.
+    pub fn over(wire: W, key: Option<Key>) -> LinkWire<W>
+        ensures { result ≡ over wire (option_map block_of key) }
+    {
+        match key {
+            Some(key) => LinkWire::keyed(wire, key),
+            None => LinkWire::plain(wire),
         }
     }
 

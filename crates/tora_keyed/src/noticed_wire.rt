@@ -1,6 +1,7 @@
 //! A wire of a link that tells how many datagrams were not let in.
 use crate::link_wire::LinkWire;
 use log::{Log, warn};
+use std::marker::Model;
 use tora_height::Id;
 use tora_neighbour::{Clock, Wire, WireError};
 
@@ -19,12 +20,20 @@ pub struct NoticedWire<'a, W: Wire, C, L> {
     last: Option<u64>,
 }
 
+impl<'a, W: Wire, C, L> Model for NoticedWire<'a, W, C, L> {
+    ghost use Rattle.tora_keyed.specs.Links.{LinkView};
+
+    ghost Value = { LinkView W };
+
+    ghost view = { λ f. f.wire };
+}
+
 impl<'a, W: Wire, C: Clock, L: Log> NoticedWire<'a, W, C, L> {
     ghost use Rattle.std.specs.Prelude.{◌≡◌};
 
     /// The wire of the link to `peer`, which logs to `log`.
     pub fn new(wire: LinkWire<W>, peer: Id, clock: C, log: &'a L) -> NoticedWire<'a, W, C, L>
-        ensures { result.wire ≡ wire }
+        ensures { result ≡ wire }
     {
         NoticedWire {
             wire,
@@ -46,7 +55,7 @@ impl<'a, W: Wire, C: Clock, L: Log> NoticedWire<'a, W, C, L> {
 
     /// Logs the count where it is a new one and a line is due.
     fn notice(&mut self)
-        ensures { self.new.wire ≡ self.old.wire }
+        ensures { self.new ≡ self.old }
     {
         let count = self.wire.unauthenticated();
         if count == self.told {
@@ -65,17 +74,17 @@ impl<'a, W: Wire, C: Clock, L: Log> NoticedWire<'a, W, C, L> {
 impl<'a, W: Wire, C: Clock, L: Log> Wire for NoticedWire<'a, W, C, L> {
     ghost use Rattle.tora_keyed.specs.Links.{tells_of, coming_of, failures_of, Sends, Receives};
 
-    ghost tells = { λ f. tells_of W.tells f.wire };
+    ghost tells = { λ f. tells_of W.tells f };
 
-    ghost coming = { λ f. coming_of W.coming f.wire };
+    ghost coming = { λ f. coming_of W.coming f };
 
-    ghost tries = { λ f. coming_of W.tries f.wire };
+    ghost tries = { λ f. coming_of W.tries f };
 
-    ghost failures = { λ f. failures_of W.failures f.wire };
+    ghost failures = { λ f. failures_of W.failures f };
 
-    ghost did_send = { λ f bytes answer after. Sends W.did_send f.wire bytes answer after.wire };
+    ghost did_send = { λ f bytes answer after. Sends W.did_send f bytes answer after };
 
-    ghost did_receive = { λ f answer buffer after. Receives W.did_receive f.wire answer buffer after.wire };
+    ghost did_receive = { λ f answer buffer after. Receives W.did_receive f answer buffer after };
 
     fn send(&mut self, bytes: &[u8]) -> Result<(), WireError> {
         self.wire.send(bytes)
