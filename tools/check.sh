@@ -56,6 +56,11 @@ all_old() {
     { print }' "$1"
 }
 
+# A trace without its first and its last record, which the stored traces have not.
+inside() {
+  sed -e '1{/^0 trace /d}' -e '${/^[0-9]* end /d}' "$1"
+}
+
 # A command that has to end well.
 holds() {
   local what=$1
@@ -100,13 +105,22 @@ check_simulator() {
     python3 ../agree.py "$run.sim" "$work/printed" "$work/trace" >/dev/null || failed=$((failed + 1))
     # With every node old the trace is the stored one, and otherwise all but the records of datagrams.
     if all_old "$run.sim" >"$work/old.sim" && "${command[@]}" --trace "$work/old" "$work/old.sim" >/dev/null; then
-      same "$run.trace" "$work/old"
+      inside "$work/old" >"$work/old.trace"
+      same "$run.trace" "$work/old.trace"
     else
       failed=$((failed + 1))
     fi
     grep -v ' frames ' "$run.trace" >"$work/wanted"
-    grep -v ' frames ' "$work/trace" >"$work/found"
+    inside "$work/trace" | grep -v ' frames ' >"$work/found"
     agrees "$work/wanted" "$work/found" "$run.trace without its records of frames"
+  done
+  for run in 6-1 7-9; do
+    "${command[@]}" --channel loss=0.1,delay=0-2,repeat=0.05 --seed 5 --notice --trace "$work/trace" "$run.sim" >/dev/null
+    holds 'a run over a channel' python3 ../measure.py "$run.json" "$work/trace"
+    head -n -1 "$work/trace" >"$work/cut"
+    refuses 1 "$work/cut:$(wc -l <"$work/cut"): the trace is cut" python3 ../measure.py "$run.json" "$work/cut"
+    sed "s/^ \"links\"/ \"digest\": \"$(sha256sum three.sim | cut -d' ' -f1)\",\n&/" "$run.json" >"$work/other.json"
+    refuses 1 'the trace is of another simulation file' python3 ../measure.py "$work/other.json" "$work/trace"
   done
   "${command[@]}" --trace "$work/trace" ../../examples/loop-after-clear.sim >/dev/null
   TORA_SIM="${command[*]}" python3 ../play.py --sim ../../examples/loop-after-clear.sim -o "$work/sim.html"

@@ -1,2 +1,3 @@
+pub mod SetupWords
 pub mod Statuses
 pub mod TimesWord

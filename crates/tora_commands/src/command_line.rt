@@ -146,6 +146,31 @@ fn times<'a>(alloc: Global) -> Arg<'a> {
         )
 }
 
+/// `--channel` of `sim`.
+fn channel<'a>(alloc: Global) -> Arg<'a> {
+    Arg::new(alloc, "channel")
+        .long("channel")
+        .value_name("PARTS")
+        .help(
+            "What becomes of the datagrams of rounds, as loss=0.1,delay=1-3,repeat=0.01: the share that is lost, the rounds after which one comes, the share that comes twice",
+        )
+}
+
+/// `--seed` of `sim`.
+fn seed<'a>(alloc: Global) -> Arg<'a> {
+    Arg::new(alloc, "seed")
+        .long("seed")
+        .value_name("NUMBER")
+        .help("What the random numbers of a channel begin with, below 2^64; 0 without it")
+}
+
+/// `--notice` of `sim`.
+fn notice<'a>(alloc: Global) -> Arg<'a> {
+    let help =
+        "Both ends cut the life of a link as it is parted, as where a link layer tells of it";
+    flag(alloc, "notice", help)
+}
+
 /// `--trace` of `sim`.
 fn trace<'a>(alloc: Global) -> Arg<'a> {
     Arg::new(alloc, "trace")
@@ -174,6 +199,9 @@ fn sim<'a>(alloc: Global) -> Result<Command<'a>, AllocError> {
         .about("Simulates a world of nodes, links and datagrams, to standard output")
         .after_help(SIMULATION)
         .arg(times(alloc))?
+        .arg(channel(alloc))?
+        .arg(seed(alloc))?
+        .arg(notice(alloc))?
         .arg(trace(alloc))?
         .arg(file)
 }

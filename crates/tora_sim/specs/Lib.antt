@@ -1,5 +1,6 @@
 pub mod Keyed
 pub mod Files
+pub mod Cuts
 pub mod Datagrams
 pub mod SentFrames
 pub mod Links

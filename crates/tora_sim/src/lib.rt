@@ -14,6 +14,7 @@
 //! ```
 #![tactic(auto)]
 
+mod cuts;
 mod datagrams;
 mod files;
 mod first;

@@ -1,7 +1,7 @@
 use Rattle.std.proofs.Common.{◌≡◌, ◌||◌, drop}
 use Rattle.std.specs.List.{list_any}
-use Rattle.tora_script.specs.Rounds.{is_same_pair, is_parted}
-use Rattle.tora_script.proofs.rounds.is_parted.Given as goal
+use Rattle.tora_script.specs.Parted.{is_same_pair, is_parted}
+use Rattle.tora_script.proofs.parted.is_parted.Given as goal
 
 -- found so far, or among the pairs behind
 abbrev pub invariant-loop-pair : goal.invariant-loop-pair
