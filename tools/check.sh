@@ -355,7 +355,7 @@ check_log() {
   printf 'node = 1\ndests = [2]\nlife_dir = "%s"\n[[link]]\npeer = 2\nlocal = 40512\nremote = 40521\n' "$work/logged" >"$work/5.toml"
   echo other >"$work/words"
   refuses 0 '[WARN  tora_node::commands] ' "$program" node "$work/5.toml" <"$work/words"
-  refuses 0 '[INFO  tora_node::threads] link 2 bad datagrams 0' "$program" node "$work/5.toml" <"$work/words"
+  refuses 0 '[INFO  tora_node::link_task] link 2 bad datagrams 0' "$program" node "$work/5.toml" <"$work/words"
   refuses 0 '' "$program" node --log warn --log-time "$work/5.toml" <"$work/words"
   cp "$work/err" "$work/told"
   holds 'a line of the log has its time' grep -qE "^$time\[WARN  tora_node::commands\] " "$work/told"
