@@ -1,6 +1,5 @@
 -- What a simulation is made with, as words of the command line.
 use Rattle.std.specs.Prelude.{ℕ, Bool, List, Option, Some, None}
-use Rattle.tora_arq.specs.declared.Times.{Times}
 use Rattle.tora_channel.specs.declared.channel.Channel.{Channel}
 use Rattle.tora_channel.specs.Channel.{clear}
 use Rattle.tora_channel.specs.Parts.{parts_of, channel_by}

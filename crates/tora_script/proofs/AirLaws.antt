@@ -1,5 +1,5 @@
 -- What is put off, datagram by datagram.
-use Rattle.std.proofs.Common.{◌≡◌, ℕ, suc, ◌+◌, ◌-◌, ◌≤◌, List, ◌++◌, refl, sym, ap, ◌∙◌, arith, append_assoc}
+use Rattle.std.proofs.Common.{◌≡◌, ℕ, suc, ◌+◌, ◌-◌, ◌≤◌, List, ◌++◌, sym, ap, ◌∙◌, arith, append_assoc}
 use Rattle.tora_world.specs.World.{World, datagram}
 use Rattle.tora_script.specs.declared.air.Moment.{Moment}
 use Rattle.tora_script.specs.Air.{put_off_of, put_off}

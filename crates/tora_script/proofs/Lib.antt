@@ -1,4 +1,5 @@
 pub mod AirLaws
+pub mod ClearLaws
 pub mod LinkPairs
 pub mod RoundLaws
 pub mod SimulationFound

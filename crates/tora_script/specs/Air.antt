@@ -1,7 +1,6 @@
 -- What a channel makes of the datagrams of rounds: which come at once, and which in later rounds.
-use Rattle.std.specs.Prelude.{◌≡◌, ℕ, zero, suc, ◌+◌, ◌-◌, ◌%◌, ◌^◌, ◌==◌, ◌&&◌, nat_lt, if◌then◌else◌, List, [], ◌∷◌, ◌++◌, length, map, filter, Option, Some, None}
+use Rattle.std.specs.Prelude.{ℕ, zero, suc, ◌+◌, ◌-◌, ◌%◌, ◌^◌, ◌==◌, ◌&&◌, nat_lt, if◌then◌else◌, List, [], ◌∷◌, ◌++◌, length, map, filter, Option, Some, None}
 use Rattle.tora_frame.specs.FrameParts.{FrameParts}
-use Rattle.tora_channel.specs.declared.channel.Channel.{Channel}
 use Rattle.tora_channel.specs.declared.channel.Copies.{Copies}
 use Rattle.tora_channel.specs.Channel.{copies_of}
 use Rattle.tora_world.specs.World.{World, datagram}

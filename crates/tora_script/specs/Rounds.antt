@@ -1,6 +1,6 @@
 -- What a round of a simulation is: a list of events, and what it leaves in the air.
 pub use Rattle.tora_script.specs.Parted.{is_same_pair, is_parted}
-use Rattle.std.specs.Prelude.{◌≡◌, ℕ, zero, suc, ◌+◌, ◌-◌, ◌==◌, ◌&&◌, ◌||◌, Bool, not, nat_lt, is_some, if◌then◌else◌, List, [], ◌∷◌, ◌++◌, length, Option, Some, None}
+use Rattle.std.specs.Prelude.{◌≡◌, ℕ, zero, suc, ◌+◌, ◌-◌, Bool, not, nat_lt, is_some, if◌then◌else◌, List, [], ◌∷◌, ◌++◌, length, Option, Some, None}
 use Rattle.tora_frame.specs.FrameParts.{FrameParts}
 use Rattle.tora_world.specs.declared.Event.{Event}
 use Rattle.tora_world.specs.declared.Event.TheVariants.{Tick, Open, Pull, Transmit, Deliver, Pump, CoreTurn}

@@ -10,6 +10,7 @@
 
 mod air;
 mod causes;
+mod clear;
 mod link_lines;
 mod parse;
 mod parted;
@@ -25,6 +26,7 @@ mod world_simulator;
 
 pub use air::Air;
 pub use causes::{SimulationCause, simulation_cause};
+pub use clear::clear_channel_delivers_at_once;
 pub use link_lines::LinkLines;
 pub use parse::{is_word, link, old, simulation_line, simulation_lines_are_read_as_written};
 pub use parted::is_parted;

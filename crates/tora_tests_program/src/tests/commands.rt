@@ -207,7 +207,8 @@ const TRACE: &str = "tora_commands_test/two.trace";
 
 const LINES: &str = "dests 2\nlink 1 2\nneed 1 2\nturn 1\nneed 3 2\n";
 
-const RECORDS: &str = "0 trace 1 10 50 5 8 0 0 0 0 0 0\n0 need 1 2\n0 qry 1 2 0\n0 end 652b4c0ca01d6f1b2dfde35446f8e556bd5a6cf9edd9c63af90c38f5fea5dde8\n";
+const RECORDS: &str =
+    "0 trace 1 10 50 5 8 0 0 0 0 0 0\n0 need 1 2\n0 qry 1 2 0\n0 end 652b4c0ca01d6f1b2dfde35446f8e556bd5a6cf9edd9c63af90c38f5fea5dde8\n";
 
 /// What is asked of a simulation of a file: times, a channel, its path, and the path of its trace.
 type Asked = (
@@ -271,14 +272,24 @@ fn make_folder<R: Files<File = File> + AllocGlobal>(rt: &R) -> Result<(), Fail> 
 /// What is asked of simulations one after another, their status, what they print, and whether there is a trace then.
 const ASKED: &[(Asked, u8, &str, bool)] = &[
     (((None, None), FILE, None), SUCCESS, "refused 2\n", false),
-    (((None, None), FILE, Some(TRACE)), SUCCESS, "refused 2\n", true),
+    (
+        ((None, None), FILE, Some(TRACE)),
+        SUCCESS,
+        "refused 2\n",
+        true,
+    ),
     (((None, None), FILE, Some(FILE)), INPUT, "", true),
     (((None, None), MISSING, None), INPUT, "", true),
     (((None, None), MISSING, Some(TRACE)), INPUT, "", true),
     (((None, None), FILE, Some(FOLDER)), INPUT, "", true),
     (((Some("10,50,5"), None), FILE, None), USAGE, "", true),
     (((None, Some("loss=2")), FILE, None), USAGE, "", true),
-    (((Some("10,0,5,8"), None), FILE, Some(FILE)), USAGE, "", true),
+    (
+        ((Some("10,0,5,8"), None), FILE, Some(FILE)),
+        USAGE,
+        "",
+        true,
+    ),
 ];
 
 /// The file named is read, the trace is written to the other, and neither takes the place of the other.

@@ -3,9 +3,9 @@ use super::sees::{sees, sees_at};
 use std::alloc::{AllocError, Global};
 use std::process::Abort;
 use tora_arq::{Life, Times};
+use tora_channel::Channel;
 use tora_core::CoreError;
 use tora_height::{Entry, Height, Id};
-use tora_channel::Channel;
 use tora_script::{Air, Simulator, make_rounds};
 use tora_sim::{Sim, Topology};
 use tora_world::{Call, Event, SimError};
@@ -169,4 +169,36 @@ fn each_call(rt: HostRuntime) {
             }
         }
     }
+}
+
+/// A simulator behind a need of node 1 and sixty rounds over a channel, and what the rounds left in the air.
+fn over_channel(rt: &impl Abort, alloc: Global, channel: Channel) -> (Sim, Air) {
+    let topology = Topology::new(alloc, &LINKS, &[4]).expect(rt, "a topology");
+    let mut sim = Sim::new(alloc, &topology).expect(rt, "a simulator");
+    sees(rt, sim.step(&Event::Need(1, 4)).is_ok(), "the need happens");
+    let mut air = Air::new(alloc);
+    let made = make_rounds(&mut sim, 60, &NODES, &ENDS, &[], channel, &mut air);
+    sees(rt, made.is_ok(), "sixty rounds over a channel");
+    (sim, air)
+}
+
+/// Where every datagram comes twice, and a round or two later, the route is found; where every one is lost, it is not.
+#[test]
+fn routes_over_channels(rt: HostRuntime) {
+    let late = Channel {
+        repeat: 1_000_000,
+        least: 1,
+        most: 2,
+        ..Channel::CLEAR
+    };
+    let (sim, air) = over_channel(&rt, rt.alloc(), late);
+    sees(&rt, has_routes(&sim), "the route is found late");
+    sees(&rt, air.round == 60, "sixty rounds were made");
+    let lost = Channel {
+        loss: 1_000_000,
+        ..Channel::CLEAR
+    };
+    let (sim, air) = over_channel(&rt, rt.alloc(), lost);
+    sees(&rt, !has_routes(&sim), "no route is found");
+    sees(&rt, air.later.is_empty(), "nothing is in the air");
 }

@@ -1,0 +1,40 @@
+-- What rounds are over the clear channel.
+use Rattle.std.proofs.Common.{◌≡◌, ℕ, zero, suc, ◌+◌, Bool, true, false, if◌then◌else◌, List, [], ◌++◌, Option, Some, None, refl, ap, ap₂}
+use Rattle.tora_frame.specs.FrameParts.{FrameParts}
+use Rattle.tora_channel.specs.declared.channel.Copies.{Copies}
+use Rattle.tora_channel.specs.declared.channel.Place.{Place}
+use Rattle.tora_channel.specs.Channel.{clear, copies_of}
+use Rattle.tora_world.specs.declared.Event.TheVariants.{Deliver}
+use Rattle.tora_world.specs.World.{World, datagram}
+use Rattle.tora_script.specs.declared.air.Moment.{Moment}
+use Rattle.tora_script.specs.Air.{copies_in, at_once, later_copies, put_off_of, put_off}
+use Rattle.tora_script.specs.Rounds.{is_parted, repeats, arrival_of, delivery_of, delivery}
+
+-- it comes at once, and once
+abbrev pub one_now : Copies
+one_now = record { first = Some 0; second = None }
+
+module _ (copies : (p : Place) → copies_of clear p ≡ one_now) (parted : List (ℕ × ℕ)) (m : Moment) (e : m.channel ≡ clear) (w : World) where
+  copies_are : (i : ℕ) (way : ℕ × ℕ) → copies_in m i way w ≡ one_now
+  copies_are i way = rw e (copies _)
+
+  delivers_of : (i : ℕ) (o : Option FrameParts) → delivery_of parted m i o w ≡ arrival_of parted i o w
+  delivers_of i None = refl
+  delivers_of i (Some f) =
+      ap (λ (c : Copies). if is_parted parted f.header.sender f.header.receiver then [] else repeats (at_once c) (Deliver i) w) (copies_are i (f.header.sender, f.header.receiver))
+
+  pub delivers : (i : ℕ) → delivery parted m i w ≡ arrival_of parted i (datagram w i) w
+  delivers i = delivers_of i (datagram w i)
+
+  none_of : (i : ℕ) (b : Bool) (c : Copies) → c ≡ one_now → (if b then [] else later_copies i c) ≡ []
+  none_of i true c is = refl
+  none_of i false c is = ap (later_copies i) is
+
+  not_put_off : (i : ℕ) (o : Option FrameParts) → put_off_of parted m i w o ≡ []
+  not_put_off i None = refl
+  not_put_off i (Some f) = none_of i (is_parted parted f.header.sender f.header.receiver) (copies_in m i (f.header.sender, f.header.receiver) w) (copies_are i (f.header.sender, f.header.receiver))
+
+  pub nothing_later : (count : ℕ) → put_off parted m count w ≡ []
+  unfolding put_off
+  nothing_later zero = refl
+  nothing_later (suc count) = ap₂ (λ (xs ys : List (ℕ × ℕ)). xs ++ ys) (nothing_later count) (not_put_off (m.start + count + 1) (datagram w (m.start + count + 1)))

@@ -1,0 +1,18 @@
+//! What rounds are over the clear channel.
+ghost use Rattle.std.specs.Prelude.{◌≡◌, ℕ, List, []};
+ghost use Rattle.tora_channel.specs.Channel.{clear};
+ghost use Rattle.tora_world.specs.World.{World, datagram};
+ghost use Rattle.tora_script.specs.Air.{put_off};
+ghost use Rattle.tora_script.specs.Rounds.{arrival_of, delivery};
+ghost use Rattle.tora_script.specs.declared.air.Moment.{Moment as AnyMoment};
+
+use tora_channel::Channel;
+
+/// Over the clear channel each datagram of a pass is delivered in it, once, unless its nodes are parted, and nothing is put off.
+/// Own profile.
+pub fn clear_channel_delivers_at_once()
+    ensures now { (parted : List (ℕ × ℕ)) (m : AnyMoment) (i : ℕ) (w : World) → m.channel ≡ clear → delivery parted m i w ≡ arrival_of parted i (datagram w i) w }
+    ensures later { (parted : List (ℕ × ℕ)) (m : AnyMoment) (count : ℕ) (w : World) → m.channel ≡ clear → put_off parted m count w ≡ [] }
+{
+    Channel::CLEAR.is_clear();
+}
