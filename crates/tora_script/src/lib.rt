@@ -22,9 +22,9 @@ mod world_simulator;
 
 pub use causes::{SimulationCause, simulation_cause};
 pub use link_lines::LinkLines;
-pub use parse::{is_word, link, old, simulation_line, simulation_lines_are_read_as_written};
-pub use rounds::{is_parted, make_rounds};
-pub use running::{Running, mend, part};
+pub use parse::{is_word, link, old, pair, simulation_line, simulation_lines_are_read_as_written};
+pub use rounds::{EndTurn, is_parted, make_rounds, repeat, turn_cores, turn_end, turn_ends};
+pub use running::{Running, has_end, mend, part};
 pub use script_line::SimulationLine;
 pub use simulating::{
     first_line, simulate_in, simulation_fault_is_the_first, take_link, take_old,
