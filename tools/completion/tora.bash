@@ -17,13 +17,14 @@ _tora() {
   esac
   case $command in
     '')
-      words+=' -V --version replay sim node help'
+      words+=' -V --version replay sim drive node help'
       # the launcher at the top of the repository has words of its own
       if [ -f "$(dirname "${COMP_WORDS[0]}")/tools/build.py" ]; then words+=' build test install uninstall'; fi
       ;;
     sim) words+=' --times --trace' files='*.sim' ;;
+    drive) words+=' --times' ;;
     node) words+=' --check --log --log-time' files='*.toml' ;;
-    help) words='replay sim node' ;;
+    help) words='replay sim drive node' ;;
     install | uninstall) words='-h --help' files='*/' ;;
     build | test) words='-h --help --jobs' ;;
   esac

@@ -10,7 +10,7 @@ use std::io;
 use std::io::BufWriter;
 use std::process::ExitCode;
 use tora_commands::{
-    MEMORY, USAGE, command, node_command, replay_command, simulate_file, stop, usage,
+    MEMORY, USAGE, command, drive_command, node_command, replay_command, simulate_file, stop, usage,
 };
 pub use tora_lines::{Ended, ReplayError, numbers_are_read_as_printed};
 use tora_log::LogLines;
@@ -89,6 +89,10 @@ fn main(rt: HostRuntime) -> ExitCode {
                     let path = sim.get_str("FILE").unwrap_or("");
                     let (times, trace) = (sim.get_str("times"), sim.get_str("trace"));
                     simulate_to_output(&rt, times, path, trace, is_verbose)
+                }
+                Some(("drive", drive)) => {
+                    let mut writer = io::writer(&rt);
+                    drive_command::run(&rt, drive.get_str("times"), rt.stdin(), &mut writer)
                 }
                 _ => replay_input(&rt, is_verbose),
             }

@@ -13,6 +13,7 @@ ghost use Rattle.tora_commands.specs.TimesWord.{asked_times};
 ghost use Rattle.tora_simulate.specs.Endings.{EndsFile, EndsTraced};
 
 mod command_line;
+pub mod drive_command;
 mod flushing;
 pub mod node_command;
 pub mod replay_command;
