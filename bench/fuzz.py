@@ -1,16 +1,21 @@
 """The inputs of bench/fuzz.sh."""
 import glob
+import hashlib
+import hmac
 import os
 import random
 import re
 import resource
+import select
 import socket
 import subprocess
 import sys
 import tempfile
+import threading
 import time
 
 TOP, SECONDS, SEED, KEPT = sys.argv[1], float(sys.argv[2]), int(sys.argv[3]), sys.argv[4]
+WITH_KEYS = sys.argv[5:] == ["--keys"]
 PROGRAM = TOP + "/crates/tora/out/tora"
 HANG = 20
 # The exit statuses of the manual page that a file can bring about: its end, a fault, and refused memory. (`node --check` opens no
@@ -140,8 +145,8 @@ def frame(rng, heads):
 
 
 class Node:
-    def __init__(self, number, folder):
-        config = f"{TOP}/examples/line-of-four/n{number}.toml"
+    def __init__(self, number, folder, config=None):
+        config = config or f"{TOP}/examples/line-of-four/n{number}.toml"
         self.process = subprocess.Popen([PROGRAM, "node", config], cwd=folder, stdin=subprocess.PIPE, stdout=open(f"{folder}/out{number}", "wb"),
                                         stderr=open(f"{folder}/log{number}", "wb"))
         self.out = f"{folder}/out{number}"
@@ -201,10 +206,119 @@ def datagrams(rng):
                 it.process.wait()
 
 
+class Relay(threading.Thread):
+    """Stands between nodes 1 and 2, hands on what each sends to the other, and keeps it."""
+
+    WAYS = [(41512, 41421), (41521, 41412)]  # a port of the relay that a node sends to, and the port of the other node
+
+    def __init__(self):
+        super().__init__(daemon=True)
+        self.sockets = []
+        for port, _ in self.WAYS:
+            it = socket.socket(socket.AF_INET, socket.SOCK_DGRAM)
+            it.bind(("127.0.0.1", port))
+            self.sockets.append(it)
+        self.seen = [[], []]
+
+    def run(self):
+        while True:
+            for it in select.select(self.sockets, [], [])[0]:
+                way = self.sockets.index(it)
+                text = it.recv(2048)
+                self.seen[way] = [*self.seen[way][-4999:], text]
+                it.sendto(text, ("127.0.0.1", self.WAYS[way][1]))
+
+
+def keyed_configurations(folder):
+    """The nodes of examples/line-of-four-keyed, with the relay between 1 and 2, and a key for each link."""
+    for n in (1, 2, 3, 4):
+        text = open(f"{TOP}/examples/line-of-four-keyed/n{n}.toml").read()
+        if n < 3:
+            other = 3 - n
+            text = text.replace(f"remote = 414{other}{n}", f"remote = {Relay.WAYS[n - 1][0]}")
+        with open(f"{folder}/n{n}.toml", "w") as it:
+            it.write(text)
+        for name in re.findall(r'key_file = "(.*)"', text):
+            if not os.path.exists(f"{folder}/{name}"):
+                with open(os.open(f"{folder}/{name}", os.O_CREAT | os.O_WRONLY, 0o600), "wb") as it:
+                    it.write(subprocess.run([PROGRAM, "key"], stdout=subprocess.PIPE, check=True).stdout)
+
+
+def forged(rng, seen):
+    """A datagram of somebody who doesn't know the key, but has heard what went over the link."""
+    kind = rng.randrange(6)
+    text = frame(rng, [(1, 2), (3, 2), (2, 1), (7, 2)])
+    if rng.randrange(3) == 0:  # a HELLO of the neighbour with the greatest life
+        text = (bytes([rng.choice([1, 2]), 1, 0, 0]) + (1).to_bytes(4, "big") + (2).to_bytes(4, "big")
+                + (1 << 62).to_bytes(8, "big") + rng.choice([0, 1, 2, 17]).to_bytes(8, "big"))
+    real = rng.choice(seen) if seen else b""
+    if kind == 0:
+        return text
+    if kind == 1:
+        return text + hmac.new(bytes(range(32)), text, hashlib.sha256).digest()[:16]
+    if kind == 2:
+        return text + real[-16:]
+    if kind == 3:
+        return real[:-rng.randrange(1, 17)]
+    if kind == 4:
+        return mutated_bytes(rng, real)
+    return real
+
+
+def keyed_datagrams(rng):
+    """Datagrams at the ports of nodes 1 and 2, whose links have keys. The route has to stand under them, and to come back under them once
+    node 2 was killed and started again; real datagrams of its lives before come then, too."""
+    with tempfile.TemporaryDirectory() as folder:
+        keyed_configurations(folder)
+        relay = Relay()
+        relay.start()
+        nodes = {n: Node(n, folder, f"{folder}/n{n}.toml") for n in (1, 2, 3, 4)}
+        try:
+            if not routed(nodes, 100):
+                print("no route was found before the first datagram")
+                return 1
+            sender = socket.socket(socket.AF_INET, socket.SOCK_DGRAM)
+            sent = lost = looks = 0
+
+            def flood():
+                for _ in range(50):
+                    way = rng.choice([0, 0, 1])
+                    port = rng.choice([41421, 41421, 41423]) if way == 0 else 41412
+                    sender.sendto(forged(rng, relay.seen[rng.choice([way, way, 1 - way])]), ("127.0.0.1", port))
+                return 50
+
+            for half in (1, 2):
+                end = time.monotonic() + SECONDS / 2
+                while time.monotonic() < end:
+                    sent += flood()
+                    looks += 1
+                    lost += " hop 2" not in nodes[1].route()
+                if half == 1:
+                    nodes[2].process.kill()
+                    nodes[2].process.wait()
+                    nodes[2] = Node(2, folder, f"{folder}/n2.toml")
+                    began = time.monotonic()
+                    while time.monotonic() < began + 6:
+                        sent += flood()
+                        time.sleep(0.05)
+                    while not routed(nodes, 1) and time.monotonic() < began + 36:
+                        sent += flood()
+                    back = time.monotonic() - began
+            ended = [n for n, it in nodes.items() if it.process.poll() is not None]
+            told = [it for it in open(f"{folder}/log2").read().splitlines() if "unauthenticated" in it]
+            print(f"{sent} datagrams at nodes with keys: nodes that ended {ended or 'none'}; the route was missing {lost} times of {looks}; "
+                  f"it was back {back:.0f} s behind a restart under them; node 2 said last: {told[-1] if told else 'nothing'}")
+            return int(bool(ended) or lost > 0 or back >= 36)
+        finally:
+            for it in nodes.values():
+                it.process.kill()
+                it.process.wait()
+
+
 def main():
     print(f"seed {SEED}")
     rng = random.Random(SEED)
-    wrong = files(rng) + datagrams(rng)
+    wrong = keyed_datagrams(rng) if WITH_KEYS else files(rng) + datagrams(rng)
     sys.exit(1 if wrong else 0)
 
 

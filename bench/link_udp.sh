@@ -2,7 +2,7 @@
 # Packets of 32 bytes from one neighbour's thread to another over two UDP sockets of the loopback, at most 32 under way, in
 # batches of up to sixteen, beside yardsticks in C between two processes, in one run: ENet's batches (`enet`), TCP with a
 # write for each packet (`tcp`), and frames of one packet of the sizes of version 1 (`sw`: one under way; `w32`: 32 under way).
-# Each line is a best of ROUNDS. The yardsticks are a C file outside this repository, and need ENet's header files.
+# Beside them the same link with a key (`keyed`). Each line is a best of ROUNDS. The yardsticks are a C file outside this repository, and need ENet's header files.
 # usage: bench/link_udp.sh YARDSTICK [COUNT] [ROUNDS]     YARDSTICK: the folder of `link_bench.c`
 set -eu
 top=$(cd "$(dirname "$0")/.." && pwd)
@@ -15,6 +15,7 @@ gcc -O2 -o "$work/link_bench" "$yardstick/link_bench.c" -lenet
 (cd "$top/crates/tora_bench_link" && rt run >/dev/null 2>&1)
 for _ in $(seq "$rounds"); do
   "$top/crates/tora_bench_link/out/tora_bench_link" link "$count" >>"$work/ours"
+  "$top/crates/tora_bench_link/out/tora_bench_link" keyed "$count" >>"$work/keyed"
   for mode in enet tcp w32; do
     timeout 60 "$work/link_bench" "$mode" "$count" 1000 >>"$work/$mode"
   done
@@ -27,6 +28,8 @@ import sys
 folder = sys.argv[1]
 ours = min(int(line.split()[1]) for line in open(folder + "/ours") if "ns/packet" in line)
 print(f"run_neighbour, window 32  {ours:8d} ns a packet")
+keyed = min(int(line.split()[1]) for line in open(folder + "/keyed") if "ns/packet" in line)
+print(f"the same with a key       {keyed:8d} ns a packet   {keyed / ours:5.2f} times its time")
 for mode in ("enet", "tcp", "w32", "sw"):
     rates = [float(m.group(1)) for m in re.finditer(r"packets/s +([0-9.]+) us/packet", open(f"{folder}/{mode}").read())]
     if rates:

@@ -76,7 +76,7 @@ def compare_page(page, trace):
     """How many heights of a page agree with the trace, and in how many rounds; refuses the first that does not."""
     given, (told, _, held) = list(records(trace)), read_page(page)
     for record, other in zip(given, held):
-        if record != other:
+        if record[1:] != other[1:]:
             raise refused(trace, record.line, f"{page} has another record here")
     if len(given) != len(held):
         raise refused(page, None, f"{len(held)} records, not {len(given)}")

@@ -56,6 +56,11 @@ all_old() {
     { print }' "$1"
 }
 
+# A trace without its first and its last record, which the stored traces have not.
+inside() {
+  sed -e '1{/^0 trace /d}' -e '${/^[0-9]* end /d}' "$1"
+}
+
 # A command that has to end well.
 holds() {
   local what=$1
@@ -100,13 +105,22 @@ check_simulator() {
     python3 ../agree.py "$run.sim" "$work/printed" "$work/trace" >/dev/null || failed=$((failed + 1))
     # With every node old the trace is the stored one, and otherwise all but the records of datagrams.
     if all_old "$run.sim" >"$work/old.sim" && "${command[@]}" --trace "$work/old" "$work/old.sim" >/dev/null; then
-      same "$run.trace" "$work/old"
+      inside "$work/old" >"$work/old.trace"
+      same "$run.trace" "$work/old.trace"
     else
       failed=$((failed + 1))
     fi
     grep -v ' frames ' "$run.trace" >"$work/wanted"
-    grep -v ' frames ' "$work/trace" >"$work/found"
+    inside "$work/trace" | grep -v ' frames ' >"$work/found"
     agrees "$work/wanted" "$work/found" "$run.trace without its records of frames"
+  done
+  for run in 6-1 7-9; do
+    "${command[@]}" --channel loss=0.1,delay=0-2,repeat=0.05 --seed 5 --notice --trace "$work/trace" "$run.sim" >/dev/null
+    holds 'a run over a channel' python3 ../measure.py "$run.json" "$work/trace"
+    head -n -1 "$work/trace" >"$work/cut"
+    refuses 1 "$work/cut:$(wc -l <"$work/cut"): the trace is cut" python3 ../measure.py "$run.json" "$work/cut"
+    sed "s/^ \"links\"/ \"digest\": \"$(sha256sum three.sim | cut -d' ' -f1)\",\n&/" "$run.json" >"$work/other.json"
+    refuses 1 'the trace is of another simulation file' python3 ../measure.py "$work/other.json" "$work/trace"
   done
   "${command[@]}" --trace "$work/trace" ../../examples/loop-after-clear.sim >/dev/null
   TORA_SIM="${command[*]}" python3 ../play.py --sim ../../examples/loop-after-clear.sim -o "$work/sim.html"
@@ -330,6 +344,7 @@ check_lock() {
   refuses 4 "tora: life: $work/lives/life-2: " "$program" node "$work/4.toml" </dev/null
   disown "$process"
   kill -9 "$process"
+  wait "$process" 2>/dev/null || true
   refuses 0 '' "$program" node "$work/4.toml" </dev/null
   exec 9>&-
 }
@@ -341,7 +356,7 @@ check_log() {
   printf 'node = 1\ndests = [2]\nlife_dir = "%s"\n[[link]]\npeer = 2\nlocal = 40512\nremote = 40521\n' "$work/logged" >"$work/5.toml"
   echo other >"$work/words"
   refuses 0 '[WARN  tora_node::commands] ' "$program" node "$work/5.toml" <"$work/words"
-  refuses 0 '[INFO  tora_node::threads] link 2 bad datagrams 0' "$program" node "$work/5.toml" <"$work/words"
+  refuses 0 '[INFO  tora_node::link_task] link 2 bad datagrams 0' "$program" node "$work/5.toml" <"$work/words"
   refuses 0 '' "$program" node --log warn --log-time "$work/5.toml" <"$work/words"
   cp "$work/err" "$work/told"
   holds 'a line of the log has its time' grep -qE "^$time\[WARN  tora_node::commands\] " "$work/told"
@@ -352,8 +367,48 @@ check_log() {
   refuses 2 "invalid value 'loud'" "$program" node --log loud "$work/5.toml" <"$work/words"
 }
 
+# Keys: two nodes have a link where their keys are the same; with two keys, or one of them without, each says that what comes is
+# not authentic (the one without a key finds no frame in it). A file that holds no key, or can't be read, is told and never what it holds.
+check_keys() {
+  local program=$here/../crates/tora/out/tora it n
+  [ -x "$program" ] || return 0
+  for it in one other; do (umask 077 && "$program" key >"$work/$it.key"); done
+  holds 'a key has 64 digits' grep -qE '^[0-9a-f]{64}$' "$work/one.key"
+  holds 'no two keys are the same' test "$(cat "$work/one.key")" != "$(cat "$work/other.key")"
+  linked() {
+    for n in 1 2; do
+      printf 'node = %d\ndests = [2]\nlife_dir = "%s"\n[[link]]\npeer = %d\nlocal = 4070%d\nremote = "127.0.0.1:4070%d"\n' $n "$work/keyed$n" $((3 - n)) $n $((3 - n)) >"$work/$n.toml"
+      [ -z "${!n}" ] || printf 'key_file = "%s"\n' "$work/${!n}.key" >>"$work/$n.toml"
+      sleep 2.5 | "$program" node "$work/$n.toml" >/dev/null 2>"$work/keyed$n.log" &
+    done
+    wait
+  }
+  linked one one
+  holds 'nodes with one key have a link' grep -q 'link 2 up' "$work/keyed1.log"
+  holds 'all that comes is authentic' test "$(grep -c unauthenticated "$work/keyed1.log" "$work/keyed2.log" | grep -c ':0$')" = 2
+  linked one other
+  holds 'nodes with two keys have no link' test "$(cat "$work"/keyed?.log | grep -c ' up ')" = 0
+  holds 'each says so once' test "$(grep -c 'link [12] unauthenticated datagrams 1$' "$work/keyed1.log" "$work/keyed2.log" | grep -c ':1$')" = 2
+  linked one ''
+  holds 'a node without the key has no link' test "$(cat "$work"/keyed?.log | grep -c ' up ')" = 0
+  holds 'the one with a key says so' grep -q 'link 2 unauthenticated datagrams 1' "$work/keyed1.log"
+  holds 'the one without finds no frame' grep -qE 'link 1 bad datagrams [1-9]' "$work/keyed2.log"
+  head -c 63 "$work/one.key" >"$work/short.key"
+  sed -i 's/one.key/short.key/' "$work/1.toml"
+  refuses 1 "tora: input: $work/short.key: is no key" "$program" node --check "$work/1.toml"
+  holds 'what the file holds is not told' test "$(grep -cF "$(head -c 8 "$work/short.key")" "$work/err")" = 0
+  rm "$work/short.key"
+  refuses 1 "tora: input: $work/short.key: " "$program" node --check "$work/1.toml"
+  cp "$work/one.key" "$work/short.key"
+  chmod 644 "$work/short.key"
+  refuses 0 "tora: warning: $work/short.key: others can read" "$program" node --check "$work/1.toml"
+  sed -i '/key_file/d; s/127.0.0.1/10.9.9.9/' "$work/1.toml"
+  refuses 1 'is missing, and the link leaves the loopback' "$program" node --check "$work/1.toml"
+}
+
 check_simulator
 check_lock
+check_keys
 check_log
 check_study
 check_traffic

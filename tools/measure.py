@@ -14,7 +14,7 @@ import sys
 
 import parameters
 import traffic
-from record import GRAMMAR, records
+from record import GRAMMAR, PARTS, Ends, records
 from routes import Routes
 from scenario_file import load_scenario
 from study import Usage, at_least, run
@@ -27,6 +27,9 @@ COLUMNS = (
     "loops loops_without_height loop_rounds loop_longest loop_nodes query update clear query_copies update_copies "
     "clear_copies hello data acknowledgement undelivered links_up links_down"
 ).split()
+
+
+CHANNEL = PARTS[4:]  # what the first record of a trace says of the channel
 
 
 class Counts:
@@ -64,18 +67,21 @@ class Counts:
 
 def measure(scenario, path, load=None, version=""):
     """The routes and the row of a run, which a version of the simulator made; with a load the columns of its packets, too."""
-    counts, routes = Counts(records(path)), Routes(scenario)
+    ends = Ends(path)
+    counts, routes = Counts(records(path, ends)), Routes(scenario)
     packets = load and traffic.Traffic(scenario["flows"], load)
     for first, last, world in spans(scenario, path, counts):
         routes.take(first, last, world)
         if packets:
             packets.run(first, last, world)
     routes.end(scenario["rounds"])
+    ends.refuse_other(scenario)
     row = dict.fromkeys(COLUMNS, "") | {key: scenario[key] for key in ("nodes", "seed", "rounds", "links_met", "most_met", "breaks")}
     row |= dict(zip(("hello_ticks", "silence_ticks", "retry_ticks", "tries"), scenario["times"]))
     row.update(destinations=len(scenario["destinations"]), flows=len(scenario["flows"]), links_declared=len(scenario["links"]),
                contact_kept=round(scenario["contact_kept"], 4), left_out=len(scenario["left_out"]))
     row |= routes.columns() | counts.columns() | parameters.cells(scenario, version)
+    row |= dict.fromkeys(CHANNEL, "") | {name: ends.parts[name] for name in CHANNEL if ends.parts}
     if packets:
         row |= packets.columns(*counts.control())
     return routes, row
@@ -114,7 +120,7 @@ def main():
 
     def body():
         load = traffic.load_of(options.traffic, options.hop, options.ttl) if options.traffic is not None else None
-        names = COLUMNS + parameters.COLUMNS + (traffic.COLUMNS if load else [])
+        names = COLUMNS + parameters.COLUMNS + CHANNEL + (traffic.COLUMNS if load else [])
         if options.header:
             print(",".join(names))
             return

@@ -13,6 +13,9 @@ GRAMMAR = {
     "need": "ii", "part": "ii", "mend": "ii", "up": "iinn", "down": "iinn", "qry": "iin", "upd": "iinh",
     "clr": "iinni", "route": "iihk", "frames": "nnnn",
 }
+FIRST = "0 trace "  # what the first record of a trace begins with
+PARTS = ("hello_ticks silence_ticks retry_ticks tries loss delay_least delay_most repeat channel_seed notice").split()  # of it
+DIGEST = re.compile(r"[0-9a-f]{64}$")
 BETWEEN = frozenset(("need", "part", "mend"))  # records that stand between rounds, with the clock of the round that has ended
 OF_LINKS = frozenset(("part", "mend", "up", "down"))  # records of a link; all others but `frames` are of a node and a destination
 HEIGHT = re.compile(r"\((\d{1,20}),(\d{1,20}),([01]),(-?\d{1,20}),(\d{1,20})\)$")
@@ -50,14 +53,66 @@ def read_record(path, number, text, before):
     return Record(number, clock, words[1], tuple([field(path, number, k, w) for k, w in zip(kinds, words[2:])]))
 
 
-def records(path):
-    """Yields the records of a trace. Behind a clock that was read before, what was read before is not read again."""
-    before, clock_before, new = 0, None, tuple.__new__
+class Ends:
+    """What the first and the last record of a trace say; a trace of another simulator, or an older one, has neither."""
+
+    def __init__(self, path):
+        """Before the first line."""
+        self.path, self.parts, self.digest, self.line = path, None, None, 0
+
+    def begin(self, text):
+        """Takes the first record."""
+        words = text.rstrip("\n").split(" ")
+        if not text.endswith("\n"):
+            raise refused(self.path, 1, "the line is cut: it does not end")
+        if words[2] != "1":
+            raise refused(self.path, 1, f"a trace of version {words[2]}; 1 is read here")
+        if len(words) != 3 + len(PARTS):
+            raise refused(self.path, 1, f"`trace` has {1 + len(PARTS)} fields, not {len(words) - 2}")
+        self.parts = {name: field(self.path, 1, "n", word) for name, word in zip(PARTS, words[3:])}
+
+    def finish(self, number, text, before):
+        """Takes the last record."""
+        words = text.rstrip("\n").split(" ")
+        if self.parts is None or len(words) != 3 or not DIGEST.match(words[2]):
+            raise refused(self.path, number, "no record of a trace")
+        if field(self.path, number, "n", words[0]) < before:
+            raise refused(self.path, number, f"the clock goes back from {before} to {words[0]}")
+        self.digest, self.line = words[2], number
+
+    def refuse_cut(self, number):
+        """Refuses a trace of so many lines that is empty, or that has a first record and not the last."""
+        if number == 0:
+            raise refused(self.path, 1, "the trace is empty")
+        if self.parts is not None and self.digest is None:
+            raise refused(self.path, number, "the trace is cut: its last record `end` is missing")
+
+    def refuse_other(self, scenario):
+        """Refuses a trace whose times or simulation file are not those of a scenario."""
+        if self.parts is None:
+            return
+        times = [self.parts[name] for name in PARTS[:4]]
+        if times != scenario["times"]:
+            raise refused(self.path, 1, f"the times are {times}, and those of the scenario are {scenario['times']}")
+        if scenario.get("digest", self.digest) != self.digest:
+            raise refused(self.path, self.line, "the trace is of another simulation file than that of the scenario")
+
+
+def records(path, ends=None):
+    """Yields the records of a trace but for its first and its last one, which go to `ends`, and refuses one that is empty or cut.
+
+    Behind a clock that was read before, what was read before is not read again."""
+    before, clock_before, new, ends, number = 0, None, tuple.__new__, ends or Ends(path), 0
     known = {letter: {} for letter in "inhk"}  # by the kind of field the values of words
     fields = {kind: [known[letter] for letter in letters] for kind, letters in GRAMMAR.items()}
     between = {}  # texts behind the clock of records that stand between rounds, which come again and again
     with open(path, encoding="ascii", errors="replace", newline="\n") as source:
         for number, text in enumerate(source, 1):
+            if number == 1 and text.startswith(FIRST):
+                ends.begin(text)
+                continue
+            if ends.digest is not None:
+                raise refused(path, number, "the trace goes on behind its last record")
             clock, _, rest = text.partition(" ")
             if clock == clock_before and rest in between:
                 yield new(Record, (number, before, *between[rest]))
@@ -72,6 +127,9 @@ def records(path):
                         continue
                 except KeyError:
                     pass
+            if rest.startswith("end ") and text.endswith("\n"):
+                ends.finish(number, text, before)
+                continue
             record = read_record(path, number, text, before)
             before, clock_before = record.clock, clock
             if record.kind in BETWEEN:
@@ -79,6 +137,7 @@ def records(path):
             for values, word, value in zip(fields[record.kind], words[1:], record.words):
                 keep(values, word, value)
             yield record
+    ends.refuse_cut(number)
 
 
 def keep(known, text, value):

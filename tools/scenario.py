@@ -13,6 +13,7 @@ more, links are declared in the order of their total contact time, the longest f
 room. The contact time that is lost so is told, and stands in the scenario (contact_kept), as do the nodes without a link.
 """
 import argparse
+import hashlib
 import json
 import math
 import random
@@ -170,10 +171,12 @@ def make(options):
 
 def write(prefix, scenario, lines):
     """Writes both files, and tells on standard error what the limit of neighbours has cost."""
+    text = "\n".join(lines) + "\n"
     with writing(prefix + ".sim") as sink:
-        sink.write("\n".join(lines) + "\n")
+        sink.write(text)
+    told = scenario | {"digest": hashlib.sha256(text.encode("ascii")).hexdigest()}
     with writing(prefix + ".json") as sink:
-        parts = [f" {json.dumps(key)}: {json.dumps(value, separators=(',', ':'))}" for key, value in scenario.items()]
+        parts = [f" {json.dumps(key)}: {json.dumps(value, separators=(',', ':'))}" for key, value in told.items()]
         sink.write("{\n" + ",\n".join(parts) + "\n}\n")
     lost = scenario["links_met"] - len(scenario["links"])
     if lost:

@@ -64,6 +64,8 @@ def check_numbers(path, scenario):
             raise refused(path, None, f"no scenario: `{key}` is no finite number")
     if not 1 <= scenario["rounds"] <= MOST_ROUNDS:
         raise refused(path, None, f"no scenario: `rounds` is not 1 to {MOST_ROUNDS}")
+    if not isinstance(scenario.get("digest", ""), str):
+        raise refused(path, None, "no scenario: `digest` is no text")
     known = scenario.setdefault("parameters", {})
     if not isinstance(known, dict):
         raise refused(path, None, "no scenario: `parameters` are no names with values")

@@ -1,10 +1,12 @@
 """How the records of a trace are read, and what is refused."""
 import unittest
 
-from record import Record, records
+from record import Ends, Record, records
 from study import Refused
 from testing import written
 
+FIRST = "0 trace 1 10 50 5 8 100000 1 3 0 7 1\n"
+LAST = f"2 end {'0' * 64}\n"
 REFUSED = {
     "1 need 1 2": "1: the line is cut",
     "1 need 1 2\n1 need 1 3": "2: the line is cut",
@@ -16,6 +18,15 @@ REFUSED = {
     "1 upd 1 2 3 (0,0,0,1)\n": "1: `(0,0,0,1)` is no height",
     "1 need 1 " + "9" * 5000 + "\n": "1: `9999",
     "\n": "1: no record of a trace",
+    "": "1: the trace is empty",
+    FIRST: "1: the trace is cut: its last record `end` is missing",
+    FIRST + "1 need 1 2\n": "2: the trace is cut: its last record `end` is missing",
+    FIRST + "1 need 1 2\n" + LAST + "2 need 1 2\n": "4: the trace goes on behind its last record",
+    FIRST + "3 need 1 2\n" + LAST: "3: the clock goes back from 3 to 2",
+    "1 need 1 2\n" + LAST: "2: no record of a trace",
+    FIRST + "2 end 12\n": "2: no record of a trace",
+    FIRST.replace(" 1 ", " 2 ", 1): "1: a trace of version 2",
+    FIRST.replace(" 8 ", " ", 1): "1: `trace` has 11 fields, not 10",
 }
 
 
@@ -29,6 +40,17 @@ class RecordTest(unittest.TestCase):
             found = list(records(path))
         self.assertEqual(found[:3], [Record(1, 1, "need", (1, 2)), Record(2, 1, "need", (1, 2)), Record(3, 2, "need", (1, 2))])
         self.assertEqual([record.words for record in found[3:]], [(1, 2, (0, 0, 0, -1, 1), None), (1, 2, None, 2), (1, 2, None, None)])
+
+    def test_ends(self):
+        """The first and the last record are told apart from the others."""
+        with written(FIRST + "1 need 1 2\n" + LAST) as path:
+            ends = Ends(path)
+            self.assertEqual(list(records(path, ends)), [Record(2, 1, "need", (1, 2))])
+            self.assertEqual([ends.parts[name] for name in ("retry_ticks", "loss", "delay_least", "channel_seed", "notice")], [5, 100000, 1, 7, 1])
+            ends.refuse_other({"times": [10, 50, 5, 8], "digest": "0" * 64})
+            for other in ({"times": [10, 50, 5, 7]}, {"times": [10, 50, 5, 8], "digest": "1" * 64}):
+                with self.subTest(other=other), self.assertRaises(Refused):
+                    ends.refuse_other(other)
 
     def test_refusals(self):
         """Each is told with its line."""

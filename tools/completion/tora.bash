@@ -5,26 +5,26 @@ _tora() {
   COMPREPLY=()
   for ((at = 1; at < COMP_CWORD; at++)); do
     case ${COMP_WORDS[at]} in
-      --times | --trace | --log) at=$((at + 1)) ;;
+      --times | --channel | --seed | --trace | --log) at=$((at + 1)) ;;
       -*) ;;
       *) command=${COMP_WORDS[at]} && break ;;
     esac
   done
   case $before in
-    --times) return ;;
+    --times | --channel | --seed) return ;;
     --log) mapfile -t COMPREPLY < <(compgen -W 'off error warn info debug trace' -- "$word") && return ;;
     --trace) mapfile -t COMPREPLY < <(compgen -f -- "$word") && return ;;
   esac
   case $command in
     '')
-      words+=' -V --version replay sim drive node help'
+      words+=' -V --version replay sim drive node key help'
       # the launcher at the top of the repository has words of its own
       if [ -f "$(dirname "${COMP_WORDS[0]}")/tools/build.py" ]; then words+=' build test install uninstall'; fi
       ;;
-    sim) words+=' --times --trace' files='*.sim' ;;
+    sim) words+=' --times --channel --seed --notice --trace' files='*.sim' ;;
     drive) words+=' --times' ;;
     node) words+=' --check --log --log-time' files='*.toml' ;;
-    help) words='replay sim drive node' ;;
+    help) words='replay sim drive node key' ;;
     install | uninstall) words='-h --help' files='*/' ;;
     build | test) words='-h --help --jobs' ;;
   esac

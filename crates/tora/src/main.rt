@@ -1,7 +1,7 @@
 //! The program `tora`: a TORA router node on files of lines, a simulator, and a running node.
 //!
 //! `replay` reads the inputs of one node from standard input and writes what the node sends; `sim` simulates a file; `node` runs
-//! a node over UDP on the loopback. The commands themselves are those of `tora_commands`.
+//! a node over UDP; `key` prints a new key. The commands themselves are those of `tora_commands`.
 #![tactic(auto)]
 
 use clap::ArgMatches;
@@ -10,7 +10,8 @@ use std::io;
 use std::io::BufWriter;
 use std::process::ExitCode;
 use tora_commands::{
-    MEMORY, USAGE, command, drive_command, node_command, replay_command, simulate_file, stop, usage,
+    MEMORY, SetupWords, USAGE, command, drive_command, key_command, node_command, replay_command,
+    simulate_file, stop, usage,
 };
 pub use tora_lines::{Ended, ReplayError, numbers_are_read_as_printed};
 use tora_log::LogLines;
@@ -33,7 +34,7 @@ fn replay_input(rt: &HostRuntime, is_verbose: bool) -> ExitCode {
 /// Simulates the lines of a file, to standard output.
 fn simulate_to_output(
     rt: &HostRuntime,
-    times: Option<&str>,
+    words: SetupWords<'_>,
     path: &str,
     trace: Option<&str>,
     is_verbose: bool,
@@ -41,7 +42,7 @@ fn simulate_to_output(
     let Ok(mut writer) = BufWriter::new(rt.alloc(), io::writer(rt)) else {
         return stop(rt, MEMORY, "memory");
     };
-    simulate_file(rt, times, path, trace, is_verbose, &mut writer)
+    simulate_file(rt, words, path, trace, is_verbose, &mut writer)
 }
 
 /// The runtime with the log of a node: up to which level, and whether with the time, its options say. It has no sockets.
@@ -87,13 +88,19 @@ fn main(rt: HostRuntime) -> ExitCode {
                 }
                 Some(("sim", sim)) => {
                     let path = sim.get_str("FILE").unwrap_or("");
-                    let (times, trace) = (sim.get_str("times"), sim.get_str("trace"));
-                    simulate_to_output(&rt, times, path, trace, is_verbose)
+                    let words = SetupWords {
+                        times: sim.get_str("times"),
+                        channel: sim.get_str("channel"),
+                        seed: sim.get_str("seed"),
+                        has_notice: sim.get_flag("notice"),
+                    };
+                    simulate_to_output(&rt, words, path, sim.get_str("trace"), is_verbose)
                 }
                 Some(("drive", drive)) => {
                     let mut writer = io::writer(&rt);
                     drive_command::run(&rt, drive.get_str("times"), rt.stdin(), &mut writer)
                 }
+                Some(("key", _)) => key_command::run(&rt, &mut io::writer(&rt)),
                 _ => replay_input(&rt, is_verbose),
             }
         }

@@ -11,9 +11,10 @@ use std::time::{Clock, Instant};
 use std::{io, thread};
 use tora_arq::{Life, LinkEnd, Times};
 use tora_height::{Height, Id};
+use tora_keyed::{Key, KeyedWire};
 use tora_lane::Cargo;
 use tora_life::{LifeFile, MemDisk};
-use tora_neighbour::{Link, ListHub, UdpWire, UnixClock, run_neighbour};
+use tora_neighbour::{Link, ListHub, UdpWire, UnixClock, Wire, run_neighbour};
 use tora_packet::{Packet, Update};
 
 /// Places for the life that begins and for the beats of a run.
@@ -46,12 +47,12 @@ fn cargoes(alloc: Global, count: u32) -> Option<Vec<Cargo>> {
 }
 
 /// Runs an end until every packet was delivered.
-fn run_end<R: Clock + Wait>(
+fn run_end<R: Clock + Wait, W: Wire + Drop>(
     rt: &R,
     alloc: Global,
     me: Id,
     peer: Id,
-    wire: UdpWire,
+    wire: W,
     cargoes: Vec<Cargo>,
     course: &Course,
 ) -> Option<u64>
@@ -79,15 +80,14 @@ fn run_end<R: Clock + Wait>(
     Some(finished.hub.given)
 }
 
-/// Runs both ends.
-fn run_link<R: Clock + Net + Threads + Wait + Sync>(
+/// Runs both ends, each over its wire.
+fn run_ends<R: Clock + Threads + Wait + Sync, W: Wire + Send + Drop>(
     rt: &R,
     alloc: Global,
-    count: u32,
+    (first, second): (W, W),
+    list: Vec<Cargo>,
     course: &Course,
 ) -> Option<()> {
-    let (first, second) = pair(rt)?;
-    let list = cargoes(alloc, count)?;
     let none = Vec::new(alloc);
     let (sent, received) = thread::join(
         rt,
@@ -99,11 +99,34 @@ fn run_link<R: Clock + Net + Threads + Wait + Sync>(
     Some(())
 }
 
-/// Times the link, with so many packets.
+/// The wire under a key of its own making.
+fn keyed(wire: UdpWire) -> KeyedWire<UdpWire> {
+    KeyedWire::new(wire, Key::new(&[7; 32]))
+}
+
+/// Runs a link, with a key or without one.
+fn run_link<R: Clock + Net + Threads + Wait + Sync>(
+    rt: &R,
+    alloc: Global,
+    count: u32,
+    is_keyed: bool,
+    course: &Course,
+) -> Option<()> {
+    let (first, second) = pair(rt)?;
+    let list = cargoes(alloc, count)?;
+    if is_keyed {
+        let wires = (keyed(first), keyed(second));
+        return run_ends(rt, alloc, wires, list, course);
+    }
+    run_ends(rt, alloc, (first, second), list, course)
+}
+
+/// Times the link, with so many packets, with a key or without one.
 pub fn time_link<R: Clock + Net + Print + Threads + Wait + Sync>(
     rt: &R,
     alloc: Global,
     count: u32,
+    is_keyed: bool,
 ) -> io::Result<()> {
     let course = Course {
         base: Instant::now(rt)?,
@@ -112,7 +135,7 @@ pub fn time_link<R: Clock + Net + Print + Threads + Wait + Sync>(
         began: AtomicU64::new(0),
         ended: AtomicU64::new(0),
     };
-    let ran = run_link(rt, alloc, count, &course);
+    let ran = run_link(rt, alloc, count, is_keyed, &course);
     let delivered = course.delivered.load(Ordering::SeqCst);
     let began = course.began.load(Ordering::SeqCst);
     let ended = course.ended.load(Ordering::SeqCst);

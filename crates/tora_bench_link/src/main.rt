@@ -7,7 +7,8 @@
 //!
 //! `tora_bench_link link N` binds two sockets of the loopback, runs `run_neighbour` at each end, and hands N updates of 32 bytes
 //! from one to the other, each in a DATA frame of 76 bytes, 32 under way at most. It prints nanoseconds a packet, from the
-//! first that was submitted to the last that was delivered, and how many were delivered.
+//! first that was submitted to the last that was delivered, and how many were delivered. `keyed` in place of `link` does the same
+//! over wires with a key.
 #![tactic(auto)]
 
 mod lane_runs;
@@ -22,18 +23,31 @@ use std::io;
 /// The items of each thread, the cargoes and the packets, where no number is given.
 const COUNT: u32 = 200_000;
 
-/// Whether the lanes are asked for, and how many operations.
-fn asked(words: &[String]) -> Option<(bool, u32)> {
+/// What is timed.
+enum Timed {
+    Lanes,
+    Link,
+    KeyedLink,
+}
+
+/// What is asked for, and how many operations.
+fn asked(words: &[String]) -> Option<(Timed, u32)> {
     let what = words.get(1)?;
     let count = words.get(2)?.as_str().parse::<u32>().unwrap_or(COUNT);
-    Some((what.as_str() == "lane", count))
+    let what = match what.as_str() {
+        "lane" => Timed::Lanes,
+        "keyed" => Timed::KeyedLink,
+        _ => Timed::Link,
+    };
+    Some((what, count))
 }
 
 fn main(rt: HostRuntime) -> io::Result<()> {
     let words = std::env::args(&rt)?.collect::<Vec<String>>(rt.alloc())?;
     match asked(&words) {
-        Some((true, count)) => time_lanes(&rt, rt.alloc(), count),
-        Some((false, count)) => time_link(&rt, rt.alloc(), count),
+        Some((Timed::Lanes, count)) => time_lanes(&rt, rt.alloc(), count),
+        Some((Timed::Link, count)) => time_link(&rt, rt.alloc(), count, false),
+        Some((Timed::KeyedLink, count)) => time_link(&rt, rt.alloc(), count, true),
         None => Ok(()),
     }
 }

@@ -101,7 +101,8 @@ Exit statuses:
 
 /// What `--help` of `node` says of its configuration and commands.
 const NODE: &str = "\
-The configuration, a TOML file, has every one of these keys and no other:
+The configuration, a TOML file, has every one of these keys but the last, and
+no other:
   node = I           the number of the node
   dests = [D, ..]    the destinations of its table, at most 64
   life_dir = \"DIR\"   the folder of its life files, made where it is missing
@@ -109,6 +110,9 @@ The configuration, a TOML file, has every one of these keys and no other:
   peer = K           its neighbour
   local = PORT       the UDP port of 127.0.0.1 that is bound for it
   remote = PORT      the port of 127.0.0.1 that the neighbour binds for it
+  key_file = \"PATH\"  the file with the key of the link, as `tora key` prints it
+A PORT may also be an address, as \"10.0.0.1:7001\" or \"[::1]:7001\". A link that
+leaves the loopback needs a key; both of its ends have the same.
 
 Commands on standard input, each a line:
   need D             a route to destination D is needed
@@ -119,7 +123,7 @@ Another line is told on standard error and passed over.
 
 Exit statuses:
   0  a command or the end of the input ended it
-  1  the configuration is at fault, or output failed
+  1  the configuration or a key is at fault, or output failed
   2  usage
   3  a socket can't be bound, or it failed
   4  a life file can't be opened or gives no number
@@ -140,6 +144,31 @@ fn times<'a>(alloc: Global) -> Arg<'a> {
         .help(
             "The times of each link end, in ticks of 100 ms, each at least 1: between HELLOs, of silence until a life ends, between tries of a packet, and how many tries; 10,50,5,8 without it",
         )
+}
+
+/// `--channel` of `sim`.
+fn channel<'a>(alloc: Global) -> Arg<'a> {
+    Arg::new(alloc, "channel")
+        .long("channel")
+        .value_name("PARTS")
+        .help(
+            "What becomes of the datagrams of rounds, as loss=0.1,delay=1-3,repeat=0.01: the share that is lost, the rounds after which one comes, the share that comes twice",
+        )
+}
+
+/// `--seed` of `sim`.
+fn seed<'a>(alloc: Global) -> Arg<'a> {
+    Arg::new(alloc, "seed")
+        .long("seed")
+        .value_name("NUMBER")
+        .help("What the random numbers of a channel begin with, below 2^64; 0 without it")
+}
+
+/// `--notice` of `sim`.
+fn notice<'a>(alloc: Global) -> Arg<'a> {
+    let help =
+        "Both ends cut the life of a link as it is parted, as where a link layer tells of it";
+    flag(alloc, "notice", help)
 }
 
 /// `--trace` of `sim`.
@@ -170,6 +199,9 @@ fn sim<'a>(alloc: Global) -> Result<Command<'a>, AllocError> {
         .about("Simulates a world of nodes, links and datagrams, to standard output")
         .after_help(SIMULATION)
         .arg(times(alloc))?
+        .arg(channel(alloc))?
+        .arg(seed(alloc))?
+        .arg(notice(alloc))?
         .arg(trace(alloc))?
         .arg(file)
 }
@@ -240,12 +272,17 @@ fn node<'a>(alloc: Global) -> Result<Command<'a>, AllocError> {
         "Puts the time before each line of the log, in UTC",
     );
     Command::new(alloc, "node")
-        .about("Runs a node over UDP on the loopback, with its commands on standard input")
+        .about("Runs a node over UDP, with its commands on standard input")
         .after_help(NODE)
         .arg(config)?
         .arg(check)?
         .arg(level(alloc))?
         .arg(time)
+}
+
+/// `key`.
+fn key<'a>(alloc: Global) -> Command<'a> {
+    Command::new(alloc, "key").about("Prints a new key for the two ends of a link")
 }
 
 /// `--verbose`, with each command.
@@ -265,5 +302,6 @@ pub fn command<'a>(alloc: Global) -> Result<Command<'a>, AllocError> {
         .subcommand(replay(alloc))?
         .subcommand(sim(alloc)?)?
         .subcommand(drive(alloc)?)?
-        .subcommand(node(alloc)?)
+        .subcommand(node(alloc)?)?
+        .subcommand(key(alloc))
 }

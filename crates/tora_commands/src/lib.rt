@@ -8,21 +8,27 @@
 ghost use Rattle.std.specs.Prelude.{◌≡◌, ◌≢◌, ◌⊎◌, None, IfSome, option_map};
 ghost use Rattle.std.specs.Process.{exit_status};
 ghost use Rattle.clap.specs.Words.{kind_of};
-ghost use Rattle.tora_script.specs.SimulationText.{simulation_rules};
-ghost use Rattle.tora_commands.specs.TimesWord.{asked_times};
+ghost use Rattle.tora_script.specs.SimulationText.{rules_over};
+ghost use Rattle.tora_commands.specs.SetupWords.{asked_setup};
 ghost use Rattle.tora_simulate.specs.Endings.{EndsFile, EndsTraced};
 
 mod command_line;
 pub mod drive_command;
 mod flushing;
+mod hashing;
+pub mod key_command;
+mod key_file;
+mod link_wires;
 pub mod node_command;
 pub mod replay_command;
+mod setup_words;
 mod times_word;
 pub mod traced_command;
 
 use clap::error::ErrorKind;
 pub use command_line::command;
 pub use flushing::{replay_and_flush, simulate_and_flush, simulate_told_and_flush};
+pub use setup_words::{SetupFault, SetupWords, asked_setup};
 use std::process::ExitCode;
 use std::rt::Files;
 pub use times_word::asked_times;
@@ -31,33 +37,46 @@ use tora_sim::Sim;
 pub use tora_simulate::{
     INPUT, LIFE, MEMORY, SOCKET, USAGE, sim_command, simulate_telling_and_flush, status, stop,
 };
+use tora_simulate::{tell, tell_at};
 
-/// What is said of a word behind `--times` that gives no times.
-const TIMES: &str = "behind `--times` stand four numbers from 1 on between commas, as in 10,50,5,8";
+/// Says which words ask for no simulation, and why.
+fn refuse_setup<T: Eprint>(rt: &T, fault: SetupFault<'_>) -> ExitCode
+    ensures { exit_status result ≡ 2 }
+{
+    match fault {
+        SetupFault::Part(part) => {
+            let part = str::from_utf8(part).unwrap_or("-");
+            tell_at(rt, "behind `--channel`: ", part, &fault.cause());
+        }
+        _ => tell(rt, &fault.cause()),
+    }
+    ExitCode::from(USAGE)
+}
 
-/// Simulates the lines of the file at a path, with the times of link ends that a word asks for, and writes the trace where a
-/// path is given for it. A word that gives no times is a fault of usage, and nothing is written.
+/// Simulates the lines of the file at a path, made with what words ask for, and writes the trace where a
+/// path is given for it. Words that ask for none are a fault of usage, and nothing is written.
 pub fn simulate_file<T: Files + AllocGlobal + Eprint, W: Output>(
     rt: &T,
-    times: Option<&str>,
+    words: SetupWords<'_>,
     path: &str,
     trace: Option<&str>,
     is_verbose: bool,
     writer: &mut W,
 ) -> ExitCode
-    ensures usage { asked_times (option_map (λ w. w.now) times.entry) ≡ None → (exit_status result ≡ 2) × (writer.new ≡ writer.old) }
-    ensures ends { IfSome (asked_times (option_map (λ w. w.now) times.entry)) (λ t. EndsTraced T.File.remaining (simulation_rules t) W.contents W.did_flush writer.old writer.new (exit_status result)) }
-    ensures untraced { trace.entry ≡ None → IfSome (asked_times (option_map (λ w. w.now) times.entry)) (λ t. EndsFile T.File.remaining (simulation_rules t) W.contents W.did_flush writer.old writer.new (exit_status result)) }
+    ensures usage { asked_setup (option_map (λ w. w.now) words.entry.times) (option_map (λ w. w.now) words.entry.channel) (option_map (λ w. w.now) words.entry.seed) words.entry.has_notice ≡ None → (exit_status result ≡ 2) × (writer.new ≡ writer.old) }
+    ensures ends { IfSome (asked_setup (option_map (λ w. w.now) words.entry.times) (option_map (λ w. w.now) words.entry.channel) (option_map (λ w. w.now) words.entry.seed) words.entry.has_notice) (λ s. EndsTraced T.File.remaining (rules_over s) W.contents W.did_flush writer.old writer.new (exit_status result)) }
+    ensures untraced { trace.entry ≡ None → IfSome (asked_setup (option_map (λ w. w.now) words.entry.times) (option_map (λ w. w.now) words.entry.channel) (option_map (λ w. w.now) words.entry.seed) words.entry.has_notice) (λ s. EndsFile T.File.remaining (rules_over s) W.contents W.did_flush writer.old writer.new (exit_status result)) }
 {
-    let Some(times) = asked_times(times) else {
-        return stop(rt, USAGE, TIMES);
+    let setup = match asked_setup(words) {
+        Ok(setup) => setup,
+        Err(fault) => return refuse_setup(rt, fault),
     };
     match trace {
         Some(trace) => {
             let paths = (path, trace);
-            traced_command::run::<Sim, T, W>(rt, times, paths, is_verbose, writer)
+            traced_command::run::<Sim, T, W>(rt, setup, paths, is_verbose, writer)
         }
-        None => sim_command::run::<Sim, T, W>(rt, times, path, is_verbose, writer),
+        None => sim_command::run::<Sim, T, W>(rt, setup, path, is_verbose, writer),
     }
 }
 

@@ -1,13 +1,13 @@
-//! `tora node CONFIG`: a node over UDP on the loopback and real life files.
+//! `tora node CONFIG`: a node over UDP and real life files.
 ghost use Rattle.std.specs.Prelude.{◌≡◌, IfOk};
 ghost use Rattle.std.specs.Process.{exit_status};
 ghost use Rattle.tora_commands.specs.Statuses.{core_of, status_of_node, status_of_fault, EndsNode};
 ghost use Rattle.tora_config.specs.NodeConfig.{IsNodeConfig};
 
+use crate::link_wires::{KeyedWay, bind, ways_in};
 use crate::{INPUT, LIFE, MEMORY, SOCKET, stop};
 use log::Log;
 use std::alloc::{AllocError, Global};
-use std::fmt::Display;
 use std::fs::File;
 use std::io::{ErrorKind, Read, Write};
 use std::net::Net;
@@ -21,7 +21,7 @@ use tora_config::{ConfigError, LinkConfig, NodeConfig, read_config};
 use tora_core::CoreError;
 use tora_height::Id;
 use tora_life::{Disk, FileDisk, LifeError, Owner, Tag};
-use tora_neighbour::{NodeError, UdpWire, UnixClock};
+use tora_neighbour::{NodeError, UnixClock};
 use tora_node::{Config, Ended, run_node};
 use tora_simulate::{tell, tell_at};
 
@@ -39,7 +39,7 @@ pub enum Fault {
 }
 
 /// Says in one word on standard error why a node is not started. What says more stands behind it.
-fn say(rt: &impl Eprint, fault: Fault) -> Fault
+pub(crate) fn say(rt: &impl Eprint, fault: Fault) -> Fault
     ensures { result ≡ fault }
 {
     let word = match fault {
@@ -80,12 +80,12 @@ fn status(rt: &impl Eprint, ended: Result<Ended, NodeError>) -> ExitCode
     }
 }
 
-/// Reads the configuration at a path. What is wrong is said on standard error.
+/// Reads the configuration at a path, and the keys of its links. What is wrong is said on standard error.
 fn read<R: Files<File = File> + AllocGlobal + Eprint>(
     rt: &R,
     path: &str,
-) -> Result<NodeConfig, Fault>
-    ensures { IfOk result IsNodeConfig }
+) -> Result<(NodeConfig, Vec<KeyedWay>), Fault>
+    ensures { IfOk result (λ read. IsNodeConfig read.0) }
 {
     let text = match fs::read_to_string(rt, path) {
         Ok(text) => text,
@@ -98,15 +98,17 @@ fn read<R: Files<File = File> + AllocGlobal + Eprint>(
             return Err(fault);
         }
     };
-    match read_config(rt.alloc(), text.as_str()) {
-        Ok(config) => Ok(config),
-        Err(ConfigError::Memory) => Err(say(rt, Fault::Memory)),
+    let config = match read_config(rt.alloc(), text.as_str()) {
+        Ok(config) => config,
+        Err(ConfigError::Memory) => return Err(say(rt, Fault::Memory)),
         Err(error) => {
             let fault = say(rt, Fault::Config);
             tell_at(rt, "input: ", path, &error);
-            Err(fault)
+            return Err(fault);
         }
-    }
+    };
+    let ways = ways_in(rt, path, text.as_str())?;
+    Ok((config, ways))
 }
 
 /// What stands behind a word for so many.
@@ -130,36 +132,6 @@ fn praise(rt: &impl Eprint, path: &str, config: &NodeConfig) {
     let links = (config.links.len(), "link");
     let dests = (config.dests.len(), "destination");
     praise_counts(rt, path, links, dests);
-}
-
-/// Says on standard error why the socket of a link can't be bound.
-fn tell_socket(rt: &impl Eprint, link: &LinkConfig, error: &impl Display) {
-    let (peer, port) = (link.peer, link.local);
-    let _ = rt.eprintln(format_args!("tora: socket: port {port} of the link to {peer}: {error}"));
-}
-
-/// Binds the socket of each link, by ascending neighbour.
-fn bind<R: Net + Eprint>(
-    rt: &R,
-    alloc: Global,
-    links: &[LinkConfig],
-) -> Result<Vec<UdpWire>, Fault> {
-    let mut wires = Vec::new(alloc);
-    for link in links {
-        match UdpWire::bind(rt, link.local, link.remote) {
-            Ok(wire) => {
-                let Ok(()) = wires.push(wire) else {
-                    return Err(say(rt, Fault::Memory));
-                };
-            }
-            Err(error) => {
-                let fault = say(rt, Fault::Socket);
-                tell_socket(rt, link, &error);
-                return Err(fault);
-            }
-        }
-    }
-    Ok(wires)
 }
 
 /// Says on standard error why a life file can't be opened.
@@ -272,9 +244,9 @@ fn tell_ended<R: Files<File = File> + AllocGlobal + Eprint>(
 /// Reads the configuration, binds the sockets, opens the life files, and runs the node, which logs to `log`, until its
 /// commands end it.
 ///
-/// The first fault ends it before a thread is started: the configuration (status 1), then a socket, by ascending
+/// The first fault ends it before a thread is started: the configuration or a file with a key (status 1), then a socket, by ascending
 /// neighbour (3), then a life file, likewise (4), memory at any point (5). With `is_check` it reads the
-/// configuration, says that it is one, and ends. Standard error has the cause of a fault, and with `is_verbose` of a life file of
+/// configuration and the keys, says that it is one, and ends. Standard error has the cause of a fault, and with `is_verbose` of a life file of
 /// another node whose it is.
 pub fn run<
     R: Files<File = File> + AllocGlobal + Eprint + Net + Clock + Sync,
@@ -293,15 +265,15 @@ pub fn run<
     ensures { EndsNode is_check (exit_status result) }
 {
     let alloc = rt.alloc();
-    let config = match read(rt, path) {
-        Ok(config) => config,
+    let (config, ways) = match read(rt, path) {
+        Ok(read) => read,
         Err(fault) => return code_of(fault),
     };
     if is_check {
         praise(rt, path, &config);
         return ExitCode::SUCCESS;
     }
-    let wires = match bind(rt, alloc, config.links.as_slice()) {
+    let wires = match bind(rt, log, alloc, ways) {
         Ok(wires) => wires,
         Err(fault) => return code_of(fault),
     };

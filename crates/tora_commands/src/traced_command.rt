@@ -1,20 +1,24 @@
 //! `tora sim --trace PATH FILE`: a simulation of a file of lines, and its trace.
-ghost use Rattle.std.specs.Prelude.{◌≡◌, ◌⊎◌, is_some};
+ghost use Rattle.std.specs.Prelude.{◌≡◌, ◌≢◌, ◌⊎◌, is_some, Ok, IfOk, IfErr, IfSome};
+ghost use Rattle.std.specs.Io.KnownBytes.{IsAtEnd};
+ghost use Rattle.tora_lines.specs.Flushing.{IsFlushed};
 ghost use Rattle.std.specs.Process.{exit_status};
 ghost use Rattle.tora_arq.specs.Settings.{IsTimes};
 ghost use Rattle.tora_simulate.specs.Endings.{EndsBy, EndsTraced};
-ghost use Rattle.tora_script.specs.SimulationText.{simulation_rules};
+ghost use Rattle.tora_script.specs.SimulationText.{rules_over, SimulatesOver, IsBegunOver};
 ghost use Rattle.tora_simulate.specs.Statuses.{traced_status};
 ghost use Rattle.tora_traced.specs.TraceOuts.{IsHandedOn};
 
+use crate::hashing::Hashing;
 use crate::sim_command::{refuse, tell};
 use crate::{INPUT, MEMORY, status, stop};
+use std::alloc::Global;
 use std::io::{BufWriter, ErrorKind, Read};
 use std::process::ExitCode;
 use std::rt::Files;
 use std::{fs, io};
-use tora_arq::Times;
 use tora_lines::{Ended, Output, Recent, ReplayError, flushed};
+use tora_script::Setup;
 use tora_simulate::tell_at;
 use tora_traced::{TraceOut, Watched, simulate_traced};
 
@@ -53,39 +57,80 @@ fn traced_status<T: Eprint, V: Output>(
     code
 }
 
-/// Simulates the lines that a reader gives, with these times of each link end, writes the trace to the
+/// Simulates what is made with this, writes the trace, and flushes the writer: `Write` where that alone fails.
+fn simulate_and_flush<S: Watched, T: Eprint, R: Read, W: Output, V: Output>(
+    rt: &T,
+    alloc: Global,
+    setup: Setup,
+    reader: &mut R,
+    writer: &mut W,
+    out: &mut TraceOut<V>,
+    is_verbose: bool,
+) -> Result<Ended, ReplayError>
+    requires { IsTimes setup.times }
+    ensures whole { IfOk result (λ ended. IfSome (R.remaining reader.old) (λ input.
+        SimulatesOver setup input (W.contents writer.old) (W.contents writer.new) ended)) }
+    ensures at_end { result ≡ Ok Ended.Whole → IsAtEnd (R.remaining reader.new) }
+    ensures begun { IfErr result (λ e. e ≢ ReplayError.Write →
+        IsBegunOver setup (R.remaining reader.old) (R.remaining reader.new) (W.contents writer.old) (W.contents writer.new)) }
+    ensures flushed { IsFlushed W.did_flush result writer.new }
+{
+    let result = simulate_traced::<S, T, R, W, V>(
+        rt, alloc, setup, reader, writer, out, is_verbose,
+    );
+    flushed(writer, result)
+}
+
+/// Writes the last record of a trace whose input was taken whole, with the digest of the input.
+fn finish<R: Read + Drop, V: Output>(
+    alloc: Global,
+    reader: Hashing<R>,
+    ended: Result<Ended, ReplayError>,
+    out: &mut TraceOut<V>,
+) {
+    if ended != Ok(Ended::Whole) {
+        return;
+    }
+    match reader.digest(alloc) {
+        Ok(digest) => out.finish(alloc, &digest),
+        Err(_) => out.fail(),
+    }
+}
+
+/// Simulates the lines that a reader gives, in a world that is made with this, writes the trace to the
 /// file at a path, and hands both on.
 pub fn run_over<S: Watched, T: AllocGlobal + Eprint, R: Read + Drop, W: Output, V: Output>(
     rt: &T,
-    times: Times,
+    setup: Setup,
     reader: R,
     is_verbose: bool,
     writer: &mut W,
     path: &str,
     out: &mut TraceOut<V>,
 ) -> ExitCode
-    requires { IsTimes times }
-    ensures ends { EndsBy (simulation_rules times) W.contents W.did_flush (R.remaining reader) writer.old writer.new (is_some out.new.failure) (exit_status result) }
+    requires { IsTimes setup.times }
+    ensures ends { EndsBy (rules_over setup) W.contents W.did_flush (R.remaining reader) writer.old writer.new (is_some out.new.failure) (exit_status result) }
     ensures trace { (before : TraceOut V) × IsHandedOn V.did_flush before out.new }
 {
     let alloc = rt.alloc();
-    let mut reader = Recent::new(alloc, reader);
-    let result = simulate_traced::<S, T, Recent<R>, W, V>(
+    let mut reader = Hashing::new(Recent::new(alloc, reader));
+    out.begin(alloc, setup);
+    let result = simulate_and_flush::<S, T, Hashing<Recent<R>>, W, V>(
         rt,
         alloc,
-        times,
+        setup,
         &mut reader,
         writer,
         out,
         is_verbose,
     );
-    let result = flushed(writer, result);
+    tell(rt, &reader.reader, result);
+    finish(alloc, reader, result, out);
     out.flush();
-    tell(rt, &reader, result);
     traced_status(rt, result, out, path)
 }
 
-/// Simulates the lines of the file at a path, with these times of each link end, and writes the trace to the file at another
+/// Simulates the lines of the file at a path, in a world that is made with this, and writes the trace to the file at another
 /// one, which is made anew.
 ///
 /// It ends with the status of the simulation, or with 1 where that is 0 and the trace could not be written; with 1, before
@@ -93,13 +138,13 @@ pub fn run_over<S: Watched, T: AllocGlobal + Eprint, R: Read + Drop, W: Output, 
 /// one; and with 5 where memory was refused.
 pub fn run<S: Watched, T: Files + AllocGlobal + Eprint, W: Output>(
     rt: &T,
-    times: Times,
+    setup: Setup,
     paths: (&str, &str),
     is_verbose: bool,
     writer: &mut W,
 ) -> ExitCode
-    requires { IsTimes times }
-    ensures ends { EndsTraced T.File.remaining (simulation_rules times) W.contents W.did_flush writer.old writer.new (exit_status result) }
+    requires { IsTimes setup.times }
+    ensures ends { EndsTraced T.File.remaining (rules_over setup) W.contents W.did_flush writer.old writer.new (exit_status result) }
     ensures same { paths.entry.0.now ≡ paths.entry.1.now → (exit_status result ≡ 1) × (writer.new ≡ writer.old) }
 {
     let (path, trace) = paths;
@@ -121,6 +166,6 @@ pub fn run<S: Watched, T: Files + AllocGlobal + Eprint, W: Output>(
     };
     let mut out = TraceOut::new(records);
     run_over::<S, T, T::File, W, BufWriter<T::File>>(
-        rt, times, file, is_verbose, writer, trace, &mut out,
+        rt, setup, file, is_verbose, writer, trace, &mut out,
     )
 }

@@ -14,6 +14,7 @@ place_text (At.Link n) = codes "`link`, number " ++ decimal n
 place_text (At.Peer n) = codes "`peer` of link " ++ decimal n
 place_text (At.Local n) = codes "`local` of link " ++ decimal n
 place_text (At.Remote n) = codes "`remote` of link " ++ decimal n
+place_text (At.KeyFile n) = codes "`key_file` of link " ++ decimal n
 
 -- the number behind the words for a key, where it has one
 abbrev pub number_text : Option ℕ → List ℕ

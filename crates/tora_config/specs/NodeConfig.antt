@@ -2,6 +2,8 @@
 use Rattle.std.specs.Prelude.{codes, string_bytes, ◌≡◌, ℕ, ◌+◌, ◌<◌, ℤ, pos, List, map, length, slice_index, All, Option, Some, None, option_and_then, IsPermutation}
 use Rattle.toml.specs.Data.{Data, Members, as_integer, as_str, as_array, get, get_member}
 use Rattle.toml.specs.View.{items_of}
+use Rattle.std.specs.Result.{result_ok}
+use Rattle.tora_values.specs.Addresses.{end_in, port_of_end}
 use Rattle.tora_core.specs.CoreRun.{core_refusal}
 use Rattle.tora_config.specs.declared.LinkConfig.{LinkConfig}
 use Rattle.tora_config.specs.declared.NodeConfig.{NodeConfig}
@@ -44,12 +46,22 @@ IsListAt key table values = option_and_then as_array (get_member key table) ≡ 
 abbrev pub number_in : List ℕ → Data → Option ℤ
 number_in key value = option_and_then as_integer (get key value)
 
--- the three numbers that a value says of a link, and those of the link
-abbrev pub says_of_link : Data → Option ℤ × (Option ℤ × Option ℤ)
-says_of_link value = (number_in (codes "peer") value, (number_in (codes "local") value, number_in (codes "remote") value))
+-- the port that a value says, as a number or in the text of an address
+abbrev pub port_said : Data → Option ℕ
+port_said value = result_ok (port_of_end (end_in value))
 
-abbrev pub said_link : LinkConfig → Option ℤ × (Option ℤ × Option ℤ)
-said_link link = (Some (pos link.peer), (Some (pos link.local), Some (pos link.remote)))
+abbrev pub port_at : List ℕ → Members → Option ℕ
+port_at key table = option_and_then port_said (get_member key table)
+
+abbrev pub port_in : List ℕ → Data → Option ℕ
+port_in key value = option_and_then port_said (get key value)
+
+-- the three numbers that a value says of a link, and those of the link
+abbrev pub says_of_link : Data → Option ℤ × (Option ℕ × Option ℕ)
+says_of_link value = (number_in (codes "peer") value, (port_in (codes "local") value, port_in (codes "remote") value))
+
+abbrev pub said_link : LinkConfig → Option ℤ × (Option ℕ × Option ℕ)
+said_link link = (Some (pos link.peer), (Some link.local, Some link.remote))
 
 -- The links are those that the list says, in another order.
 abbrev pub AreLinksOf : List Data → List LinkConfig → Type 0

@@ -40,7 +40,7 @@ abbrev pub keys_of_configuration : List (List ℕ)
 keys_of_configuration = codes "node" ∷ codes "dests" ∷ codes "life_dir" ∷ codes "link" ∷ []
 
 abbrev pub keys_of_link : List (List ℕ)
-keys_of_link = codes "peer" ∷ codes "local" ∷ codes "remote" ∷ []
+keys_of_link = codes "peer" ∷ codes "local" ∷ codes "remote" ∷ codes "key_file" ∷ []
 
 -- ---- lists
 
@@ -152,7 +152,7 @@ Reads (Ok c) read = (x : Configuration) × (read ≡ Ok x) × IsOf c x
 Reads (Err e) read = Fails e read
 
 -- The answer is that the text is no TOML, unless memory ran out.
-abbrev pub IsNoToml : Result NodeConfig ConfigError → Type 0
+abbrev pub IsNoToml : {X : Type 0} → Result X ConfigError → Type 0
 IsNoToml (Err (Error.Syntax e)) = Unit {0}
 IsNoToml (Err Error.Memory) = Unit {0}
 IsNoToml _ = ⊥

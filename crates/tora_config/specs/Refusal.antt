@@ -5,7 +5,9 @@ use Rattle.tora_core.specs.declared.errors.CoreError.{CoreError}
 use Rattle.tora_config.specs.declared.fault.Place.{Place}
 use Rattle.tora_values.specs.declared.reason.Reason.{Reason}
 use Rattle.tora_values.specs.declared.reason.Reason.TheVariants as Is
-use Rattle.tora_values.specs.Numbers.{id_in, port_in}
+use Rattle.tora_values.specs.Addresses.{end_in, port_of_end}
+use Rattle.tora_values.specs.Numbers.{id_in}
+use Rattle.std.specs.declared.net.socket_addr.SocketAddr.{SocketAddr}
 
 pub data Fault : Type 0 where
   unknown_key : List ℕ → Fault
@@ -22,7 +24,10 @@ abbrev pub id_at : Option Data → Result ℕ Reason
 id_at stands = found (λ value. id_in (as_integer value)) stands
 
 abbrev pub port_at : Option Data → Result ℕ Reason
-port_at stands = found (λ value. port_in (as_integer value)) stands
+port_at stands = found (λ value. port_of_end (end_in value)) stands
+
+abbrev pub end_at : Option Data → Result SocketAddr Reason
+end_at stands = found end_in stands
 
 abbrev pub ok_or : {A : Type 0} → Reason → Option A → Result A Reason
 ok_or reason None = Err reason

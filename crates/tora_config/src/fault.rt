@@ -27,6 +27,8 @@ pub enum Place {
     Local(usize),
     /// `remote` of the link with this number.
     Remote(usize),
+    /// `key_file` of the link with this number.
+    KeyFile(usize),
 }
 
 impl Place {
@@ -47,6 +49,7 @@ impl Place {
             Place::Peer(n) => ("`peer` of link ", Some(n)),
             Place::Local(n) => ("`local` of link ", Some(n)),
             Place::Remote(n) => ("`remote` of link ", Some(n)),
+            Place::KeyFile(n) => ("`key_file` of link ", Some(n)),
         }
     }
 }

@@ -11,22 +11,28 @@
 //! remote = 4021
 //! ```
 //!
-//! Each of these keys is required, `link` at least once, and every other key is a fault. `node`, `peer` and each of `dests`
-//! are whole numbers from 1 to 2^32 - 1; ports are from 1 to 65535. No two links have one peer or one local port, and no
+//! Each of these keys is required, `link` at least once, and every other key but `key_file` is a fault. `node`, `peer` and each of
+//! `dests` are whole numbers from 1 to 2^32 - 1; ports are from 1 to 65535. No two links have one peer or one local port, and no
 //! peer is the node itself. What a core refuses is a fault: too many links or destinations, and a destination that stands
 //! twice. Own profile.
+//!
+//! `local` and `remote` may also be texts of addresses, as `"10.0.0.1:7001"` and `"[::1]:7001"`; a number is a port of 127.0.0.1. A
+//! link may have a `key_file`, the path of a file with a key, and one that leaves the loopback must have one. `read_config` reads all
+//! but these, of an address its port alone; `read_ways` reads the addresses and the paths.
 #![tactic(auto)]
 
 mod fault;
 mod reading;
 mod values;
+mod ways;
 
 pub use fault::{ConfigError, Place};
 pub use reading::read_config;
 use tora_height::Id;
 pub use tora_values::Reason;
+pub use ways::{LinkWay, read_ways};
 
-/// A link to a neighbour, over UDP on the loopback.
+/// A link to a neighbour, over UDP.
 #[derive(Clone, Copy, Debug, PartialEq, Eq, Hash)]
 pub struct LinkConfig {
     /// The neighbour, not 0.

@@ -43,7 +43,7 @@ fn check_keys(alloc: Global, table: &Table) -> Result<(), ConfigError>
 fn is_link_key(key: &str) -> bool
     ensures { result ≡ list_any (bytes_eq key.now) keys_of_link }
 {
-    matches!(key, "peer" | "local" | "remote")
+    matches!(key, "peer" | "local" | "remote" | "key_file")
 }
 
 #[tactic(auto, using(crate::proofs::Keys::keys_in_view))]

@@ -3,14 +3,15 @@ ghost use Rattle.std.specs.Prelude.{string_bytes, ◌≡◌, ◌<◌, pos, map, 
 ghost use Rattle.toml.specs.Data.{get_member};
 ghost use Rattle.tora_config.specs.Reading.{Gives};
 ghost use Rattle.toml.specs.View.{view, items_view, table_view};
-ghost use Rattle.tora_config.specs.Refusal.{id_at, port_at, text_at as text_said, list_at, at_place};
-ghost use Rattle.tora_config.specs.NodeConfig.{number_at, text_at, IsListAt};
+ghost use Rattle.tora_config.specs.Refusal.{id_at, port_at, end_at, text_at as text_said, list_at, at_place};
+ghost use Rattle.tora_config.specs.NodeConfig.{number_at, port_at as port_said_at, text_at, IsListAt};
 
 use crate::fault::{ConfigError, Place};
 use std::alloc::Global;
+use std::net::SocketAddr;
 use toml::{Table, Value};
 use tora_height::Id;
-use tora_values::{Reason, id_of, port_of};
+use tora_values::{Reason, end_of, id_of, port_of};
 
 /// The value at a key, which is required.
 pub fn value_at<'a>(table: &'a Table, key: &str, place: Place) -> Result<&'a Value, ConfigError>
@@ -40,13 +41,24 @@ pub fn id_at(table: &Table, key: &str, place: Place) -> Result<Id, ConfigError>
 /// A port at a key.
 pub fn port_at(table: &Table, key: &str, place: Place) -> Result<u16, ConfigError>
     ensures above { IfOk result (λ n. 0 < n) }
-    ensures exact { IfOk result (λ n. number_at key.now (table_view table.now) ≡ Some (pos n)) }
+    ensures exact { IfOk result (λ n. port_said_at key.now (table_view table.now) ≡ Some n) }
     ensures gives { Gives (λ n. n) result (at_place place (port_at (get_member key.now (table_view table.now)))) }
     ensures no_memory { IfErr result (λ e. ¬ (e ≡ ConfigError.Memory)) }
 {
     let value = value_at(table, key, place)?;
     match port_of(value) {
         Ok(port) => Ok(port),
+        Err(reason) => Err(ConfigError::Value(place, reason)),
+    }
+}
+
+/// An end of a link at a key.
+pub fn end_at(table: &Table, key: &str, place: Place) -> Result<SocketAddr, ConfigError>
+    ensures { Gives (λ address. address) result (at_place place (end_at (get_member key.now (table_view table.now)))) }
+{
+    let value = value_at(table, key, place)?;
+    match end_of(value) {
+        Ok(address) => Ok(address),
         Err(reason) => Err(ConfigError::Value(place, reason)),
     }
 }

@@ -23,7 +23,7 @@ mod facts;
 mod laws;
 mod links;
 mod node;
-mod numbers;
+pub mod numbers;
 mod relation;
 mod rows;
 mod show;

@@ -8,17 +8,19 @@ use Rattle.std.proofs.lemmas.Grind.{flat_map-append}
 use Rattle.tora_frame.specs.FrameParts.{FrameParts}
 use Rattle.tora_arq.specs.declared.LinkEvent.{LinkEvent}
 use Rattle.tora_arq.specs.LinkEnd.{EndState, after_transmit, frame_due, first_event}
+use Rattle.tora_sim.specs.Cuts.{after_cut_at}
 use Rattle.tora_seat.specs.declared.Cargo.{Cargo}
 use Rattle.tora_world.specs.declared.Call.{Call}
 use Rattle.tora_world.specs.declared.Call.TheVariants as Fails
 use Rattle.tora_world.specs.declared.Event.{Event}
 use Rattle.tora_world.specs.declared.Event.TheVariants.{Need, Tick, Open, Pull, Transmit, Deliver, Pump, CoreTurn, Arm, Restart}
+use Rattle.tora_world.specs.Topology.{is_link}
 use Rattle.tora_world.specs.World.{World, Choice, settings, datagram, refusal_by, effect_by, world_by, own_choice, refusal_of, world_after, sent_packets, taken_packets, after_pull, after_sending, after_receiving, after_pump, after_arming}
 use Rattle.tora_world.specs.Walks.{hop_at}
 use Rattle.tora_script.specs.declared.script_line.SimulationLine.TheVariants.{Happens, Rounds, Part, Mend, Heights, Sent, Taken, Exact, Walk, Rest}
 use Rattle.tora_core.specs.Numbers.{has_number}
 use Rattle.tora_world.specs.Walks.{exact_in, walk_of}
-use Rattle.tora_script.specs.SimulationText.{RunningView, Reply, event_reply, has_end, with_parted, without_parted, heights_text, count_text, exact_text, walk_text, at_rest_reply, running_reply}
+use Rattle.tora_script.specs.SimulationText.{RunningView, Reply, event_reply, has_end, cut_both, part_of, without_parted, heights_text, count_text, exact_text, walk_text, at_rest_reply, running_reply}
 use Rattle.tora_drive.specs.declared.line.DriveLine.{DriveLine}
 use Rattle.tora_drive.specs.declared.line.DriveLine.TheVariants.{Script, Step, Needs, Near, Far, Bytes, Forget}
 use Rattle.tora_drive.specs.Records.{routes_at, routes_of, is_same_hop, hop_line, hops_text}
@@ -103,10 +105,22 @@ happened : (s : RunningView) (o : OwnView) (event : Event) (forgotten : Bool) (r
 happened s o event true r h e = unchanged s (unnamed s o) r refl e
 happened s o event false r h e = let w : world_after s.world event ≡ r.run.world = ap (λ (x : Outcome). x.run.world) e in subst (λ (x : World). SameCores s.world x) w (event_stays s.world event h)
 
--- a reply of a simulation that leaves the world as it was
-replied : (s : RunningView) (o : OwnView) (b : Bool) (q : Reply) (r : Outcome) → q.0.world ≡ s.world → option_map (quiet o) (if b then Some q else None) ≡ Some r → SameCores s.world r.run.world
-replied s o true q r stays e = unchanged s (quiet o q) r stays (this _ r e)
+-- a reply of a simulation that leaves the cores as they were
+replied : (s : RunningView) (o : OwnView) (b : Bool) (q : Reply) (r : Outcome) → SameCores s.world q.0.world → option_map (quiet o) (if b then Some q else None) ≡ Some r → SameCores s.world r.run.world
+replied s o true q r stays e = subst (λ (x : World). SameCores s.world x) (ap (λ (x : Outcome). x.run.world) (this (quiet o q) r e)) stays
 replied s o false q r stays e = absurd cc
+
+cut : (w : World) (n k : ℕ) → SameCores w (after_cut_at w n k)
+cut w n k = either (is_link w.topology n k) w _ w (record { seats = refl; topology = refl }) (same w)
+
+both_cut : (w : World) (a b : ℕ) → SameCores w (cut_both a b w)
+both_cut w a b =
+    let first = cut w a b in
+    let second = cut (after_cut_at w a b) b a in
+    record { seats = second.seats ∙ first.seats; topology = second.topology ∙ first.topology }
+
+parts : (s : RunningView) (a b : ℕ) → SameCores s.world (part_of s a b).world
+parts s a b = either s.has_notice s.world (cut_both a b s.world) s.world (both_cut s.world a b) (same s.world)
 
 bytes_shown : (s : RunningView) (o : OwnView) (i : ℕ) (f : Option FrameParts) (r : Outcome) → option_map_or (λ f. shown s o (bytes_line i f)) f (unnamed s o) ≡ r → SameCores s.world r.run.world
 bytes_shown s o i None r e = unchanged s (unnamed s o) r refl e
@@ -120,13 +134,13 @@ pub line_stays : (s : RunningView) (o : OwnView) (line : DriveLine) (r : Outcome
 unfolding outcome_of running_reply
 line_stays s o (Script (Happens event)) r h e = happened s o event (is_forgotten o event) r h (this _ r e)
 line_stays s o (Script (Rounds n)) r h e = absurd cc
-line_stays s o (Script (Part a b)) r h e = replied s o (has_end a b s.ends) (record s { parted = with_parted a b s.parted }, []) r refl e
-line_stays s o (Script (Mend a b)) r h e = replied s o (has_end a b s.ends) (record s { parted = without_parted a b s.parted }, []) r refl e
-line_stays s o (Script (Heights d)) r h e = replied s o (has_number d s.dests) (s, heights_text s.world d s.nodes) r refl e
-line_stays s o (Script (Sent a b life)) r h e = replied s o (has_end a b s.ends) (s, count_text (length (sent_packets s.world a b life))) r refl e
-line_stays s o (Script (Taken b a life)) r h e = replied s o (has_end b a s.ends) (s, count_text (length (taken_packets s.world b a life))) r refl e
-line_stays s o (Script (Exact d)) r h e = replied s o (has_number d s.dests) (s, exact_text (exact_in s.world d)) r refl e
-line_stays s o (Script (Walk n d)) r h e = replied s o (has_number n s.nodes && has_number d s.dests) (s, walk_text (walk_of s.world n d)) r refl e
+line_stays s o (Script (Part a b)) r h e = replied s o (has_end a b s.ends) (part_of s a b, []) r (parts s a b) e
+line_stays s o (Script (Mend a b)) r h e = replied s o (has_end a b s.ends) (record s { parted = without_parted a b s.parted }, []) r (same s.world) e
+line_stays s o (Script (Heights d)) r h e = replied s o (has_number d s.dests) (s, heights_text s.world d s.nodes) r (same s.world) e
+line_stays s o (Script (Sent a b life)) r h e = replied s o (has_end a b s.ends) (s, count_text (length (sent_packets s.world a b life))) r (same s.world) e
+line_stays s o (Script (Taken b a life)) r h e = replied s o (has_end b a s.ends) (s, count_text (length (taken_packets s.world b a life))) r (same s.world) e
+line_stays s o (Script (Exact d)) r h e = replied s o (has_number d s.dests) (s, exact_text (exact_in s.world d)) r (same s.world) e
+line_stays s o (Script (Walk n d)) r h e = replied s o (has_number n s.nodes && has_number d s.dests) (s, walk_text (walk_of s.world n d)) r (same s.world) e
 line_stays s o (Script Rest) r h e = unchanged s (quiet o (at_rest_reply s)) r refl (this _ r e)
 line_stays s o Step r h e = absurd cc
 line_stays s o Needs r h e = unchanged s (shown s o (needs_text s.world s.nodes s.dests)) r refl (this _ r e)

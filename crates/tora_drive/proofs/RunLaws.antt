@@ -1,5 +1,5 @@
 -- The world behind the lines of a drive is the world behind events.
-use Rattle.std.proofs.Common.{◌≡◌, ℕ, Bool, true, false, List, [], ◌∷◌, ◌++◌, length, if◌then◌else◌, Option, Some, None, refl, sym, ap, subst, ◌∙◌, ◌&&◌}
+use Rattle.std.proofs.Common.{◌≡◌, ℕ, Bool, true, false, List, [], ◌∷◌, ◌++◌, length, if◌then◌else◌, Option, Some, None, refl, sym, ap, subst, ◌∙◌, ◌&&◌, zero, suc}
 use Rattle.std.specs.Prelude.{nat_lt, nat_le, max, is_some, option_map}
 use Rattle.std.specs.Option.{option_map_or, option_and_then}
 use Rattle.tora_frame.specs.FrameParts.{FrameParts}
@@ -10,10 +10,12 @@ use Rattle.tora_world.specs.declared.Event.{Event}
 use Rattle.tora_world.specs.World.{World, refusal_of, world_after_all, sent_packets, taken_packets}
 use Rattle.tora_world.specs.Walks.{exact_in, walk_of}
 use Rattle.tora_script.specs.declared.script_line.SimulationLine.TheVariants.{Happens, Rounds, Part, Mend, Heights, Sent, Taken, Exact, Walk, Rest}
-use Rattle.tora_script.specs.Rounds.{rounds}
+use Rattle.tora_channel.specs.declared.channel.Channel.{Channel}
+use Rattle.tora_script.specs.Rounds.{Sky, moment_of, round, after_round, rounds}
+use Rattle.tora_script.specs.Setup.{plain}
 use Rattle.tora_script.specs.Simulator.{started}
 use Rattle.tora_script.specs.SimulationLines.{dests_of, link_of, old_of}
-use Rattle.tora_script.specs.SimulationText.{RunningView, Progress, Reply, begun_in, event_reply, has_end, with_parted, without_parted, heights_text, count_text, exact_text, walk_text, at_rest_reply, running_reply, with_link}
+use Rattle.tora_script.specs.SimulationText.{RunningView, Progress, Reply, begun_in, event_reply, after_rounds, has_end, part_of, without_parted, heights_text, count_text, exact_text, walk_text, at_rest_reply, running_reply, with_link}
 use Rattle.tora_script.proofs.RoundLaws.{after_append}
 use Rattle.tora_drive.specs.declared.line.DriveLine.{DriveLine}
 use Rattle.tora_drive.specs.declared.line.DriveLine.TheVariants.{Script, Step, Needs, Near, Far, Bytes, Forget}
@@ -24,14 +26,29 @@ use Rattle.tora_drive.specs.Taking.{line_in}
 
 -- ---- a line
 
--- events lead from one world to another
-pub record Leads (before after : World) : Type 0 where
+-- events lead from one simulation to another, neither of which notices parted links
+pub record Leads (before after : RunningView) : Type 0 where
   pub events : List Event
-  pub after_is : after ≡ world_after_all before events
+  pub after_is : after.world ≡ world_after_all before.world events
+  pub notice : after.has_notice ≡ before.has_notice
 
 -- an outcome with this world has that of these events
-leads_by : (s : RunningView) (q r : Outcome) (events : List Event) → q.run.world ≡ world_after_all s.world events → q ≡ r → Leads s.world r.run.world
-leads_by s q r events is e = record { events = events; after_is = sym (ap (λ (x : Outcome). x.run.world) e) ∙ is }
+leads_by : (s : RunningView) (q r : Outcome) (events : List Event) → q.run.world ≡ world_after_all s.world events → q.run.has_notice ≡ s.has_notice → q ≡ r → Leads s r.run
+leads_by s q r events is notice e = record { events = events; after_is = sym (ap (λ (x : Outcome). x.run.world) e) ∙ is; notice = sym (ap (λ (x : Outcome). x.run.has_notice) e) ∙ notice }
+
+-- rounds are events
+sky_leads : (r : ℕ) (nodes : List ℕ) (ends parted : List (ℕ × ℕ)) (channel : Channel) (s : Sky) → (events : List Event) × ((rounds r nodes ends parted channel s).world ≡ world_after_all s.world events)
+unfolding rounds after_round
+sky_leads zero nodes ends parted channel s = ([], refl)
+sky_leads (suc r) nodes ends parted channel s =
+    let here = round nodes ends parted (moment_of channel s) s.air.later s.world in
+    let rest = sky_leads r nodes ends parted channel (after_round nodes ends parted channel s) in
+    (here ++ rest.0, rest.1 ∙ sym (after_append s.world here rest.0))
+
+rounds_lead : (s : RunningView) (o : OwnView) (n : ℕ) (r : Outcome) → quiet o (after_rounds n s, []) ≡ r → Leads s r.run
+rounds_lead s o n r e =
+    let led = sky_leads n s.nodes s.ends s.parted s.channel (record { world = s.world; air = s.air }) in
+    leads_by s (quiet o (after_rounds n s, [])) r led.0 led.1 refl e
 
 where_some : (b : Bool) (q r : Outcome) → (if b then Some q else None) ≡ Some r → q ≡ r
 where_some true q r e = cc
@@ -41,56 +58,56 @@ this : (q r : Outcome) → Some q ≡ Some r → q ≡ r
 this q r e = cc
 
 happened : (s : RunningView) (o : OwnView) (event : Event) (forgotten : Bool) (r : Outcome)
-    → (if forgotten then unnamed s o else outcome (event_reply s event).0 o (event_reply s event).1 (is_some (refusal_of s.world event))) ≡ r → Leads s.world r.run.world
-happened s o event true r e = leads_by s (unnamed s o) r [] refl e
-happened s o event false r e = leads_by s (outcome (event_reply s event).0 o (event_reply s event).1 (is_some (refusal_of s.world event))) r (event ∷ []) refl e
+    → (if forgotten then unnamed s o else outcome (event_reply s event).0 o (event_reply s event).1 (is_some (refusal_of s.world event))) ≡ r → Leads s r.run
+happened s o event true r e = leads_by s (unnamed s o) r [] refl refl e
+happened s o event false r e = leads_by s (outcome (event_reply s event).0 o (event_reply s event).1 (is_some (refusal_of s.world event))) r (event ∷ []) refl refl e
 
-replied : (s : RunningView) (o : OwnView) (b : Bool) (q : Reply) (r : Outcome) → q.0.world ≡ s.world → option_map (quiet o) (if b then Some q else None) ≡ Some r → Leads s.world r.run.world
-replied s o true q r stays e = leads_by s (quiet o q) r [] stays (this _ r e)
-replied s o false q r stays e = absurd cc
+replied : (s : RunningView) (o : OwnView) (b : Bool) (q : Reply) (r : Outcome) → q.0.world ≡ s.world → q.0.has_notice ≡ s.has_notice → option_map (quiet o) (if b then Some q else None) ≡ Some r → Leads s r.run
+replied s o true q r stays notice e = leads_by s (quiet o q) r [] stays notice (this _ r e)
+replied s o false q r stays notice e = absurd cc
 
-bytes_shown : (s : RunningView) (o : OwnView) (i : ℕ) (f : Option FrameParts) (r : Outcome) → option_map_or (λ f. shown s o (bytes_line i f)) f (unnamed s o) ≡ r → Leads s.world r.run.world
-bytes_shown s o i None r e = leads_by s (unnamed s o) r [] refl e
-bytes_shown s o i (Some f) r e = leads_by s (shown s o (bytes_line i f)) r [] refl e
+bytes_shown : (s : RunningView) (o : OwnView) (i : ℕ) (f : Option FrameParts) (r : Outcome) → option_map_or (λ f. shown s o (bytes_line i f)) f (unnamed s o) ≡ r → Leads s r.run
+bytes_shown s o i None r e = leads_by s (unnamed s o) r [] refl refl e
+bytes_shown s o i (Some f) r e = leads_by s (shown s o (bytes_line i f)) r [] refl refl e
 
-forgot : (s : RunningView) (o p : OwnView) (b : Bool) (r : Outcome) → (if b then shown s p [] else unnamed s o) ≡ r → Leads s.world r.run.world
-forgot s o p true r e = leads_by s (shown s p []) r [] refl e
-forgot s o p false r e = leads_by s (unnamed s o) r [] refl e
+forgot : (s : RunningView) (o p : OwnView) (b : Bool) (r : Outcome) → (if b then shown s p [] else unnamed s o) ≡ r → Leads s r.run
+forgot s o p true r e = leads_by s (shown s p []) r [] refl refl e
+forgot s o p false r e = leads_by s (unnamed s o) r [] refl refl e
 
-line_leads : (s : RunningView) (o : OwnView) (line : DriveLine) (r : Outcome) → outcome_of s o line ≡ Some r → Leads s.world r.run.world
+line_leads : (s : RunningView) (o : OwnView) (line : DriveLine) (r : Outcome) → s.has_notice ≡ false → outcome_of s o line ≡ Some r → Leads s r.run
 unfolding outcome_of running_reply
-line_leads s o (Script (Happens event)) r e = happened s o event (is_forgotten o event) r (this _ r e)
-line_leads s o (Script (Rounds n)) r e = leads_by s _ r (rounds n s.nodes s.ends s.parted s.world) refl (this _ r e)
-line_leads s o (Script (Part a b)) r e = replied s o (has_end a b s.ends) (record s { parted = with_parted a b s.parted }, []) r refl e
-line_leads s o (Script (Mend a b)) r e = replied s o (has_end a b s.ends) (record s { parted = without_parted a b s.parted }, []) r refl e
-line_leads s o (Script (Heights d)) r e = replied s o (has_number d s.dests) (s, heights_text s.world d s.nodes) r refl e
-line_leads s o (Script (Sent a b life)) r e = replied s o (has_end a b s.ends) (s, count_text (length (sent_packets s.world a b life))) r refl e
-line_leads s o (Script (Taken b a life)) r e = replied s o (has_end b a s.ends) (s, count_text (length (taken_packets s.world b a life))) r refl e
-line_leads s o (Script (Exact d)) r e = replied s o (has_number d s.dests) (s, exact_text (exact_in s.world d)) r refl e
-line_leads s o (Script (Walk n d)) r e = replied s o (has_number n s.nodes && has_number d s.dests) (s, walk_text (walk_of s.world n d)) r refl e
-line_leads s o (Script Rest) r e = leads_by s (quiet o (at_rest_reply s)) r [] refl (this _ r e)
-line_leads s o Step r e = leads_by s _ r (step s.nodes s.ends o.far s.world) refl (this _ r e)
-line_leads s o Needs r e = leads_by s (shown s o (needs_text s.world s.nodes s.dests)) r [] refl (this _ r e)
-line_leads s o (Near n k) r e = leads_by s (shown s (record o { far = without_far (n, k) o.far }) []) r [] refl (where_some (has_end n k s.ends) _ r e)
-line_leads s o (Far n k) r e = leads_by s (shown s (record o { far = with_far (n, k) o.far }) []) r [] refl (where_some (has_end n k s.ends) _ r e)
-line_leads s o (Bytes i) r e = bytes_shown s o i (named o s.world i) r (this _ r e)
-line_leads s o (Forget i) r e = forgot s o (record o { forgotten = max o.forgotten i }) (nat_le i (length s.world.datagrams)) r (this _ r e)
+line_leads s o (Script (Happens event)) r h e = happened s o event (is_forgotten o event) r (this _ r e)
+line_leads s o (Script (Rounds n)) r h e = rounds_lead s o n r (this _ r e)
+line_leads s o (Script (Part a b)) r h e = replied s o (has_end a b s.ends) (part_of s a b, []) r (rw h refl) refl e
+line_leads s o (Script (Mend a b)) r h e = replied s o (has_end a b s.ends) (record s { parted = without_parted a b s.parted }, []) r refl refl e
+line_leads s o (Script (Heights d)) r h e = replied s o (has_number d s.dests) (s, heights_text s.world d s.nodes) r refl refl e
+line_leads s o (Script (Sent a b life)) r h e = replied s o (has_end a b s.ends) (s, count_text (length (sent_packets s.world a b life))) r refl refl e
+line_leads s o (Script (Taken b a life)) r h e = replied s o (has_end b a s.ends) (s, count_text (length (taken_packets s.world b a life))) r refl refl e
+line_leads s o (Script (Exact d)) r h e = replied s o (has_number d s.dests) (s, exact_text (exact_in s.world d)) r refl refl e
+line_leads s o (Script (Walk n d)) r h e = replied s o (has_number n s.nodes && has_number d s.dests) (s, walk_text (walk_of s.world n d)) r refl refl e
+line_leads s o (Script Rest) r h e = leads_by s (quiet o (at_rest_reply s)) r [] refl refl (this _ r e)
+line_leads s o Step r h e = leads_by s _ r (step s.nodes s.ends o.far s.world) refl refl (this _ r e)
+line_leads s o Needs r h e = leads_by s (shown s o (needs_text s.world s.nodes s.dests)) r [] refl refl (this _ r e)
+line_leads s o (Near n k) r h e = leads_by s (shown s (record o { far = without_far (n, k) o.far }) []) r [] refl refl (where_some (has_end n k s.ends) _ r e)
+line_leads s o (Far n k) r h e = leads_by s (shown s (record o { far = with_far (n, k) o.far }) []) r [] refl refl (where_some (has_end n k s.ends) _ r e)
+line_leads s o (Bytes i) r h e = bytes_shown s o i (named o s.world i) r (this _ r e)
+line_leads s o (Forget i) r h e = forgot s o (record o { forgotten = max o.forgotten i }) (nat_le i (length s.world.datagrams)) r (this _ r e)
 
 -- the world of an answer
-told_leads : (s : RunningView) (o : OwnView) (line : DriveLine) (found : Option Outcome) (r : DriveReply) → outcome_of s o line ≡ found → option_map (told s) found ≡ Some r → Leads s.world r.0.world
-told_leads s o line None r is e = absurd cc
-told_leads s o line (Some q) r is e =
+told_leads : (s : RunningView) (o : OwnView) (line : DriveLine) (found : Option Outcome) (r : DriveReply) → s.has_notice ≡ false → outcome_of s o line ≡ found → option_map (told s) found ≡ Some r → Leads s r.0
+told_leads s o line None r h is e = absurd cc
+told_leads s o line (Some q) r h is e =
     let same : told s q ≡ r = cc in
-    let led : Leads s.world q.run.world = line_leads s o line q is in
-    record { events = led.events; after_is = sym (ap (λ (x : DriveReply). x.0.world) same) ∙ led.after_is }
+    let led : Leads s q.run = line_leads s o line q h is in
+    record { events = led.events; after_is = sym (ap (λ (x : DriveReply). x.0.world) same) ∙ led.after_is; notice = sym (ap (λ (x : DriveReply). x.0.has_notice) same) ∙ led.notice }
 
-said_leads : (s : RunningView) (o : OwnView) (said : Option DriveLine) (r : DriveReply) → option_and_then (λ line. option_map (told s) (outcome_of s o line)) said ≡ Some r → Leads s.world r.0.world
-said_leads s o None r e = absurd cc
-said_leads s o (Some line) r e = told_leads s o line (outcome_of s o line) r refl e
+said_leads : (s : RunningView) (o : OwnView) (said : Option DriveLine) (r : DriveReply) → s.has_notice ≡ false → option_and_then (λ line. option_map (told s) (outcome_of s o line)) said ≡ Some r → Leads s r.0
+said_leads s o None r h e = absurd cc
+said_leads s o (Some line) r h e = told_leads s o line (outcome_of s o line) r h refl e
 
-answer_leads : (s : RunningView) (o : OwnView) (text : List ℕ) (r : DriveReply) → answer_to s o text ≡ Some r → Leads s.world r.0.world
+answer_leads : (s : RunningView) (o : OwnView) (text : List ℕ) (r : DriveReply) → s.has_notice ≡ false → answer_to s o text ≡ Some r → Leads s r.0
 unfolding answer_to
-answer_leads s o text r e = said_leads s o (line_in s.world o.forgotten text) r e
+answer_leads s o text r h e = said_leads s o (line_in s.world o.forgotten text) r h e
 
 -- ---- where a drive is
 
@@ -98,10 +115,10 @@ answer_leads s o text r e = said_leads s o (line_in s.world o.forgotten text) r 
 abbrev Holds : Times → Progress → Type 0
 Holds times Progress.First = Unit {0}
 Holds times (Progress.Links dests links olds) = Unit {0}
-Holds times (Progress.Runs s) = IsOfEvents times s.world
+Holds times (Progress.Runs s) = (s.has_notice ≡ false) × IsOfEvents times s.world
 
 -- events more
-onward : (times : Times) (before after : World) → IsOfEvents times before → Leads before after → IsOfEvents times after
+onward : (times : Times) (before after : RunningView) → IsOfEvents times before.world → Leads before after → IsOfEvents times after.world
 onward times before after h led = record {
   links = h.links;
   dests = h.dests;
@@ -119,16 +136,16 @@ some_placed : (r q : Placed) → Some r ≡ Some q → r ≡ q
 some_placed r q e = cc
 
 -- a reply of a running simulation
-runs : (times : Times) (before : World) (found : Option DriveReply) (q : Placed) → IsOfEvents times before → ((r : DriveReply) → found ≡ Some r → Leads before r.0.world) → option_map running_at found ≡ Some q → Holds times q.0.progress
+runs : (times : Times) (before : RunningView) (found : Option DriveReply) (q : Placed) → (before.has_notice ≡ false) × IsOfEvents times before.world → ((r : DriveReply) → found ≡ Some r → Leads before r.0) → option_map running_at found ≡ Some q → Holds times q.0.progress
 runs times before None q h led e = absurd cc
-runs times before (Some r) q h led e = at_place times (running_at r) q (some_placed _ q e) (onward times before r.0.world h (led r refl))
+runs times before (Some r) q h led e = at_place times (running_at r) q (some_placed _ q e) ((led r refl).notice ∙ h.0, onward times before r.0 h.1 (led r refl))
 
 begins : (times : Times) (o : OwnView) (dests : List ℕ) (links : List (ℕ × ℕ)) (olds line : List ℕ) (first : Option World) (q : Placed) → started links dests olds times ≡ first
-    → option_map running_at (option_and_then (λ w. answer_to (begun_in dests w) o line) first) ≡ Some q → Holds times q.0.progress
+    → option_map running_at (option_and_then (λ w. answer_to (begun_in dests (plain times) w) o line) first) ≡ Some q → Holds times q.0.progress
 begins times o dests links olds line None q is e = absurd cc
 begins times o dests links olds line (Some w) q is e =
     let new : IsOfEvents times w = record { links = links; dests = dests; olds = olds; first = w; begins = is; events = []; world_is = refl } in
-    runs times w (answer_to (begun_in dests w) o line) q new (λ r h. answer_leads (begun_in dests w) o line r h) e
+    runs times (begun_in dests (plain times) w) (answer_to (begun_in dests (plain times) w) o line) q (refl, new) (λ r h. answer_leads (begun_in dests (plain times) w) o line r refl h) e
 
 first_line : (times : Times) (o : OwnView) (dests : Option (List ℕ)) (q : Placed) → option_map (acknowledged o) (option_map (λ dests. Progress.Links dests [] []) dests) ≡ Some q → Holds times q.0.progress
 first_line times o None q e = absurd cc
@@ -155,7 +172,7 @@ placed_on : (times : Times) (o : OwnView) (progress : Progress) (line : List ℕ
 unfolding place_reply
 placed_on times o Progress.First line q h e = first_line times o (dests_of line) q e
 placed_on times o (Progress.Links dests links olds) line q h e = linked times o dests links olds line (link_of line) (old_of line) q e
-placed_on times o (Progress.Runs s) line q h e = runs times s.world (answer_to s o line) q h (λ r is. answer_leads s o line r is) e
+placed_on times o (Progress.Runs s) line q h e = runs times s (answer_to s o line) q h (λ r is. answer_leads s o line r h.0 is) e
 
 -- ---- all lines
 
@@ -184,4 +201,4 @@ behind_lines times (line ∷ lines) v last e h = one_line times v last line line
 pub drives_are_runs : DrivesAreRuns
 drives_are_runs times lines v s e is =
     let h : Holds times v.place.progress = behind_lines times lines (drive_rules times).start v e tt in
-    rw is at h
+    (rw is at h).1

@@ -17,6 +17,7 @@ use Rattle.tora_world.specs.World.{World, datagram, refusal_of, world_after_all}
 use Rattle.tora_sim.specs.Readers.{flag_at}
 use Rattle.tora_script.specs.declared.script_line.SimulationLine.TheVariants.{Happens, Rounds, Part, Mend, Heights, Sent, Taken, Exact, Walk, Rest}
 use Rattle.tora_script.specs.Simulator.{has_topology, started}
+use Rattle.tora_script.specs.Setup.{plain}
 use Rattle.tora_script.specs.SimulationLines.{link_of, old_of}
 use Rattle.tora_script.specs.SimulationText.{RunningView, Progress, Reply, begun_in, has_end, refusal_text, event_reply, running_reply, first_progress, with_link, with_old_line}
 use Rattle.tora_drive.specs.declared.cause.Cause.{Cause}
@@ -194,7 +195,7 @@ acknowledged o progress = (record { progress = progress; own = o }, closing fals
 -- the line behind the last link and the last old node, which makes the world: at least one link is required
 abbrev pub first_answer : Times → OwnView → List ℕ → List (ℕ × ℕ) → List ℕ → List ℕ → Option DriveReply
 first_answer times o dests [] olds line = None
-first_answer times o dests (link ∷ links) olds line = option_and_then (λ w. answer_to (begun_in dests w) o line) (started (link ∷ links) dests olds times)
+first_answer times o dests (link ∷ links) olds line = option_and_then (λ w. answer_to (begun_in dests (plain times) w) o line) (started (link ∷ links) dests olds times)
 
 -- a line behind the first, which may say a link or an old node
 abbrev pub link_answer : Times → OwnView → List ℕ → List (ℕ × ℕ) → List ℕ → List ℕ → Option (ℕ × ℕ) → Option ℕ → Option Placed

@@ -16,7 +16,7 @@ use std::alloc::{AllocError, Global};
 use tora_arq::Times;
 use tora_lines::FileKind;
 use tora_lines::words::LineError;
-use tora_script::{LinkLines, Running, Stage, first_line, link, old, take_link, take_old};
+use tora_script::{LinkLines, Running, Setup, Stage, first_line, link, old, take_link, take_old};
 
 /// Takes a line behind the last link and the last old node, which makes the world; at least one link is required. A line that is a
 /// fault changes nothing.
@@ -36,7 +36,8 @@ fn begin<S: Driven>(
     if lines.links.is_empty() {
         return Err(LineError::Fault);
     }
-    let mut running = Running::new(alloc, &lines.dests, &lines.links, &lines.olds, times)?;
+    let setup = Setup::plain(times);
+    let mut running = Running::new(alloc, &lines.dests, &lines.links, &lines.olds, setup)?;
     answer(alloc, &mut running, own, line, text)?;
     Ok(running)
 }

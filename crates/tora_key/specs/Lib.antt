@@ -1,1 +1,2 @@
 pub mod Hmac
+pub mod Sealing

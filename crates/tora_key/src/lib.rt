@@ -5,5 +5,8 @@
 #![tactic(auto)]
 
 mod key;
+mod laws;
+mod sealing;
 
 pub use key::{Key, TAG, hmac, is_same};
+pub use laws::keyed_links_give_what_was_tagged;

@@ -5,7 +5,7 @@ use crate::wire::{Wire, WireError};
 use std::marker::Model;
 use tora_life::{Fuse, FuseMode};
 
-/// A wire around another one: so many calls pass, and then one fails, or all do.
+/// For tests alone, a wire around another one: so many calls pass, and then one fails, or all do.
 ///
 /// A call that fails so is counted, and makes no call of the wire inside; a datagram that was to be sent by it did not go
 /// out, and from then on contracts are told no datagrams. Calls that the wire inside fails are counted too. The count

@@ -7,7 +7,7 @@ use std::marker::Model;
 use std::sync::Wait;
 use tora_lane::{Cargo, Gone, What};
 
-/// A hub that gives its cargoes in turn, and keeps what is put, up to a room. From then on it answers `Gone`.
+/// For tests alone, a hub that gives its cargoes in turn, and keeps what is put, up to a room. From then on it answers `Gone`.
 #[derive(Drop)]
 pub struct ListHub {
     kept: Vec<Put>,

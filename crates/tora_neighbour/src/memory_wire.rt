@@ -43,7 +43,7 @@ fn kept(bytes: &[u8]) -> Sent
     }
 }
 
-/// A wire that gives its datagrams in turn, and then none. It keeps up to N datagrams that are sent, of at most 560
+/// For tests alone, a wire that gives its datagrams in turn, and then none. It keeps up to N datagrams that are sent, of at most 560
 /// bytes each, and takes no memory for them. Any other send fails, and from then on it tells contracts no datagrams.
 #[derive(Drop)]
 pub struct MemWire<const N: usize> {

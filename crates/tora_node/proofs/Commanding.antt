@@ -32,10 +32,11 @@ pub put_then : (told : ℕ → Type 0) (a b c : InEnd) (xs ys : List Item) → H
 put_then told a b c xs ys p q = (
   q.0 ∙ ap (λ (t : List Item). t ++ ys) p.0 ∙ append_assoc a.put xs ys,
   told_append told xs ys p.1 q.1,
+  (q.2.0 ∙ p.2.0, q.2.1 ∙ p.2.1),
 )
 
 pub put_none : (told : ℕ → Type 0) (a : InEnd) → HasPut told a [] a
-put_none told a = (sym (append-nil a.put), tt)
+put_none told a = (sym (append-nil a.put), tt, (refl, refl))
 
 -- ---- bytes
 

@@ -5,4 +5,7 @@ mod Digits
 mod Numerals
 mod Faults
 mod Commanding
+mod Lists
+mod Kept
 mod Runs
+mod Whole

@@ -1,5 +1,5 @@
 -- The links of a node, and what their threads come to.
-use Rattle.std.proofs.Common.{◌≡◌, ◌∙◌, sym, ap, subst, refl, ℕ, zero, suc, List, [], ◌∷◌, ◌++◌, length, append_assoc, append-nil, arith, inl, Option, None, Some}
+use Rattle.std.proofs.Common.{◌≡◌, ◌∙◌, sym, ap, subst, refl, ℕ, zero, suc, List, [], ◌∷◌, ◌++◌, length, append_assoc, append-nil, arith, Option, None, Some}
 use Rattle.std.specs.Prelude.{map, slice_get}
 use Rattle.tora_arq.specs.EndRange.{LinkEndView}
 use Rattle.tora_arq.specs.LinkEnd.{EndState}
@@ -13,23 +13,12 @@ use Rattle.tora_neighbour.specs.declared.fault.NodeError.TheVariants as Fault
 use Rattle.tora_neighbour.specs.declared.tally.Tally.{Tally}
 use Rattle.tora_node.specs.NewLinks.{new_end}
 use Rattle.tora_node.specs.NodeRuns.{link_fault, fault_or, first_link_fault, first_fault, IsNodeFault}
-use Rattle.tora_node.specs.LinkRuns.{name_of, links_of, AreFaultless, AreLinkRuns, IsCause, IsLinkRun, IsOpening, IsStartFault}
-use Rattle.tora_node.specs.declared.threads.LinkFault.{LinkFault}
-use Rattle.tora_node.specs.declared.threads.LinkName.{LinkName}
-use Rattle.tora_node.specs.declared.threads.Outcome.{Outcome}
+use Rattle.tora_node.specs.LinkRuns.{LinkName, name_of, links_of, AreFaultless, AreLinkRuns, IsLinkRun, IsOpening, IsStartFault}
+use Rattle.tora_node.specs.declared.link_task.LinkFault.{LinkFault}
+use Rattle.tora_node.specs.declared.link_task.Outcome.{Outcome}
+use Rattle.tora_node.proofs.Lists.{map_more}
 
 -- ---- what is left of a list, which is gone over
-
-length_map : {A B : Type 0} (f : A → B) (xs : List A) → length (map f xs) ≡ length xs
-length_map f [] = refl
-length_map f (x ∷ xs) = ap suc (length_map f xs)
-
-pub as_long : {A B C : Type 0} (f : A → B) (g : C → B) (xs : List A) (ys : List C) → map f xs ≡ map g ys → length xs ≡ length ys
-as_long f g xs ys h = sym (length_map f xs) ∙ ap length h ∙ length_map g ys
-
-map_more : {B C : Type 0} (g : C → B) (ys : List C) (y : C) → map g (ys ++ y ∷ []) ≡ map g ys ++ g y ∷ []
-map_more g [] y = refl
-map_more g (z ∷ ys) y = ap (λ (l : List _). g z ∷ l) (map_more g ys y)
 
 module _ {A B : Type 0} where
   pub one_more : (f : A → B) (done : List B) (before rest : List A) (x : A) (all : List B) → before ≡ x ∷ rest → done ++ map f before ≡ all → (done ++ f x ∷ []) ++ map f rest ≡ all
@@ -71,16 +60,6 @@ link_ran end turns last ending after fault tally new because runs counted = reco
   tally_is = counted;
 }
 
--- ---- threads, one after another
-
--- one thread more
-pub runs_more : (links : List LinkName) (outcomes : List Outcome) (link : LinkName) (outcome : Outcome) → AreLinkRuns links outcomes → IsLinkRun link.me link.peer outcome.fault outcome.tally
-    → AreLinkRuns (links ++ link ∷ []) (outcomes ++ outcome ∷ [])
-runs_more [] [] link outcome h one = (one, tt)
-runs_more [] (o ∷ outcomes) link outcome h one = absurd h
-runs_more (l ∷ links) [] link outcome h one = absurd h
-runs_more (l ∷ links) (o ∷ outcomes) link outcome h one = (h.0, runs_more links outcomes link outcome h.1 one)
-
 -- the neighbour of a link that did not open
 name_at : (me : ℕ) (neighbours : List ℕ) (place : ℕ) (link : LinkName) → slice_get (map (name_of me) neighbours) place ≡ Some link → slice_get neighbours place ≡ Some link.peer
 name_at me [] place link e = absurd cc
@@ -104,9 +83,8 @@ opening_start first (Fault.Life peer error) h n = n
 opening_start first (Fault.Wire peer) h n = absurd h
 opening_start first Fault.Output h n = absurd h
 
-pub opening_cause : (first : CoreView) (links : List LinkName) (e : NodeError) → links ≡ links_of first → IsOpening links e → IsCause first e
-opening_cause first links e same h =
-    inl (opening_start first e (subst (λ (l : List LinkName). IsOpening l e) same h) (opening_fault first.me first.neighbours links e same h))
+pub did_not_start : (first : CoreView) (links : List LinkName) (e : NodeError) → links ≡ links_of first → IsOpening links e → IsStartFault first e
+did_not_start first links e same h = opening_start first e (subst (λ (l : List LinkName). IsOpening l e) same h) (opening_fault first.me first.neighbours links e same h)
 
 -- ---- what the threads came to
 

@@ -2,6 +2,7 @@
 use Rattle.std.specs.Prelude.{◌≡◌, ℕ, nat_lt, ◌==◌, if◌then◌else◌, Bool, true, false, List, [], ◌∷◌, ◌++◌, length, map, Option}
 use Rattle.std.specs.Io.KnownBytes.{Consumes, IsAtEnd}
 use Rattle.tora_lane.specs.Ports.{InEnd}
+use Rattle.tora_neighbour.specs.LaneHub.{IsSamePort}
 use Rattle.tora_seat.specs.declared.Item.{Item}
 use Rattle.tora_seat.specs.declared.What.{What}
 use Rattle.tora_seat.specs.declared.What.TheVariants as Tells
@@ -45,9 +46,9 @@ abbrev pub AreTold : (ℕ → Type 0) → List Item → Type 0
 AreTold told [] = Unit {0}
 AreTold told (x ∷ xs) = told x.now × AreTold told xs
 
--- the port has put these items, and then these, at ticks that the clock told
+-- the port has put these items, and then these, at ticks that the clock told; it is the same port
 abbrev pub HasPut : (ℕ → Type 0) → InEnd → List Item → InEnd → Type 0
-HasPut told before items after = (after.put ≡ before.put ++ items) × AreTold told items
+HasPut told before items after = (after.put ≡ before.put ++ items) × AreTold told items × IsSamePort before after
 
 -- Why it has ended, where an input that begins so had these items put: a line is quit, whatever comes behind it; the input is
 -- at its end; a read has failed, which is taken for the end of the input; or the port has answered Gone, with some left to put
@@ -64,3 +65,7 @@ pub record Commands (told : ℕ → Type 0) (old_reader new_reader : Option (Lis
   pub read : Consumes old_reader new_reader given
   pub put : HasPut told before items after
   pub ends : EndsAt end given items new_reader after.gone
+
+-- and what has become of the input is not said
+abbrev pub CommandsFrom : (ℕ → Type 0) → Option (List ℕ) → InEnd → InEnd → CommandsEnd → Type 0
+CommandsFrom told old_reader before after end = (new_reader : Option (List ℕ)) × Commands told old_reader new_reader before after end

@@ -5,3 +5,7 @@ pub mod CommandSteps
 pub mod NodeRuns
 pub mod NewLinks
 pub mod LinkRuns
+pub mod WireCalls
+pub mod Threads
+pub mod Settled
+pub mod WholeRuns

@@ -1,6 +1,5 @@
 -- What the threads of a node's links come to.
 use Rattle.std.specs.Prelude.{◌≡◌, ◌⊎◌, ℕ, List, [], ◌∷◌, ◌++◌, map, slice_get, Option, Some, None}
-use Rattle.std.specs.declared.thread.PromisedHandle.{PromisedHandle}
 use Rattle.tora_arq.specs.LinkEnd.{EndState, first_end}
 use Rattle.tora_arq.specs.Settings.{Settings, settings_of}
 use Rattle.tora_arq.specs.declared.TheConstants.Times.{STANDARD}
@@ -18,13 +17,16 @@ use Rattle.tora_neighbour.specs.declared.wire.Wire as Wire
 use Rattle.tora_seat.specs.Rows.{SeatView, first_seat}
 use Rattle.tora_node.specs.declared.start.NewEnd.{NewEnd}
 use Rattle.tora_node.specs.declared.start.NewLink.{NewLink}
-use Rattle.tora_node.specs.declared.start.Start.{Start}
-use Rattle.tora_node.specs.declared.threads.LinkFault.{LinkFault}
-use Rattle.tora_node.specs.declared.threads.LinkName.{LinkName}
-use Rattle.tora_node.specs.declared.threads.Outcome.{Outcome}
+use Rattle.tora_node.specs.declared.link_task.LinkFault.{LinkFault}
+use Rattle.tora_node.specs.declared.link_task.Outcome.{Outcome}
 use Rattle.tora_node.specs.NodeRuns.{link_fault, first_fault, IsNodeFault, IsCoreRun}
 
 -- ---- which link it is
+
+-- the link of a node to a peer
+pub record LinkName : Type 0 where
+  pub me : ℕ
+  pub peer : ℕ
 
 -- the link of a node to this peer
 abbrev pub name_of : ℕ → ℕ → LinkName
@@ -41,12 +43,8 @@ module _ {D W : Type 0} {disk : Disk.Ghosts D} {wire : Wire.Ghosts W} where
   abbrev pub link_made : NewLink D W disk wire → LinkName
   link_made new = name_in new.link.end.settings
 
-  abbrev pub link_started : {C : Type 0} → Start D W C disk wire → LinkName
-  link_started start = link_made start.new
-
--- the link that the thread of a handle runs
-abbrev pub promised : PromisedHandle Outcome LinkName → LinkName
-promised handle = handle.promise
+  abbrev pub wire_made : NewLink D W disk wire → W
+  wire_made new = new.link.wire
 
 -- the links of a node whose core begins as this one, in ascending order of their peers
 abbrev pub links_of : CoreView → List LinkName

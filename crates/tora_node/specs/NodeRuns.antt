@@ -6,16 +6,20 @@ use Rattle.tora_neighbour.specs.declared.fault.NodeError.{NodeError}
 use Rattle.tora_neighbour.specs.declared.fault.NodeError.TheVariants as Fault
 use Rattle.tora_neighbour.specs.declared.tally.Tally.{Tally}
 use Rattle.tora_seat.specs.Serving.{SeatState}
+use Rattle.tora_seat.specs.declared.Item.{Item}
 use Rattle.tora_seat.specs.Rows.{SeatView, state_of, first_seat}
-use Rattle.tora_node.specs.declared.threads.LinkFault.{LinkFault}
-use Rattle.tora_node.specs.declared.threads.LinkFault.TheVariants as Of
-use Rattle.tora_node.specs.declared.threads.Outcome.{Outcome}
+use Rattle.tora_node.specs.declared.link_task.LinkFault.{LinkFault}
+use Rattle.tora_node.specs.declared.link_task.LinkFault.TheVariants as Of
+use Rattle.tora_node.specs.declared.link_task.Outcome.{Outcome}
 use Rattle.tora_node.specs.CoreRuns.{ServedItem, AreServed, inputs_stepped, EndsSo}
 
--- the core as the node left it, and the tally of each neighbour, in ascending order
+-- the core as the node left it, the tally of each neighbour, in ascending order, the items that the core has taken, and whether its
+-- port has answered Gone
 pub record EndedView : Type 0 where
   pub core : CoreView
   pub tallies : List Tally
+  pub taken : List Item
+  pub gone : Bool
 
 -- the place of a neighbour, in ascending order from 0 on
 abbrev pub place_of : List ℕ → ℕ → Option ℕ

@@ -1,10 +1,11 @@
 //! What a node is to be.
 ghost use Rattle.std.specs.Prelude.{◌≡◌, ◌<◌, All, Err, IfErr, IfOk, MatchOption, None, OnOk};
 ghost use Rattle.tora_core.specs.CoreRun.{core_refusal, first_core};
+ghost use Rattle.tora_core.specs.Numbers.{IsAscending};
 
 use std::alloc::Global;
 use std::marker::Model;
-use tora_core::{Core, CoreError};
+use tora_core::{Core, CoreError, numbers_are_put_in_order};
 use tora_height::Id;
 
 /// A node with its neighbours and the destinations of its table.
@@ -15,10 +16,13 @@ pub struct Config {
 
 impl Model for Config {
     ghost use Rattle.tora_core.specs.CoreRun.{CoreView};
+    ghost use Rattle.tora_core.specs.Numbers.{IsAscending};
 
     ghost Value = { CoreView };
 
     ghost view = { λ c. c.core };
+
+    ghost invariant = { λ c. IsAscending c.core.neighbours };
 }
 
 impl Config {
@@ -35,6 +39,7 @@ impl Config {
         ensures refused { MatchOption (core_refusal me peers.now dests.now)
             (IfErr result (λ e. e ≡ CoreError.Memory)) (λ e. result ≡ Err e) }
     {
+        numbers_are_put_in_order();
         let core = Core::new(alloc, me, peers, dests)?;
         Ok(Config { core })
     }
@@ -48,7 +53,8 @@ impl Config {
 
     /// The core that the node begins with.
     pub fn into_core(self) -> Core
-        ensures { result ≡ self }
+        ensures same { result ≡ self }
+        ensures ascending { IsAscending result.neighbours }
     {
         self.core
     }

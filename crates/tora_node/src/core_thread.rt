@@ -115,6 +115,7 @@ pub fn run_core<R: Wait, O: OutLanes, W: Write>(
         × (result.fault ≡ None → Appends (W.contents writer.old) (W.contents writer.new) (text_served seat.core.neighbours (state_of seat) xs))
         × EndsSo result.fault xs result.port.gone }
     ensures neighbours { result.seat.core.neighbours ≡ seat.core.neighbours }
+    ensures lane { result.port.lane ≡ port.lane }
 {
     let mut seat = seat;
     let mut port = port;

@@ -12,11 +12,15 @@
 
 mod commands;
 mod config;
+mod core_task;
 mod core_thread;
+mod link_task;
 mod log_hub;
 mod node;
+mod settle;
 mod start;
 mod starting;
+mod task;
 mod threads;
 mod words;
 

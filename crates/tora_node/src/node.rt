@@ -1,11 +1,18 @@
 //! A node and its threads.
-ghost use Rattle.std.specs.Prelude.{◌≡◌, ◌<◌, ◌≤◌, IfErr, IfOk, length};
+ghost use Rattle.std.specs.Prelude.{◌≡◌, ◌<◌, ◌≤◌, [], None, IfErr, IfOk, length};
+ghost use Rattle.tora_lane.specs.Ports.{IsPortOf};
 ghost use Rattle.tora_node.specs.LinkRuns.{AreFaultless, IsCause, links_of};
 ghost use Rattle.tora_node.specs.NodeRuns.{IsRunOf, IsNodeFault, tally_of, place_of, fault_of_link, first_link_fault, first_fault};
+ghost use Rattle.tora_node.specs.Threads.{Each, HasEnds};
+ghost use Rattle.tora_node.specs.Settled.{SettlesTo};
+ghost use Rattle.tora_node.specs.WholeRuns.{EndsWithFault, NodeRan};
 
 use crate::config::Config;
+use crate::core_task::{CoreRest, new_core_start};
+use crate::link_task::{LinkFault, LinkRest, Outcome};
+use crate::settle::settle_links;
 use crate::starting::{new_ends, new_lanes, new_links, new_starts};
-use crate::threads::{CoreOutcome, LinkFault, Outcome, new_core_start, run_threads};
+use crate::threads::{Rests, run_threads};
 use log::Log;
 use std::alloc::Global;
 use std::io::{Read, Write};
@@ -14,16 +21,18 @@ use std::sync::Wait;
 use std::thread::Threads;
 use tora_core::Core;
 use tora_height::Id;
-use tora_lane::{Lanes, MOST_LINKS};
+use tora_lane::{Lanes, MOST_LINKS, OutPuts, Settling, what_was_offered_was_sent};
 use tora_life::Disk;
 use tora_neighbour::{Clock, NodeError, Tally, Wire};
 use tora_seat::CoreSeat;
 
-/// What a node has ended with. Contracts see its core, and the tally of each neighbour in ascending order.
+/// What a node has ended with. Contracts see its core, the tally of each neighbour in ascending order, the items that the
+/// core has taken, and whether its port has answered `Gone`.
 #[derive(Drop)]
 pub struct Ended {
     seat: CoreSeat,
     outcomes: Vec<Outcome>,
+    port: Settling,
 }
 
 impl Model for Ended {
@@ -32,7 +41,7 @@ impl Model for Ended {
 
     ghost Value = { EndedView };
 
-    ghost view = { λ e. record { core = e.seat.core; tallies = map (λ o. o.tally) e.outcomes.items } };
+    ghost view = { λ e. record { core = e.seat.core; tallies = map (λ o. o.tally) e.outcomes.items; taken = e.port.taken; gone = e.port.gone } };
 }
 
 impl Ended {
@@ -87,12 +96,51 @@ fn first_link_fault(neighbours: &[Id], outcomes: &[Outcome]) -> Option<NodeError
 }
 
 /// The first fault: the core's, then that of the least neighbour.
-fn first_fault(core: &CoreOutcome, outcomes: &[Outcome]) -> Option<NodeError>
-    ensures { result ≡ first_fault core.now.fault core.now.seat.core.neighbours outcomes.now }
+fn first_fault(
+    core: Option<NodeError>,
+    neighbours: &[Id],
+    outcomes: &[Outcome],
+) -> Option<NodeError>
+    ensures { result ≡ first_fault core neighbours.now outcomes.now }
 {
-    match core.fault {
+    match core {
         Some(fault) => Some(fault),
-        None => first_link_fault(core.seat.core().neighbours(), outcomes),
+        None => first_link_fault(neighbours, outcomes),
+    }
+}
+
+/// Brings all lanes of a node together, once its threads have ended, behind no outcomes; the first fault is answered.
+fn settled(rests: Rests<CoreRest, LinkRest>, outcomes: Vec<Outcome>) -> Result<Ended, NodeError>
+    requires ends { Each (HasEnds rests.core.port.lane) rests.links.items rests.core.outs.ends.items }
+    requires command { IsPortOf rests.core.port rests.command }
+    requires new { outcomes.items ≡ [] }
+    ensures { SettlesTo rests.core rests.links.items rests.command result }
+{
+    let Rests {
+        core,
+        links,
+        command,
+        end: _,
+    } = rests;
+    let CoreRest {
+        seat,
+        port,
+        outs,
+        fault,
+    } = core;
+    let OutPuts { ends } = outs;
+    let mut port = port;
+    let Some(outcomes) = settle_links(&mut port, ends, links, outcomes) else {
+        return Err(NodeError::Memory);
+    };
+    port.settle(command);
+    match first_fault(fault, seat.core().neighbours(), outcomes.as_slice()) {
+        Some(fault) => Err(fault),
+        None => Ok(Ended {
+            seat,
+            outcomes,
+            port,
+        }),
     }
 }
 
@@ -109,7 +157,6 @@ fn first_fault(core: &CoreOutcome, outcomes: &[Outcome]) -> Option<NodeError>
 /// `Lane` where there are no neighbours or more than lanes are made for; `Memory`, also where a thread can't be started;
 /// `Life` with the neighbour where its life file does not open. Once all threads have ended: the fault of the core
 /// (`Memory`, `Output`), otherwise that of the least neighbour (`Life`, `Wire`).
-#[tactic(auto, using(crate::proofs::Faults::ended_fault))]
 pub fn run_node<
     R: Threads + Wait + Log + Sync,
     D: Disk + Send + Drop,
@@ -138,7 +185,12 @@ pub fn run_node<
     // A fault is one of the start, or the first one of what the threads came to.
     ensures cause { IfErr result (IsCause config) }
     ensures count { IfOk result (λ ended. (0 < length config.neighbours) × (length config.neighbours ≤ MOST_LINKS)) }
+    // What its threads did: the runs of its links with their wires, the commands that were read, and the items that the core
+    // served, which are what these have put, as the lanes carry it.
+    ensures ran { IfOk result (λ ended. NodeRan W.did_send W.did_receive (C.did_tell clock.now) config wires.items (Rd.remaining reader.old) None ended.core ended.tallies ended.taken ended.gone) }
+    ensures failed { IfErr result (EndsWithFault W.did_send W.did_receive (C.did_tell clock.now) config wires.items (Rd.remaining reader.old)) }
 {
+    what_was_offered_was_sent();
     let core = config.into_core();
     let Some(ends) = new_ends(alloc, &core) else {
         return Err(NodeError::Memory);
@@ -153,18 +205,15 @@ pub fn run_node<
     let Some(starts) = new_starts(alloc, new, links, clock) else {
         return Err(NodeError::Memory);
     };
+    let mut outcomes = Vec::new(alloc);
+    let Ok(()) = outcomes.reserve(starts.len()) else {
+        return Err(NodeError::Memory);
+    };
     let Some(core_task) = new_core_start(alloc, core, port, outs, writer) else {
         return Err(NodeError::Memory);
     };
-    let Some((core, outcomes)) = run_threads(rt, alloc, core_task, command, starts, clock, reader)
-    else {
+    let Some(rests) = run_threads(rt, alloc, core_task, command, starts, clock, reader) else {
         return Err(NodeError::Memory);
     };
-    match first_fault(&core, outcomes.as_slice()) {
-        Some(fault) => Err(fault),
-        None => Ok(Ended {
-            seat: core.seat,
-            outcomes,
-        }),
-    }
+    settled(rests, outcomes)
 }

@@ -1,7 +1,9 @@
 //! Making the links and the lanes of a node, before its threads are started.
 ghost use Rattle.std.specs.Prelude.{◌≡◌, ◌⊎◌, ◌<◌, ◌≤◌, IfErr, IfOk, IfSome, length, map};
+ghost use Rattle.tora_lane.specs.NodeLanes.{AreLanes};
 ghost use Rattle.tora_neighbour.specs.declared.fault.NodeError.{NodeError};
-ghost use Rattle.tora_node.specs.LinkRuns.{name_of, link_ended, link_made, link_started, IsOpening};
+ghost use Rattle.tora_node.specs.LinkRuns.{name_of, link_ended, link_made, wire_made, IsOpening};
+ghost use Rattle.tora_node.specs.Threads.{started, link_to_start, hub_started, hub_of};
 
 use crate::start::{NewEnd, NewLink, Start};
 use std::alloc::Global;
@@ -31,7 +33,7 @@ pub(crate) fn new_ends(alloc: Global, core: &Core) -> Option<Vec<NewEnd>>
 
 /// The lanes of a node with so many links.
 pub(crate) fn new_lanes<R: Wait>(rt: &R, alloc: Global, links: usize) -> Result<Lanes, NodeError>
-    ensures made { IfOk result (λ l. (length l.outs.items ≡ links) × (length l.links.items ≡ links) × (0 < links) × (links ≤ MOST_LINKS)) }
+    ensures made { IfOk result (λ l. AreLanes links l.core l.command l.links.items l.outs.items × (0 < links) × (links ≤ MOST_LINKS)) }
     ensures refused { IfErr result (λ e. (e ≡ NodeError.Memory) ⊎ ((e ≡ NodeError.Lane) × ((links ≡ 0) ⊎ (MOST_LINKS < links)))) }
 {
     match lanes(rt, alloc, links) {
@@ -51,6 +53,7 @@ pub(crate) fn new_links<D: Disk + Drop, W: Wire + Drop>(
     requires disks { length disks.items ≡ length ends.items }
     requires wires { length wires.items ≡ length ends.items }
     ensures made { IfOk result (λ links. map link_made links.items ≡ map link_ended ends.items) }
+    ensures wired { IfOk result (λ links. map wire_made links.items ≡ wires.items) }
     ensures fault { IfErr result (IsOpening (map link_ended ends.items)) }
 {
     let mut links = Vec::new(alloc);
@@ -82,7 +85,7 @@ fn new_link<D: Disk + Drop, W: Wire + Drop>(
     disk: D,
     wire: W,
 ) -> Result<NewLink<D, W>, LifeError>
-    ensures { IfOk result (λ link. link_made link ≡ link_ended new) }
+    ensures { IfOk result (λ link. (link_made link ≡ link_ended new) × (wire_made link ≡ wire)) }
 {
     let NewEnd { end } = new;
     match LifeFile::open(disk, end.me(), end.peer()) {
@@ -101,7 +104,8 @@ pub(crate) fn new_starts<'a, D: Disk + Drop, W: Wire + Drop, C>(
     clock: &'a C,
 ) -> Option<Vec<Start<'a, D, W, C>>>
     requires { length hubs.items ≡ length links.items }
-    ensures { IfSome result (λ starts. map link_started starts.items ≡ map link_made links.items) }
+    ensures links { IfSome result (λ starts. map started starts.items ≡ map (link_to_start clock.now) links.items) }
+    ensures hubs { IfSome result (λ starts. map hub_started starts.items ≡ map hub_of hubs.items) }
 {
     let mut starts = Vec::new(alloc);
     let mut hubs = hubs.into_iter();

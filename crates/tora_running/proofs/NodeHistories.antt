@@ -1,5 +1,5 @@
 -- What `run_node` says of the threads of its links are histories of parts.
-use Rattle.std.proofs.Common.{ℕ, List, [], ◌∷◌, ◌++◌, map, None}
+use Rattle.std.proofs.Common.{◌∙◌, sym, ap, ℕ, List, [], ◌∷◌, ◌++◌, map, None}
 use Rattle.tora_arq.specs.LinkEnd.{first_end}
 use Rattle.tora_arq.specs.Settings.{settings_of}
 use Rattle.tora_arq.specs.declared.TheConstants.Times.{STANDARD}
@@ -7,12 +7,14 @@ use Rattle.tora_frame.specs.declared.parts.Version.TheVariants.{Two}
 use Rattle.tora_neighbour.specs.declared.tally.Tally.{Tally}
 use Rattle.tora_node.specs.LinkRuns.{name_of, IsLinkRun, AreLinkRuns, AreFaultless}
 use Rattle.tora_running.specs.Histories.{parts_of_turns, parts_of_last}
-use Rattle.tora_running.specs.Nodes.{HasHistory, HaveHistories}
+use Rattle.tora_node.specs.WholeRuns.{LinkExchanged}
+use Rattle.tora_seat.specs.declared.Cargo.{Cargo}
+use Rattle.tora_running.specs.Nodes.{HasHistory, HasExchanged, HaveHistories}
 use Rattle.tora_running.proofs.ThreadHistories.{run_is}
 use Rattle.tora_running.proofs.ThreadExchanges.{run_exchanges}
 
 module _ (me : ℕ) where
-  history_of : (k : ℕ) (fault : _) (tally : Tally) → IsLinkRun me k fault tally → HasHistory me k tally
+  abbrev history_of : (k : ℕ) (fault : _) (tally : Tally) → IsLinkRun me k fault tally → HasHistory me k tally
   history_of k fault tally h =
       let run = run_is (settings_of Two me k STANDARD) first_end h.turns h.last h.ending h.after h.runs in
       record {
@@ -37,3 +39,15 @@ module _ (me : ℕ) where
   runs_have [] (outcome ∷ outcomes) h = absurd h
   runs_have (k ∷ ks) [] h = absurd h
   runs_have (k ∷ ks) (outcome ∷ outcomes) h = (history_of k outcome.fault outcome.tally h.0, runs_have ks outcomes h.1)
+
+  -- and what a link exchanged with the core
+  pub exchanged_has : (xs : List _) (place peer : ℕ) (outcome : _) → LinkExchanged me xs place peer outcome → HasExchanged me xs place peer outcome.tally
+  exchanged_has xs place peer outcome h =
+      let past = history_of peer outcome.fault outcome.tally h.run in
+      record {
+        history = past;
+        left = h.left;
+        put = past.exchange.put ∙ sym h.items;
+        waiting = h.waiting;
+        taken = ap (λ (l : List Cargo). l ++ h.waiting) past.exchange.cargoes ∙ h.cargoes;
+      }

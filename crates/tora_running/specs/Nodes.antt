@@ -1,14 +1,21 @@
 -- The histories of a node's threads, out of what `run_node` says of them.
-use Rattle.std.specs.Prelude.{◌≡◌, ℕ, List, [], ◌∷◌}
+use Rattle.std.specs.Prelude.{◌≡◌, ℕ, List, [], ◌∷◌, ◌++◌, map}
+use Rattle.std.specs.List.{flat_map}
 use Rattle.tora_arq.specs.LinkEnd.{EndState, first_end}
 use Rattle.tora_arq.specs.Settings.{settings_of}
 use Rattle.tora_arq.specs.declared.TheConstants.Times.{STANDARD}
 use Rattle.tora_frame.specs.declared.parts.Version.TheVariants.{Two}
+use Rattle.tora_lane.specs.LaneRule.{items_of}
+use Rattle.tora_neighbour.specs.Puts.{put_in as put_of_item}
 use Rattle.tora_neighbour.specs.Tally.{first_tally}
 use Rattle.tora_neighbour.specs.Turns.{Turn, tally_after}
 use Rattle.tora_neighbour.specs.declared.tally.Tally.{Tally}
+use Rattle.tora_node.specs.CoreRuns.{ServedItem, items_served, offers_made}
+use Rattle.tora_seat.specs.Serving.{put_to}
+use Rattle.tora_seat.specs.declared.Cargo.{Cargo}
+use Rattle.tora_seat.specs.declared.Item.{Item}
 use Rattle.tora_running.specs.Parts.{LinkPart, AreLinkParts}
-use Rattle.tora_running.specs.Exchanges.{ExchangeTheSame}
+use Rattle.tora_running.specs.Exchanges.{ExchangeTheSame, cargo_in, put_in}
 
 -- The thread of the link from one node to another has made these parts of a new end, one after another; they exchange what turns do whose
 -- tally this is
@@ -26,3 +33,12 @@ HaveHistories me [] [] = Unit {0}
 HaveHistories me [] (tally ∷ tallies) = ⊥
 HaveHistories me (k ∷ ks) [] = ⊥
 HaveHistories me (k ∷ ks) (tally ∷ tallies) = HasHistory me k tally × HaveHistories me ks tallies
+
+-- And the parts of the link at a place are those whose items the core served, and whose cargoes serving put: what they put is the items of
+-- their seat that were served, and then some that were left, and what they take, and then some that waited, is what was put for the peer
+pub record HasExchanged (me : ℕ) (xs : List ServedItem) (place peer : ℕ) (tally : Tally) : Type 0 where
+  pub history : HasHistory me peer tally
+  pub left : List Item
+  pub put : flat_map put_in history.parts ≡ map put_of_item (items_of place (items_served xs) ++ left)
+  pub waiting : List Cargo
+  pub taken : flat_map cargo_in history.parts ++ waiting ≡ put_to peer (offers_made xs)

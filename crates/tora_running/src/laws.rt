@@ -8,6 +8,8 @@ ghost use Rattle.tora_neighbour.specs.declared.ending.Ending.{Ending};
 ghost use Rattle.tora_core.specs.CoreRun.{CoreView};
 ghost use Rattle.tora_neighbour.specs.declared.fault.NodeError.{NodeError};
 ghost use Rattle.tora_neighbour.specs.declared.tally.Tally.{Tally};
+ghost use Rattle.tora_node.specs.declared.link_task.Outcome.{Outcome};
+ghost use Rattle.tora_node.specs.WholeRuns.{LinkExchanged};
 ghost use Rattle.tora_node.specs.LinkRuns.{AreFaultless, IsThreadsFault, links_of};
 ghost use Rattle.tora_node.specs.CoreRuns.{ServedItem, AreServed, items_served};
 ghost use Rattle.tora_seat.specs.Serving.{SeatState};
@@ -16,7 +18,7 @@ ghost use Rattle.tora_world.specs.Topology.{is_node};
 ghost use Rattle.tora_running.specs.Exchanges.{ExchangeTheSame};
 ghost use Rattle.tora_running.specs.Histories.{IsAfterRefused, IsNotStarted, parts_of_last, parts_of_link, parts_of_turns, parts_served, served_in};
 ghost use Rattle.tora_running.specs.Network.{IsRun, Network, Part, after_parts, neighbours_at, settings_at};
-ghost use Rattle.tora_running.specs.Nodes.{HaveHistories};
+ghost use Rattle.tora_running.specs.Nodes.{HasExchanged, HaveHistories};
 ghost use Rattle.tora_running.specs.Parts.{AreLinkParts};
 ghost use Rattle.tora_running.specs.Worked.{start, first_parts, parted, second_parts, met, HandsBack, HasMet, drawn_again, TakesTwice};
 
@@ -139,13 +141,16 @@ pub fn histories_are_of_the_threads()
 {}
 
 /// What `run_node` says of its links is what histories come to: for each link there are parts of a new end of version 2 with the
-/// standard times, made one after another, and they exchange what the turns do whose tally is told of it. That these parts are
-/// those of the thread of that link it does not say.
+/// standard times, made one after another, and they exchange what the turns do whose tally is told of it; they put the items that
+/// the core served, and take the cargoes that serving put.
 pub fn nodes_have_histories()
     // A node that ended without a fault, as the clause `links` of `run_node` has it.
     ensures links { (first : CoreView) (tallies : List Tally) → AreFaultless (links_of first) tallies → HaveHistories first.me first.neighbours tallies }
     // A node whose threads were started and which ended with the first of their faults, as its clause `cause` has it.
     ensures threads { (first : CoreView) (e : NodeError) (h : IsThreadsFault first e) → HaveHistories first.me first.neighbours (map (λ o. o.tally) h.outcomes) }
+    // And what a link has exchanged with the core, as the clauses `ran` and `failed` have it, its parts have.
+    ensures exchanged { (me : ℕ) (xs : List ServedItem) (place peer : ℕ) (outcome : Outcome) → LinkExchanged me xs place peer outcome
+        → HasExchanged me xs place peer outcome.tally }
 {}
 
 /// Two running nodes, computed: what the laws say of a run of parts is not empty.

@@ -1,3 +1,4 @@
+pub mod AirLaws
 pub mod LinkPairs
 pub mod RoundLaws
 pub mod SimulationFound

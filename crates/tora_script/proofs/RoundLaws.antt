@@ -4,7 +4,9 @@ use Rattle.std.proofs.lemmas.List.{drop_more, drop_all}
 use Rattle.tora_world.specs.declared.Event.{Event}
 use Rattle.tora_world.specs.declared.SimError.{SimError}
 use Rattle.tora_world.specs.World.{World, is_empty, refusal_of, world_by, world_after, world_after_all}
-use Rattle.tora_script.specs.Rounds.{Plan, repeats, plan_then, each, delivery, deliveries, pass, passes, rounds, round, Happened}
+use Rattle.tora_channel.specs.declared.channel.Channel.{Channel}
+use Rattle.tora_script.specs.declared.air.Moment.{Moment}
+use Rattle.tora_script.specs.Rounds.{Plan, repeats, plan_then, each, delivery, deliveries, pass, passes, after_round, rounds, Sky, Happened}
 
 pub after_append : (w : World) (xs ys : List Event) → world_after_all w (xs ++ ys) ≡ world_after_all (world_after_all w xs) ys
 after_append w [] ys = refl
@@ -102,23 +104,23 @@ after_then w mid next plan rest p q =
 
 -- ---- passes and rounds
 
-pub passes_on : (now next : World) (j : ℕ) (nodes : List ℕ) (ends parted : List (ℕ × ℕ)) (left : World) → world_after_all now (passes (suc j) nodes ends parted now) ≡ left → Happened now (pass nodes ends parted now) next true
-    → world_after_all next (passes j nodes ends parted next) ≡ left
+pub passes_on : (now next : World) (j : ℕ) (nodes : List ℕ) (ends parted : List (ℕ × ℕ)) (m : Moment) (left : World) → world_after_all now (passes (suc j) nodes ends parted m now) ≡ left → Happened now (pass nodes ends parted m now) next true
+    → world_after_all next (passes j nodes ends parted m next) ≡ left
 unfolding passes
-passes_on now next j nodes ends parted left e h =
-    let some : is_empty (pass nodes ends parted now) ≡ false = not_not (is_empty (pass nodes ends parted now)) (sym h.some_is) in
-    let step : passes (suc j) nodes ends parted now ≡ plan_then (pass nodes ends parted) (passes j nodes ends parted) now = rw some refl in
-    after_then now next (world_after_all next (passes j nodes ends parted next)) (pass nodes ends parted) (passes j nodes ends parted) h.after_is refl ∙ ap (world_after_all now) (sym step) ∙ e
+passes_on now next j nodes ends parted m left e h =
+    let some : is_empty (pass nodes ends parted m now) ≡ false = not_not (is_empty (pass nodes ends parted m now)) (sym h.some_is) in
+    let step : passes (suc j) nodes ends parted m now ≡ plan_then (pass nodes ends parted m) (passes j nodes ends parted m) now = rw some refl in
+    after_then now next (world_after_all next (passes j nodes ends parted m next)) (pass nodes ends parted m) (passes j nodes ends parted m) h.after_is refl ∙ ap (world_after_all now) (sym step) ∙ e
   where
     not_not : (b : Bool) → not b ≡ true → b ≡ false
     not_not true h = absurd cc
     not_not false h = refl
 
-pub passes_stop : (now next : World) (j : ℕ) (nodes : List ℕ) (ends parted : List (ℕ × ℕ)) (left : World) → world_after_all now (passes (suc j) nodes ends parted now) ≡ left → Happened now (pass nodes ends parted now) next false → next ≡ left
+pub passes_stop : (now next : World) (j : ℕ) (nodes : List ℕ) (ends parted : List (ℕ × ℕ)) (m : Moment) (left : World) → world_after_all now (passes (suc j) nodes ends parted m now) ≡ left → Happened now (pass nodes ends parted m now) next false → next ≡ left
 unfolding passes
-passes_stop now next j nodes ends parted left e h =
-    let none = empty_is (pass nodes ends parted now) (not_not (is_empty (pass nodes ends parted now)) (sym h.some_is)) in
-    let stop : passes (suc j) nodes ends parted now ≡ [] = rw none.1 refl in
+passes_stop now next j nodes ends parted m left e h =
+    let none = empty_is (pass nodes ends parted m now) (not_not (is_empty (pass nodes ends parted m now)) (sym h.some_is)) in
+    let stop : passes (suc j) nodes ends parted m now ≡ [] = rw none.1 refl in
     h.after_is ∙ ap (world_after_all now) none.0 ∙ sym (ap (world_after_all now) stop) ∙ e
   where
     not_not : (b : Bool) → not b ≡ false → b ≡ true
@@ -129,19 +131,18 @@ passes_stop now next j nodes ends parted left e h =
     empty_is [] h = (refl, refl)
     empty_is (x ∷ xs) h = absurd cc
 
-pub no_passes : (w : World) (nodes : List ℕ) (ends parted : List (ℕ × ℕ)) → world_after_all w (passes zero nodes ends parted w) ≡ w
+pub no_passes : (w : World) (nodes : List ℕ) (ends parted : List (ℕ × ℕ)) (m : Moment) → world_after_all w (passes zero nodes ends parted m w) ≡ w
 unfolding passes
-no_passes w nodes ends parted = refl
+no_passes w nodes ends parted m = refl
 
-pub rounds_on : (now next : World) (r : ℕ) (nodes : List ℕ) (ends parted : List (ℕ × ℕ)) (left : World) → world_after_all now (rounds (suc r) nodes ends parted now) ≡ left → next ≡ world_after_all now (round nodes ends parted now)
-    → world_after_all next (rounds r nodes ends parted next) ≡ left
+pub rounds_on : (now next : Sky) (r : ℕ) (nodes : List ℕ) (ends parted : List (ℕ × ℕ)) (channel : Channel) (left : Sky) → rounds (suc r) nodes ends parted channel now ≡ left → next ≡ after_round nodes ends parted channel now
+    → rounds r nodes ends parted channel next ≡ left
 unfolding rounds
-rounds_on now next r nodes ends parted left e h =
-    after_then now next (world_after_all next (rounds r nodes ends parted next)) (round nodes ends parted) (rounds r nodes ends parted) h refl ∙ e
+rounds_on now next r nodes ends parted channel left e h = ap (rounds r nodes ends parted channel) h ∙ e
 
-pub no_rounds : (w : World) (nodes : List ℕ) (ends parted : List (ℕ × ℕ)) → world_after_all w (rounds zero nodes ends parted w) ≡ w
+pub no_rounds : (s : Sky) (nodes : List ℕ) (ends parted : List (ℕ × ℕ)) (channel : Channel) → rounds zero nodes ends parted channel s ≡ s
 unfolding rounds
-no_rounds w nodes ends parted = refl
+no_rounds s nodes ends parted channel = refl
 
 -- ---- a plan for each of a list
 
@@ -158,15 +159,15 @@ each_ends {A} plan xs i w events now some above o =
 
 -- ---- datagrams
 
-pub delivered : (parted : List (ℕ × ℕ)) (i end : ℕ) (w : World) (events : List Event) (now next : World) (some any : Bool) → i < end → Onward w events now some (deliveries parted i (end - i) now) → Happened now (delivery parted (i + 1) now) next any
-    → Onward w events next (some || any) (deliveries parted (i + 1) (end - (i + 1)) next)
+pub delivered : (parted : List (ℕ × ℕ)) (m : Moment) (i end : ℕ) (w : World) (events : List Event) (now next : World) (some any : Bool) → i < end → Onward w events now some (deliveries parted m i (end - i) now) → Happened now (delivery parted m (i + 1) now) next any
+    → Onward w events next (some || any) (deliveries parted m (i + 1) (end - (i + 1)) next)
 unfolding deliveries
-delivered parted i end w events now next some any below o h =
+delivered parted m i end w events now next some any below o h =
     let k : end - i ≡ suc (end - (i + 1)) = omega arith in
-    part w events now next some any (delivery parted (i + 1)) (deliveries parted (i + 1) (end - (i + 1))) (rw k at o) h
+    part w events now next some any (delivery parted m (i + 1)) (deliveries parted m (i + 1) (end - (i + 1))) (rw k at o) h
 
-pub all_delivered : (parted : List (ℕ × ℕ)) (i end : ℕ) (w : World) (events : List Event) (now : World) (some : Bool) → end ≤ i → Onward w events now some (deliveries parted i (end - i) now) → Happened w events now some
+pub all_delivered : (parted : List (ℕ × ℕ)) (m : Moment) (i end : ℕ) (w : World) (events : List Event) (now : World) (some : Bool) → end ≤ i → Onward w events now some (deliveries parted m i (end - i) now) → Happened w events now some
 unfolding deliveries
-all_delivered parted i end w events now some above o =
+all_delivered parted m i end w events now some above o =
     let k : end - i ≡ zero = omega arith in
     ends w events now some (rw k at o)

@@ -1,5 +1,8 @@
+pub mod Air
+pub mod Parted
 pub mod Rounds
 pub mod RunningView
+pub mod Setup
 pub mod SimulationGrammar
 pub mod SimulationLines
 pub mod SimulationText

@@ -1,10 +1,14 @@
--- What a round of a simulation is: a list of events.
-use Rattle.std.specs.Prelude.{◌≡◌, ℕ, zero, suc, ◌+◌, ◌-◌, ◌==◌, ◌&&◌, ◌||◌, Bool, not, is_some, if◌then◌else◌, List, [], ◌∷◌, ◌++◌, length, Option, Some, None}
-use Rattle.std.specs.List.{list_any}
+-- What a round of a simulation is: a list of events, and what it leaves in the air.
+pub use Rattle.tora_script.specs.Parted.{is_same_pair, is_parted}
+use Rattle.std.specs.Prelude.{◌≡◌, ℕ, zero, suc, ◌+◌, ◌-◌, ◌==◌, ◌&&◌, ◌||◌, Bool, not, nat_lt, is_some, if◌then◌else◌, List, [], ◌∷◌, ◌++◌, length, Option, Some, None}
 use Rattle.tora_frame.specs.FrameParts.{FrameParts}
 use Rattle.tora_world.specs.declared.Event.{Event}
 use Rattle.tora_world.specs.declared.Event.TheVariants.{Tick, Open, Pull, Transmit, Deliver, Pump, CoreTurn}
 use Rattle.tora_world.specs.World.{World, datagram, is_empty, refusal_of, world_after, world_after_all}
+use Rattle.tora_channel.specs.declared.channel.Channel.{Channel}
+use Rattle.tora_script.specs.Air.{AirView, air_view, copies_in, at_once, after_air}
+use Rattle.tora_script.specs.declared.air.Air.{Air}
+use Rattle.tora_script.specs.declared.air.Moment.{Moment}
 use Rattle.tora_script.specs.declared.rounds.EndTurn.{EndTurn}
 use Rattle.tora_script.specs.declared.rounds.EndTurn.TheVariants as turn
 
@@ -37,13 +41,6 @@ each plan (x ∷ xs) w = plan_then (plan x) (each plan xs) w
 
 -- ---- a round, over nodes in ascending order, and over link ends in ascending order of the node and then the neighbour
 
--- the two nodes are parted, whichever is named first
-abbrev pub is_same_pair : ℕ × ℕ → ℕ × ℕ → Bool
-is_same_pair p q = ((p.0 == q.0) && (p.1 == q.1)) || ((p.0 == q.1) && (p.1 == q.0))
-
-abbrev pub is_parted : List (ℕ × ℕ) → ℕ → ℕ → Bool
-is_parted parted a b = list_any (is_same_pair (a, b)) parted
-
 -- what an end does in its turn
 abbrev pub end_event : EndTurn → ℕ × ℕ → Event
 end_event turn.Open e = Open e.0 e.1
@@ -62,42 +59,78 @@ each_end kind ends = each (λ e. while_possible (end_event kind e)) ends
 abbrev pub each_core : List ℕ → Plan
 each_core nodes = each (λ n. while_possible (CoreTurn n)) nodes
 
--- a datagram is delivered, unless its nodes are parted
-abbrev pub delivery_of : List (ℕ × ℕ) → ℕ → Option FrameParts → Plan
-delivery_of parted i None w = []
-delivery_of parted i (Some f) w = if is_parted parted f.header.sender f.header.receiver then [] else once (Deliver i) w
+-- a datagram that was sent before the round comes now, unless its nodes are parted
+abbrev pub arrival_of : List (ℕ × ℕ) → ℕ → Option FrameParts → Plan
+arrival_of parted i None w = []
+arrival_of parted i (Some f) w = if is_parted parted f.header.sender f.header.receiver then [] else once (Deliver i) w
 
-abbrev pub delivery : List (ℕ × ℕ) → ℕ → Plan
-delivery parted i w = delivery_of parted i (datagram w i) w
+-- in how many rounds a datagram comes, and which one: it comes in the next
+abbrev pub arrival : List (ℕ × ℕ) → ℕ × ℕ → Plan
+arrival parted p w = if nat_lt 1 p.0 then [] else arrival_of parted p.1 (datagram w p.1) w
+
+abbrev pub arrivals : List (ℕ × ℕ) → List (ℕ × ℕ) → Plan
+arrivals parted later = each (arrival parted) later
+
+-- a datagram is delivered as often as the channel says, unless its nodes are parted
+abbrev pub delivery_of : List (ℕ × ℕ) → Moment → ℕ → Option FrameParts → Plan
+delivery_of parted m i None w = []
+delivery_of parted m i (Some f) w = if is_parted parted f.header.sender f.header.receiver then [] else repeats (at_once (copies_in m i (f.header.sender, f.header.receiver) w)) (Deliver i) w
+
+abbrev pub delivery : List (ℕ × ℕ) → Moment → ℕ → Plan
+delivery parted m i w = delivery_of parted m i (datagram w i) w
 
 -- so many datagrams behind the first ones, in order
-unfoldable pub deliveries : List (ℕ × ℕ) → ℕ → ℕ → Plan
-deliveries parted first zero w = []
-deliveries parted first (suc count) w = plan_then (delivery parted (first + 1)) (deliveries parted (first + 1) count) w
+unfoldable pub deliveries : List (ℕ × ℕ) → Moment → ℕ → ℕ → Plan
+deliveries parted m first zero w = []
+deliveries parted m first (suc count) w = plan_then (delivery parted m (first + 1)) (deliveries parted m (first + 1) count) w
 
 -- each datagram that was sent since there were so many
-abbrev pub new_deliveries : List (ℕ × ℕ) → ℕ → Plan
-new_deliveries parted first w = deliveries parted first (length w.datagrams - first) w
+abbrev pub new_deliveries : List (ℕ × ℕ) → Moment → ℕ → Plan
+new_deliveries parted m first w = deliveries parted m first (length w.datagrams - first) w
 
-unfoldable pub pass : List ℕ → List (ℕ × ℕ) → List (ℕ × ℕ) → Plan
-pass nodes ends parted w =
+unfoldable pub pass : List ℕ → List (ℕ × ℕ) → List (ℕ × ℕ) → Moment → Plan
+pass nodes ends parted m w =
     plan_then (each_core nodes)
     (plan_then (each_end turn.Pull ends)
     (plan_then (each_end turn.Transmit ends)
-    (plan_then (new_deliveries parted (length w.datagrams))
+    (plan_then (new_deliveries parted m (length w.datagrams))
     (each_end turn.Pump ends)))) w
 
 -- passes until one has no event, and so many at most
-unfoldable pub passes : ℕ → List ℕ → List (ℕ × ℕ) → List (ℕ × ℕ) → Plan
-passes zero nodes ends parted w = []
-passes (suc k) nodes ends parted w = if is_empty (pass nodes ends parted w) then [] else plan_then (pass nodes ends parted) (passes k nodes ends parted) w
+unfoldable pub passes : ℕ → List ℕ → List (ℕ × ℕ) → List (ℕ × ℕ) → Moment → Plan
+passes zero nodes ends parted m w = []
+passes (suc k) nodes ends parted m w = if is_empty (pass nodes ends parted m w) then [] else plan_then (pass nodes ends parted m) (passes k nodes ends parted m) w
 
-unfoldable pub round : List ℕ → List (ℕ × ℕ) → List (ℕ × ℕ) → Plan
-round nodes ends parted = plan_then (once Tick) (plan_then (each_end_once turn.Open ends) (passes 1000 nodes ends parted))
+unfoldable pub round : List ℕ → List (ℕ × ℕ) → List (ℕ × ℕ) → Moment → List (ℕ × ℕ) → Plan
+round nodes ends parted m later = plan_then (once Tick) (plan_then (each_end_once turn.Open ends) (plan_then (arrivals parted later) (passes 1000 nodes ends parted m)))
 
-unfoldable pub rounds : ℕ → List ℕ → List (ℕ × ℕ) → List (ℕ × ℕ) → Plan
-rounds zero nodes ends parted w = []
-rounds (suc r) nodes ends parted w = plan_then (round nodes ends parted) (rounds r nodes ends parted) w
+-- ---- rounds
+
+-- a world and its air
+pub record Sky : Type 0 where
+  pub world : World
+  pub air : AirView
+
+-- that of a simulator and what is kept of the air
+abbrev pub sky_of : {S : Type 0} → (S → World) → S → Air → Sky
+sky_of world sim air = record { world = world sim; air = air_view air }
+
+-- a round begins: these are its number and the datagrams that were sent before it
+abbrev pub moment_of : Channel → Sky → Moment
+moment_of channel s = record { channel = channel; round = s.air.round; start = length s.world.datagrams }
+
+-- a round led to a world
+abbrev pub sky_behind : List (ℕ × ℕ) → Moment → AirView → World → Sky
+sky_behind parted m air w = record { world = w; air = after_air parted m air w }
+
+-- one round: the world is the world behind its events
+unfoldable pub after_round : List ℕ → List (ℕ × ℕ) → List (ℕ × ℕ) → Channel → Sky → Sky
+after_round nodes ends parted channel s =
+    sky_behind parted (moment_of channel s) s.air (world_after_all s.world (round nodes ends parted (moment_of channel s) s.air.later s.world))
+
+unfoldable pub rounds : ℕ → List ℕ → List (ℕ × ℕ) → List (ℕ × ℕ) → Channel → Sky → Sky
+rounds zero nodes ends parted channel s = s
+rounds (suc r) nodes ends parted channel s = rounds r nodes ends parted channel (after_round nodes ends parted channel s)
 
 -- ---- what the code of a round does
 

@@ -10,13 +10,18 @@ use Rattle.tora_core.specs.ShowText.{height_text, hop_text}
 use Rattle.tora_world.specs.declared.Event.{Event}
 use Rattle.tora_world.specs.declared.SimError.{SimError}
 use Rattle.tora_world.specs.Errors.{sim_error_number}
-use Rattle.tora_world.specs.World.{World, refusal_of, world_after, world_after_all, sent_packets, taken_packets}
+use Rattle.tora_world.specs.World.{World, refusal_of, world_after, sent_packets, taken_packets}
 use Rattle.tora_lines.specs.LineText.{Rules, numbered, whole_text, fault_of, IsFirstFaultBy}
 use Rattle.tora_lines.specs.Engine.{IsWholeText, IsFrontOfText}
 use Rattle.tora_script.specs.SimulationLines.{dests_of, link_of, old_of, simulation_line_of}
-use Rattle.tora_script.specs.Rounds.{is_same_pair, is_parted, rounds}
+use Rattle.tora_script.specs.Rounds.{Sky, is_same_pair, is_parted, rounds}
+use Rattle.tora_script.specs.Air.{AirView, first_air}
+use Rattle.tora_channel.specs.declared.channel.Channel.{Channel}
+use Rattle.tora_script.specs.declared.setup.Setup.{Setup}
+use Rattle.tora_script.specs.Setup.{plain}
 use Rattle.tora_world.specs.Walks.{height_at, hop_at, exact_in, walk_of}
 use Rattle.tora_world.specs.Rest.{rests}
+use Rattle.tora_sim.specs.Cuts.{after_cut_at}
 use Rattle.tora_sim.specs.Readers.{ends_in}
 use Rattle.tora_sim.specs.Topologies.{with_old}
 use Rattle.tora_script.specs.Simulator.{has_topology, started, nodes_of}
@@ -32,6 +37,9 @@ pub record RunningView : Type 0 where
   pub nodes : List ℕ  -- the nodes, ascending
   pub ends : List (ℕ × ℕ)  -- the link ends, by ascending node and then neighbour
   pub parted : List (ℕ × ℕ)  -- the pairs of nodes between which rounds deliver nothing
+  pub channel : Channel  -- of the rounds
+  pub air : AirView  -- what rounds left in the air
+  pub has_notice : Bool  -- both ends notice at once that their link is parted
   pub world : World
 
 pub data Progress : Type 0 where
@@ -39,9 +47,9 @@ pub data Progress : Type 0 where
   Links : (dests : List ℕ) (links : List (ℕ × ℕ)) (olds : List ℕ) → Progress  -- the destinations, the links so far, and behind these the old nodes so far
   Runs : RunningView → Progress
 
--- a simulation of these destinations that begins in a world
-abbrev pub begun_in : List ℕ → World → RunningView
-begun_in dests w = record { dests = dests; nodes = nodes_of w; ends = ends_in w.topology; parted = []; world = w }
+-- a simulation of these destinations that is made with this, and begins in a world
+abbrev pub begun_in : List ℕ → Setup → World → RunningView
+begun_in dests setup w = record { dests = dests; nodes = nodes_of w; ends = ends_in w.topology; parted = []; channel = setup.channel; air = first_air; has_notice = setup.has_notice; world = w }
 
 -- ---- a line behind the links
 
@@ -56,8 +64,11 @@ refusal_text (Some error) = numbered (codes "refused ") (sim_error_number error)
 abbrev pub event_reply : RunningView → Event → Reply
 event_reply s event = (record s { world = world_after s.world event }, refusal_text (refusal_of s.world event))
 
-abbrev pub after_rounds : ℕ → RunningView → World
-after_rounds r s = world_after_all s.world (rounds r s.nodes s.ends s.parted s.world)
+abbrev pub with_sky : RunningView → Sky → RunningView
+with_sky s sky = record s { world = sky.world; air = sky.air }
+
+abbrev pub after_rounds : ℕ → RunningView → RunningView
+after_rounds r s = with_sky s (rounds r s.nodes s.ends s.parted s.channel (record { world = s.world; air = s.air }))
 
 -- there is a link between the nodes
 abbrev pub has_end : ℕ → ℕ → List (ℕ × ℕ) → Bool
@@ -68,6 +79,14 @@ with_parted a b parted = if is_parted parted a b then parted else parted ++ (a, 
 
 abbrev pub without_parted : ℕ → ℕ → List (ℕ × ℕ) → List (ℕ × ℕ)
 without_parted a b parted = filter (λ p. not (is_same_pair (a, b) p)) parted
+
+-- both ends of a link cut the life that they are bound to
+abbrev pub cut_both : ℕ → ℕ → World → World
+cut_both a b w = after_cut_at (after_cut_at w a b) b a
+
+-- two nodes are parted
+abbrev pub part_of : RunningView → ℕ → ℕ → RunningView
+part_of s a b = record s { parted = with_parted a b s.parted; world = if s.has_notice then cut_both a b s.world else s.world }
 
 -- NULL where there is no height
 abbrev pub known_height : Option (Option Quintuple) → Option Quintuple
@@ -130,8 +149,8 @@ at_rest_reply s = (s, at_rest_text (rests s.world))
 
 unfoldable pub running_reply : RunningView → SimulationLine → Option Reply
 running_reply s (Happens event) = Some (event_reply s event)
-running_reply s (Rounds r) = Some (record s { world = after_rounds r s }, [])
-running_reply s (Part a b) = where_linked s a b (record s { parted = with_parted a b s.parted }, [])
+running_reply s (Rounds r) = Some (after_rounds r s, [])
+running_reply s (Part a b) = where_linked s a b (part_of s a b, [])
 running_reply s (Mend a b) = where_linked s a b (record s { parted = without_parted a b s.parted }, [])
 running_reply s (Heights d) = heights_reply s d
 running_reply s (Sent a b life) = where_linked s a b (s, count_text (length (sent_packets s.world a b life)))
@@ -168,28 +187,28 @@ abbrev pub silent : Progress → Progress × List ℕ
 silent progress = (progress, [])
 
 -- behind the links: the world is made, and the line is one of its simulation
-abbrev pub first_run : Times → List ℕ → List (ℕ × ℕ) → List ℕ → List ℕ → Option Reply
-first_run times dests links olds line = option_and_then (λ w. line_reply (begun_in dests w) line) (started links dests olds times)
+abbrev pub first_run : Setup → List ℕ → List (ℕ × ℕ) → List ℕ → List ℕ → Option Reply
+first_run setup dests links olds line = option_and_then (λ w. line_reply (begun_in dests setup w) line) (started links dests olds setup.times)
 
 -- the line behind the last link and the last old node: at least one link is required
-abbrev pub behind_links : Times → List ℕ → List (ℕ × ℕ) → List ℕ → List ℕ → Option (Progress × List ℕ)
-behind_links times dests [] olds line = None
-behind_links times dests (link ∷ links) olds line = option_map left_by (first_run times dests (link ∷ links) olds line)
+abbrev pub behind_links : Setup → List ℕ → List (ℕ × ℕ) → List ℕ → List ℕ → Option (Progress × List ℕ)
+behind_links setup dests [] olds line = None
+behind_links setup dests (link ∷ links) olds line = option_map left_by (first_run setup dests (link ∷ links) olds line)
 
 -- a line behind the first, which may say a link or an old node
-abbrev pub link_reply : Times → List ℕ → List (ℕ × ℕ) → List ℕ → List ℕ → Option (ℕ × ℕ) → Option ℕ → Option (Progress × List ℕ)
-link_reply times dests links olds line (Some link) old = option_map silent (with_link dests links olds link)
-link_reply times dests links olds line None (Some n) = option_map silent (with_old_line dests links olds n)
-link_reply times dests links olds line None None = behind_links times dests links olds line
+abbrev pub link_reply : Setup → List ℕ → List (ℕ × ℕ) → List ℕ → List ℕ → Option (ℕ × ℕ) → Option ℕ → Option (Progress × List ℕ)
+link_reply setup dests links olds line (Some link) old = option_map silent (with_link dests links olds link)
+link_reply setup dests links olds line None (Some n) = option_map silent (with_old_line dests links olds n)
+link_reply setup dests links olds line None None = behind_links setup dests links olds line
 
 -- behind the first line
 abbrev pub first_progress : List ℕ → Option Progress
 first_progress line = option_map (λ dests. Links dests [] []) (dests_of line)
 
-unfoldable pub simulation_reply : Times → Progress → List ℕ → Option (Progress × List ℕ)
-simulation_reply times First line = option_map silent (first_progress line)
-simulation_reply times (Links dests links olds) line = link_reply times dests links olds line (link_of line) (old_of line)
-simulation_reply times (Runs s) line = option_map left_by (line_reply s line)
+unfoldable pub simulation_reply : Setup → Progress → List ℕ → Option (Progress × List ℕ)
+simulation_reply setup First line = option_map silent (first_progress line)
+simulation_reply setup (Links dests links olds) line = link_reply setup dests links olds line (link_of line) (old_of line)
+simulation_reply setup (Runs s) line = option_map left_by (line_reply s line)
 
 -- ---- the end
 
@@ -203,34 +222,57 @@ simulation_at_end First n = Some n
 simulation_at_end (Links dests links olds) n = end_of_links n dests links
 simulation_at_end (Runs s) n = None
 
--- the rules of a simulation whose link ends have these times
-abbrev pub simulation_rules : Times → Rules Progress
-simulation_rules times = record { start = First; reply = simulation_reply times; at_end = simulation_at_end }
+-- the rules of a simulation that is made with this
+abbrev pub rules_over : Setup → Rules Progress
+rules_over setup = record { start = First; reply = simulation_reply setup; at_end = simulation_at_end }
 
 -- ---- all lines
 
 -- what is printed for an input
-abbrev pub simulation_text : Times → List ℕ → List ℕ
-simulation_text times bytes = (whole_text (simulation_rules times) bytes).0
+abbrev pub text_over : Setup → List ℕ → List ℕ
+text_over setup bytes = (whole_text (rules_over setup) bytes).0
 
 -- how an input ends
-abbrev pub simulation_end : Times → List ℕ → Ended
-simulation_end times bytes = (whole_text (simulation_rules times) bytes).1
+abbrev pub end_over : Setup → List ℕ → Ended
+end_over setup bytes = (whole_text (rules_over setup) bytes).1
 
 -- the number of the first line that is a fault, if one is
-abbrev pub first_simulation_fault : Times → List ℕ → Option ℕ
-first_simulation_fault times bytes = fault_of (simulation_end times bytes)
+abbrev pub first_fault_over : Setup → List ℕ → Option ℕ
+first_fault_over setup bytes = fault_of (end_over setup bytes)
 
 -- of lines from line n on, line m is a fault, and all before it are taken
-abbrev pub IsFirstSimulationFault : Times → Progress → ℕ → List (List ℕ) → ℕ → Type 0
-IsFirstSimulationFault times progress n lines m = IsFirstFaultBy (simulation_rules times) progress n lines m
+abbrev pub IsFirstFaultOver : Setup → Progress → ℕ → List (List ℕ) → ℕ → Type 0
+IsFirstFaultOver setup progress n lines m = IsFirstFaultBy (rules_over setup) progress n lines m
 
 -- ---- what simulate promises
 
 -- Known bytes grew by what is printed for the input, and the input ends so.
-abbrev pub Simulates : Times → List ℕ → Option (List ℕ) → Option (List ℕ) → Ended → Type 0
-Simulates times input old new ended = IsWholeText (whole_text (simulation_rules times)) input old new ended
+abbrev pub SimulatesOver : Setup → List ℕ → Option (List ℕ) → Option (List ℕ) → Ended → Type 0
+SimulatesOver setup input old new ended = IsWholeText (whole_text (rules_over setup)) input old new ended
 
 -- The reader gave some bytes, and the writer got a front of what is printed for them.
+abbrev pub IsBegunOver : Setup → Option (List ℕ) → Option (List ℕ) → Option (List ℕ) → Option (List ℕ) → Type 0
+IsBegunOver setup old_reader new_reader old_writer new_writer = IsFrontOfText (whole_text (rules_over setup)) old_reader new_reader old_writer new_writer
+
+-- ---- the same of a simulation whose link ends have these times, and over whose channel every datagram comes at once, and once
+
+abbrev pub simulation_rules : Times → Rules Progress
+simulation_rules times = rules_over (plain times)
+
+abbrev pub simulation_text : Times → List ℕ → List ℕ
+simulation_text times bytes = text_over (plain times) bytes
+
+abbrev pub simulation_end : Times → List ℕ → Ended
+simulation_end times bytes = end_over (plain times) bytes
+
+abbrev pub first_simulation_fault : Times → List ℕ → Option ℕ
+first_simulation_fault times bytes = first_fault_over (plain times) bytes
+
+abbrev pub IsFirstSimulationFault : Times → Progress → ℕ → List (List ℕ) → ℕ → Type 0
+IsFirstSimulationFault times progress n lines m = IsFirstFaultOver (plain times) progress n lines m
+
+abbrev pub Simulates : Times → List ℕ → Option (List ℕ) → Option (List ℕ) → Ended → Type 0
+Simulates times input old new ended = SimulatesOver (plain times) input old new ended
+
 abbrev pub IsSimulationBegun : Times → Option (List ℕ) → Option (List ℕ) → Option (List ℕ) → Option (List ℕ) → Type 0
-IsSimulationBegun times old_reader new_reader old_writer new_writer = IsFrontOfText (whole_text (simulation_rules times)) old_reader new_reader old_writer new_writer
+IsSimulationBegun times old_reader new_reader old_writer new_writer = IsBegunOver (plain times) old_reader new_reader old_writer new_writer

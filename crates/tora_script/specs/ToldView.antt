@@ -5,10 +5,10 @@ use Rattle.tora_lines.specs.LineText.{text_from}
 use Rattle.tora_lines.specs.Engine.{Kind}
 use Rattle.tora_lines.specs.Kinds.{long_lines_are_faults}
 use Rattle.tora_script.specs.SimulationView.{progress_of}
-use Rattle.tora_script.specs.SimulationText.{simulation_rules}
+use Rattle.tora_script.specs.SimulationText.{rules_over}
 
 abbrev pub told_kind : {S T : Type 0} → (S → World) → Kind (Told S T)
 told_kind world = record {
-  text = λ s. text_from (simulation_rules s.state.times) (progress_of world s.state.stage);
-  long = λ s line h. long_lines_are_faults (simulation_rules s.state.times) (progress_of world s.state.stage) line h;
+  text = λ s. text_from (rules_over s.state.setup) (progress_of world s.state.stage);
+  long = λ s line h. long_lines_are_faults (rules_over s.state.setup) (progress_of world s.state.stage) line h;
 }

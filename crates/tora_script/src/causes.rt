@@ -1,7 +1,7 @@
 //! Why a line of a simulation file is a fault, in plain words.
 use crate::link_lines::LinkLines;
 use crate::parse::{old, simulation_line};
-use crate::rounds::is_same_pair;
+use crate::parted::is_same_pair;
 use crate::script_line::SimulationLine;
 use crate::simulating::is_linked;
 use crate::simulation::Stage;

@@ -8,24 +8,30 @@
 //! ```
 #![tactic(auto)]
 
+mod air;
 mod causes;
 mod link_lines;
 mod parse;
+mod parted;
 mod rounds;
 mod running;
 mod script_line;
+mod setup;
 mod simulating;
 mod simulation;
 mod simulator;
 mod told;
 mod world_simulator;
 
+pub use air::Air;
 pub use causes::{SimulationCause, simulation_cause};
 pub use link_lines::LinkLines;
 pub use parse::{is_word, link, old, pair, simulation_line, simulation_lines_are_read_as_written};
-pub use rounds::{EndTurn, is_parted, make_rounds, repeat, turn_cores, turn_end, turn_ends};
+pub use parted::is_parted;
+pub use rounds::{EndTurn, make_rounds, repeat, turn_cores, turn_end, turn_ends};
 pub use running::{Running, has_end, mend, part};
 pub use script_line::SimulationLine;
+pub use setup::Setup;
 pub use simulating::{
     first_line, simulate_in, simulation_fault_is_the_first, take_link, take_old,
 };

@@ -1,11 +1,14 @@
 //! Rounds of a simulation.
 ghost use Rattle.std.specs.Prelude.{◌≡◌, ◌||◌, IfOk};
-ghost use Rattle.tora_world.specs.World.{World, world_after_all};
+ghost use Rattle.tora_world.specs.World.{World, datagram, world_after_all};
 ghost use Rattle.tora_world.specs.declared.Event.TheVariants.{CoreTurn};
-ghost use Rattle.tora_script.specs.Rounds.{repeats, while_possible, each, each_core, each_end, end_event, is_same_pair, is_parted, delivery, deliveries, new_deliveries, pass, passes, round, rounds, Happened};
+ghost use Rattle.tora_script.specs.Rounds.{repeats, while_possible, each, each_core, each_end, end_event, arrival_of, arrival, arrivals, delivery, deliveries, new_deliveries, pass, passes, round, after_round, rounds, sky_of, Happened};
 
+use crate::air::{Air, Moment, at_once, copies};
+use crate::parted::is_parted;
 use crate::simulator::Simulator;
 use std::alloc::AllocError;
+use tora_channel::Channel;
 use tora_height::Id;
 use tora_world::Event;
 
@@ -39,7 +42,8 @@ impl EndTurn {
     }
 }
 
-fn either(a: bool, b: bool) -> bool
+/// Either of the two, without a branch.
+pub fn either(a: bool, b: bool) -> bool
     ensures { result ≡ (a || b) }
 {
     a || b
@@ -129,23 +133,9 @@ pub fn turn_ends<S: Simulator>(
     Ok(some)
 }
 
-/// Whether the same two nodes are named, in either order.
-pub fn is_same_pair(p: (Id, Id), q: (Id, Id)) -> bool
-    ensures { result ≡ is_same_pair p q }
-{
-    (p.0 == q.0 && p.1 == q.1) || (p.0 == q.1 && p.1 == q.0)
-}
-
-/// Whether the nodes are parted.
-pub fn is_parted(parted: &[(Id, Id)], a: Id, b: Id) -> bool
-    ensures { result ≡ is_parted parted.now a b }
-{
-    parted.iter().any(|p| is_same_pair((a, b), *p))
-}
-
-/// Delivers a datagram, unless its nodes are parted.
-fn deliver<S: Simulator>(sim: &mut S, parted: &[(Id, Id)], i: u64) -> Result<bool, AllocError>
-    ensures { IfOk result (λ some. Happened (S.world sim.old) (delivery parted.now i (S.world sim.old)) (S.world sim.new) some) }
+/// Delivers a datagram that was sent before the round, unless its nodes are parted.
+fn arrive<S: Simulator>(sim: &mut S, parted: &[(Id, Id)], i: u64) -> Result<bool, AllocError>
+    ensures { IfOk result (λ some. Happened (S.world sim.old) (arrival_of parted.now i (datagram (S.world sim.old) i) (S.world sim.old)) (S.world sim.new) some) }
 {
     let Some((sender, receiver)) = sim.datagram(i) else {
         return Ok(false);
@@ -156,17 +146,67 @@ fn deliver<S: Simulator>(sim: &mut S, parted: &[(Id, Id)], i: u64) -> Result<boo
     repeat(sim, 0, &Event::Deliver(i), 1)
 }
 
+/// Delivers a datagram, unless it comes in a later round.
+fn arrive_in<S: Simulator>(
+    sim: &mut S,
+    parted: &[(Id, Id)],
+    copy: (u64, u64),
+) -> Result<bool, AllocError>
+    ensures { IfOk result (λ some. Happened (S.world sim.old) (arrival parted.now copy (S.world sim.old)) (S.world sim.new) some) }
+{
+    if 1 < copy.0 {
+        return Ok(false);
+    }
+    arrive(sim, parted, copy.1)
+}
+
+/// Delivers the datagrams that come in this round, of those that were sent before it.
+fn arrive_all<S: Simulator>(
+    sim: &mut S,
+    parted: &[(Id, Id)],
+    later: &[(u64, u64)],
+) -> Result<bool, AllocError>
+    ensures { IfOk result (λ some. Happened (S.world sim.old) (arrivals parted.now later.now (S.world sim.old)) (S.world sim.new) some) }
+{
+    let mut some = false;
+    for (place, copy) in later.iter().enumerate() {
+        let any = arrive_in(sim, parted, *copy)?;
+        some = either(some, any);
+    }
+    Ok(some)
+}
+
+/// Delivers a datagram as often as the channel says, unless its nodes are parted.
+fn deliver<S: Simulator>(
+    sim: &mut S,
+    parted: &[(Id, Id)],
+    moment: Moment,
+    i: u64,
+) -> Result<bool, AllocError>
+    ensures { IfOk result (λ some. Happened (S.world sim.old) (delivery parted.now moment i (S.world sim.old)) (S.world sim.new) some) }
+{
+    let Some((sender, receiver)) = sim.datagram(i) else {
+        return Ok(false);
+    };
+    if is_parted(parted, sender, receiver) {
+        return Ok(false);
+    }
+    let copies = copies(sim, moment, i, (sender, receiver));
+    repeat(sim, 0, &Event::Deliver(i), at_once(copies))
+}
+
 /// Delivers the datagrams behind the first ones.
 fn deliver_new<S: Simulator>(
     sim: &mut S,
     parted: &[(Id, Id)],
+    moment: Moment,
     first: u64,
 ) -> Result<bool, AllocError>
-    ensures { IfOk result (λ some. Happened (S.world sim.old) (new_deliveries parted.now first (S.world sim.old)) (S.world sim.new) some) }
+    ensures { IfOk result (λ some. Happened (S.world sim.old) (new_deliveries parted.now moment first (S.world sim.old)) (S.world sim.new) some) }
 {
     let mut some = false;
     for i in first..sim.datagrams() {
-        let any = deliver(sim, parted, i + 1)?;
+        let any = deliver(sim, parted, moment, i + 1)?;
         some = either(some, any);
     }
     Ok(some)
@@ -179,14 +219,15 @@ fn pass<S: Simulator>(
     nodes: &[Id],
     ends: &[(Id, Id)],
     parted: &[(Id, Id)],
+    moment: Moment,
 ) -> Result<bool, AllocError>
-    ensures { IfOk result (λ some. Happened (S.world sim.old) (pass nodes.now ends.now parted.now (S.world sim.old)) (S.world sim.new) some) }
+    ensures { IfOk result (λ some. Happened (S.world sim.old) (pass nodes.now ends.now parted.now moment (S.world sim.old)) (S.world sim.new) some) }
 {
     let first = sim.datagrams();
     let turned = turn_cores(sim, nodes)?;
     let pulled = turn_ends(sim, ends, EndTurn::Pull, MOST_TIMES)?;
     let sent = turn_ends(sim, ends, EndTurn::Transmit, MOST_TIMES)?;
-    let delivered = deliver_new(sim, parted, first)?;
+    let delivered = deliver_new(sim, parted, moment, first)?;
     let pumped = turn_ends(sim, ends, EndTurn::Pump, MOST_TIMES)?;
     Ok(either(
         turned,
@@ -200,45 +241,72 @@ fn make_passes<S: Simulator>(
     nodes: &[Id],
     ends: &[(Id, Id)],
     parted: &[(Id, Id)],
+    moment: Moment,
 ) -> Result<(), AllocError>
-    ensures { IfOk result (λ _. S.world sim.new ≡ world_after_all (S.world sim.old) (passes 1000 nodes.now ends.now parted.now (S.world sim.old))) }
+    ensures { IfOk result (λ _. S.world sim.new ≡ world_after_all (S.world sim.old) (passes 1000 nodes.now ends.now parted.now moment (S.world sim.old))) }
 {
     for _ in 0..MOST_PASSES {
-        if !pass(sim, nodes, ends, parted)? {
+        if !pass(sim, nodes, ends, parted, moment)? {
             return Ok(());
         }
     }
     Ok(())
 }
 
-/// One round.
+/// The events of one round.
 #[tactic(auto, unfolding(crate::specs::Rounds::round))]
 fn round<S: Simulator>(
     sim: &mut S,
     nodes: &[Id],
     ends: &[(Id, Id)],
     parted: &[(Id, Id)],
+    moment: Moment,
+    later: &[(u64, u64)],
 ) -> Result<(), AllocError>
-    ensures { IfOk result (λ _. S.world sim.new ≡ world_after_all (S.world sim.old) (round nodes.now ends.now parted.now (S.world sim.old))) }
+    ensures { IfOk result (λ _. S.world sim.new ≡ world_after_all (S.world sim.old) (round nodes.now ends.now parted.now moment later.now (S.world sim.old))) }
 {
     repeat(sim, 0, &Event::Tick, 1)?;
     turn_ends(sim, ends, EndTurn::Open, 1)?;
-    make_passes(sim, nodes, ends, parted)?;
+    arrive_all(sim, parted, later)?;
+    make_passes(sim, nodes, ends, parted, moment)?;
     Ok(())
 }
 
-/// So many rounds.
+/// One round, and what it leaves in the air.
+#[tactic(auto, unfolding(crate::specs::Rounds::after_round))]
+fn make_round<S: Simulator>(
+    sim: &mut S,
+    nodes: &[Id],
+    ends: &[(Id, Id)],
+    parted: &[(Id, Id)],
+    channel: Channel,
+    air: &mut Air,
+) -> Result<(), AllocError>
+    ensures { IfOk result (λ _. sky_of S.world sim.new air.new ≡ after_round nodes.now ends.now parted.now channel (sky_of S.world sim.old air.old)) }
+{
+    let moment = Moment {
+        channel,
+        round: air.round,
+        start: sim.datagrams(),
+    };
+    round(sim, nodes, ends, parted, moment, &air.later)?;
+    air.go_on(sim, parted, moment)
+}
+
+/// So many rounds over a channel.
 pub fn make_rounds<S: Simulator>(
     sim: &mut S,
     count: u64,
     nodes: &[Id],
     ends: &[(Id, Id)],
     parted: &[(Id, Id)],
+    channel: Channel,
+    air: &mut Air,
 ) -> Result<(), AllocError>
-    ensures { IfOk result (λ _. S.world sim.new ≡ world_after_all (S.world sim.old) (rounds count nodes.now ends.now parted.now (S.world sim.old))) }
+    ensures { IfOk result (λ _. sky_of S.world sim.new air.new ≡ rounds count nodes.now ends.now parted.now channel (sky_of S.world sim.old air.old)) }
 {
     for _ in 0..count {
-        round(sim, nodes, ends, parted)?;
+        make_round(sim, nodes, ends, parted, channel, air)?;
     }
     Ok(())
 }

@@ -7,14 +7,18 @@ ghost use Rattle.tora_lines.specs.LineText.{numbered, TakesReply};
 ghost use Rattle.tora_world.specs.World.{sent_packets, taken_packets};
 ghost use Rattle.tora_script.specs.Simulator.{ArePairs, AreIds, started};
 ghost use Rattle.tora_script.specs.RunningView.{running_view};
-ghost use Rattle.tora_script.specs.SimulationText.{begun_in, has_end, with_parted, without_parted, node_line, heights_text, heights_reply, count_text, exact_reply, rest_text, nodes_text, walk_text, walk_reply, at_rest_text, at_rest_reply, running_reply, line_reply, event_reply, after_rounds, where_linked, known_height};
+ghost use Rattle.tora_script.specs.SimulationText.{begun_in, has_end, with_parted, without_parted, node_line, heights_text, heights_reply, count_text, exact_reply, rest_text, nodes_text, walk_text, walk_reply, at_rest_text, at_rest_reply, running_reply, line_reply, event_reply, after_rounds, part_of, where_linked, known_height};
 
+use crate::air::Air;
 use crate::parse::simulation_line;
-use crate::rounds::{is_parted, is_same_pair, make_rounds};
+use crate::parted::{is_parted, is_same_pair};
+use crate::rounds::make_rounds;
 use crate::script_line::SimulationLine;
+use crate::setup::Setup;
 use crate::simulator::Simulator;
 use std::alloc::{AllocError, Global};
 use tora_arq::{Life, Times};
+use tora_channel::Channel;
 use tora_core::CoreError;
 use tora_height::{Entry, Id};
 use tora_lines::numbered;
@@ -29,6 +33,10 @@ pub struct Running<S> {
     pub nodes: Vec<Id>,
     pub ends: Vec<(Id, Id)>,
     pub parted: Vec<(Id, Id)>,
+    pub channel: Channel,
+    pub air: Air,
+    /// Whether both ends notice at once that their link is parted.
+    pub has_notice: bool,
     /// Why the event of the last line was refused, if it was.
     pub refused: Option<SimError>,
     pub sim: S,
@@ -173,14 +181,14 @@ impl<S: Simulator> Running<S> {
         dests: &[Id],
         links: &[(Id, Id)],
         olds: &[Id],
-        times: Times,
+        setup: Setup,
     ) -> Result<Running<S>, LineError>
         requires links { ArePairs links.now }
         requires dests { AreIds dests.now }
-        requires times { IsTimes times }
-        ensures { Gives (running_view S.world) result (option_map (begun_in dests.now) (started links.now dests.now olds.now times)) }
+        requires times { IsTimes setup.times }
+        ensures { Gives (running_view S.world) result (option_map (begun_in dests.now setup) (started links.now dests.now olds.now setup.times)) }
     {
-        let sim: S = start(alloc, links, dests, olds, times)?;
+        let sim: S = start(alloc, links, dests, olds, setup.times)?;
         let nodes = sim.nodes(alloc)?;
         let ends = sim.ends(alloc)?;
         let mut own = Vec::new(alloc);
@@ -190,6 +198,9 @@ impl<S: Simulator> Running<S> {
             nodes,
             ends,
             parted: Vec::new(alloc),
+            channel: setup.channel,
+            air: Air::new(alloc),
+            has_notice: setup.has_notice,
             refused: None,
             sim,
         })
@@ -208,19 +219,31 @@ impl<S: Simulator> Running<S> {
     }
 
     fn rounds(&mut self, count: u64) -> Result<(), AllocError>
-        ensures { OnOk result ((running_view S.world self.new) ≡ record (running_view S.world self.old) { world = after_rounds count (running_view S.world self.old) }) }
+        ensures { OnOk result (running_view S.world self.new ≡ after_rounds count (running_view S.world self.old)) }
     {
-        make_rounds(&mut self.sim, count, &self.nodes, &self.ends, &self.parted)
+        make_rounds(
+            &mut self.sim,
+            count,
+            &self.nodes,
+            &self.ends,
+            &self.parted,
+            self.channel,
+            &mut self.air,
+        )
     }
 
     fn part(&mut self, a: Id, b: Id) -> Result<(), LineError>
-        ensures gives { Gives (λ _. ((running_view S.world self.new), [])) result (where_linked (running_view S.world self.old) a b (record (running_view S.world self.old) { parted = with_parted a b (running_view S.world self.old).parted }, [])) }
+        ensures gives { Gives (λ _. ((running_view S.world self.new), [])) result (where_linked (running_view S.world self.old) a b (part_of (running_view S.world self.old) a b, [])) }
         ensures kept { result ≡ Err LineError.Fault → running_view S.world self.new ≡ running_view S.world self.old }
     {
         if !has_end(a, b, &self.ends) {
             return Err(LineError::Fault);
         }
         part(&mut self.parted, a, b)?;
+        if self.has_notice {
+            self.sim.cut(a, b);
+            self.sim.cut(b, a);
+        }
         Ok(())
     }
 

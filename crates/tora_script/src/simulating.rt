@@ -1,18 +1,19 @@
 //! The simulation of a file of lines.
 ghost use Rattle.std.specs.Prelude.{◌≡◌, ◌≢◌, ◌<◌, ℕ, List, [], string_bytes, Some, Ok, IfOk, IfErr, IfSome};
 ghost use Rattle.std.specs.Io.KnownBytes.{IsAtEnd};
-ghost use Rattle.tora_arq.specs.declared.Times.{Times as AnyTimes};
+ghost use Rattle.tora_script.specs.declared.setup.Setup.{Setup as AnySetup};
 ghost use Rattle.tora_arq.specs.Settings.{IsTimes};
 ghost use Rattle.tora_lines.specs.Gives.{Gives};
 ghost use Rattle.tora_lines.specs.LineText.{fault_of};
 ghost use Rattle.tora_lines.specs.Pieces.{pieces_of};
 ghost use Rattle.tora_script.specs.RunningView.{running_view};
 ghost use Rattle.tora_script.specs.SimulationView.{progress_of, simulation_kind};
-ghost use Rattle.tora_script.specs.SimulationText.{Progress, first_progress, with_link, is_linked, with_old_line, first_run, behind_links, end_of_links, simulation_reply, first_simulation_fault, IsFirstSimulationFault, Simulates, IsSimulationBegun};
+ghost use Rattle.tora_script.specs.SimulationText.{Progress, first_progress, with_link, is_linked, with_old_line, first_run, behind_links, end_of_links, simulation_reply, first_simulation_fault, first_fault_over, IsFirstFaultOver, Simulates, IsSimulationBegun};
 
 use crate::link_lines::LinkLines;
 use crate::parse;
 use crate::running::Running;
+use crate::setup::Setup;
 use crate::simulation::{Simulation, Stage};
 use crate::simulator::Simulator;
 use std::alloc::{AllocError, Global};
@@ -75,16 +76,16 @@ pub fn take_old(lines: &mut LinkLines, n: Id) -> Result<(), LineError>
 /// Takes a line behind the links and the old nodes, which makes the simulation run.
 fn first_run<S: Simulator>(
     alloc: Global,
-    times: Times,
+    setup: Setup,
     lines: &LinkLines,
     line: &[u8],
     text: &mut String,
 ) -> Result<Running<S>, LineError>
-    requires times { IsTimes times }
+    requires times { IsTimes setup.times }
     requires empty { string_bytes text.old ≡ [] }
-    ensures { Gives (λ s. (running_view S.world s, string_bytes text.new)) result (first_run times lines.now.dests.items lines.now.links.items lines.now.olds.items line.now) }
+    ensures { Gives (λ s. (running_view S.world s, string_bytes text.new)) result (first_run setup lines.now.dests.items lines.now.links.items lines.now.olds.items line.now) }
 {
-    let mut running = Running::new(alloc, &lines.dests, &lines.links, &lines.olds, times)?;
+    let mut running = Running::new(alloc, &lines.dests, &lines.links, &lines.olds, setup)?;
     running.take(line, text)?;
     Ok(running)
 }
@@ -92,19 +93,19 @@ fn first_run<S: Simulator>(
 /// Takes a line behind the last link and the last old node; at least one link is required.
 fn behind_links<S: Simulator>(
     alloc: Global,
-    times: Times,
+    setup: Setup,
     lines: &LinkLines,
     line: &[u8],
     text: &mut String,
 ) -> Result<Running<S>, LineError>
-    requires times { IsTimes times }
+    requires times { IsTimes setup.times }
     requires empty { string_bytes text.old ≡ [] }
-    ensures { Gives (λ s. (Progress.Runs (running_view S.world s), string_bytes text.new)) result (behind_links times lines.now.dests.items lines.now.links.items lines.now.olds.items line.now) }
+    ensures { Gives (λ s. (Progress.Runs (running_view S.world s), string_bytes text.new)) result (behind_links setup lines.now.dests.items lines.now.links.items lines.now.olds.items line.now) }
 {
     if lines.links.is_empty() {
         return Err(LineError::Fault);
     }
-    first_run(alloc, times, lines, line, text)
+    first_run(alloc, setup, lines, line, text)
 }
 
 /// The number of the line that is a fault where the input ends behind links, if one is.
@@ -124,14 +125,14 @@ fn end_of_links(lines: &LinkLines, number: u64) -> Option<u64>
 #[tactic(auto, unfolding(crate::specs::SimulationText::simulation_reply))]
 fn take_line<S: Simulator>(
     stage: &mut Stage<S>,
-    times: Times,
+    setup: Setup,
     alloc: Global,
     line: &[u8],
     text: &mut String,
 ) -> Result<(), LineError>
-    requires times { IsTimes times }
+    requires times { IsTimes setup.times }
     requires empty { string_bytes text.old ≡ [] }
-    ensures { Gives (λ _. (progress_of S.world stage.new, string_bytes text.new)) result (simulation_reply times (progress_of S.world stage.old) line.now) }
+    ensures { Gives (λ _. (progress_of S.world stage.new, string_bytes text.new)) result (simulation_reply setup (progress_of S.world stage.old) line.now) }
 {
     match stage {
         Stage::First => {
@@ -145,7 +146,7 @@ fn take_line<S: Simulator>(
             if let Some(n) = parse::old(line) {
                 return take_old(lines, n);
             }
-            *stage = Stage::Runs(behind_links(alloc, times, lines, line, text)?);
+            *stage = Stage::Runs(behind_links(alloc, setup, lines, line, text)?);
             Ok(())
         }
         Stage::Runs(running) => running.take(line, text),
@@ -157,8 +158,8 @@ impl<S: Simulator> FileKind for Simulation<S> {
 
     #[tactic(auto, using(crate::proofs::SimulationLaws::takes))]
     fn take(&mut self, alloc: Global, line: &[u8], text: &mut String) -> Result<(), LineError> {
-        let times = self.times;
-        take_line(&mut self.stage, times, alloc, line, text)
+        let setup = self.setup;
+        take_line(&mut self.stage, setup, alloc, line, text)
     }
 
     #[tactic(auto, unfolding(tora_lines::specs::LineText::text_from, crate::specs::SimulationText::simulation_at_end))]
@@ -191,13 +192,13 @@ pub fn simulate_in<S: Simulator, R: Read, W: Write>(
     ensures begun { IfErr result (λ e. e ≢ ReplayError.Write →
         IsSimulationBegun times (R.remaining reader.old) (R.remaining reader.new) (W.contents writer.old) (W.contents writer.new)) }
 {
-    let state: Simulation<S> = Simulation::new(times);
+    let state: Simulation<S> = Simulation::new(Setup::plain(times));
     read_lines(alloc, state, reader, writer)
 }
 
 /// The line whose number a fault of a simulation gives is the first that is none: all lines before it are taken, and it
 /// is not.
 pub fn simulation_fault_is_the_first()
-    ensures found { (times : AnyTimes) (bytes : List ℕ) (n : ℕ) → first_simulation_fault times bytes ≡ Some n → IsFirstSimulationFault times Progress.First 1 (pieces_of bytes) n }
-    ensures only { (times : AnyTimes) (bytes : List ℕ) (n : ℕ) → IsFirstSimulationFault times Progress.First 1 (pieces_of bytes) n → first_simulation_fault times bytes ≡ Some n }
+    ensures found { (setup : AnySetup) (bytes : List ℕ) (n : ℕ) → first_fault_over setup bytes ≡ Some n → IsFirstFaultOver setup Progress.First 1 (pieces_of bytes) n }
+    ensures only { (setup : AnySetup) (bytes : List ℕ) (n : ℕ) → IsFirstFaultOver setup Progress.First 1 (pieces_of bytes) n → first_fault_over setup bytes ≡ Some n }
 {}

@@ -4,7 +4,7 @@ ghost use Rattle.tora_arq.specs.Settings.{IsTimes};
 
 use crate::link_lines::LinkLines;
 use crate::running::Running;
-use tora_arq::Times;
+use crate::setup::Setup;
 
 /// What is kept between two lines of a simulation file.
 #[derive(Drop)]
@@ -17,23 +17,23 @@ pub enum Stage<S> {
     Runs(Running<S>),
 }
 
-/// A simulation file, by the times of its link ends, none of which is 0, and by what is kept between two of its lines.
+/// A simulation file, by what it is made with, where no time of a link end is 0, and by what is kept between two of its lines.
 #[derive(Drop)]
 pub struct Simulation<S> {
-    pub times: Times,
+    pub setup: Setup,
     pub stage: Stage<S>,
-    ghost are_times: { ∥ IsTimes times ∥₁ },
+    ghost are_times: { ∥ IsTimes setup.times ∥₁ },
 }
 
 impl<S> Simulation<S> {
     /// Before the first line.
-    pub fn new(times: Times) -> Simulation<S>
-        requires { IsTimes times }
-        ensures times { result.times ≡ times }
+    pub fn new(setup: Setup) -> Simulation<S>
+        requires { IsTimes setup.times }
+        ensures setup { result.setup ≡ setup }
         ensures stage { result.stage ≡ Stage.First }
     {
         Simulation {
-            times,
+            setup,
             stage: Stage::First,
         }
     }

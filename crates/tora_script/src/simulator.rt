@@ -3,6 +3,7 @@ ghost use Rattle.std.specs.Prelude.{◌≡◌, true, false, is_some, length, opt
 ghost use Rattle.tora_world.specs.World.{World, refusal_of, world_after, datagram, sent_packets, taken_packets};
 ghost use Rattle.tora_arq.specs.Settings.{IsTimes};
 ghost use Rattle.tora_script.specs.Simulator.{ArePairs, AreIds, Starts, nodes_of};
+ghost use Rattle.tora_sim.specs.Cuts.{after_cut_at};
 ghost use Rattle.tora_sim.specs.Readers.{ends_in};
 ghost use Rattle.tora_world.specs.Walks.{height_at, hop_at, exact_in, walk_of};
 ghost use Rattle.tora_world.specs.Rest.{rests};
@@ -45,6 +46,11 @@ pub trait Simulator: Drop {
     fn happen(&mut self, event: &Event) -> Result<Option<SimError>, AllocError>
         ensures refused { IfOk result (λ refused. refused ≡ refusal_of (world self.old) event.now) }
         ensures after { IfOk result (λ _. world self.new ≡ world_after (world self.old) event.now) };
+
+    /// Cuts the life that a link end is bound to, if it is bound, as a link layer has it that tells of a broken link; nothing
+    /// where there is no such link.
+    fn cut(&mut self, n: Id, k: Id)
+        ensures { world self.new ≡ after_cut_at (world self.old) n k };
 
     /// The nodes, in ascending order.
     fn nodes(&self, alloc: Global) -> Result<Vec<Id>, AllocError>

@@ -4,12 +4,13 @@ ghost use Rattle.std.specs.Io.KnownBytes.{IsAtEnd};
 ghost use Rattle.tora_arq.specs.Settings.{IsTimes};
 ghost use Rattle.tora_lines.specs.LineText.{fault_of};
 ghost use Rattle.tora_script.specs.ToldView.{told_kind};
-ghost use Rattle.tora_script.specs.SimulationText.{first_simulation_fault, Simulates, IsSimulationBegun};
+ghost use Rattle.tora_script.specs.SimulationText.{first_simulation_fault, Simulates, IsSimulationBegun, first_fault_over, SimulatesOver, IsBegunOver};
 
 use crate::causes::{SimulationCause, end_cause, simulation_cause};
 use crate::parse::simulation_line;
 use crate::running::has_number;
 use crate::script_line::SimulationLine;
+use crate::setup::Setup;
 use crate::simulation::{Simulation, Stage};
 use crate::simulator::Simulator;
 use std::alloc::{AllocError, Global};
@@ -88,30 +89,30 @@ impl<S: Simulator, T: Eprint> FileKind for Told<'_, S, T> {
     }
 }
 
-/// Simulates with these times of each link end, and tells on standard error why a line is a fault, unless it is too long, and
+/// Simulates what is made with this, and tells on standard error why a line is a fault, unless it is too long, and
 /// where it is verbose, why an event is refused.
 #[tactic(auto, unfolding(tora_lines::specs::Engine::text_of))]
 pub fn simulate_telling<S: Simulator, T: Eprint, R: Read, W: Write>(
     rt: &T,
     alloc: Global,
-    times: Times,
+    setup: Setup,
     reader: &mut R,
     writer: &mut W,
     is_verbose: bool,
 ) -> Result<Ended, ReplayError>
-    requires { IsTimes times }
+    requires { IsTimes setup.times }
     ensures whole { IfOk result (λ ended. IfSome (R.remaining reader.old) (λ input.
-        Simulates times input (W.contents writer.old) (W.contents writer.new) ended)) }
+        SimulatesOver setup input (W.contents writer.old) (W.contents writer.new) ended)) }
     ensures at_end { result ≡ Ok Ended.Whole → IsAtEnd (R.remaining reader.new) }
-    ensures fault { IfOk result (λ ended. IfSome (R.remaining reader.old) (λ input. fault_of ended ≡ first_simulation_fault times input)) }
+    ensures fault { IfOk result (λ ended. IfSome (R.remaining reader.old) (λ input. fault_of ended ≡ first_fault_over setup input)) }
     ensures begun { IfErr result (λ e. e ≢ ReplayError.Write →
-        IsSimulationBegun times (R.remaining reader.old) (R.remaining reader.new) (W.contents writer.old) (W.contents writer.new)) }
+        IsBegunOver setup (R.remaining reader.old) (R.remaining reader.new) (W.contents writer.old) (W.contents writer.new)) }
 {
     let state: Told<'_, S, T> = Told {
         rt,
         is_verbose,
         number: 0,
-        state: Simulation::new(times),
+        state: Simulation::new(setup),
     };
     read_lines(alloc, state, reader, writer)
 }
@@ -132,5 +133,5 @@ pub fn simulate_told<S: Simulator, T: Eprint, R: Read, W: Write>(
     ensures begun { IfErr result (λ e. e ≢ ReplayError.Write →
         IsSimulationBegun times (R.remaining reader.old) (R.remaining reader.new) (W.contents writer.old) (W.contents writer.new)) }
 {
-    simulate_telling::<S, T, R, W>(rt, alloc, times, reader, writer, true)
+    simulate_telling::<S, T, R, W>(rt, alloc, Setup::plain(times), reader, writer, true)
 }

@@ -61,6 +61,10 @@ impl Simulator for Sim {
         }
     }
 
+    fn cut(&mut self, n: Id, k: Id) {
+        self.cut_bound(n, k);
+    }
+
     fn nodes(&self, alloc: Global) -> Result<Vec<Id>, AllocError> {
         Sim::nodes(self, alloc)
     }

@@ -1,111 +1,21 @@
 -- The core after an item is what the inputs that it accepted make of it.
-use Rattle.std.proofs.Common.{◌≡◌, ℕ, zero, suc, List, [], ◌∷◌, ◌++◌, length, Option, Some, None, refl, sym, ap, ◌∙◌, append_assoc}
-use Rattle.std.proofs.lemmas.Bool.{cond_both}
-use Rattle.std.specs.Prelude.{slice_get}
-use Rattle.tora_packet.specs.declared.Packet.{Packet}
-use Rattle.tora_arq.specs.declared.Life.{Life}
+use Rattle.std.proofs.Common.{◌≡◌, ℕ, List, [], ◌∷◌, ◌++◌, refl, sym, ap, ◌∙◌, append_assoc}
 use Rattle.tora_core.specs.declared.Input.{Input}
-use Rattle.tora_core.specs.declared.Input.TheVariants as In
-use Rattle.tora_core.specs.declared.errors.StepError.{StepError}
-use Rattle.tora_core.specs.CoreRun.{CoreView, refusal_of, core_after, core_after_all, sends_of}
-use Rattle.tora_seat.specs.declared.What.{What}
-use Rattle.tora_seat.specs.declared.What.TheVariants as Tells
+use Rattle.tora_core.specs.CoreRun.{CoreView, core_after, core_after_all}
 use Rattle.tora_seat.specs.declared.Item.{Item}
-use Rattle.tora_seat.specs.Serving.{SeatState, Serving, Answers, with_current, after_cut_tried, after_cuts_tried, after_sent, after_broadcast, after_broadcasts, accepting, after_answer, after_step, first_cut, after_settling, after_input, is_current, after_old_down, after_link_item, after_other_item, after_item_of, begin_serving, serving_of}
+use Rattle.tora_seat.specs.Serving.{SeatState, Offer, Answers, serving_of}
+use Rattle.tora_seat.proofs.ServedBy.{Offering, Stepping, serving_follows}
 
 pub core_after-push : (c : CoreView) (is : List (Input × ℕ)) (input : Input) (now : ℕ) → core_after_all c (is ++ (input, now) ∷ []) ≡ core_after (core_after_all c is) input now
 core_after-push c [] input now = refl
 core_after-push c ((i, t) ∷ is) input now = core_after-push (core_after c i t) is input now
 
-module _ (answers : Answers) (first : CoreView) (before : List (Input × ℕ)) where
-  abbrev pub Follows : Serving → Type 0
-  Follows v = v.seat.core ≡ core_after_all first (before ++ v.inputs)
+module _ (first : CoreView) where
+  abbrev Holds : List Offer → CoreView → List (Input × ℕ) → Type 0
+  Holds offers core inputs = core ≡ core_after_all first inputs
 
-  cut_follows : (v : Serving) (k : ℕ) (o : Option Life) → Follows v → Follows (after_cut_tried answers v k o)
-  cut_follows v k None h = h
-  cut_follows v k (Some l) h = cond_both (answers v.offers k) _ _ Follows (λ _. h) (λ _. h)
-
-  cuts_follow : (js : List ℕ) (v : Serving) → Follows v → Follows (after_cuts_tried answers js v)
-  unfolding after_cuts_tried
-  cuts_follow [] v h = h
-  cuts_follow (k ∷ js) v h = cuts_follow js (after_cut_tried answers v k (v.seat.pending k)) (cut_follows v k (v.seat.pending k) h)
-
-  sent_follows : (p : Packet) (v : Serving) (k : ℕ) (o : Option Life) → Follows v → Follows (after_sent answers p v k o)
-  sent_follows p v k None h = h
-  sent_follows p v k (Some l) h = cond_both (answers v.offers k) _ _ Follows (λ _. h) (λ _. h)
-
-  broadcast_follows : (p : Packet) (js : List ℕ) (v : Serving) → Follows v → Follows (after_broadcast answers p js v)
-  unfolding after_broadcast
-  broadcast_follows p [] v h = h
-  broadcast_follows p (k ∷ js) v h = broadcast_follows p js (after_sent answers p v k (v.seat.current k)) (sent_follows p v k (v.seat.current k) h)
-
-  broadcasts_follow : (js : List ℕ) (ps : List Packet) (v : Serving) → Follows v → Follows (after_broadcasts answers js ps v)
-  unfolding after_broadcasts
-  broadcasts_follow js [] v h = h
-  broadcasts_follow js (p ∷ ps) v h = broadcasts_follow js ps (after_broadcast answers p js v) (broadcast_follows p js v h)
-
-  accepting_follows : (v : Serving) (input : Input) (now : ℕ) → Follows v → Follows (accepting v input now)
-  accepting_follows v input now h =
-      ap (λ c. core_after c input now) h ∙ sym (core_after-push first (before ++ v.inputs) input now) ∙ ap (core_after_all first) (append_assoc before v.inputs ((input, now) ∷ []))
-
-  step_follows : (js : List ℕ) (input : Input) (now : ℕ) (v : Serving) → Follows v → Follows (after_step answers js input now v)
-  unfolding after_step
-  step_follows js input now v h = go (refusal_of v.seat.core input)
-    where
-      go : (o : Option StepError) → Follows (after_answer answers js input now v o)
-      go None = broadcasts_follow js (sends_of v.seat.core input now) (accepting v input now) (accepting_follows v input now h)
-      go (Some error) = h
-
-  settling_follows : (most : ℕ) (js : List ℕ) (now : ℕ) (v : Serving) → Follows v → Follows (after_settling most answers js now v)
-  unfolding after_settling
-  settling_follows zero js now v h = h
-  settling_follows (suc most) js now v h = go (first_cut v.seat js) (λ k. settling_follows most js now (after_step answers js (In.LinkDown k) now v) (step_follows js (In.LinkDown k) now v h))
-    where
-      go : (o : Option ℕ) → ((k : ℕ) → Follows (after_settling most answers js now (after_step answers js (In.LinkDown k) now v))) →
-          Follows (elim o [ None ↦ v | Some k ↦ after_settling most answers js now (after_step answers js (In.LinkDown k) now v) ])
-      go None f = h
-      go (Some k) f = f k
-
-  input_follows : (js : List ℕ) (input : Input) (now : ℕ) (v : Serving) → Follows v → Follows (after_input answers js input now v)
-  unfolding after_input
-  input_follows js input now v h = settling_follows (length js) js now (after_step answers js input now v) (step_follows js input now v h)
-
-  old_down_follows : (js : List ℕ) (k now : ℕ) (v : Serving) (o : Option Life) → Follows v → Follows (after_old_down answers js k now v o)
-  old_down_follows js k now v None h = h
-  old_down_follows js k now v (Some l) h = input_follows js (In.LinkDown k) now (with_current v k None) h
-
-  link_item_follows : (js : List ℕ) (k now : ℕ) (what : What) (v : Serving) → Follows v → Follows (after_link_item answers js k now what v)
-  unfolding after_link_item
-  link_item_follows js k now (Tells.Up l) v h =
-      let v' : Serving = after_old_down answers js k now v (v.seat.current k) in
-      input_follows js (In.LinkUp k) now (with_current v' k (Some l)) (old_down_follows js k now v (v.seat.current k) h)
-  link_item_follows js k now (Tells.Packet l p) v h =
-      cond_both (is_current l (v.seat.current k)) _ _ Follows (λ _. input_follows js (In.Packet k p) now (record v { steps = v.steps ++ record { from = k; parcel = record { life = l; packet = p } } ∷ [] }) h) (λ _. h)
-  link_item_follows js k now (Tells.Down l r) v h =
-      cond_both (is_current l (v.seat.current k)) _ _ Follows (λ _. input_follows js (In.LinkDown k) now (with_current v k None) h)
-      (λ _. cond_both (is_current l (v.seat.pending k)) _ _ Follows (λ _. h) (λ _. h))
-  link_item_follows js k now (Tells.Need d) v h = input_follows js (In.Need d) now v h
-  link_item_follows js k now Tells.Beat v h = h
-  link_item_follows js k now Tells.Show v h = h
-  link_item_follows js k now Tells.Quit v h = h
-
-  other_item_follows : (js : List ℕ) (now : ℕ) (what : What) (v : Serving) → Follows v → Follows (after_other_item answers js now what v)
-  unfolding after_other_item
-  other_item_follows js now (Tells.Need d) v h = input_follows js (In.Need d) now v h
-  other_item_follows js now (Tells.Up l) v h = h
-  other_item_follows js now (Tells.Packet l p) v h = h
-  other_item_follows js now (Tells.Down l r) v h = h
-  other_item_follows js now Tells.Beat v h = h
-  other_item_follows js now Tells.Show v h = h
-  other_item_follows js now Tells.Quit v h = h
-
-  pub serving_follows : (js : List ℕ) (seat : SeatState) (item : Item) → Follows (begin_serving seat) → Follows (serving_of answers js seat item)
-  unfolding serving_of
-  serving_follows js seat item h = go (slice_get js item.seat)
-    where
-      go : (o : Option ℕ) → Follows (after_item_of answers js o item.now item.what (after_cuts_tried answers js (begin_serving seat)))
-      go (Some k) = link_item_follows js k item.now item.what (after_cuts_tried answers js (begin_serving seat)) (cuts_follow js (begin_serving seat) h)
-      go None = other_item_follows js item.now item.what (after_cuts_tried answers js (begin_serving seat)) (cuts_follow js (begin_serving seat) h)
+  stepping : Stepping Holds
+  stepping offers core inputs input now h = ap (λ c. core_after c input now) h ∙ sym (core_after-push first inputs input now)
 
 pub inputs_make_the_core : (answers : Answers) (js : List ℕ) (seat : SeatState) (item : Item) → (serving_of answers js seat item).seat.core ≡ core_after_all seat.core (serving_of answers js seat item).inputs
-inputs_make_the_core answers js seat item = serving_follows answers seat.core [] js seat item refl
+inputs_make_the_core answers js seat item = serving_follows answers (Holds seat.core) (λ offers core inputs to cargo put room h. h) (stepping seat.core) js seat item refl

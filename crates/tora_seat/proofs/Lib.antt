@@ -1,6 +1,7 @@
 pub mod Chains
 pub mod Places
 pub mod Goings
+pub mod ServedBy
 mod CoreFollows
 mod ItemTicks
 pub mod Steps

@@ -8,9 +8,9 @@ use Rattle.tora_packet.specs.declared.Packet.{Packet}
 use Rattle.tora_frame.specs.declared.parts.Body.{Body}
 use Rattle.tora_frame.specs.declared.parts.Body.TheVariants as Carries
 use Rattle.tora_frame.specs.FrameParts.{FrameParts, IsFrame, batch, frame_of}
-use Rattle.tora_sim.specs.declared.datagrams.KeptBody.{KeptBody}
-use Rattle.tora_sim.specs.declared.datagrams.KeptBody.TheVariants.{Hello, Data, Ack}
-use Rattle.tora_sim.specs.declared.datagrams.KeptFrame.{KeptFrame}
+use Rattle.tora_sim.specs.declared.kept_frames.KeptBody.{KeptBody}
+use Rattle.tora_sim.specs.declared.kept_frames.KeptBody.TheVariants.{Hello, Data, Ack}
+use Rattle.tora_sim.specs.declared.kept_frames.KeptFrame.{KeptFrame}
 use Rattle.tora_sim.specs.Datagrams.{body_in, frame_in, IsWithin, IsKept, kept_body, kept_frame, packets_carried}
 
 -- packets that are kept stay where they are

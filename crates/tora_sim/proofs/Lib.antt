@@ -30,6 +30,7 @@ pub mod Possibles
 pub mod NodeEnds
 pub mod Olds
 pub mod KeptFrames
+pub mod SentFrames
 pub mod Walking
 pub mod NodeReads
 pub mod Resting

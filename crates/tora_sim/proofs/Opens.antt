@@ -6,20 +6,23 @@ use Rattle.std.proofs.lemmas.List.{drop_all, get_or_default}
 use Rattle.std.specs.Prelude.{slice_index_or}
 use Rattle.tora_frame.specs.FrameParts.{FrameParts}
 use Rattle.tora_arq.specs.declared.Times.{Times}
-use Rattle.tora_arq.specs.LinkEnd.{EndState, is_closed}
+use Rattle.tora_arq.specs.LinkEnd.{EndState, is_closed, bound_life}
 use Rattle.tora_life.specs.LifeRun.{LifeDisk, after_event, drawn_by}
 use Rattle.tora_life.specs.LifeRun.LifeEvent.{Draw as DrawsNumber}
 use Rattle.tora_seat.specs.declared.Cargo.{Cargo}
 use Rattle.tora_seat.specs.Serving.{Parcel}
 use Rattle.tora_world.specs.declared.Event.{Event}
-use Rattle.tora_world.specs.declared.Event.TheVariants.{Open, Pull}
+use Rattle.tora_world.specs.declared.Event.TheVariants.{Tick, Open, Pull}
 use Rattle.tora_world.specs.declared.SimError.{SimError}
 use Rattle.tora_world.specs.declared.SimError.TheVariants as Refused
 use Rattle.tora_world.specs.LinkMachine.{put_at}
 use Rattle.tora_world.specs.Topology.{Topology, is_link}
 use Rattle.tora_world.specs.World.{World, refusal_of, effect_by, world_by, world_after, own_choice, unless_possible, open_with, after_cargo, after_pull, is_empty}
+use Rattle.tora_world.specs.FreeWorld.{free_by, after_cut_of_bound}
+use Rattle.tora_world.specs.FreeWorld.FreeEvent.{CutsBound}
+use Rattle.tora_sim.specs.Cuts.{after_cut_at}
 use Rattle.tora_sim.specs.Keyed.{IsFirst}
-use Rattle.tora_sim.specs.Links.{LinkView, is_at, after_open_at, after_pull_at, waiting}
+use Rattle.tora_sim.specs.Links.{LinkView, with_state, is_at, after_open_at, after_pull_at, waiting}
 use Rattle.tora_sim.specs.Nodes.{NodeView}
 use Rattle.tora_sim.specs.Store.{state_of, world_of, IsStore, link_at, end_in, file_in, lane_in, put_in, steps_in}
 use Rattle.tora_sim.specs.Steps.{IsDone, IsRefused}
@@ -142,3 +145,28 @@ module _ (t : Topology) (times : Times) (clock : ℕ) (nodes : List NodeView) (l
       go (cargo, at, front) =
           subst (λ y. IsStore (state_of t times clock nodes (set links i y) ds)) (sym (f ∙ ap (after_pull_at x) at))
           (store_set n k links i x (after_pull_at x (Some cargo)) first at_place (record { node = refl; peer = refl; seat = refl; settings = refl; pulled = λ q. slice_get_within x.put x.pulled cargo at }) t times clock nodes ds h)
+
+  -- ---- a cut
+
+  abbrev cut_view : LinkView
+  cut_view = with_state x (after_cut_of_bound x.state (bound_life x.state))
+
+  abbrev same_cut : IsSameLink x cut_view
+  same_cut = record { node = refl; peer = refl; seat = refl; settings = refl; pulled = λ q. q }
+
+  cut_world : world_of (state_of t times clock nodes (set links i cut_view) ds) ≡ after_cut_at w n k
+  cut_world =
+      let effect : after_cut_at w n k ≡ free_by (own_choice w Tick) w (CutsBound n k) = ap (λ (b : Bool). if b then free_by (own_choice w Tick) w (CutsBound n k) else w) is_linked in
+      let ends = link_changes n k links i x cut_view first at_place same_cut end_in
+      ∙ ap (λ o. put_at (λ a b. end_in (link_at links a b)) n k (after_cut_of_bound (end_in o) (bound_life (end_in o)))) (sym end_there) in
+      let files = each_at file_in (link_at (set links i cut_view)) (link_at links) (λ a b. link_stays n k links i x cut_view first at_place same_cut (file_in a b) refl) in
+      let lanes = link_stays n k links i x cut_view first at_place same_cut lane_in refl in
+      let puts = link_stays n k links i x cut_view first at_place same_cut put_in refl in
+      let steps = link_stays n k links i x cut_view first at_place same_cut steps_in refl in
+      links_same w ends files lanes puts steps ∙ sym effect
+
+  pub cut_done : (new : LinkView) → new ≡ cut_view → world_of (state_of t times clock nodes (set links i new) ds) ≡ after_cut_at w n k
+  cut_done new f = ap (λ y. world_of (state_of t times clock nodes (set links i y) ds)) f ∙ cut_world
+
+  pub cut_store : (new : LinkView) → new ≡ cut_view → IsStore (state_of t times clock nodes (set links i new) ds)
+  cut_store new f = subst (λ y. IsStore (state_of t times clock nodes (set links i y) ds)) (sym f) (store_set n k links i x cut_view first at_place same_cut t times clock nodes ds h)

@@ -1,6 +1,8 @@
 pub mod Keyed
 pub mod Files
+pub mod Cuts
 pub mod Datagrams
+pub mod SentFrames
 pub mod Links
 pub mod Nodes
 pub mod Hints

@@ -1,54 +1,43 @@
 //! All datagrams that were ever sent.
-ghost use Rattle.std.specs.Prelude.{◌≡◌, ◌<◌, ◌≤◌, ◌+◌, ◌∷◌, ◌++◌, [], length, slice_get, vec_len, vec_capacity, OnOk};
-ghost use Rattle.std.specs.List.{AllByRecursion};
-ghost use Rattle.tora_frame.specs.FrameParts.{IsFrame};
-ghost use Rattle.tora_sim.specs.Datagrams.{DatagramList, HasRoom, IsKept, frame_in, kept_frame, packets_carried};
+ghost use Rattle.std.specs.Prelude.{◌≡◌, ◌<◌, ◌^◌, ◌∷◌, ◌++◌, [], length, slice_get, vec_len, vec_capacity, Some, IfSome, IsTrue, OnOk};
+ghost use Rattle.tora_frame.specs.BorrowedFrames.{body_of};
+ghost use Rattle.tora_sim.specs.Datagrams.{DatagramList, HasRoom};
+ghost use Rattle.tora_sim.specs.SentFrames.{IsMore};
 
+use crate::kept_frames::KeptFrames;
 use std::alloc::{AllocError, Global};
 use std::marker::Model;
-use tora_frame::{BorrowedBody, BorrowedFrame, Header, MOST_PACKETS};
-use tora_packet::Packet;
+use tora_frame::{BorrowedBody, BorrowedFrame, Version};
 
-/// What a datagram carries, but for the packets of a DATA frame.
-#[derive(Clone, Copy, Debug, PartialEq, Eq, Hash)]
-pub enum KeptBody {
-    /// A HELLO.
-    Hello,
-    /// The number of the first packet, the count of packets accepted, the place of the first packet among all that are
-    /// kept, and how many packets there are.
-    Data(u64, u64, usize, usize),
-    /// The count of packets accepted.
-    Ack(u64),
-}
+/// How many forms of frames there are: HELLOs of either version, DATA frames, and ACKs.
+const FORMS: usize = 4;
 
-/// A datagram, whose packets stand apart: a frame of few packets takes no room for sixteen.
-#[derive(Clone, Copy, Debug, PartialEq, Eq, Hash)]
-pub struct KeptFrame {
-    pub header: Header,
-    pub body: KeptBody,
-}
+/// The most frames that are kept: the place of each fits 32 bits.
+const MOST_FRAMES: usize = 0xffff_ffff;
 
 /// All datagrams that were ever sent, in order.
-#[derive(Debug, Drop)]
+///
+/// Most of them say what one before them said, as every HELLO does but the first of a life: such a frame without packets is kept
+/// once, and a datagram is the place of its frame, four bytes. Where the frame of a datagram may stand already is a guess: where the last one
+/// of its form stands that this link end sent; what stands there is compared with it whole, so a wrong guess costs memory and nothing else.
+#[derive(Drop)]
 pub struct Datagrams {
-    frames: Vec<KeptFrame>,
-    packets: Vec<Packet>,
+    frames: KeptFrames,
+    places: Vec<u32>,
+    guesses: Vec<u32>,
 }
 
 impl Model for Datagrams {
-    ghost use Rattle.std.specs.Prelude.{◌-◌, map, length, vec_capacity};
+    ghost use Rattle.std.specs.Prelude.{◌<◌, length};
     ghost use Rattle.std.specs.List.{AllByRecursion};
-    ghost use Rattle.tora_sim.specs.Datagrams.{DatagramList, IsKept, frame_in};
+    ghost use Rattle.tora_sim.specs.Datagrams.{DatagramList};
+    ghost use Rattle.tora_sim.specs.SentFrames.{sent_list, AreWithin};
 
     ghost Value = { DatagramList };
 
-    ghost view = { λ d. record {
-      items = map (frame_in d.packets.items) d.frames.items;
-      places = vec_capacity d.frames - length d.frames.items;
-      packet_places = vec_capacity d.packets - length d.packets.items;
-    } };
+    ghost view = { λ d. sent_list d.frames d.places };
 
-    ghost invariant = { λ d. AllByRecursion (IsKept d.packets.items) d.frames.items };
+    ghost invariant = { λ d. AreWithin d.frames.items d.places.items };
 }
 
 impl Datagrams {
@@ -57,8 +46,9 @@ impl Datagrams {
         ensures { result.items ≡ [] }
     {
         Datagrams {
-            frames: Vec::new(alloc),
-            packets: Vec::new(alloc),
+            frames: KeptFrames::new(alloc),
+            places: Vec::new(alloc),
+            guesses: Vec::new(alloc),
         }
     }
 
@@ -66,78 +56,124 @@ impl Datagrams {
     pub fn len(&self) -> usize
         ensures { result ≡ length self.now.items }
     {
-        self.frames.len()
+        count(&self.places)
     }
 
-    /// Makes room for one more.
-    pub fn reserve(&mut self) -> Result<(), AllocError>
+    /// Makes room for one more, which the link end at a place sends.
+    pub fn reserve(&mut self, end: usize) -> Result<(), AllocError>
         ensures items { self.new.items ≡ self.old.items }
         ensures room { OnOk result (HasRoom self.new) }
     {
-        self.frames.reserve(1)?;
-        self.packets.reserve(MOST_PACKETS)
+        if self.frames.len() >= MOST_FRAMES {
+            return Err(AllocError);
+        }
+        self.frames.reserve()?;
+        self.places.reserve(1)?;
+        let guesses = first_guess(end).saturating_add(FORMS);
+        if self.guesses.len() < guesses {
+            self.guesses.resize(guesses, 0)?;
+        }
+        Ok(())
     }
 
-    /// Appends a datagram. There must be room for it.
-    pub fn push(&mut self, frame: &BorrowedFrame<'_>)
+    /// Appends a datagram that the link end at a place sends. There must be room for it.
+    pub fn push(&mut self, end: usize, frame: &BorrowedFrame<'_>)
         requires { HasRoom self.old }
         ensures { self.new.items ≡ self.old.items ++ frame.now ∷ [] }
     {
-        keep(&mut self.frames, &mut self.packets, frame);
+        let place = place_of(&mut self.frames, &mut self.guesses, end, frame);
+        self.places.push_reserved(place);
     }
 
     /// The datagram that stands behind so many others, with its packets where they stand.
     pub fn get(&self, place: usize) -> Option<BorrowedFrame<'_>>
         ensures { result ≡ slice_get self.now.items place }
     {
-        let Some(kept) = self.frames.get(place) else {
+        let Some(at) = place_at(&self.places, place) else {
             return None;
         };
-        Some(frame_of(&self.packets, kept))
+        self.frames.get(at as usize)
     }
 }
 
-/// Keeps a frame, and its packets behind all others.
-fn keep(frames: &mut Vec<KeptFrame>, packets: &mut Vec<Packet>, frame: &BorrowedFrame<'_>)
-    requires place { vec_len frames.old < vec_capacity frames.old }
-    requires packet_places { vec_len packets.old + 16 ≤ vec_capacity packets.old }
-    ensures frames { frames.new.items ≡ frames.old.items ++ kept_frame (length packets.old.items) frame.now ∷ [] }
-    ensures packets { packets.new.items ≡ packets.old.items ++ packets_carried frame.now.body }
-    ensures valid { IsFrame frame.now }
+fn count(places: &[u32]) -> usize
+    ensures { result ≡ length places.now }
 {
-    let body = match frame.body() {
-        BorrowedBody::Hello => KeptBody::Hello,
-        BorrowedBody::Data(number, count, carried) => {
-            let from = packets.len();
-            keep_packets(packets, carried);
-            KeptBody::Data(number, count, from, carried.len())
-        }
-        BorrowedBody::Ack(count) => KeptBody::Ack(count),
+    places.len()
+}
+
+fn place_at(places: &[u32], at: usize) -> Option<u32>
+    ensures { result ≡ slice_get places.now at }
+{
+    places.get(at).copied()
+}
+
+/// Where the guesses of a link end begin.
+fn first_guess(end: usize) -> usize {
+    end.saturating_mul(FORMS)
+}
+
+/// Where the guess for a frame of a link end stands.
+fn guess_of(end: usize, frame: &BorrowedFrame<'_>) -> usize {
+    let form = match frame.body() {
+        BorrowedBody::Hello => match frame.header().version {
+            Version::One => 0,
+            Version::Two => 1,
+        },
+        BorrowedBody::Data(..) => 2,
+        BorrowedBody::Ack(_) => 3,
     };
-    let header = *frame.header();
-    frames.push_reserved(KeptFrame { header, body });
+    first_guess(end).saturating_add(form)
 }
 
-fn keep_packets(packets: &mut Vec<Packet>, carried: &[Packet])
-    requires { vec_len packets.old + length carried.now ≤ vec_capacity packets.old }
-    ensures { packets.new.items ≡ packets.old.items ++ carried.now }
+/// Whether two bodies are seen to be the same: a body with packets is never.
+fn is_same_body(a: BorrowedBody<'_>, b: BorrowedBody<'_>) -> bool
+    ensures { IsTrue result → body_of a.entry ≡ body_of b.entry }
 {
-    for packet in carried {
-        packets.push_reserved(*packet);
+    match a {
+        BorrowedBody::Hello => matches!(b, BorrowedBody::Hello),
+        BorrowedBody::Data(..) => false,
+        BorrowedBody::Ack(count) => match b {
+            BorrowedBody::Ack(other) => count == other,
+            _ => false,
+        },
     }
 }
 
-/// The frame that is kept so.
-fn frame_of<'a>(packets: &'a [Packet], kept: &KeptFrame) -> BorrowedFrame<'a>
-    requires { IsKept packets.now kept.now }
-    ensures { result ≡ frame_in packets.now kept.now }
+/// The place of a frame that is kept, if the guess is right.
+fn found(frames: &KeptFrames, guess: Option<u32>, frame: &BorrowedFrame<'_>) -> Option<u32>
+    ensures { IfSome result (λ place. slice_get frames.now.items place ≡ Some frame.now) }
 {
-    let header = kept.header;
-    match kept.body {
-        KeptBody::Hello => BorrowedFrame::hello(header),
-        KeptBody::Data(number, count, from, many) => {
-            BorrowedFrame::data(header, number, count, &packets[from..from + many])
-        }
-        KeptBody::Ack(count) => BorrowedFrame::ack(header, count),
+    let Some(place) = guess else {
+        return None;
+    };
+    let Some(other) = frames.get(place as usize) else {
+        return None;
+    };
+    let is_same = *other.header() == *frame.header() && is_same_body(other.body(), frame.body());
+    if is_same { Some(place) } else { None }
+}
+
+/// The place of a frame, which is kept now if it was not.
+fn place_of(
+    frames: &mut KeptFrames,
+    guesses: &mut [u32],
+    end: usize,
+    frame: &BorrowedFrame<'_>,
+) -> u32
+    requires room { HasRoom frames.old }
+    requires places { length frames.old.items < 2 ^ 32 }
+    ensures is { slice_get frames.new.items result ≡ Some frame.now }
+    ensures more { IsMore frames.old.items frames.new.items }
+{
+    let at = guess_of(end, frame);
+    if let Some(place) = found(frames, guesses.get(at).copied(), frame) {
+        return place;
     }
+    let place = frames.len() as u32;
+    frames.push(frame);
+    if let Some(guess) = guesses.get_mut(at) {
+        *guess = place;
+    }
+    place
 }

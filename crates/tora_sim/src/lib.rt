@@ -14,10 +14,12 @@
 //! ```
 #![tactic(auto)]
 
+mod cuts;
 mod datagrams;
 mod files;
 mod first;
 mod hints;
+mod kept_frames;
 mod lanes;
 mod links;
 mod nodes;
@@ -34,3 +36,9 @@ mod watching;
 pub use sim::Sim;
 pub use topology::{MOST_NODES, Topology, topology_fault};
 pub use tora_world::{Call, Event, SimError};
+// the laws that every world of a simulator keeps
+pub use tora_world::{
+    entries_at_rest_are_heights, events_run_out, exact_entries_give_walks, no_gap_law,
+    only_needs_are_refused, prefix_law, routes_at_rest_arrive, simulator_runs_are_free_runs,
+    steps_are_the_table, walks_at_rest_go_down,
+};

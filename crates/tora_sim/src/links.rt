@@ -31,12 +31,12 @@ pub struct LinkSlot {
     pub(crate) peer: Id,
     /// The place of the peer among the node's neighbours.
     pub(crate) seat: usize,
-    pub(crate) end: LinkEnd,
-    pub(crate) file: FileSlot,
+    /// How many cargoes are no longer in the lane. What a round asks of each end stands in front.
+    pub(crate) pulled: usize,
     /// All cargoes that were ever put into the lane.
     pub(crate) put: Vec<Cargo>,
-    /// How many of them are no longer in the lane.
-    pub(crate) pulled: usize,
+    pub(crate) end: LinkEnd,
+    pub(crate) file: FileSlot,
     /// The packets of the peer that the node's core ever stepped, each with its life.
     pub(crate) steps: Vec<(Life, Packet)>,
 }

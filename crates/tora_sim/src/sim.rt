@@ -115,7 +115,7 @@ impl Sim {
         let Some(home) = node_place(&self.nodes, &self.hints, n) else {
             return Err(SimError::NoNode);
         };
-        if self.datagrams.reserve().is_err() {
+        if self.datagrams.reserve(at).is_err() {
             return Err(SimError::Memory);
         }
         data_frames_are_what_was_submitted();
@@ -123,7 +123,7 @@ impl Sim {
         let Some(frame) = self.links[at].send(self.clock, &mut packets) else {
             return Err(SimError::NotPossible);
         };
-        note_sent(&mut self.nodes[home], &mut self.datagrams, &frame);
+        note_sent(&mut self.nodes[home], &mut self.datagrams, at, &frame);
         Ok(())
     }
 
@@ -306,16 +306,16 @@ pub fn numbered(datagrams: &Datagrams, i: u64) -> Option<BorrowedFrame<'_>>
     datagrams.get(place)
 }
 
-/// Notes a datagram that a node sent, unless the send is armed to lose it; the arm is used.
-fn note_sent(node: &mut NodeSlot, datagrams: &mut Datagrams, frame: &BorrowedFrame<'_>)
+/// Notes a datagram that a node sent by its link end at this place, unless the send is armed to lose it; the arm is used.
+fn note_sent(node: &mut NodeSlot, datagrams: &mut Datagrams, end: usize, frame: &BorrowedFrame<'_>)
     requires { HasRoom datagrams.old }
     ensures node { node.new ≡ record node.old { sending = Sending.Goes } }
     ensures datagrams { datagrams.new.items ≡ with_datagram (sending_of node.old.sending) datagrams.old.items frame.now }
 {
     match node.sending() {
-        Sending::Goes => datagrams.push(frame),
+        Sending::Goes => datagrams.push(end, frame),
         Sending::IsLost => {}
-        Sending::IsGone => datagrams.push(frame),
+        Sending::IsGone => datagrams.push(end, frame),
     }
     node.arm_sending(Sending::Goes);
 }

@@ -10,6 +10,7 @@ use crate::SimError;
 use arrayvec::ArrayVec;
 use std::alloc::{AllocError, Global};
 use std::marker::Model;
+use tora_core::numbers::{has_number, has_repeat, insert_number};
 use tora_core::{CoreError, MOST_DESTINATIONS, MOST_NEIGHBOURS};
 use tora_frame::Version;
 use tora_height::Id;
@@ -298,27 +299,6 @@ fn put<const N: usize>(numbers: &mut ArrayVec<Id, N>, n: Id) -> bool
     true
 }
 
-fn insert_number<const N: usize>(numbers: &mut ArrayVec<Id, N>, n: Id)
-    requires { array_vec_len numbers.old < N }
-    ensures { numbers.new.items ≡ with_number n numbers.old.items }
-{
-    let at = place_above(n, numbers.as_slice()).unwrap_or(numbers.len());
-    numbers.insert(at, n);
-}
-
-/// The place of the first greater number.
-fn place_above(n: Id, numbers: &[Id]) -> Option<usize>
-    ensures { result ≡ position (λ m. nat_lt n m) numbers.now }
-{
-    numbers.iter().position(|m| n < *m)
-}
-
-fn has_number(n: Id, numbers: &[Id]) -> bool
-    ensures { result ≡ has_number n numbers.now }
-{
-    numbers.iter().any(|m| *m == n)
-}
-
 /// Whether some link is named twice, either way round.
 ///
 /// Where there are few nodes and few neighbours of each, links that all differ are few, so the pass ends early in a long list.
@@ -345,20 +325,6 @@ fn is_same_link(x: (Id, Id), y: (Id, Id)) -> bool
     ensures { result ≡ is_same_link (link_in x) (link_in y) }
 {
     (x.0 == y.0 && x.1 == y.1) || (x.0 == y.1 && x.1 == y.0)
-}
-
-/// Whether some number stands twice.
-fn has_repeat(numbers: &[Id]) -> bool
-    ensures { result ≡ has_repeat numbers.now }
-{
-    let mut left = numbers.len();
-    while left > 0 {
-        left -= 1;
-        if has_number(numbers[left], &numbers[left + 1..]) {
-            return true;
-        }
-    }
-    false
 }
 
 fn has_own_link(links: &[(Id, Id)]) -> bool

@@ -3,7 +3,7 @@ ghost use Rattle.std.specs.Prelude.{◌≡◌, ◌⊎◌, false};
 ghost use Rattle.std.specs.Process.{exit_status};
 ghost use Rattle.tora_simulate.specs.Endings.{EndsBy, EndsFile};
 ghost use Rattle.tora_arq.specs.Settings.{IsTimes};
-ghost use Rattle.tora_script.specs.SimulationText.{simulation_rules};
+ghost use Rattle.tora_script.specs.SimulationText.{rules_over};
 
 use crate::flushing::simulate_telling_and_flush;
 use crate::statuses::{INPUT, MEMORY, status, stop};
@@ -12,9 +12,8 @@ use std::io::{ErrorKind, Read};
 use std::process::ExitCode;
 use std::rt::Files;
 use std::{fs, io};
-use tora_arq::Times;
 use tora_lines::{Ended, LONGEST_LINE, Output, Recent, ReplayError};
-use tora_script::{SimulationCause, Simulator, tell_cause};
+use tora_script::{Setup, SimulationCause, Simulator, tell_cause};
 
 /// Says why there is no file, and ends with the status of the cause. The cause is said without `-v`, too.
 pub fn refuse<R: Eprint>(rt: &R, path: &str, error: &io::Error) -> ExitCode
@@ -42,25 +41,25 @@ pub fn tell<T: Eprint, R: Read>(rt: &T, reader: &Recent<R>, ended: Result<Ended,
     }
 }
 
-/// Simulates the lines that a reader gives, with these times of each link end, and ends with a status: 0 at its end, 1 where a line
+/// Simulates the lines that a reader gives, in a world that is made with this, and ends with a status: 0 at its end, 1 where a line
 /// is a fault or reading or writing failed, 5 where memory was refused. It says why a line is a fault and what failed, and with
 /// `is_verbose` why events are refused.
 pub fn run_over<S: Simulator, T: AllocGlobal + Eprint, R: Read + Drop, W: Output>(
     rt: &T,
-    times: Times,
+    setup: Setup,
     reader: R,
     is_verbose: bool,
     writer: &mut W,
 ) -> ExitCode
-    requires { IsTimes times }
-    ensures { EndsBy (simulation_rules times) W.contents W.did_flush (R.remaining reader) writer.old writer.new false (exit_status result) }
+    requires { IsTimes setup.times }
+    ensures { EndsBy (rules_over setup) W.contents W.did_flush (R.remaining reader) writer.old writer.new false (exit_status result) }
 {
     let alloc = rt.alloc();
     let mut reader = Recent::new(alloc, reader);
     let result = simulate_telling_and_flush::<S, T, Recent<R>, W>(
         rt,
         alloc,
-        times,
+        setup,
         &mut reader,
         writer,
         is_verbose,
@@ -69,20 +68,20 @@ pub fn run_over<S: Simulator, T: AllocGlobal + Eprint, R: Read + Drop, W: Output
     status(rt, result)
 }
 
-/// Simulates the lines of the file at a path, with these times of each link end, and ends with a status: that of `run_over` over the file, 1 where it can't be
+/// Simulates the lines of the file at a path, in a world that is made with this, and ends with a status: that of `run_over` over the file, 1 where it can't be
 /// opened, and 5 where memory was refused for that. Nothing is written where it is not opened.
 pub fn run<S: Simulator, T: Files + AllocGlobal + Eprint, W: Output>(
     rt: &T,
-    times: Times,
+    setup: Setup,
     path: &str,
     is_verbose: bool,
     writer: &mut W,
 ) -> ExitCode
-    requires { IsTimes times }
-    ensures { EndsFile T.File.remaining (simulation_rules times) W.contents W.did_flush writer.old writer.new (exit_status result) }
+    requires { IsTimes setup.times }
+    ensures { EndsFile T.File.remaining (rules_over setup) W.contents W.did_flush writer.old writer.new (exit_status result) }
 {
     match fs::open(rt, path) {
-        Ok(file) => run_over::<S, T, T::File, W>(rt, times, file, is_verbose, writer),
+        Ok(file) => run_over::<S, T, T::File, W>(rt, setup, file, is_verbose, writer),
         Err(error) => refuse(rt, path, &error),
     }
 }

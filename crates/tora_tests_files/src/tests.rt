@@ -2,3 +2,4 @@
 mod configurations;
 mod life_files;
 mod sees;
+mod ways;

@@ -1,3 +1,4 @@
+pub mod Ends
 pub mod TraceOuts
 pub mod Tracing
 pub mod TracingView

@@ -3,6 +3,7 @@
 //! The records themselves, and the copies of cores that they are told from, are those of `tora_trace`.
 #![tactic(auto)]
 
+mod ends;
 mod trace_out;
 mod traced;
 mod tracing;

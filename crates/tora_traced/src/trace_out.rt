@@ -1,5 +1,5 @@
 //! Where a trace goes.
-ghost use Rattle.std.specs.Prelude.{◌≡◌, false, is_some};
+ghost use Rattle.std.specs.Prelude.{◌≡◌, false, true, is_some};
 ghost use Rattle.std.specs.Io.KnownBytes.{Appends, Keeps};
 ghost use Rattle.tora_traced.specs.TraceOuts.{IsPut, IsHandedOn};
 
@@ -10,6 +10,8 @@ use tora_lines::Output;
 #[derive(Drop)]
 pub struct TraceOut<W> {
     pub writer: W,
+    /// The clock of what was written last.
+    pub clock: u64,
     failure: Option<io::Error>,
 }
 
@@ -17,17 +19,20 @@ impl<W: Output> TraceOut<W> {
     /// Nothing was written yet.
     pub fn new(writer: W) -> TraceOut<W>
         ensures writer { result.writer ≡ writer }
+        ensures clock { result.clock ≡ 0 }
         ensures failure { is_some result.failure ≡ false }
     {
         TraceOut {
             writer,
+            clock: 0,
             failure: None,
         }
     }
 
-    /// Writes bytes, unless the writer has failed.
-    pub fn put(&mut self, bytes: &[u8])
+    /// Writes bytes at a clock, unless the writer has failed.
+    pub fn put(&mut self, now: u64, bytes: &[u8])
         ensures call { IsPut W.did_write self.old bytes.now self.new }
+        ensures clock { is_some self.new.failure ≡ false → self.new.clock ≡ now }
         ensures bytes { is_some self.new.failure ≡ false → Appends (W.contents self.old.writer) (W.contents self.new.writer) bytes.now }
     {
         if self.failure.is_some() {
@@ -35,7 +40,16 @@ impl<W: Output> TraceOut<W> {
         }
         if let Err(error) = self.writer.put_all(bytes) {
             self.failure = Some(error);
+            return;
         }
+        self.clock = now;
+    }
+
+    /// The writer is given up for want of memory.
+    pub fn fail(&mut self)
+        ensures { is_some self.new.failure ≡ true }
+    {
+        self.failure = Some(io::Error::from(io::ErrorKind::OutOfMemory));
     }
 
     /// Hands on what was written, unless the writer has failed.

@@ -188,6 +188,10 @@ impl<S: Watched> Simulator for Traced<S> {
         self.step(event)
     }
 
+    fn cut(&mut self, n: Id, k: Id) {
+        self.sim.cut(n, k);
+    }
+
     fn nodes(&self, alloc: Global) -> Result<Vec<Id>, AllocError> {
         self.sim.nodes(alloc)
     }

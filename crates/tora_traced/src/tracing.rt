@@ -10,17 +10,18 @@ ghost use Rattle.tora_traced.specs.Tracing.{after_line, parted_after};
 ghost use Rattle.tora_script.specs.RunningView.{running_view};
 ghost use Rattle.tora_traced.specs.TracingView.{traced_world, tracing_kind};
 ghost use Rattle.tora_traced.specs.TraceOuts.{waiting, waiting_behind, emptied, ArePut};
-ghost use Rattle.tora_script.specs.SimulationText.{first_simulation_fault, Simulates, IsSimulationBegun};
+ghost use Rattle.tora_script.specs.SimulationText.{first_fault_over, SimulatesOver, IsBegunOver};
 
 use crate::trace_out::TraceOut;
 use crate::traced::Traced;
 use crate::watched::Watched;
 use std::alloc::{AllocError, Global};
 use std::io::{Read, Write};
-use tora_arq::Times;
 use tora_lines::words::LineError;
 use tora_lines::{Ended, FileKind, Output, ReplayError, read_lines};
-use tora_script::{Running, Simulation, SimulationLine, Stage, Told, mend, part, simulation_line};
+use tora_script::{
+    Running, Setup, Simulation, SimulationLine, Stage, Told, mend, part, simulation_line,
+};
 
 /// A simulation file whose trace is written line by line; why a line is a fault is told and, where it is verbose, why an event is
 /// refused.
@@ -59,7 +60,8 @@ fn hand_on<S: Watched, W: Output>(stage: &mut Stage<Traced<S>>, out: &mut TraceO
     ensures emptied { waiting stage.new ≡ emptied (waiting stage.old) }
 {
     if let Stage::Runs(running) = stage {
-        out.put(running.sim.trace.text().as_bytes());
+        let now = running.sim.sim.clock();
+        out.put(now, running.sim.trace.text().as_bytes());
         running.sim.trace.clear();
     }
 }
@@ -106,7 +108,7 @@ impl<S: Watched, T: Eprint, W: Output> FileKind for Tracing<'_, S, T, W> {
     }
 }
 
-/// Simulates with these times of each link end, and writes the trace: of each line, what happened in it. It tells on standard error
+/// Simulates what is made with this, and writes the trace: of each line, what happened in it. It tells on standard error
 /// why a line is a fault, unless it is too long, and where it is verbose, why an event is refused.
 ///
 /// A trace that can't be written stops nothing; `out` says so then.
@@ -114,26 +116,26 @@ impl<S: Watched, T: Eprint, W: Output> FileKind for Tracing<'_, S, T, W> {
 pub fn simulate_traced<S: Watched, T: Eprint, R: Read, W: Write, V: Output>(
     rt: &T,
     alloc: Global,
-    times: Times,
+    setup: Setup,
     reader: &mut R,
     writer: &mut W,
     out: &mut TraceOut<V>,
     is_verbose: bool,
 ) -> Result<Ended, ReplayError>
-    requires { IsTimes times }
+    requires { IsTimes setup.times }
     ensures whole { IfOk result (λ ended. IfSome (R.remaining reader.old) (λ input.
-        Simulates times input (W.contents writer.old) (W.contents writer.new) ended)) }
+        SimulatesOver setup input (W.contents writer.old) (W.contents writer.new) ended)) }
     ensures at_end { result ≡ Ok Ended.Whole → IsAtEnd (R.remaining reader.new) }
-    ensures fault { IfOk result (λ ended. IfSome (R.remaining reader.old) (λ input. fault_of ended ≡ first_simulation_fault times input)) }
+    ensures fault { IfOk result (λ ended. IfSome (R.remaining reader.old) (λ input. fault_of ended ≡ first_fault_over setup input)) }
     ensures begun { IfErr result (λ e. e ≢ ReplayError.Write →
-        IsSimulationBegun times (R.remaining reader.old) (R.remaining reader.new) (W.contents writer.old) (W.contents writer.new)) }
+        IsBegunOver setup (R.remaining reader.old) (R.remaining reader.new) (W.contents writer.old) (W.contents writer.new)) }
 {
     let state: Tracing<'_, S, T, V> = Tracing {
         told: Told {
             rt,
             is_verbose,
             number: 0,
-            state: Simulation::new(times),
+            state: Simulation::new(setup),
         },
         out,
     };

@@ -23,6 +23,8 @@ pub enum Reason {
     Repeated,
     /// It is the node itself.
     OwnId,
+    /// There is none, and the link leaves the loopback.
+    Unkeyed,
 }
 
 impl Reason {
@@ -43,6 +45,7 @@ impl Reason {
             Reason::NoTable => "is no table",
             Reason::Repeated => "stands before already",
             Reason::OwnId => "is the node itself",
+            Reason::Unkeyed => "is missing, and the link leaves the loopback",
         }
     }
 }

@@ -2,8 +2,10 @@
 ghost use Rattle.std.specs.Prelude.{◌≡◌, ◌<◌, pos, Some, IfOk};
 ghost use Rattle.toml.specs.Data.{as_integer};
 ghost use Rattle.toml.specs.View.{view};
+ghost use Rattle.tora_values.specs.Addresses.{end_in, port_of_end};
 ghost use Rattle.tora_values.specs.Numbers.{id_in, port_in};
 
+use crate::addresses::end_of;
 use crate::reason::Reason;
 use toml::Value;
 use tora_height::Id;
@@ -28,10 +30,9 @@ pub fn id_of(value: &Value) -> Result<Id, Reason>
     }
 }
 
-/// A port, which stands there.
-pub fn port_of(value: &Value) -> Result<u16, Reason>
+/// A port that stands there as a number.
+pub(crate) fn number_of_port(value: &Value) -> Result<u16, Reason>
     ensures above { IfOk result (λ n. 0 < n) }
-    ensures exact { IfOk result (λ n. as_integer (view value.now) ≡ Some (pos n)) }
     ensures all { result ≡ port_in (as_integer (view value.now)) }
 {
     let Some(number) = value.as_integer() else {
@@ -45,5 +46,16 @@ pub fn port_of(value: &Value) -> Result<u16, Reason>
             Ok(port)
         }
         Err(_) => Err(Reason::NoPort),
+    }
+}
+
+/// A port, which stands there: as a number, or in the text of an address.
+pub fn port_of(value: &Value) -> Result<u16, Reason>
+    ensures above { IfOk result (λ n. 0 < n) }
+    ensures all { result ≡ port_of_end (end_in (view value.now)) }
+{
+    match end_of(value) {
+        Ok(address) => Ok(address.port()),
+        Err(reason) => Err(reason),
     }
 }

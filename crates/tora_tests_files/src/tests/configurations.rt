@@ -38,6 +38,13 @@ const ACCEPTED_AND_REFUSED: &[(&[&str], Wanted)] = &[
         Refused(Place::Local(1), Reason::NoPort),
     ),
     (
+        &[
+            HEAD,
+            "[[link]]\npeer = 2\nlocal = \"127.0.0.1:4012\"\nremote = \"[::1]:4021\"\nkey_file = \"k\"\n",
+        ],
+        Worked,
+    ),
+    (
         &["node = 2\ndests = [4]\nlife_dir = \"n1\"\n", LINK],
         Refused(Place::Peer(1), Reason::OwnId),
     ),

@@ -11,9 +11,10 @@ use std::process::{Abort, ExitCode};
 use std::test::Fail;
 use tora_arq::Times;
 use tora_commands::{
-    INPUT, MEMORY, USAGE, drive_command, replay_command, sim_command, simulate_file,
+    INPUT, MEMORY, SetupWords, USAGE, drive_command, replay_command, sim_command, simulate_file,
     traced_command, usage,
 };
+use tora_script::Setup;
 use tora_sim::Sim;
 use tora_traced::TraceOut;
 
@@ -42,7 +43,7 @@ impl Run {
             Run::Drive => drive_command::run(rt, None, reader, writer),
             Run::Simulation => sim_command::run_over::<Sim, T, LinesReader<'_>, ArrayWriter>(
                 rt,
-                Times::STANDARD,
+                Setup::plain(Times::STANDARD),
                 reader,
                 is_verbose,
                 writer,
@@ -50,7 +51,7 @@ impl Run {
             Run::Traced => {
                 traced_command::run_over::<Sim, T, LinesReader<'_>, ArrayWriter, ArrayWriter>(
                     rt,
-                    Times::STANDARD,
+                    Setup::plain(Times::STANDARD),
                     reader,
                     is_verbose,
                     writer,
@@ -217,18 +218,28 @@ const TRACE: &str = "tora_commands_test/two.trace";
 
 const LINES: &str = "dests 2\nlink 1 2\nneed 1 2\nturn 1\nneed 3 2\n";
 
-const RECORDS: &str = "0 need 1 2\n0 qry 1 2 0\n";
+const RECORDS: &str = "0 trace 1 10 50 5 8 0 0 0 0 0 0\n0 need 1 2\n0 qry 1 2 0\n0 end 652b4c0ca01d6f1b2dfde35446f8e556bd5a6cf9edd9c63af90c38f5fea5dde8\n";
 
-/// What is asked of a simulation of a file: times, its path, and the path of its trace.
-type Asked = (Option<&'static str>, &'static str, Option<&'static str>);
+/// What is asked of a simulation of a file: times, a channel, its path, and the path of its trace.
+type Asked = (
+    (Option<&'static str>, Option<&'static str>),
+    &'static str,
+    Option<&'static str>,
+);
 
 /// Simulates a file once.
 fn simulated_once<T: Files + AllocGlobal + Eprint>(
     rt: &T,
-    (times, path, trace): Asked,
+    ((times, channel), path, trace): Asked,
     writer: &mut ArrayWriter,
 ) -> ExitCode {
-    simulate_file(rt, times, path, trace, false, writer)
+    let words = SetupWords {
+        times,
+        channel,
+        seed: None,
+        has_notice: false,
+    };
+    simulate_file(rt, words, path, trace, false, writer)
 }
 
 /// Simulates a file, and expects its status and what is printed. Where memory was refused it simulates again.
@@ -270,14 +281,15 @@ fn make_folder<R: Files<File = File> + AllocGlobal>(rt: &R) -> Result<(), Fail> 
 
 /// What is asked of simulations one after another, their status, what they print, and whether there is a trace then.
 const ASKED: &[(Asked, u8, &str, bool)] = &[
-    ((None, FILE, None), SUCCESS, "refused 2\n", false),
-    ((None, FILE, Some(TRACE)), SUCCESS, "refused 2\n", true),
-    ((None, FILE, Some(FILE)), INPUT, "", true),
-    ((None, MISSING, None), INPUT, "", true),
-    ((None, MISSING, Some(TRACE)), INPUT, "", true),
-    ((None, FILE, Some(FOLDER)), INPUT, "", true),
-    ((Some("10,50,5"), FILE, None), USAGE, "", true),
-    ((Some("10,0,5,8"), FILE, Some(FILE)), USAGE, "", true),
+    (((None, None), FILE, None), SUCCESS, "refused 2\n", false),
+    (((None, None), FILE, Some(TRACE)), SUCCESS, "refused 2\n", true),
+    (((None, None), FILE, Some(FILE)), INPUT, "", true),
+    (((None, None), MISSING, None), INPUT, "", true),
+    (((None, None), MISSING, Some(TRACE)), INPUT, "", true),
+    (((None, None), FILE, Some(FOLDER)), INPUT, "", true),
+    (((Some("10,50,5"), None), FILE, None), USAGE, "", true),
+    (((None, Some("loss=2")), FILE, None), USAGE, "", true),
+    (((Some("10,0,5,8"), None), FILE, Some(FILE)), USAGE, "", true),
 ];
 
 /// The file named is read, the trace is written to the other, and neither takes the place of the other.

@@ -5,7 +5,8 @@ use std::process::Abort;
 use tora_arq::{Life, Times};
 use tora_core::CoreError;
 use tora_height::{Entry, Height, Id};
-use tora_script::{Simulator, make_rounds};
+use tora_channel::Channel;
+use tora_script::{Air, Simulator, make_rounds};
 use tora_sim::{Sim, Topology};
 use tora_world::{Call, Event, SimError};
 
@@ -45,6 +46,10 @@ impl Simulator for Recorder {
             self.events.push(*event)?;
         }
         Ok(refused)
+    }
+
+    fn cut(&mut self, n: Id, k: Id) {
+        self.sim.cut(n, k);
     }
 
     fn nodes(&self, alloc: Global) -> Result<Vec<Id>, AllocError> {
@@ -99,13 +104,19 @@ const NODES: [Id; 4] = [1, 2, 3, 4];
 
 const ENDS: [(Id, Id); 6] = [(1, 2), (2, 1), (2, 3), (3, 2), (3, 4), (4, 3)];
 
+/// Rounds over a channel on which every datagram comes at once.
+fn clear_rounds<S: Simulator>(sim: &mut S, alloc: Global, count: u64) -> Result<(), AllocError> {
+    let mut air = Air::new(alloc);
+    make_rounds(sim, count, &NODES, &ENDS, &[], Channel::CLEAR, &mut air)
+}
+
 /// The events of a need of node 1 and three rounds, after which the route is found.
 fn recorded(rt: &impl Abort, alloc: Global) -> Vec<Event> {
     let started = <Recorder as Simulator>::start(alloc, &LINKS, &[4], &[], Times::STANDARD);
     let mut recorder = started.expect(rt, "a simulator");
     let needed = recorder.happen(&Event::Need(1, 4));
     sees(rt, matches!(needed, Ok(None)), "the need happens");
-    let made = make_rounds(&mut recorder, 3, &NODES, &ENDS, &[]);
+    let made = clear_rounds(&mut recorder, alloc, 3);
     sees(rt, made.is_ok(), "three rounds are made");
     let Recorder { sim, events } = recorder;
     sees(rt, has_routes(&sim), "the route is found");
@@ -135,7 +146,7 @@ fn run_armed(rt: &impl Abort, alloc: Global, events: &[Event], place: usize, arm
         }
         let _ = sim.step(event);
     }
-    let made = make_rounds(&mut sim, 60, &NODES, &ENDS, &[]);
+    let made = clear_rounds(&mut sim, alloc, 60);
     sees(rt, made.is_ok(), "sixty rounds are made");
     sim
 }

@@ -6,7 +6,7 @@ use std::alloc::Global;
 use std::process::Abort;
 use tora_arq::Times;
 use tora_lines::{FileKind, LONGEST_LINE};
-use tora_script::{Simulation, SimulationCause, simulation_cause};
+use tora_script::{Setup, Simulation, SimulationCause, simulation_cause};
 use tora_sim::Sim;
 
 /// Takes a line; whether it is none that is a fault, and there is memory.
@@ -17,7 +17,7 @@ fn is_taken(alloc: Global, state: &mut Simulation<Sim>, line: &str) -> bool {
 
 /// What is kept behind these lines, or nothing where one is a fault or memory is refused.
 fn state_behind(alloc: Global, lines: &[&str]) -> Option<Simulation<Sim>> {
-    let mut state: Simulation<Sim> = Simulation::new(Times::STANDARD);
+    let mut state: Simulation<Sim> = Simulation::new(Setup::plain(Times::STANDARD));
     for line in lines {
         if !is_taken(alloc, &mut state, *line) {
             return None;

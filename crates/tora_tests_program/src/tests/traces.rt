@@ -6,6 +6,7 @@ use super::sees::{same_at, sees_at};
 use std::process::Abort;
 use tora_arq::Times;
 use tora_lines::{Ended, ReplayError};
+use tora_script::Setup;
 use tora_sim::Sim;
 use tora_traced::{TraceOut, simulate_traced};
 
@@ -33,7 +34,7 @@ fn traced_once<'a, T: AllocGlobal + Eprint>(
     let found = simulate_traced::<Sim, T, LinesReader<'_>, ArrayWriter, ArrayWriter>(
         rt,
         rt.alloc(),
-        Times::STANDARD,
+        Setup::plain(Times::STANDARD),
         &mut reader,
         &mut writer,
         &mut out,

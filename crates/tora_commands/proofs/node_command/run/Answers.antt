@@ -12,7 +12,7 @@ returns g c =
     inr (inr (
       c.if-is_check.false,
       record {
-        config = c.in-Ok.config;
+        config = c.in-Ok.read.0;
         is = c.in-Ok.ensures;
         ended = ended;
         end_is = subst (λ (first : CoreView). IsEndOf first ended) c.in-Ok-node_of.ensures so;

@@ -12,6 +12,7 @@ pub loop-init : goal.loop-init
 loop-init g c = record {
   lanes = c.requires;
   neighbours = refl;
+  lane = refl;
   ran = nothing_ran g.O.OutLanes.did_offer c.args.seat.core.neighbours (state_of c.args.seat) c.args.outs c.args.port.taken (g.W.Write.contents c.args.writer.now);
 }
 
@@ -31,6 +32,7 @@ returns-in-Err g c =
         inr (r.goes, gone.1),
       );
       neighbours = c.loop.invariant.neighbours;
+      lane = c.take.ensures.lane.0 ∙ c.loop.invariant.lane;
     }
 
 pub returns-then-is_quit : goal.returns-then-is_quit
@@ -55,6 +57,7 @@ returns-then-is_quit g c =
         inl (d.front, d.x, refl, d.goes, ap (λ (i : Item). i.what) d.item_is ∙ quit),
       );
       neighbours = c.serve-answer.ensures.neighbours ∙ h.neighbours;
+      lane = c.take.ensures.lane.0 ∙ h.lane;
     }
 
 pub returns-in-Err-reply : goal.returns-in-Err-reply
@@ -77,6 +80,7 @@ returns-in-Err-reply g c =
         (d.front, d.x, refl, d.goes, subst (λ (i : Item). MayFail c.in-Err-reply.fault i.what) (sym d.item_is) c.in-Err-reply.ensures.err),
       );
       neighbours = c.serve-answer.ensures.neighbours ∙ h.neighbours;
+      lane = c.take.ensures.lane.0 ∙ h.lane;
     }
 
 pub loop-preserved : goal.loop-preserved
@@ -94,6 +98,7 @@ loop-preserved g c =
     record {
       lanes = omega (arith, ap (λ (l : List ℕ). length l) same, count, h.lanes);
       neighbours = same ∙ h.neighbours;
+      lane = c.take.ensures.lane.0 ∙ h.lane;
       ran = record {
         xs = d.front ++ d.x ∷ [];
         taken_is = d.taken_is;

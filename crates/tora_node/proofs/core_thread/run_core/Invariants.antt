@@ -7,5 +7,6 @@ abbrev pub invariant-loop : goal.invariant-loop
 invariant-loop g l = record {
   lanes : length l.seat.core.neighbours ≤ g.O.OutLanes.count l.outs;
   neighbours : l.seat.core.neighbours ≡ l.fn.seat.core.neighbours;
+  lane : l.port.lane ≡ l.fn.port.lane;
   ran : Ran g.O.OutLanes.did_offer l.fn.seat.core.neighbours (state_of l.fn.seat) l.fn.outs l.fn.port.taken (g.W.Write.contents l.fn.writer) (state_of l.seat) l.outs l.port.taken (g.W.Write.contents l.writer);
 }

@@ -1,90 +1,92 @@
-use Rattle.std.proofs.Common.{◌≡◌, ◌∙◌, List, Option, length, sym, ap, subst, inr, arith}
+use Rattle.std.proofs.Common.{◌≡◌, ◌∙◌, ℕ, ◌<◌, ◌≤◌, List, length, sym, ap, subst, inl}
 use Rattle.std.proofs.lemmas.Result.{err_from_is_err_and}
 use Rattle.std.specs.Prelude.{map}
 use Rattle.tora_core.specs.CoreRun.{CoreView}
-use Rattle.tora_neighbour.specs.declared.fault.NodeError.{NodeError}
+use Rattle.tora_core.specs.Numbers.{IsAscending}
+use Rattle.tora_lane.specs.NodeLanes.{AreLanes}
+use Rattle.tora_lane.specs.Out.{SendEnd}
+use Rattle.tora_lane.specs.Ports.{CoreEnd}
 use Rattle.tora_seat.specs.Rows.{SeatView, first_seat}
-use Rattle.tora_node.specs.LinkRuns.{name_of, link_ended, link_made, links_of, AreLinkRuns}
-use Rattle.tora_node.specs.NodeRuns.{IsCoreRun, IsServedCore}
-use Rattle.tora_node.specs.declared.threads.LinkName.{LinkName}
-use Rattle.tora_node.proofs.Runs.{as_long, opening_fault, opening_cause, first_of, no_fault, faultless}
+use Rattle.tora_node.specs.LinkRuns.{name_of, link_ended, links_of}
+use Rattle.tora_node.specs.Threads.{CoreLeaves}
+use Rattle.tora_node.proofs.Lists.{as_long}
+use Rattle.tora_node.proofs.Runs.{opening_fault, did_not_start}
+use Rattle.tora_node.proofs.Whole.{Left, always, answers, have_ends}
 use Rattle.tora_node.proofs.node.run_node.Goals as goal
 
 pub new_links-requires-clause-disks : goal.new_links-requires-clause-disks
 new_links-requires-clause-disks g c =
-    let ends : map link_ended c.in-Some.ends.items ≡ links_of c.args.config =
-    subst (λ (v : CoreView). map link_ended c.in-Some.ends.items ≡ links_of v) c.into_core-core.ensures c.in-Some.ensures in
-    let many = as_long link_ended (name_of c.args.config.me) c.in-Some.ends.items c.args.config.neighbours ends in
-    c.requires.disks ∙ sym many
+    let ends : map link_ended c.in-Some.ends.items ≡ links_of c.args.config = subst (λ (v : CoreView). map link_ended c.in-Some.ends.items ≡ links_of v) c.into_core-core.ensures.same c.in-Some.ensures in
+    c.requires.disks ∙ sym (as_long link_ended (name_of c.args.config.me) c.in-Some.ends.items c.args.config.neighbours ends)
 
 pub new_links-requires-clause-wires : goal.new_links-requires-clause-wires
 new_links-requires-clause-wires g c =
-    let ends : map link_ended c.in-Some.ends.items ≡ links_of c.args.config =
-    subst (λ (v : CoreView). map link_ended c.in-Some.ends.items ≡ links_of v) c.into_core-core.ensures c.in-Some.ensures in
-    let many = as_long link_ended (name_of c.args.config.me) c.in-Some.ends.items c.args.config.neighbours ends in
-    c.requires.wires ∙ sym many
+    let ends : map link_ended c.in-Some.ends.items ≡ links_of c.args.config = subst (λ (v : CoreView). map link_ended c.in-Some.ends.items ≡ links_of v) c.into_core-core.ensures.same c.in-Some.ensures in
+    c.requires.wires ∙ sym (as_long link_ended (name_of c.args.config.me) c.in-Some.ends.items c.args.config.neighbours ends)
 
 pub returns-in_err-new-clause-fault : goal.returns-in_err-new-clause-fault
 returns-in_err-new-clause-fault g c =
     let p = err_from_is_err_and c.from_residual-in_err-new.result c.from_residual-in_err-new.ensures.1 in
-    let ends : map link_ended c.in-Some.ends.items ≡ links_of c.args.config =
-    subst (λ (v : CoreView). map link_ended c.in-Some.ends.items ≡ links_of v) c.into_core-core.ensures c.in-Some.ensures in
+    let ends : map link_ended c.in-Some.ends.items ≡ links_of c.args.config = subst (λ (v : CoreView). map link_ended c.in-Some.ends.items ≡ links_of v) c.into_core-core.ensures.same c.in-Some.ensures in
     rw (p.1, p.2) (opening_fault c.args.config.me c.args.config.neighbours (map link_ended c.in-Some.ends.items) c.in_err-new.field-0.0 ends c.in_err-new.ensures.fault)
 
 pub returns-in_err-new-clause-cause : goal.returns-in_err-new-clause-cause
 returns-in_err-new-clause-cause g c =
     let p = err_from_is_err_and c.from_residual-in_err-new.result c.from_residual-in_err-new.ensures.1 in
-    let ends : map link_ended c.in-Some.ends.items ≡ links_of c.args.config =
-    subst (λ (v : CoreView). map link_ended c.in-Some.ends.items ≡ links_of v) c.into_core-core.ensures c.in-Some.ensures in
-    rw (p.1, p.2) (opening_cause c.args.config (map link_ended c.in-Some.ends.items) c.in_err-new.field-0.0 ends c.in_err-new.ensures.fault)
+    let ends : map link_ended c.in-Some.ends.items ≡ links_of c.args.config = subst (λ (v : CoreView). map link_ended c.in-Some.ends.items ≡ links_of v) c.into_core-core.ensures.same c.in-Some.ensures in
+    rw (p.1, p.2) (inl (did_not_start c.args.config (map link_ended c.in-Some.ends.items) c.in_err-new.field-0.0 ends c.in_err-new.ensures.fault))
 
-pub new_starts-requires : goal.new_starts-requires
-new_starts-requires g c =
-    let ends : map link_ended c.in-Some.ends.items ≡ links_of c.args.config =
-    subst (λ (v : CoreView). map link_ended c.in-Some.ends.items ≡ links_of v) c.into_core-core.ensures c.in-Some.ensures in
-    let many = as_long link_ended (name_of c.args.config.me) c.in-Some.ends.items c.args.config.neighbours ends in
-    let made = as_long link_made link_ended c.in_ok-new.new.items c.in-Some.ends.items c.in_ok-new.ensures.made in
-    let lanes = c.in_ok-port.ensures.made.1 in
-    let asked = ap length c.neighbours.ensures in
-    let same = ap (λ (v : CoreView). length v.neighbours) c.into_core-core.ensures in
-    omega (arith, many, made, lanes, asked, same)
+pub returns-in_err-new-clause-failed : goal.returns-in_err-new-clause-failed
+returns-in_err-new-clause-failed g c =
+    let p = err_from_is_err_and c.from_residual-in_err-new.result c.from_residual-in_err-new.ensures.1 in
+    let ends : map link_ended c.in-Some.ends.items ≡ links_of c.args.config = subst (λ (v : CoreView). map link_ended c.in-Some.ends.items ≡ links_of v) c.into_core-core.ensures.same c.in-Some.ensures in
+    rw (p.1, p.2) (inl (did_not_start c.args.config (map link_ended c.in-Some.ends.items) c.in_err-new.field-0.0 ends c.in_err-new.ensures.fault))
 
-pub returns-in-Some-first_fault-clause-cause : goal.returns-in-Some-first_fault-clause-cause
-returns-in-Some-first_fault-clause-cause g c =
-    let ends : map link_ended c.in-Some.ends.items ≡ links_of c.args.config =
-    subst (λ (v : CoreView). map link_ended c.in-Some.ends.items ≡ links_of v) c.into_core-core.ensures c.in-Some.ensures in
-    let core = c.in-Some-run_threads.core in
-    let outcomes = c.in-Some-run_threads.outcomes.items in
-    let seat = c.in-Some-new_core_start.ensures ∙ ap first_seat c.into_core-core.ensures in
-    let ran : IsCoreRun (first_seat c.args.config) core.seat core.fault = subst (λ (s : SeatView). IsCoreRun s core.seat core.fault) seat c.in-Some-run_threads.ensures.core in
-    let links : AreLinkRuns (links_of c.args.config) outcomes =
-    subst (λ (l : List LinkName). AreLinkRuns l outcomes) (c.in-Some-new_starts.ensures ∙ c.in_ok-new.ensures.made ∙ ends) c.in-Some-run_threads.ensures.links in
-    inr (record {
-      last = core.seat;
-      fault = core.fault;
-      outcomes = outcomes;
-      core = ran;
-      links = links;
-      first_is = first_of c.args.config.neighbours core.seat.core.neighbours c.as_slice.result.now outcomes core.fault _ ran.1 c.as_slice.ensures.value (sym c.first_fault.ensures ∙ c.in-Some-first_fault.is);
-    })
+pub settled-requires-clause-ends : goal.settled-requires-clause-ends
+settled-requires-clause-ends g c =
+    let same = c.into_core-core.ensures.same in
+    let rests = c.in-Some-run_threads.rests in
+    let lanes = c.in_ok-port.field-0 in
+    let asked : length c.neighbours.result.now ≡ length c.args.config.neighbours = ap length c.neighbours.ensures ∙ ap (λ (v : CoreView). length v.neighbours) same in
+    let ends : map link_ended c.in-Some.ends.items ≡ links_of c.args.config = subst (λ (v : CoreView). map link_ended c.in-Some.ends.items ≡ links_of v) same c.in-Some.ensures in
+    let core = c.in-Some-new_core_start.ensures in
+    let left : Left g.W.Wire.did_send g.W.Wire.did_receive g.C.Clock.did_tell c.args.clock.now c.args.config c.args.wires.items lanes.core lanes.command lanes.links.items lanes.outs.items c.in_ok-new.new.items c.in-Some-new_starts.starts.items rests.core rests.links.items = record {
+      lanes = subst (λ (n : ℕ). AreLanes n lanes.core lanes.command lanes.links.items lanes.outs.items) asked c.in_ok-port.ensures.made.0;
+      links_are = c.in_ok-new.ensures.made ∙ ends;
+      wires_are = c.in_ok-new.ensures.wired;
+      starts_are = c.in-Some-new_starts.ensures.links;
+      hubs_are = c.in-Some-new_starts.ensures.hubs;
+      ran = c.in-Some-run_threads.ensures.links;
+      served = subst (λ (x : SeatView × (CoreEnd × List SendEnd)). CoreLeaves x.0 x.1.0 x.1.1 rests.core) (λ i. ((core.0 ∙ ap first_seat same) i, (core.1 i, core.2 i))) c.in-Some-run_threads.ensures.core;
+      ascending = subst (λ (v : CoreView). IsAscending v.neighbours) same c.into_core-core.ensures.ascending;
+    } in
+    have_ends _ _ _ _ _ _ _ _ _ _ _ _ _ _ left
 
-pub returns-in-None-clause-core : goal.returns-in-None-clause-core
-returns-in-None-clause-core g c =
-    let core = c.in-Some-run_threads.core in
-    let seat = c.in-Some-new_core_start.ensures ∙ ap first_seat c.into_core-core.ensures in
-    let ran : IsCoreRun (first_seat c.args.config) core.seat core.fault = subst (λ (s : SeatView). IsCoreRun s core.seat core.fault) seat c.in-Some-run_threads.ensures.core in
-    let none = no_fault core.fault core.seat.core.neighbours c.as_slice.result.now (sym c.first_fault.ensures ∙ c.in-None.is) in
-    subst (λ (f : Option NodeError). IsServedCore (first_seat c.args.config) f core.seat.core) none.0 ran.0
-
-pub returns-in-None-clause-links : goal.returns-in-None-clause-links
-returns-in-None-clause-links g c =
-    let ends : map link_ended c.in-Some.ends.items ≡ links_of c.args.config =
-    subst (λ (v : CoreView). map link_ended c.in-Some.ends.items ≡ links_of v) c.into_core-core.ensures c.in-Some.ensures in
-    let core = c.in-Some-run_threads.core in
-    let outcomes = c.in-Some-run_threads.outcomes.items in
-    let seat = c.in-Some-new_core_start.ensures ∙ ap first_seat c.into_core-core.ensures in
-    let ran : IsCoreRun (first_seat c.args.config) core.seat core.fault = subst (λ (s : SeatView). IsCoreRun s core.seat core.fault) seat c.in-Some-run_threads.ensures.core in
-    let links : AreLinkRuns (links_of c.args.config) outcomes =
-    subst (λ (l : List LinkName). AreLinkRuns l outcomes) (c.in-Some-new_starts.ensures ∙ c.in_ok-new.ensures.made ∙ ends) c.in-Some-run_threads.ensures.links in
-    let first = first_of c.args.config.neighbours core.seat.core.neighbours c.as_slice.result.now outcomes core.fault _ ran.1 c.as_slice.ensures.value (sym c.first_fault.ensures ∙ c.in-None.is) in
-    faultless c.args.config.me c.args.config.neighbours outcomes links (no_fault core.fault c.args.config.neighbours outcomes first).1
+pub returns : goal.returns
+returns g c =
+    let same = c.into_core-core.ensures.same in
+    let rests = c.in-Some-run_threads.rests in
+    let lanes = c.in_ok-port.field-0 in
+    let asked : length c.neighbours.result.now ≡ length c.args.config.neighbours = ap length c.neighbours.ensures ∙ ap (λ (v : CoreView). length v.neighbours) same in
+    let ends : map link_ended c.in-Some.ends.items ≡ links_of c.args.config = subst (λ (v : CoreView). map link_ended c.in-Some.ends.items ≡ links_of v) same c.in-Some.ensures in
+    let core = c.in-Some-new_core_start.ensures in
+    let left : Left g.W.Wire.did_send g.W.Wire.did_receive g.C.Clock.did_tell c.args.clock.now c.args.config c.args.wires.items lanes.core lanes.command lanes.links.items lanes.outs.items c.in_ok-new.new.items c.in-Some-new_starts.starts.items rests.core rests.links.items = record {
+      lanes = subst (λ (n : ℕ). AreLanes n lanes.core lanes.command lanes.links.items lanes.outs.items) asked c.in_ok-port.ensures.made.0;
+      links_are = c.in_ok-new.ensures.made ∙ ends;
+      wires_are = c.in_ok-new.ensures.wired;
+      starts_are = c.in-Some-new_starts.ensures.links;
+      hubs_are = c.in-Some-new_starts.ensures.hubs;
+      ran = c.in-Some-run_threads.ensures.links;
+      served = subst (λ (x : SeatView × (CoreEnd × List SendEnd)). CoreLeaves x.0 x.1.0 x.1.1 rests.core) (λ i. ((core.0 ∙ ap first_seat same) i, (core.1 i, core.2 i))) c.in-Some-run_threads.ensures.core;
+      ascending = subst (λ (v : CoreView). IsAscending v.neighbours) same c.into_core-core.ensures.ascending;
+    } in
+    let a = answers _ _ _ _ _ _ _ _ _ _ _ _ _ _ left _ _ _ c.in-Some-run_threads.ensures.commands c.what_was_offered_was_sent.ensures c.settled.result c.settled.ensures in
+    record {
+      core = a.core_is_run;
+      links = a.links_ran;
+      fault = a.fault_is_one;
+      cause = a.cause_is;
+      count = always ((0 < length c.args.config.neighbours) × (length c.args.config.neighbours ≤ 32)) (subst (λ (n : ℕ). (0 < n) × (n ≤ 32)) asked (c.in_ok-port.ensures.made.1, c.in_ok-port.ensures.made.2)) c.settled.result;
+      ran = a.ran_is;
+      failed = a.failed_is;
+    }

@@ -5,4 +5,4 @@ use Rattle.tora_script.proofs.rounds.make_passes.Given as goal
 
 abbrev pub invariant-loop : goal.invariant-loop
 invariant-loop g l =
-    world_after_all (g.S.Simulator.world l.sim) (passes (1000 - l.counter) l.nodes l.ends l.parted (g.S.Simulator.world l.sim)) ≡ world_after_all (g.S.Simulator.world l.initial.sim) (passes 1000 l.nodes l.ends l.parted (g.S.Simulator.world l.initial.sim))
+    world_after_all (g.S.Simulator.world l.sim) (passes (1000 - l.counter) l.nodes l.ends l.parted l.moment (g.S.Simulator.world l.sim)) ≡ world_after_all (g.S.Simulator.world l.initial.sim) (passes 1000 l.nodes l.ends l.parted l.moment (g.S.Simulator.world l.initial.sim))

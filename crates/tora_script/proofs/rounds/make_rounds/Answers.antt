@@ -1,16 +1,15 @@
 use Rattle.std.proofs.Common.{◌≡◌, ◌∙◌, sym, suc, ◌+◌, ◌-◌, arith}
-use Rattle.tora_world.specs.World.{world_after_all}
-use Rattle.tora_script.specs.Rounds.{rounds}
+use Rattle.tora_script.specs.Rounds.{rounds, sky_of}
 use Rattle.tora_script.proofs.RoundLaws.{rounds_on, no_rounds}
 use Rattle.tora_script.proofs.rounds.make_rounds.Goals as goal
 
 pub loop-preserved : goal.loop-preserved
 loop-preserved g c =
     let k : c.args.count - c.loop.counter ≡ suc (c.args.count - (c.loop.counter + 1)) = omega (arith, c.loop-test.true) in
-    rounds_on (g.S.Simulator.world c.loop.sim) (g.S.Simulator.world c.round.new.sim) (c.args.count - (c.loop.counter + 1)) c.args.nodes.now c.args.ends.now c.args.parted.now
-    (world_after_all (g.S.Simulator.world c.args.sim.now) (rounds c.args.count c.args.nodes.now c.args.ends.now c.args.parted.now (g.S.Simulator.world c.args.sim.now))) (rw k at c.loop.invariant) c.in_ok-round.ensures
+    rounds_on (sky_of g.S.Simulator.world c.loop.sim c.loop.air) (sky_of g.S.Simulator.world c.make_round.new.sim c.make_round.new.air) (c.args.count - (c.loop.counter + 1)) c.args.nodes.now c.args.ends.now c.args.parted.now c.args.channel
+    (rounds c.args.count c.args.nodes.now c.args.ends.now c.args.parted.now c.args.channel (sky_of g.S.Simulator.world c.args.sim.now c.args.air.now)) (rw k at c.loop.invariant) c.in_ok-make_round.ensures
 
 pub returns : goal.returns
 returns g c =
     let k : c.args.count - c.loop.counter ≡ 0 = omega (arith, c.loop-test.false) in
-    sym (no_rounds (g.S.Simulator.world c.loop.sim) c.args.nodes.now c.args.ends.now c.args.parted.now) ∙ rw k at c.loop.invariant
+    sym (no_rounds (sky_of g.S.Simulator.world c.loop.sim c.loop.air) c.args.nodes.now c.args.ends.now c.args.parted.now c.args.channel) ∙ rw k at c.loop.invariant

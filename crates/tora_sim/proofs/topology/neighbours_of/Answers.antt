@@ -16,10 +16,10 @@ loop-link-preserved c =
     let whole : List ℕ = other_ends c.args.n (links_in (drop c.loop-link.link-index c.args.links.now)) in
     let all : List ℕ = ascending (other_ends c.args.n (links_in c.args.links.now)) in
     elim c.if-link-n.branch [
-      | then-link-n w ↦ (let h = neighbour-put acc new rest whole all (get_or links i (0, 0)).1 (ap (λ v. v.items) w.neighbours-is ∙ w.insert_number.ensures)
+      | then-link-n w ↦ (let h = neighbour-put acc new rest whole all (get_or links i (0, 0)).1 (ap (λ v. v.items) w.neighbours-is ∙ w.insert_number.ensures.items)
           (ends-first c.args.n links i (0, 0) c.loop-link-test.true w.if-link-n.true) c.loop-link.invariant.room c.loop-link.invariant.all in
           record { room = h.0; all = h.1 })
-      | else-link-n+then-link-n-2 w ↦ (let h = neighbour-put acc new rest whole all (get_or links i (0, 0)).0 (ap (λ v. v.items) w.neighbours-is ∙ w.insert_number-then-link-n-2.ensures)
+      | else-link-n+then-link-n-2 w ↦ (let h = neighbour-put acc new rest whole all (get_or links i (0, 0)).0 (ap (λ v. v.items) w.neighbours-is ∙ w.insert_number-then-link-n-2.ensures.items)
           (ends-second c.args.n links i (0, 0) c.loop-link-test.true w.if-link-n.false w.if-link-n-2.true) c.loop-link.invariant.room c.loop-link.invariant.all in
           record { room = h.0; all = h.1 })
       | else-link-n+else-link-n-2 w ↦ (let same = ap (λ v. v.items) w.neighbours-is in

@@ -1,13 +1,11 @@
-use Rattle.std.proofs.Common.{◌∷◌, [], ◌++◌, ap, ◌∙◌}
+use Rattle.std.proofs.Common.{◌∷◌, [], ◌++◌, ap, ◌∙◌, List, ℕ, subst, sym}
 use Rattle.tora_sim.specs.Datagrams.{DatagramList}
-use Rattle.tora_sim.proofs.KeptFrames.{pushed, pushed_kept}
+use Rattle.tora_sim.specs.SentFrames.{sent_frames}
+use Rattle.tora_sim.proofs.SentFrames.{one_more}
 use Rattle.tora_sim.proofs.datagrams.Datagrams.push.Goals as goal
-
-pub invariant_of-self : goal.invariant_of-self
-invariant_of-self c =
-    pushed_kept c.self.inside.packets.items c.keep.new.packets.items c.self.inside.frames.items c.keep.new.frames.items c.args.frame.now c.keep.ensures.packets c.keep.ensures.frames c.self.invariant c.keep.ensures.valid
 
 pub returns : goal.returns
 returns c =
-    pushed c.self.inside.packets.items c.keep.new.packets.items c.self.inside.frames.items c.keep.new.frames.items c.args.frame.now c.keep.ensures.packets c.keep.ensures.frames c.self.invariant
+    ap (sent_frames c.place_of-place.new.frames.items) c.push_reserved.ensures.items
+    ∙ one_more c.self.inside.frames.items c.place_of-place.new.frames.items c.self.inside.places.items c.place_of-place.result c.args.frame.now c.place_of-place.ensures.more c.place_of-place.ensures.is c.self.invariant
     ∙ ap (λ (d : DatagramList). d.items ++ c.args.frame.now ∷ []) c.self.view_is

@@ -1,0 +1,46 @@
+//! A reader that takes the digest of what is read.
+ghost use Rattle.std.specs.Prelude.{◌≡◌};
+
+use sha2::{Digest, Sha256};
+use std::alloc::{AllocError, Global};
+use std::io;
+use std::io::Read;
+
+/// Hands on what a reader gives, and takes its SHA-256.
+#[derive(Drop)]
+pub struct Hashing<R> {
+    pub reader: R,
+    hash: Sha256,
+}
+
+impl<R: Read> Hashing<R> {
+    /// Nothing was read yet.
+    pub fn new(reader: R) -> Hashing<R>
+        ensures { R.remaining result.reader ≡ R.remaining reader }
+    {
+        Hashing {
+            reader,
+            hash: Sha256::new(),
+        }
+    }
+
+    /// The SHA-256 of all that was read, as 64 hexadecimal digits.
+    pub fn digest(self, alloc: Global) -> Result<String, AllocError>
+    where
+        R: Drop,
+    {
+        hex::encode(alloc, self.hash.finalize())
+    }
+}
+
+impl<R: Read> Read for Hashing<R> {
+    ghost remaining = { λ r. R.remaining r.reader };
+
+    fn read(&mut self, buf: &mut [u8]) -> io::Result<usize> {
+        let n = self.reader.read(buf)?;
+        if let Some(given) = buf.get(..n) {
+            self.hash.update(given);
+        }
+        Ok(n)
+    }
+}

@@ -1,0 +1,114 @@
+//! The wires of a node's links.
+ghost use Rattle.std.specs.Prelude.{◌≡◌, IfOk, option_map, is_some};
+ghost use Rattle.tora_key.specs.Hmac.{block_of};
+ghost use Rattle.tora_keyed.specs.Links.{over};
+
+use crate::key_file::key_at;
+use crate::node_command::{Fault, say};
+use log::Log;
+use std::alloc::Global;
+use std::fmt::Display;
+use std::fs::File;
+use std::net::Net;
+use std::rt::Files;
+use std::time::Clock;
+use tora_config::{ConfigError, LinkWay, read_ways};
+use tora_keyed::{AddressWire, Key, LinkWire, NoticedWire};
+use tora_neighbour::UnixClock;
+use tora_simulate::tell_at;
+
+/// How the datagrams of a link go, and its key: there is one just where it has a file with a key.
+#[derive(Drop)]
+pub(crate) struct KeyedWay {
+    way: LinkWay,
+    key: Option<Key>,
+    ghost keyed: { is_some key ≡ is_some way.key_file },
+}
+
+/// The wire of a link of the program.
+pub(crate) type ProgramWire<'a, R, L> = NoticedWire<'a, AddressWire, UnixClock<&'a R>, L>;
+
+/// The key of a link, where it has one.
+fn key_of<R: Files<File = File> + Eprint>(rt: &R, way: &LinkWay) -> Result<Option<Key>, Fault>
+    ensures { IfOk result (λ key. is_some key ≡ is_some way.now.key_file) }
+{
+    match &way.key_file {
+        Some(path) => {
+            let key = key_at(rt, path.as_str())?;
+            Ok(Some(key))
+        }
+        None => Ok(None),
+    }
+}
+
+/// How the datagrams of each link go, by ascending neighbour, from the text of the configuration at a path, and the keys from
+/// their files. What is wrong is said on standard error.
+pub(crate) fn ways_in<R: Files<File = File> + AllocGlobal + Eprint>(
+    rt: &R,
+    path: &str,
+    text: &str,
+) -> Result<Vec<KeyedWay>, Fault> {
+    let ways = match read_ways(rt.alloc(), text) {
+        Ok(ways) => ways,
+        Err(ConfigError::Memory) => return Err(say(rt, Fault::Memory)),
+        Err(error) => {
+            let fault = say(rt, Fault::Config);
+            tell_at(rt, "input: ", path, &error);
+            return Err(fault);
+        }
+    };
+    let mut keyed = Vec::new(rt.alloc());
+    for way in ways {
+        let key = key_of(rt, &way)?;
+        let Ok(()) = keyed.push(KeyedWay { way, key }) else {
+            return Err(say(rt, Fault::Memory));
+        };
+    }
+    keyed.sort_unstable_by_key(|keyed| keyed.way.peer);
+    Ok(keyed)
+}
+
+/// Says on standard error why the socket of a link can't be bound.
+fn tell_socket(rt: &impl Eprint, way: &LinkWay, error: &impl Display) {
+    let (peer, port) = (way.peer, way.local.port());
+    let _ = rt.eprintln(format_args!("tora: socket: port {port} of the link to {peer}: {error}"));
+}
+
+/// Binds the socket of a link, and puts a wire over it, with its key where it has one, which logs to `log`.
+fn wire_of<'a, R: Net + Eprint + Clock, L: Log>(
+    rt: &'a R,
+    log: &'a L,
+    keyed: KeyedWay,
+) -> Result<ProgramWire<'a, R, L>, Fault>
+    ensures { IfOk result (λ wire. wire ≡ over 0 (option_map block_of keyed.key)) }
+{
+    let KeyedWay { way, key } = keyed;
+    match AddressWire::bind(rt, way.local, way.remote) {
+        Ok(wire) => {
+            let wire = LinkWire::over(wire, key);
+            Ok(NoticedWire::new(wire, way.peer, UnixClock::new(rt), log))
+        }
+        Err(error) => {
+            let fault = say(rt, Fault::Socket);
+            tell_socket(rt, &way, &error);
+            Err(fault)
+        }
+    }
+}
+
+/// Binds the socket of each link, in this order, and puts a wire over it.
+pub(crate) fn bind<'a, R: Net + Eprint + Clock, L: Log>(
+    rt: &'a R,
+    log: &'a L,
+    alloc: Global,
+    ways: Vec<KeyedWay>,
+) -> Result<Vec<ProgramWire<'a, R, L>>, Fault> {
+    let mut wires = Vec::new(alloc);
+    for way in ways {
+        let wire = wire_of(rt, log, way)?;
+        let Ok(()) = wires.push(wire) else {
+            return Err(say(rt, Fault::Memory));
+        };
+    }
+    Ok(wires)
+}

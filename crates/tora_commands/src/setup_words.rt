@@ -1,0 +1,101 @@
+//! What a simulation is made with, as words of the command line.
+ghost use Rattle.std.specs.Prelude.{◌≡◌, IfOk, option_map};
+ghost use Rattle.std.specs.Result.{result_ok};
+ghost use Rattle.tora_arq.specs.Settings.{IsTimes};
+ghost use Rattle.tora_commands.specs.SetupWords.{asked_seed, channel_asked, asked_channel, asked_setup};
+
+use crate::times_word::asked_times;
+use tora_channel::{Channel, channel_parts};
+use tora_lines::words;
+use tora_script::Setup;
+
+/// The words behind options of `tora sim`; nothing where the option is not there.
+#[derive(Clone, Copy)]
+pub struct SetupWords<'a> {
+    pub times: Option<&'a str>,
+    pub channel: Option<&'a str>,
+    pub seed: Option<&'a str>,
+    /// Whether `--notice` is there.
+    pub has_notice: bool,
+}
+
+/// Why words are no setup.
+#[derive(Clone, Copy)]
+pub enum SetupFault<'a> {
+    /// The word behind `--times` gives no times.
+    Times,
+    /// The word behind `--seed` is no number.
+    Seed,
+    /// There is a seed and no channel.
+    SeedAlone,
+    /// This is no part of a channel.
+    Part(&'a [u8]),
+}
+
+impl SetupFault<'_> {
+    /// What is said of it.
+    pub fn cause(&self) -> &'static str {
+        match self {
+            SetupFault::Times => {
+                "behind `--times` stand four numbers from 1 on between commas, as in 10,50,5,8"
+            }
+            SetupFault::Seed => "behind `--seed` stands a number below 2^64",
+            SetupFault::SeedAlone => "`--seed` is for a `--channel`",
+            SetupFault::Part(_) => {
+                "no part of a channel: these are loss=SHARE and repeat=SHARE, from 0 to 1 with up to six digits behind the point, and delay=ROUNDS or delay=LEAST-MOST, up to 10000, each once"
+            }
+        }
+    }
+}
+
+/// The seed that a word asks for.
+fn seed(word: Option<&str>) -> Option<u64>
+    ensures { result ≡ asked_seed (option_map (λ w. w.now) word.entry) }
+{
+    match word {
+        None => Some(0),
+        Some(word) => words::number(word.as_bytes()),
+    }
+}
+
+/// The channel that a word and one for its seed ask for.
+#[tactic(auto, unfolding(crate::specs::SetupWords::channel_asked))]
+fn channel_of<'a>(channel: &'a str, seeded: Option<&str>) -> Result<Channel, SetupFault<'a>>
+    ensures { result_ok result ≡ channel_asked channel.now (option_map (λ w. w.now) seeded.entry) }
+{
+    let Some(seed) = seed(seeded) else {
+        return Err(SetupFault::Seed);
+    };
+    match channel_parts(channel.as_bytes()) {
+        Ok(parts) => Ok(parts.channel(seed)),
+        Err(part) => Err(SetupFault::Part(part)),
+    }
+}
+
+/// The channel that words ask for.
+fn channel<'a>(channel: Option<&'a str>, seed: Option<&str>) -> Result<Channel, SetupFault<'a>>
+    ensures { result_ok result ≡ asked_channel (option_map (λ w. w.now) channel.entry) (option_map (λ w. w.now) seed.entry) }
+{
+    match (channel, seed) {
+        (None, None) => Ok(Channel::CLEAR),
+        (None, Some(_)) => Err(SetupFault::SeedAlone),
+        (Some(channel), seed) => channel_of(channel, seed),
+    }
+}
+
+/// What the words ask for, or the first fault: of the times, then of the seed and the channel.
+#[tactic(auto, unfolding(crate::specs::SetupWords::asked_setup))]
+pub fn asked_setup<'a>(words: SetupWords<'a>) -> Result<Setup, SetupFault<'a>>
+    ensures value { result_ok result ≡ asked_setup (option_map (λ w. w.now) words.entry.times) (option_map (λ w. w.now) words.entry.channel) (option_map (λ w. w.now) words.entry.seed) words.entry.has_notice }
+    ensures times { IfOk result (λ s. IsTimes s.times) }
+{
+    let Some(times) = asked_times(words.times) else {
+        return Err(SetupFault::Times);
+    };
+    let channel = channel(words.channel, words.seed)?;
+    Ok(Setup {
+        times,
+        channel,
+        has_notice: words.has_notice,
+    })
+}

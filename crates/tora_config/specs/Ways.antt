@@ -1,0 +1,54 @@
+-- How the datagrams of links go, as a text says.
+use Rattle.std.specs.Prelude.{codes, string_bytes, ℕ, ◌&&◌, Bool, List, [], ◌+◌, length, not, Option, Some, None, option_map, Result, Ok, Err}
+use Rattle.std.specs.Option.{is_some}
+use Rattle.std.specs.declared.net.socket_addr.SocketAddr.{SocketAddr}
+use Rattle.toml.specs.Data.{Data, Members, as_table, as_str, get_member}
+use Rattle.tora_values.specs.Addresses.{is_loopback}
+use Rattle.tora_values.specs.declared.reason.Reason.{Reason}
+use Rattle.tora_values.specs.declared.reason.Reason.TheVariants as Is
+use Rattle.tora_config.specs.declared.fault.Place.TheVariants as At
+use Rattle.tora_config.specs.declared.ways.LinkWay.{LinkWay}
+use Rattle.tora_config.specs.Refusal.{Fault, refused, id_at, end_at, list_at, ok_or, at_place}
+use Rattle.tora_config.specs.Reading.{◌>>=◌, refuse_if, each_from}
+
+pub record WaySaid : Type 0 where
+  pub peer : ℕ
+  pub local : SocketAddr
+  pub remote : SocketAddr
+  pub key_file : Option (List ℕ)
+
+abbrev pub said_way : LinkWay → WaySaid
+said_way way = record { peer = way.peer; local = way.local; remote = way.remote; key_file = option_map string_bytes way.key_file }
+
+-- a text where there is one; none is no fault
+abbrev pub some_text : Result (List ℕ) Reason → Result (Option (List ℕ)) Reason
+some_text (Ok text) = Ok (Some text)
+some_text (Err reason) = Err reason
+
+abbrev pub key_file_at : Option Data → Result (Option (List ℕ)) Reason
+key_file_at None = Ok None
+key_file_at (Some value) = some_text (ok_or Is.NoText (as_str value))
+
+-- whether a link without a key would leave the loopback
+abbrev pub is_open : SocketAddr → SocketAddr → Option (List ℕ) → Bool
+is_open local remote key_file = not (is_some key_file) && not (is_loopback local && is_loopback remote)
+
+-- what the link with the number n says of its datagrams; one that leaves the loopback has a key
+unfoldable pub way_in : ℕ → Data → Result WaySaid Fault
+way_in n value = do
+  table ← at_place (At.Link n) (ok_or Is.NoTable (as_table value))
+  peer ← at_place (At.Peer n) (id_at (get_member (codes "peer") table))
+  local ← at_place (At.Local n) (end_at (get_member (codes "local") table))
+  remote ← at_place (At.Remote n) (end_at (get_member (codes "remote") table))
+  key_file ← at_place (At.KeyFile n) (key_file_at (get_member (codes "key_file") table))
+  _ ← refuse_if (is_open local remote key_file) (refused (At.KeyFile n) Is.Unkeyed)
+  Ok (record { peer = peer; local = local; remote = remote; key_file = key_file })
+
+abbrev pub way_beside : List WaySaid → Data → Result WaySaid Fault
+way_beside before value = way_in (length before + 1) value
+
+-- that of each link, in the order of the text
+unfoldable pub ways_in : Members → Result (List WaySaid) Fault
+ways_in table = do
+  values ← at_place At.Links (list_at (get_member (codes "link") table))
+  each_from way_beside [] values

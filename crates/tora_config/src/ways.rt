@@ -1,0 +1,117 @@
+//! How the datagrams of links go.
+ghost use Rattle.std.specs.Prelude.{codes, string_bytes, ◌≡◌, ◌+◌, length, map, Some, None, IfOk, Option, option_map};
+ghost use Rattle.toml.specs.Data.{Members, get_member};
+ghost use Rattle.toml.specs.Parse.{parse_document};
+ghost use Rattle.toml.specs.View.{view, table_view};
+ghost use Rattle.tora_config.specs.Reading.{Gives, IsNoToml};
+ghost use Rattle.tora_config.specs.Refusal.{at_place};
+ghost use Rattle.tora_config.specs.Ways.{said_way, key_file_at, way_in, way_beside, ways_in, is_open};
+
+use crate::fault::{ConfigError, Place};
+use crate::values::{end_at, id_at, list_at, value_at};
+use std::alloc::Global;
+use std::net::SocketAddr;
+use toml::{Table, Value};
+use tora_height::Id;
+use tora_values::{Reason, is_loopback};
+
+/// How the datagrams of a link go.
+#[derive(Debug, Drop)]
+pub struct LinkWay {
+    /// The neighbour, not 0.
+    pub peer: Id,
+    /// The own end; its port is not 0.
+    pub local: SocketAddr,
+    /// The neighbour's end; its port is not 0.
+    pub remote: SocketAddr,
+    /// The path of the file with the link's key, where it has one. Each link that leaves the loopback has one.
+    pub key_file: Option<String>,
+}
+
+fn key_file_at(alloc: Global, table: &Table, n: usize) -> Result<Option<String>, ConfigError>
+    ensures { Gives (option_map string_bytes) result (at_place (Place.KeyFile n) (key_file_at (get_member (codes "key_file") (table_view table.now)))) }
+{
+    let place = Place::KeyFile(n);
+    let Ok(value) = value_at(table, "key_file", place) else {
+        return Ok(None);
+    };
+    match value.as_str() {
+        Some(path) => Ok(Some(String::from_str(alloc, path)?)),
+        None => Err(ConfigError::Value(place, Reason::NoText)),
+    }
+}
+
+// Whether a link without a key would leave the loopback.
+fn is_open(local: &SocketAddr, remote: &SocketAddr, key_file: &Option<String>) -> bool
+    ensures { result ≡ is_open local.now remote.now (option_map string_bytes key_file.now) }
+{
+    key_file.is_none() && !(is_loopback(local) && is_loopback(remote))
+}
+
+// How the datagrams of the link with the number n go, from 1 on.
+#[tactic(auto, unfolding(crate::specs::Ways::way_in))]
+fn way_of(alloc: Global, n: usize, value: &Value) -> Result<LinkWay, ConfigError>
+    ensures { Gives said_way result (way_in n (view value.now)) }
+{
+    let Some(table) = value.as_table() else {
+        return Err(ConfigError::Value(Place::Link(n), Reason::NoTable));
+    };
+    let peer = id_at(table, "peer", Place::Peer(n))?;
+    let local = end_at(table, "local", Place::Local(n))?;
+    let remote = end_at(table, "remote", Place::Remote(n))?;
+    let key_file = key_file_at(alloc, table, n)?;
+    if is_open(&local, &remote, &key_file) {
+        return Err(ConfigError::Value(Place::KeyFile(n), Reason::Unkeyed));
+    }
+    Ok(LinkWay {
+        peer,
+        local,
+        remote,
+        key_file,
+    })
+}
+
+// That of a link behind those before it.
+fn way_beside(alloc: Global, before: &[LinkWay], value: &Value) -> Result<LinkWay, ConfigError>
+    ensures { Gives said_way result (way_beside (map said_way before.now) (view value.now)) }
+{
+    way_of(alloc, before.len() + 1, value)
+}
+
+#[tactic(auto, unfolding(crate::specs::Ways::ways_in))]
+fn ways_of(alloc: Global, table: &Table) -> Result<Vec<LinkWay>, ConfigError>
+    ensures { Gives (λ ways. map said_way ways.items) result (ways_in (table_view table.now)) }
+{
+    let mut ways = Vec::new(alloc);
+    let values = list_at(table, "link", Place::Links)?;
+    for value in values {
+        let way = way_beside(alloc, ways.as_slice(), value)?;
+        ways.push(way)?;
+    }
+    Ok(ways)
+}
+
+/// Reads how the datagrams of each link go, in the order of the text, from the text of a configuration.
+///
+/// `local` and `remote` are ports of the loopback of IPv4, 127.0.0.1, or texts of addresses: `10.0.0.1:7001`, `[::1]:7001`.
+/// `key_file` is the path of the file with the link's key. What else a configuration needs `read_config` says.
+///
+/// # Errors
+/// The first of these: `Syntax` where the text is no TOML, and then of each link in turn what is wrong at `peer`, `local`, `remote`
+/// and `key_file`, and then that it has no `key_file` though an end of it is none of the loopback (`Unkeyed`). `Memory` may come at
+/// any point.
+pub fn read_ways(alloc: Global, text: &str) -> Result<Vec<LinkWay>, ConfigError>
+    ensures exact { (table : Members) → parse_document text.now ≡ Some table → Gives (λ ways. map said_way ways.items) result (ways_in table) }
+    ensures syntax { parse_document text.now ≡ None → IsNoToml result }
+{
+    let table = match toml::table_from_str(alloc, text) {
+        Ok(table) => table,
+        Err(error) => {
+            if error.is_memory() {
+                return Err(ConfigError::Memory);
+            }
+            return Err(ConfigError::Syntax(error));
+        }
+    };
+    ways_of(alloc, &table)
+}

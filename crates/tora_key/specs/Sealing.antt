@@ -1,0 +1,28 @@
+-- Messages with tags.
+use Rattle.std.specs.Prelude.{ℕ, ◌-◌, Bool, ◌&&◌, List, [], ◌∷◌, ◌++◌, length, take, drop, Option, Some, None, nat_le, bytes_eq, if◌then◌else◌}
+use Rattle.tora_key.specs.Hmac.{tag_of}
+
+-- a message with its tag, under the block of a key
+unfoldable pub sealed : List ℕ → List ℕ → List ℕ
+sealed key message = message ++ tag_of key message
+
+-- all but the last 16 bytes, and these
+abbrev pub front_of : List ℕ → List ℕ
+front_of bytes = take (length bytes - 16) bytes
+
+abbrev pub last_of : List ℕ → List ℕ
+last_of bytes = drop (length bytes - 16) bytes
+
+-- the last 16 bytes are the tag of the rest
+unfoldable pub is_authentic : List ℕ → List ℕ → Bool
+is_authentic key bytes = nat_le 16 (length bytes) && bytes_eq (last_of bytes) (tag_of key (front_of bytes))
+
+-- the message of authentic bytes, without its tag
+abbrev pub opened : List ℕ → List ℕ → Option (List ℕ)
+opened key bytes = if is_authentic key bytes then Some (front_of bytes) else None
+
+-- the first list is the second one without some of its items
+pub data IsPart {A : Type 0} : List A → List A → Type 0 where
+  part_end : IsPart [] []
+  part_kept : {x : A} {xs ys : List A} → IsPart xs ys → IsPart (x ∷ xs) (x ∷ ys)
+  part_left_out : {y : A} {xs ys : List A} → IsPart xs ys → IsPart xs (y ∷ ys)

@@ -1,0 +1,37 @@
+//! Files with keys.
+ghost use Rattle.std.specs.Prelude.{◌≡◌, length, Some, None, MatchResult};
+ghost use Rattle.hex.specs.Hex.{decode_sized};
+ghost use Rattle.tora_key.specs.Hmac.{block_of, padded};
+ghost use Rattle.tora_key.specs.declared.key.Key.{Key};
+ghost use Rattle.tora_keyed.specs.KeyFile.{digits_in};
+
+use tora_key::Key;
+
+/// The bytes of a key.
+pub const KEY: usize = 32;
+
+/// The greatest number of bytes that a file with a key has: two digits a byte, and a line feed.
+pub const LONGEST_KEY_FILE: usize = 2 * KEY + 1;
+
+// All but a line feed at the end.
+fn digits_in(bytes: &[u8]) -> &[u8]
+    ensures { result.now ≡ digits_in bytes.now }
+{
+    let count = bytes.len();
+    if count > 0 && bytes[count - 1] == b'\n' {
+        &bytes[..count - 1]
+    } else {
+        bytes
+    }
+}
+
+/// The key that the bytes of a file say: 64 hexadecimal digits, and perhaps a line feed. `None` where they are no such.
+pub fn key_in(bytes: &[u8]) -> Option<Key>
+    ensures { MatchResult (decode_sized (digits_in bytes.now) 32) (λ key. (made : Key) × (result ≡ Some made) × (block_of made ≡ padded key)) (λ _. result ≡ None) }
+{
+    let mut key = [0; KEY];
+    match hex::decode_to_slice(digits_in(bytes), &mut key) {
+        Ok(()) => Some(Key::new(&key)),
+        Err(_) => None,
+    }
+}

@@ -1,0 +1,25 @@
+-- What is settled once the threads of a node have ended.
+use Rattle.std.specs.Prelude.{◌≡◌, ◌⊎◌, List, ◌++◌, map, None, Some, Result, Ok, Err}
+use Rattle.tora_lane.specs.LaneRule.{items_of}
+use Rattle.tora_lane.specs.Ports.{InEnd}
+use Rattle.tora_neighbour.specs.declared.fault.NodeError.{NodeError}
+use Rattle.tora_neighbour.specs.declared.fault.NodeError.TheVariants as Fault
+use Rattle.tora_seat.specs.declared.Item.{Item}
+use Rattle.tora_node.specs.declared.core_task.CoreRest.{CoreRest}
+use Rattle.tora_node.specs.declared.link_task.LinkRest.{LinkRest}
+use Rattle.tora_node.specs.NodeRuns.{EndedView, first_fault}
+use Rattle.tora_node.specs.Threads.{Each, IsSettled, outcome_of}
+
+-- the lanes of each link, and the seat of the commands
+abbrev pub AreSettled : CoreRest → List LinkRest → InEnd → Type 0
+AreSettled core links command =
+    Each (IsSettled core.port.taken) links core.outs.ends.items × (left : List Item) × (items_of command.seat core.port.taken ++ left ≡ command.put)
+
+-- all are settled, and the first fault is answered; or memory is gone
+abbrev pub SettlesTo : CoreRest → List LinkRest → InEnd → Result EndedView NodeError → Type 0
+SettlesTo core links command (Ok ended) =
+    AreSettled core links command
+    × (first_fault core.fault core.seat.core.neighbours (map outcome_of links) ≡ None)
+    × (ended ≡ record { core = core.seat.core; tallies = map (λ o. o.tally) (map outcome_of links); taken = core.port.taken; gone = core.port.gone })
+SettlesTo core links command (Err e) =
+    (e ≡ Fault.Memory) ⊎ (AreSettled core links command × (first_fault core.fault core.seat.core.neighbours (map outcome_of links) ≡ Some e))

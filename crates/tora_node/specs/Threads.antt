@@ -1,0 +1,101 @@
+-- What the threads of a node leave.
+use Rattle.std.specs.Prelude.{◌≡◌, ℕ, List, [], ◌∷◌, ◌++◌, map, Option, Result}
+use Rattle.std.specs.declared.thread.PromisedHandle.{PromisedHandle}
+use Rattle.tora_core.specs.CoreRun.{core_after_all}
+use Rattle.tora_lane.specs.LaneRule.{items_of}
+use Rattle.tora_lane.specs.Offering.{DidOffer}
+use Rattle.tora_lane.specs.Out.{SendEnd, ReceiveEnd}
+use Rattle.tora_lane.specs.Ports.{InEnd, CoreEnd, Lane}
+use Rattle.tora_life.specs.declared.disk.Disk as Disk
+use Rattle.tora_neighbour.specs.LaneHub.{IsSamePort}
+use Rattle.tora_neighbour.specs.Puts.{put_in}
+use Rattle.tora_neighbour.specs.Traffic.{cargoes_taken, entries_put}
+use Rattle.tora_neighbour.specs.declared.lane_hub.LaneHub.{LaneHub}
+use Rattle.tora_neighbour.specs.declared.wire.Wire as Wire
+use Rattle.tora_neighbour.specs.declared.wire.WireError.{WireError}
+use Rattle.tora_seat.specs.Offers.{AreOffered}
+use Rattle.tora_seat.specs.Rows.{SeatView, state_of}
+use Rattle.tora_seat.specs.declared.Cargo.{Cargo}
+use Rattle.tora_seat.specs.declared.Item.{Item}
+use Rattle.tora_node.specs.declared.core_task.CoreRest.{CoreRest}
+use Rattle.tora_node.specs.declared.link_task.LinkRest.{LinkRest}
+use Rattle.tora_node.specs.declared.link_task.Outcome.{Outcome}
+use Rattle.tora_node.specs.declared.start.NewLink.{NewLink}
+use Rattle.tora_node.specs.declared.start.Start.{Start}
+use Rattle.tora_node.specs.declared.task.Does.{Does}
+use Rattle.tora_node.specs.CoreRuns.{ServedItem, AreServed, items_served, offers_made, inputs_stepped, EndsSo}
+use Rattle.tora_node.specs.LinkRuns.{LinkName, IsLinkRun, link_made}
+use Rattle.tora_node.specs.NodeRuns.{IsCoreFault}
+use Rattle.tora_node.specs.WireCalls.{HasCalled}
+
+-- they are as many, and at each place it holds of both
+abbrev pub Each : {A B : Type 0} → (A → B → Type 0) → List A → List B → Type 0
+Each P [] [] = Unit {0}
+Each P [] (y ∷ ys) = ⊥
+Each P (x ∷ xs) [] = ⊥
+Each P (x ∷ xs) (y ∷ ys) = P x y × Each P xs ys
+
+-- the work of the thread of a handle
+abbrev pub begun_by : {L T : Type 0} → PromisedHandle L (Does T) → T
+begun_by handle = handle.promise.0.value
+
+-- ---- the thread of a link
+
+-- its link, its wire and its clock
+pub record LinkStart (W C : Type 0) : Type 0 where
+  pub link : LinkName
+  pub wire : W
+  pub clock : C
+
+-- the two ends of the lanes of a link, as its hub
+abbrev pub hub_of : InEnd × ReceiveEnd → LaneHub
+hub_of ends = record { port = ends.0; outs = ends.1 }
+
+module _ {D W C : Type 0} {disk : Disk.Ghosts D} {wire : Wire.Ghosts W} where
+  abbrev pub link_to_start : C → NewLink D W disk wire → LinkStart W C
+  link_to_start clock new = record { link = link_made new; wire = new.link.wire; clock = clock }
+
+  abbrev pub started : Start D W C disk wire → LinkStart W C
+  started start = record { link = link_made start.new; wire = start.new.link.wire; clock = start.clock.now }
+
+  abbrev pub hub_started : Start D W C disk wire → LaneHub
+  hub_started start = start.hub
+
+-- It has run this link with this wire, at ticks that the clock told. What it has put and taken is what its turns did, by the same
+-- port and out of the same lane
+pub record LinkLeaves {W : Type 0} (send : W → List ℕ → Result (Unit {0}) WireError → W → Type 0) (receive : W → Result (Option ℕ) WireError → List ℕ → W → Type 0) (told : ℕ → Type 0) (link : LinkName) (wire : W) (hub : LaneHub) (rest : LinkRest) : Type 0 where
+  pub run : IsLinkRun link.me link.peer rest.outcome.fault rest.outcome.tally
+  pub called : HasCalled send receive told wire run.turns run.last run.ending
+  pub puts : map put_in rest.hub.port.put ≡ map put_in hub.port.put ++ entries_put (run.turns ++ run.last ∷ [])
+  pub takes : rest.hub.outs.received ≡ hub.outs.received ++ cargoes_taken (run.turns ++ run.last ∷ [])
+  pub port : IsSamePort hub.port rest.hub.port
+  pub ring : rest.hub.outs.ring ≡ hub.outs.ring
+
+-- ---- the core's thread
+
+-- It has served the items that it took, and its cargoes were offered to these lanes
+pub record CoreLeaves (first : SeatView) (port : CoreEnd) (outs : List SendEnd) (rest : CoreRest) : Type 0 where
+  pub xs : List ServedItem
+  pub taken : rest.port.taken ≡ port.taken ++ items_served xs
+  pub lane : rest.port.lane ≡ port.lane
+  pub served : AreServed first.core.neighbours (state_of first) xs (state_of rest.seat)
+  pub offered : AreOffered DidOffer first.core.neighbours outs (offers_made xs) rest.outs.ends.items
+  pub core_is : rest.seat.core ≡ core_after_all first.core (inputs_stepped first.core.neighbours (state_of first) xs)
+  pub ends : EndsSo rest.fault xs rest.port.gone
+  pub neighbours : rest.seat.core.neighbours ≡ first.core.neighbours
+  pub fault : IsCoreFault rest.fault
+
+-- ---- what is left in the lanes
+
+abbrev pub outcome_of : LinkRest → Outcome
+outcome_of rest = rest.outcome
+
+-- the ends that a link's thread leaves belong to the lane into the core and to this lane
+abbrev pub HasEnds : Lane → LinkRest → SendEnd → Type 0
+HasEnds lane rest out = (rest.hub.port.lane ≡ lane) × (out.ring ≡ rest.hub.outs.ring)
+
+-- what was taken of its seat and then some items is what it put; and what it took and then some cargoes is what was sent to it
+abbrev pub IsSettled : List Item → LinkRest → SendEnd → Type 0
+IsSettled taken rest out =
+    (left : List Item) × (items_of rest.hub.port.seat taken ++ left ≡ rest.hub.port.put)
+    × (waiting : List Cargo) × (rest.hub.outs.received ++ waiting ≡ out.sent)

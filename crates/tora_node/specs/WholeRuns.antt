@@ -1,0 +1,73 @@
+-- What a node did, from its start until all of its threads had ended.
+use Rattle.std.specs.Prelude.{◌≡◌, ◌⊎◌, ℕ, Bool, List, [], ◌∷◌, ◌++◌, length, map, slice_get, Option, Some, Result}
+use Rattle.std.specs.Io.KnownBytes.{Consumes}
+use Rattle.tora_core.specs.CoreRun.{CoreView, core_after_all}
+use Rattle.tora_lane.specs.LaneRule.{items_of}
+use Rattle.tora_neighbour.specs.Puts.{put_in}
+use Rattle.tora_neighbour.specs.Traffic.{cargoes_taken, entries_put}
+use Rattle.tora_neighbour.specs.declared.fault.NodeError.{NodeError}
+use Rattle.tora_neighbour.specs.declared.tally.Tally.{Tally}
+use Rattle.tora_neighbour.specs.declared.wire.WireError.{WireError}
+use Rattle.tora_seat.specs.Rows.{state_of, first_seat}
+use Rattle.tora_seat.specs.Serving.{SeatState, put_to}
+use Rattle.tora_seat.specs.declared.Cargo.{Cargo}
+use Rattle.tora_seat.specs.declared.Item.{Item}
+use Rattle.tora_node.specs.declared.commands.CommandsEnd.{CommandsEnd}
+use Rattle.tora_node.specs.declared.link_task.Outcome.{Outcome}
+use Rattle.tora_node.specs.CommandRuns.{AreTold, EndsAt}
+use Rattle.tora_node.specs.CoreRuns.{ServedItem, AreServed, items_served, offers_made, inputs_stepped, EndsSo}
+use Rattle.tora_node.specs.LinkRuns.{IsLinkRun, IsStartFault}
+use Rattle.tora_node.specs.NodeRuns.{first_fault}
+use Rattle.tora_node.specs.WireCalls.{HasCalled}
+
+-- The thread of the link at a place has run it. The items of its seat that the core served, and then those left in the lane, are what its
+-- turns put. The cargoes that its turns took, and then those left in its lane, are what serving put for it
+pub record LinkExchanged (me : ℕ) (xs : List ServedItem) (place peer : ℕ) (outcome : Outcome) : Type 0 where
+  pub run : IsLinkRun me peer outcome.fault outcome.tally
+  pub left : List Item
+  pub items : map put_in (items_of place (items_served xs) ++ left) ≡ entries_put (run.turns ++ run.last ∷ [])
+  pub waiting : List Cargo
+  pub cargoes : cargoes_taken (run.turns ++ run.last ∷ []) ++ waiting ≡ put_to peer (offers_made xs)
+
+-- and it has run it with this wire, at ticks that the clock told
+pub record LinkRan {W : Type 0} (send : W → List ℕ → Result (Unit {0}) WireError → W → Type 0) (receive : W → Result (Option ℕ) WireError → List ℕ → W → Type 0) (told : ℕ → Type 0) (me : ℕ) (xs : List ServedItem) (place peer : ℕ) (wire : W) (outcome : Outcome) : Type 0 where
+  pub exchanged : LinkExchanged me xs place peer outcome
+  pub called : HasCalled send receive told wire exchanged.run.turns exchanged.run.last exchanged.run.ending
+
+-- Some bytes were read, and the items of the last seat that the core served, and then those left in the lane, are what they ask
+pub record CommandsRan (told : ℕ → Type 0) (input : Option (List ℕ)) (seat : ℕ) (served : List Item) : Type 0 where
+  pub given : List ℕ
+  pub rest : Option (List ℕ)
+  pub put : List Item
+  pub left : List Item
+  pub end : CommandsEnd
+  pub gone : Bool
+  pub read : Consumes input rest given
+  pub ticks : AreTold told put
+  pub ends : EndsAt end given put rest gone
+  pub items : items_of seat served ++ left ≡ put
+
+-- The threads of a node that began with this core, these wires and this input. Items were served one after another, the core is the run
+-- of the inputs that serving made of them, and each link and the commands had a thread that put them. The first of their faults is the answer
+pub record NodeRan {W : Type 0} (send : W → List ℕ → Result (Unit {0}) WireError → W → Type 0) (receive : W → Result (Option ℕ) WireError → List ℕ → W → Type 0) (told : ℕ → Type 0) (first : CoreView) (wires : List W) (input : Option (List ℕ))
+    (answer : Option NodeError) (core : CoreView) (tallies : List Tally) (taken : List Item) (gone : Bool) : Type 0 where
+  pub xs : List ServedItem
+  pub after : SeatState
+  pub fault : Option NodeError
+  pub outcomes : List Outcome
+  pub taken_is : taken ≡ items_served xs
+  pub served : AreServed first.neighbours (state_of (first_seat first)) xs after
+  pub core_is : core ≡ core_after_all first (inputs_stepped first.neighbours (state_of (first_seat first)) xs)
+  pub ends : EndsSo fault xs gone
+  pub count : length outcomes ≡ length first.neighbours
+  pub links : (place peer : ℕ) (wire : W) (outcome : Outcome) → slice_get first.neighbours place ≡ Some peer → slice_get wires place ≡ Some wire → slice_get outcomes place ≡ Some outcome
+      → LinkRan send receive told first.me xs place peer wire outcome
+  pub commands : CommandsRan told input (length first.neighbours) taken
+  pub answer_is : first_fault fault first.neighbours outcomes ≡ answer
+  pub tallies_are : tallies ≡ map (λ o. o.tally) outcomes
+
+-- a node that ends with a fault: one of its start, or the first one of its threads
+abbrev pub EndsWithFault : {W : Type 0} → (W → List ℕ → Result (Unit {0}) WireError → W → Type 0) → (W → Result (Option ℕ) WireError → List ℕ → W → Type 0) → (ℕ → Type 0) → CoreView → List W → Option (List ℕ) → NodeError → Type 0
+EndsWithFault send receive told first wires input e =
+    IsStartFault first e
+    ⊎ ((core : CoreView) × (tallies : List Tally) × (taken : List Item) × (gone : Bool) × NodeRan send receive told first wires input (Some e) core tallies taken gone)

@@ -1,0 +1,23 @@
+//! The work of a thread.
+use log::Log;
+use std::snapshot::Snapshot;
+use std::sync::Wait;
+use std::thread::Promise;
+
+/// The work of a thread.
+pub(crate) trait Task<O> {
+    /// What it leaves, by what it begins with.
+    ghost leaves: { Self → O → Type 0 };
+
+    /// Does it.
+    fn run<R: Wait + Log>(self, rt: &R) -> O
+        ensures { leaves self result };
+}
+
+/// That a thread does this work.
+#[derive(Drop)]
+pub(crate) struct Does<T>(pub(crate) Snapshot<T>);
+
+impl<O, T: Task<O>> Promise<O> for Does<T> {
+    ghost kept_by = { λ p o. T.leaves p.0.value o };
+}

@@ -1,0 +1,73 @@
+-- What a channel makes of the datagrams of rounds: which come at once, and which in later rounds.
+use Rattle.std.specs.Prelude.{◌≡◌, ℕ, zero, suc, ◌+◌, ◌-◌, ◌%◌, ◌^◌, ◌==◌, ◌&&◌, nat_lt, if◌then◌else◌, List, [], ◌∷◌, ◌++◌, length, map, filter, Option, Some, None}
+use Rattle.tora_frame.specs.FrameParts.{FrameParts}
+use Rattle.tora_channel.specs.declared.channel.Channel.{Channel}
+use Rattle.tora_channel.specs.declared.channel.Copies.{Copies}
+use Rattle.tora_channel.specs.Channel.{copies_of}
+use Rattle.tora_world.specs.World.{World, datagram}
+use Rattle.tora_script.specs.Parted.{is_parted}
+use Rattle.tora_script.specs.declared.air.Air.{Air}
+use Rattle.tora_script.specs.declared.air.Moment.{Moment}
+
+-- how many rounds there were, and the datagrams that come in later ones: in how many rounds, and which one
+pub record AirView : Type 0 where
+  pub round : ℕ
+  pub later : List (ℕ × ℕ)
+
+abbrev pub air_view : Air → AirView
+air_view air = record { round = air.round; later = air.later.items }
+
+abbrev pub first_air : AirView
+first_air = record { round = 0; later = [] }
+
+-- 1 where a datagram went this way
+abbrev pub goes : ℕ × ℕ → Option FrameParts → ℕ
+goes way None = 0
+goes way (Some f) = if (f.header.sender == way.0) && (f.header.receiver == way.1) then 1 else 0
+
+-- how many went this way, of so many behind the first ones
+unfoldable pub gone : World → ℕ × ℕ → ℕ → ℕ → ℕ
+gone w way first zero = 0
+gone w way first (suc count) = gone w way first count + goes way (datagram w (first + count + 1))
+
+-- what becomes of datagram i, which goes this way: its round is that of the moment, and those before it went since the round began
+abbrev pub copies_in : Moment → ℕ → ℕ × ℕ → World → Copies
+copies_in m i way w = copies_of m.channel (record { round = m.round; sender = way.0; receiver = way.1; before = gone w way m.start (i - 1 - m.start) })
+
+-- ---- at once
+
+abbrev pub is_now : Option ℕ → ℕ
+is_now None = 0
+is_now (Some zero) = 1
+is_now (Some (suc d)) = 0
+
+-- how often it comes at once
+abbrev pub at_once : Copies → ℕ
+at_once c = is_now c.first + is_now c.second
+
+-- ---- later
+
+abbrev pub later_copy : ℕ → Option ℕ → List (ℕ × ℕ)
+later_copy i None = []
+later_copy i (Some zero) = []
+later_copy i (Some (suc d)) = (suc d, i) ∷ []
+
+abbrev pub later_copies : ℕ → Copies → List (ℕ × ℕ)
+later_copies i c = later_copy i c.first ++ later_copy i c.second
+
+abbrev pub put_off_of : List (ℕ × ℕ) → Moment → ℕ → World → Option FrameParts → List (ℕ × ℕ)
+put_off_of parted m i w None = []
+put_off_of parted m i w (Some f) = if is_parted parted f.header.sender f.header.receiver then [] else later_copies i (copies_in m i (f.header.sender, f.header.receiver) w)
+
+-- what is put off, of so many datagrams since the round began
+unfoldable pub put_off : List (ℕ × ℕ) → Moment → ℕ → World → List (ℕ × ℕ)
+put_off parted m zero w = []
+put_off parted m (suc count) w = put_off parted m count w ++ put_off_of parted m (m.start + count + 1) w (datagram w (m.start + count + 1))
+
+-- what comes still later than in the next round, seen from there
+abbrev pub still_later : List (ℕ × ℕ) → List (ℕ × ℕ)
+still_later later = map (λ p. (p.0 - 1, p.1)) (filter (λ p. nat_lt 1 p.0) later)
+
+-- the air behind a round that led to a world
+abbrev pub after_air : List (ℕ × ℕ) → Moment → AirView → World → AirView
+after_air parted m air w = record { round = (air.round + 1) % 2 ^ 64; later = still_later air.later ++ put_off parted m (length w.datagrams - m.start) w }

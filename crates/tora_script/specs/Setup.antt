@@ -1,0 +1,9 @@
+-- What a simulation is made with.
+use Rattle.std.specs.Prelude.{false}
+use Rattle.tora_arq.specs.declared.Times.{Times}
+use Rattle.tora_channel.specs.Channel.{clear}
+use Rattle.tora_script.specs.declared.setup.Setup.{Setup}
+
+-- these times of each link end, and a channel over which every datagram comes at once, and once; parted links are not noticed
+abbrev pub plain : Times → Setup
+plain times = record { times = times; channel = clear; has_notice = false }

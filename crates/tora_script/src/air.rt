@@ -1,0 +1,189 @@
+//! What rounds have in the air.
+ghost use Rattle.std.specs.Prelude.{◌≡◌, ◌+◌, ◌-◌, ◌++◌, ◌<◌, Option, length, option_map, IfOk, OnOk};
+ghost use Rattle.tora_frame.specs.FrameParts.{FrameParts};
+ghost use Rattle.tora_world.specs.World.{datagram};
+ghost use Rattle.tora_script.specs.Air.{goes, gone, copies_in, at_once, is_now, later_copy, later_copies, put_off_of, put_off, still_later, first_air, after_air, air_view};
+
+use crate::parted::is_parted;
+use crate::simulator::Simulator;
+use std::alloc::{AllocError, Global};
+use tora_channel::{Channel, Copies, Place};
+use tora_height::Id;
+
+/// How many rounds there were, and the datagrams that come in later ones.
+#[derive(Drop)]
+pub struct Air {
+    /// How many rounds there were; behind 2^64 - 1 comes 0.
+    pub round: u64,
+    /// In how many rounds a datagram comes, from 1, and its number.
+    pub later: Vec<(u64, u64)>,
+}
+
+impl Air {
+    /// Before the first round.
+    pub fn new(alloc: Global) -> Air
+        ensures { air_view result ≡ first_air }
+    {
+        Air {
+            round: 0,
+            later: Vec::new(alloc),
+        }
+    }
+}
+
+/// A round: its channel, how many rounds were before it, and how many datagrams.
+#[derive(Clone, Copy, Debug, PartialEq, Eq)]
+pub struct Moment {
+    pub channel: Channel,
+    pub round: u64,
+    pub start: u64,
+}
+
+/// 1 where a datagram went this way, and else 0.
+fn goes(way: (Id, Id), datagram: Option<(Id, Id)>) -> u64
+    ensures bound { result < 2 }
+    ensures value { (f : Option FrameParts) → datagram ≡ option_map (λ f. (f.header.sender, f.header.receiver)) f → result ≡ goes way f }
+{
+    let Some((sender, receiver)) = datagram else {
+        return 0;
+    };
+    if sender == way.0 && receiver == way.1 {
+        1
+    } else {
+        0
+    }
+}
+
+/// How many datagrams went this way, behind the first ones and up to the end.
+#[tactic(auto, unfolding(crate::specs::Air::gone))]
+fn gone<S: Simulator>(sim: &S, way: (Id, Id), first: u64, end: u64) -> u64
+    ensures { result ≡ gone (S.world sim.now) way first (end - first) }
+{
+    let mut gone = 0u64;
+    for i in first..end {
+        gone += goes(way, sim.datagram(i + 1));
+    }
+    gone
+}
+
+/// What becomes of a datagram that goes this way.
+pub fn copies<S: Simulator>(sim: &S, moment: Moment, i: u64, way: (Id, Id)) -> Copies
+    ensures { result ≡ copies_in moment i way (S.world sim.now) }
+{
+    if moment.channel.is_clear() {
+        return Copies {
+            first: Some(0),
+            second: None,
+        };
+    }
+    let before = gone(sim, way, moment.start, i.saturating_sub(1));
+    let place = Place {
+        round: moment.round,
+        sender: way.0,
+        receiver: way.1,
+        before,
+    };
+    moment.channel.copies(place)
+}
+
+fn is_now(delay: Option<u64>) -> u64
+    ensures value { result ≡ is_now delay }
+    ensures bound { result < 2 }
+{
+    match delay {
+        Some(0) => 1,
+        Some(_) => 0,
+        None => 0,
+    }
+}
+
+/// How often a datagram comes at once.
+pub fn at_once(copies: Copies) -> u64
+    ensures { result ≡ at_once copies }
+{
+    is_now(copies.first) + is_now(copies.second)
+}
+
+impl Air {
+    /// Notes a copy that comes in a later round.
+    fn note(&mut self, i: u64, delay: Option<u64>) -> Result<(), AllocError>
+        ensures later { OnOk result (self.new.later.items ≡ self.old.later.items ++ later_copy i delay) }
+        ensures round { self.new.round ≡ self.old.round }
+    {
+        match delay {
+            None => Ok(()),
+            Some(0) => Ok(()),
+            Some(rounds) => {
+                self.later.push((rounds, i))?;
+                Ok(())
+            }
+        }
+    }
+
+    /// Notes the copies of a datagram that come in later rounds, unless its nodes are parted.
+    fn put_off_one<S: Simulator>(
+        &mut self,
+        sim: &S,
+        parted: &[(Id, Id)],
+        moment: Moment,
+        i: u64,
+    ) -> Result<(), AllocError>
+        ensures later { OnOk result (self.new.later.items ≡ self.old.later.items ++ put_off_of parted.now moment i (S.world sim.now) (datagram (S.world sim.now) i)) }
+        ensures round { self.new.round ≡ self.old.round }
+    {
+        let Some(way) = sim.datagram(i) else {
+            return Ok(());
+        };
+        if is_parted(parted, way.0, way.1) {
+            return Ok(());
+        }
+        let copies = copies(sim, moment, i, way);
+        self.note(i, copies.first)?;
+        self.note(i, copies.second)
+    }
+
+    /// Notes what comes in later rounds, of all datagrams since the round began.
+    #[tactic(auto, unfolding(crate::specs::Air::put_off))]
+    fn put_off<S: Simulator>(
+        &mut self,
+        sim: &S,
+        parted: &[(Id, Id)],
+        moment: Moment,
+    ) -> Result<(), AllocError>
+        ensures later { OnOk result (self.new.later.items ≡ self.old.later.items ++ put_off parted.now moment (length (S.world sim.now).datagrams - moment.start) (S.world sim.now)) }
+        ensures round { self.new.round ≡ self.old.round }
+    {
+        for i in moment.start..sim.datagrams() {
+            self.put_off_one(sim, parted, moment, i + 1)?;
+        }
+        Ok(())
+    }
+
+    /// Keeps what comes still later than in the next round.
+    fn pass_on(&mut self) -> Result<(), AllocError>
+        ensures later { OnOk result (self.new.later.items ≡ still_later self.old.later.items) }
+        ensures round { self.new.round ≡ self.old.round }
+    {
+        let alloc = *self.later.allocator();
+        let later = self.later.iter().filter(|p| 1 < p.0);
+        self.later = later
+            .map(|p| (p.0 - 1, p.1))
+            .collect::<Vec<(u64, u64)>>(alloc)?;
+        Ok(())
+    }
+
+    /// Goes on to the next round, once the passes of this one are over.
+    pub fn go_on<S: Simulator>(
+        &mut self,
+        sim: &S,
+        parted: &[(Id, Id)],
+        moment: Moment,
+    ) -> Result<(), AllocError>
+        ensures { OnOk result (air_view self.new ≡ after_air parted.now moment (air_view self.old) (S.world sim.now)) }
+    {
+        self.pass_on()?;
+        self.put_off(sim, parted, moment)?;
+        self.round = self.round.wrapping_add(1);
+        Ok(())
+    }
+}
