@@ -17,13 +17,14 @@ _tora() {
   esac
   case $command in
     '')
-      words+=' -V --version replay sim node key help'
+      words+=' -V --version replay sim drive node key help'
       # the launcher at the top of the repository has words of its own
       if [ -f "$(dirname "${COMP_WORDS[0]}")/tools/build.py" ]; then words+=' build test install uninstall'; fi
       ;;
     sim) words+=' --times --channel --seed --notice --trace' files='*.sim' ;;
+    drive) words+=' --times' ;;
     node) words+=' --check --log --log-time' files='*.toml' ;;
-    help) words='replay sim node key' ;;
+    help) words='replay sim drive node key' ;;
     install | uninstall) words='-h --help' files='*/' ;;
     build | test) words='-h --help --jobs' ;;
   esac

@@ -10,8 +10,8 @@ use std::io;
 use std::io::BufWriter;
 use std::process::ExitCode;
 use tora_commands::{
-    MEMORY, SetupWords, USAGE, command, key_command, node_command, replay_command, simulate_file,
-    stop, usage,
+    MEMORY, SetupWords, USAGE, command, drive_command, key_command, node_command, replay_command,
+    simulate_file, stop, usage,
 };
 pub use tora_lines::{Ended, ReplayError, numbers_are_read_as_printed};
 use tora_log::LogLines;
@@ -95,6 +95,10 @@ fn main(rt: HostRuntime) -> ExitCode {
                         has_notice: sim.get_flag("notice"),
                     };
                     simulate_to_output(&rt, words, path, sim.get_str("trace"), is_verbose)
+                }
+                Some(("drive", drive)) => {
+                    let mut writer = io::writer(&rt);
+                    drive_command::run(&rt, drive.get_str("times"), rt.stdin(), &mut writer)
                 }
                 Some(("key", _)) => key_command::run(&rt, &mut io::writer(&rt)),
                 _ => replay_input(&rt, is_verbose),

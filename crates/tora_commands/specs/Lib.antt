@@ -1,3 +1,4 @@
+pub mod Driving
 pub mod SetupWords
 pub mod Statuses
 pub mod TimesWord

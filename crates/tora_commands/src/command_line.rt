@@ -206,6 +206,46 @@ fn sim<'a>(alloc: Global) -> Result<Command<'a>, AllocError> {
         .arg(file)
 }
 
+/// What `--help` of `drive` says of its lines.
+const DRIVE: &str = "\
+It prints `tora drive 1`, and then reads lines of a simulation file (`tora sim
+--help`) on standard input and answers each of them before it reads the next.
+An answer is what `tora sim` prints for the line, then
+  sent A B ID LENGTH  for each datagram that the line put under way: from A to
+                      B, with its number from 1 and its bytes
+  hop N D K           for each next hop of N to D that it changed; `-` for none
+and one last line:
+  ok                  the line did what it says
+  refused N           the event is refused, as `tora sim` refuses it
+  fault N CAUSE       the line, the N-th, says nothing
+A line that is refused or a fault changes nothing. A line of more than 4096
+bytes ends the drive.
+
+Lines of its own, behind the links:
+  step                a round in which no datagram is delivered
+  needs               prints `need N D` for each node N that requires a route
+                      to destination D
+  far N K             the end of N towards K sends nothing in a step
+  near N K            it sends again
+  bytes ID            prints `bytes ID HEX`, the bytes of a datagram
+  take A B HEX        A receives these bytes from B; refused where B sent A no
+                      datagram of these bytes
+  forget ID           datagrams up to ID can't be named any more
+
+Exit statuses:
+  0  the input ended
+  1  a line is too long, or input or output failed
+  2  usage
+  5  memory was refused";
+
+/// `drive`.
+fn drive<'a>(alloc: Global) -> Result<Command<'a>, AllocError> {
+    Command::new(alloc, "drive")
+        .about("Simulates a world that another program drives, a line of standard input at a time")
+        .after_help(DRIVE)
+        .arg(times(alloc))
+}
+
 /// The levels of `--log`, from the one that logs nothing on.
 const LEVELS: &[&str] = &["off", "error", "warn", "info", "debug", "trace"];
 
@@ -261,6 +301,7 @@ pub fn command<'a>(alloc: Global) -> Result<Command<'a>, AllocError> {
         .arg(verbose(alloc))?
         .subcommand(replay(alloc))?
         .subcommand(sim(alloc)?)?
+        .subcommand(drive(alloc)?)?
         .subcommand(node(alloc)?)?
         .subcommand(key(alloc))
 }

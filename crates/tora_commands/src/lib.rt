@@ -13,6 +13,7 @@ ghost use Rattle.tora_commands.specs.SetupWords.{asked_setup};
 ghost use Rattle.tora_simulate.specs.Endings.{EndsFile, EndsTraced};
 
 mod command_line;
+pub mod drive_command;
 mod flushing;
 mod hashing;
 pub mod key_command;

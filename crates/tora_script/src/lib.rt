@@ -28,10 +28,10 @@ pub use air::Air;
 pub use causes::{SimulationCause, simulation_cause};
 pub use clear::clear_channel_delivers_at_once;
 pub use link_lines::LinkLines;
-pub use parse::{is_word, link, old, simulation_line, simulation_lines_are_read_as_written};
+pub use parse::{is_word, link, old, pair, simulation_line, simulation_lines_are_read_as_written};
 pub use parted::is_parted;
-pub use rounds::make_rounds;
-pub use running::{Running, mend, part};
+pub use rounds::{EndTurn, make_rounds, repeat, turn_cores, turn_end, turn_ends};
+pub use running::{Running, has_end, mend, part};
 pub use script_line::SimulationLine;
 pub use setup::Setup;
 pub use simulating::{

@@ -29,7 +29,7 @@ pub fn is_word(word: &[u8], text: &[u8]) -> bool
 
 /// Two ids.
 #[tactic(auto, unfolding(crate::specs::SimulationLines::pair_of))]
-fn pair(text: &[u8]) -> Option<(Id, Id)>
+pub fn pair(text: &[u8]) -> Option<(Id, Id)>
     ensures value { result ≡ pair_of text.now }
     ensures positive { IfSome result (λ p. (0 < p.0) × (0 < p.1)) }
 {

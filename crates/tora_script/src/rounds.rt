@@ -52,7 +52,7 @@ pub fn either(a: bool, b: bool) -> bool
 /// Makes an event happen until it is refused, and so many times at most, and says whether it ever did. The place is that of
 /// its node or link end.
 #[inline(never)]
-fn repeat<S: Simulator>(
+pub fn repeat<S: Simulator>(
     sim: &mut S,
     place: usize,
     event: &Event,
@@ -87,7 +87,7 @@ fn turn_core<S: Simulator>(sim: &mut S, place: usize, n: Id) -> Result<bool, All
 
 /// Lets each core take its items.
 #[inline(always)]
-fn turn_cores<S: Simulator>(sim: &mut S, nodes: &[Id]) -> Result<bool, AllocError>
+pub fn turn_cores<S: Simulator>(sim: &mut S, nodes: &[Id]) -> Result<bool, AllocError>
     ensures { IfOk result (λ some. Happened (S.world sim.old) (each_core nodes.now (S.world sim.old)) (S.world sim.new) some) }
 {
     let mut some = false;
@@ -100,7 +100,7 @@ fn turn_cores<S: Simulator>(sim: &mut S, nodes: &[Id]) -> Result<bool, AllocErro
 
 /// Gives a link end its turn, so many times at most.
 #[inline(always)]
-fn turn_end<S: Simulator>(
+pub fn turn_end<S: Simulator>(
     sim: &mut S,
     kind: EndTurn,
     place: usize,
@@ -117,7 +117,7 @@ fn turn_end<S: Simulator>(
 
 /// Gives each link end its turn, so many times at most.
 #[inline(always)]
-fn turn_ends<S: Simulator>(
+pub fn turn_ends<S: Simulator>(
     sim: &mut S,
     ends: &[(Id, Id)],
     kind: EndTurn,

@@ -50,7 +50,7 @@ pub fn has_number(n: Id, numbers: &[Id]) -> bool
 }
 
 /// Whether there is a link between the nodes.
-fn has_end(a: Id, b: Id, ends: &[(Id, Id)]) -> bool
+pub fn has_end(a: Id, b: Id, ends: &[(Id, Id)]) -> bool
     ensures { result ≡ has_end a b ends.now }
 {
     ends.iter().any(|e| e.0 == a && e.1 == b)

@@ -1,5 +1,6 @@
 //! The tests, a module for each subject, and what they share.
 mod commands;
+mod drives;
 mod each_call;
 mod expected;
 mod failing_streams;

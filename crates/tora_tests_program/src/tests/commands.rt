@@ -11,8 +11,8 @@ use std::process::{Abort, ExitCode};
 use std::test::Fail;
 use tora_arq::Times;
 use tora_commands::{
-    INPUT, MEMORY, SetupWords, USAGE, replay_command, sim_command, simulate_file, traced_command,
-    usage,
+    INPUT, MEMORY, SetupWords, USAGE, drive_command, replay_command, sim_command, simulate_file,
+    traced_command, usage,
 };
 use tora_script::Setup;
 use tora_sim::Sim;
@@ -24,6 +24,7 @@ enum Run {
     Replay,
     Simulation,
     Traced,
+    Drive,
 }
 
 impl Run {
@@ -39,6 +40,7 @@ impl Run {
         let reader = LinesReader::new((lines, "", 0, ""));
         match self {
             Run::Replay => replay_command::run(rt, reader, is_verbose, writer),
+            Run::Drive => drive_command::run(rt, None, reader, writer),
             Run::Simulation => sim_command::run_over::<Sim, T, LinesReader<'_>, ArrayWriter>(
                 rt,
                 Setup::plain(Times::STANDARD),
@@ -125,6 +127,13 @@ const WHOLE: &[Row] = &[
         FINE,
         SUCCESS,
     ),
+    (
+        Run::Drive,
+        "dests 2\nlink 1 2\ntick",
+        "tora drive 1\nok\nok\nok\n",
+        FINE,
+        SUCCESS,
+    ),
     (Run::Replay, "", "fault 1\n", FINE, INPUT),
     (Run::Simulation, "", "fault 1\n", FINE, INPUT),
     (Run::Traced, "", "fault 1\n", FINE, INPUT),
@@ -142,6 +151,8 @@ const NO_FLUSH: (Fails, Fails) = (Fails::Flush, Fails::Never);
 
 const FAILED_OUTPUTS: &[Row] = &[
     (Run::Replay, ROUTE_AND_LOSS, "", NO_WRITE, INPUT),
+    (Run::Drive, "", "", NO_WRITE, INPUT),
+    (Run::Drive, "", "tora drive 1\n", NO_FLUSH, INPUT),
     (Run::Replay, ROUTE_AND_LOSS, LOSS_TEXT, NO_FLUSH, INPUT),
     (Run::Simulation, FOUR_FOUND_AND_LOST, "", NO_WRITE, INPUT),
     (

@@ -4,6 +4,7 @@ use super::failing_streams::{ArrayWriter, Fails, Lines, LinesReader};
 use std::process::Abort;
 use tora_arq::Times;
 use tora_commands::{replay_and_flush, simulate_and_flush, simulate_told_and_flush};
+use tora_drive::drive_in;
 use tora_lines::{Ended, ReplayError};
 use tora_replay::replay;
 use tora_sim::Sim;
@@ -24,6 +25,8 @@ pub enum Way {
     StandardTimes,
     /// A simulation whose link ends are silent after 20 ticks.
     ShortSilence,
+    /// A drive.
+    Drive,
 }
 
 /// Ends of a link that are silent after 20 ticks.
@@ -63,6 +66,12 @@ impl Way {
             ),
             Way::StandardTimes => simulate_with(alloc, Times::STANDARD, reader, writer),
             Way::ShortSilence => simulate_with(alloc, SHORT_SILENCE, reader, writer),
+            Way::Drive => drive_in::<Sim, LinesReader<'_>, ArrayWriter>(
+                alloc,
+                Times::STANDARD,
+                reader,
+                writer,
+            ),
         }
     }
 

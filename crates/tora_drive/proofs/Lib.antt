@@ -1,0 +1,7 @@
+pub mod AnswerLaws
+pub mod DriveLaws
+pub mod HopLaws
+pub mod RecordLaws
+pub mod RunLaws
+pub mod StepLaws
+pub mod TakenLaws

@@ -1,0 +1,16 @@
+-- The lines of datagrams, one after the other.
+use Rattle.std.proofs.Common.{◌≡◌, ℕ, suc, ◌+◌, ◌-◌, ◌≤◌, List, ◌++◌, sym, arith, append_assoc}
+use Rattle.std.proofs.lemmas.List.{append-nil}
+use Rattle.tora_world.specs.World.{World}
+use Rattle.tora_drive.specs.Records.{sent_of, sent_from}
+
+pub none_sent : (w : World) (first : ℕ) (text : List ℕ) → text ≡ text ++ sent_from w first (first - first)
+unfolding sent_from
+none_sent w first text = let k : first - first ≡ 0 = omega arith in rw k (sym (append-nil text))
+
+pub next_sent : (w : World) (first i : ℕ) (old text new : List ℕ) → first ≤ i → text ≡ old ++ sent_from w first (i - first) → new ≡ text ++ sent_of w (i + 1) → new ≡ old ++ sent_from w first (i + 1 - first)
+unfolding sent_from
+next_sent w first i old text new above so_far more =
+    let k : i + 1 - first ≡ suc (i - first) = omega arith in
+    let n : first + suc (i - first) ≡ i + 1 = omega arith in
+    rw (k, n, more, so_far) (append_assoc old (sent_from w first (i - first)) (sent_of w (i + 1)))

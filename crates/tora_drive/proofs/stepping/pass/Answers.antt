@@ -1,0 +1,22 @@
+use Rattle.tora_script.specs.declared.rounds.EndTurn.TheVariants as turn
+use Rattle.tora_script.specs.Rounds.{plan_then, each, each_core, each_end}
+use Rattle.tora_script.proofs.RoundLaws.{Happened-then}
+use Rattle.tora_drive.specs.Steps.{sends_of, step_pass}
+use Rattle.tora_drive.proofs.stepping.pass.Goals as goal
+
+pub returns : goal.returns
+unfolding step_pass
+returns g c =
+    let w0 = g.S.Simulator.world c.args.sim.now in
+    let w1 = g.S.Simulator.world c.turn_cores.new.sim in
+    let w2 = g.S.Simulator.world c.turn_ends.new.sim in
+    let w3 = g.S.Simulator.world c.send_all.new.sim in
+    let w4 = g.S.Simulator.world c.turn_ends-2.new.sim in
+    let cores = each_core c.args.nodes.now in
+    let pulls = each_end turn.Pull c.args.ends.now in
+    let sends = each (sends_of c.args.far.now) c.args.ends.now in
+    let pumps = each_end turn.Pump c.args.ends.now in
+    let last = Happened-then w2 w3 w4 c.in_ok-sent.sent c.in_ok-pumped.pumped sends pumps c.in_ok-sent.ensures c.in_ok-pumped.ensures in
+    let pulled = Happened-then w1 w2 w4 c.in_ok-pulled.pulled _ pulls (plan_then sends pumps) c.in_ok-pulled.ensures last in
+    let turned = Happened-then w0 w1 w4 c.in_ok-turned.turned _ cores (plan_then pulls (plan_then sends pumps)) c.in_ok-turned.ensures pulled in
+    rw (c.either-3.ensures, c.either-2.ensures, c.either.ensures) turned

@@ -1,0 +1,270 @@
+-- What a drive prints for the lines that it is given.
+use Rattle.std.specs.Prelude.{ℕ, ◌+◌, Bool, true, false, not, nat_le, max, is_some, if◌then◌else◌, codes, List, [], ◌∷◌, ◌++◌, length, filter, Option, Some, None, option_map}
+use Rattle.std.specs.List.{flat_map}
+use Rattle.std.specs.Option.{option_map_or, option_and_then}
+use Rattle.std.specs.Fmt.{decimal}
+use Rattle.hex.specs.Hex.{encode_lower}
+use Rattle.tora_frame.specs.FrameParts.{FrameParts}
+use Rattle.tora_frame.specs.FrameGrammar.{frame_spelling}
+use Rattle.tora_arq.specs.declared.Times.{Times}
+use Rattle.tora_lines.specs.declared.ended.Ended.{Ended}
+use Rattle.tora_lines.specs.LineText.{Rules, whole_text}
+use Rattle.tora_lines.specs.Engine.{IsWholeText, IsFrontOfText}
+use Rattle.tora_world.specs.declared.Event.{Event}
+use Rattle.tora_world.specs.declared.Event.TheVariants as Happen
+use Rattle.tora_world.specs.declared.SimError.TheVariants as Refused
+use Rattle.tora_world.specs.World.{World, datagram, refusal_of, world_after_all}
+use Rattle.tora_sim.specs.Readers.{flag_at}
+use Rattle.tora_script.specs.declared.script_line.SimulationLine.TheVariants.{Happens, Rounds, Part, Mend, Heights, Sent, Taken, Exact, Walk, Rest}
+use Rattle.tora_script.specs.Simulator.{has_topology, started}
+use Rattle.tora_script.specs.Setup.{plain}
+use Rattle.tora_script.specs.SimulationLines.{link_of, old_of}
+use Rattle.tora_script.specs.SimulationText.{RunningView, Progress, Reply, begun_in, has_end, refusal_text, event_reply, running_reply, first_progress, with_link, with_old_line}
+use Rattle.tora_drive.specs.declared.cause.Cause.{Cause}
+use Rattle.tora_drive.specs.declared.cause.Cause.TheVariants.{Dests, NoLink, Topology, Name, Word}
+use Rattle.tora_drive.specs.declared.line.DriveLine.{DriveLine}
+use Rattle.tora_drive.specs.declared.line.DriveLine.TheVariants.{Script, Step, Needs, Near, Far, Bytes, Forget}
+use Rattle.tora_drive.specs.DriveLines.{drive_line_of}
+use Rattle.tora_drive.specs.Records.{sent_text, hops_text}
+use Rattle.tora_drive.specs.Steps.{is_end, is_far, step}
+use Rattle.tora_drive.specs.Taking.{line_in}
+
+-- ---- what a drive keeps beside the simulation
+
+pub record OwnView : Type 0 where
+  pub far : List (ℕ × ℕ)  -- the silent ends
+  pub forgotten : ℕ  -- datagrams up to this number can't be named any more
+
+abbrev pub first_own : OwnView
+first_own = record { far = []; forgotten = 0 }
+
+-- the datagram of a number from 1 on that can be named
+abbrev pub named : OwnView → World → ℕ → Option FrameParts
+named o w i = if nat_le i o.forgotten then None else datagram w i
+
+-- an end that is silent is so once
+abbrev pub with_far : ℕ × ℕ → List (ℕ × ℕ) → List (ℕ × ℕ)
+with_far e far = if is_far far e then far else far ++ e ∷ []
+
+abbrev pub without_far : ℕ × ℕ → List (ℕ × ℕ) → List (ℕ × ℕ)
+without_far e far = filter (λ f. not (is_end e f)) far
+
+-- ---- a line of a running simulation
+
+-- what a line leaves, what is printed first, and whether it is refused
+pub record Outcome : Type 0 where
+  pub run : RunningView
+  pub own : OwnView
+  pub text : List ℕ
+  pub refused : Bool
+
+abbrev pub outcome : RunningView → OwnView → List ℕ → Bool → Outcome
+outcome s o text refused = record { run = s; own = o; text = text; refused = refused }
+
+-- nothing is refused
+abbrev pub quiet : OwnView → Reply → Outcome
+quiet o r = record { run = r.0; own = o; text = r.1; refused = false }
+
+-- nothing is changed
+abbrev pub shown : RunningView → OwnView → List ℕ → Outcome
+shown s o text = record { run = s; own = o; text = text; refused = false }
+
+-- there is no such datagram
+abbrev pub unnamed : RunningView → OwnView → Outcome
+unnamed s o = record { run = s; own = o; text = refusal_text (Some Refused.NoDatagram); refused = true }
+
+-- the event is the delivery of a datagram that can't be named any more
+abbrev pub is_forgotten : OwnView → Event → Bool
+is_forgotten o (Happen.Deliver i) = nat_le i o.forgotten
+is_forgotten o (Happen.CoreTurn n) = false
+is_forgotten o (Happen.Restart n torn) = false
+is_forgotten o (Happen.Need n d) = false
+is_forgotten o Happen.Tick = false
+is_forgotten o (Happen.Open n k) = false
+is_forgotten o (Happen.Pull n k) = false
+is_forgotten o (Happen.Transmit n k) = false
+is_forgotten o (Happen.Pump n k) = false
+is_forgotten o (Happen.Arm n call) = false
+
+-- an event: nothing, or `refused N` where it changes nothing
+abbrev pub event_outcome : RunningView → OwnView → Event → Outcome
+event_outcome s o event =
+    if is_forgotten o event then unnamed s o
+    else record { run = (event_reply s event).0; own = o; text = (event_reply s event).1; refused = is_some (refusal_of s.world event) }
+
+-- the world behind a step
+abbrev pub after_step : RunningView → OwnView → World
+after_step s o = world_after_all s.world (step s.nodes s.ends o.far s.world)
+
+-- `need N D` where the core of N requires a route to D
+unfoldable pub need_line : World → ℕ → ℕ → List ℕ
+need_line w n d = if flag_at w n d then codes "need " ++ decimal n ++ codes " " ++ decimal d ++ 10 ∷ [] else []
+
+abbrev pub needs_text : World → List ℕ → List ℕ → List ℕ
+needs_text w nodes dests = flat_map (λ n. flat_map (need_line w n) dests) nodes
+
+-- `bytes ID HEX`
+unfoldable pub bytes_line : ℕ → FrameParts → List ℕ
+bytes_line i f = codes "bytes " ++ decimal i ++ codes " " ++ encode_lower (frame_spelling f) ++ 10 ∷ []
+
+-- other silent ends, where there is such an end
+abbrev pub silenced : RunningView → OwnView → ℕ → ℕ → List (ℕ × ℕ) → Option Outcome
+silenced s o n k far = if has_end n k s.ends then Some (shown s (record o { far = far }) []) else None
+
+-- the datagrams up to a number are forgotten, and those that were stay so
+abbrev pub forgetting : RunningView → OwnView → ℕ → Outcome
+forgetting s o i = if nat_le i (length s.world.datagrams) then shown s (record o { forgotten = max o.forgotten i }) [] else unnamed s o
+
+-- None for a fault; for a line of a simulation file, what a simulation prints for it
+unfoldable pub outcome_of : RunningView → OwnView → DriveLine → Option Outcome
+outcome_of s o (Script (Happens event)) = Some (event_outcome s o event)
+outcome_of s o (Script line) = option_map (quiet o) (running_reply s line)
+outcome_of s o Step = Some (shown (record s { world = after_step s o }) o [])
+outcome_of s o Needs = Some (shown s o (needs_text s.world s.nodes s.dests))
+outcome_of s o (Near n k) = silenced s o n k (without_far (n, k) o.far)
+outcome_of s o (Far n k) = silenced s o n k (with_far (n, k) o.far)
+outcome_of s o (Bytes i) = Some (option_map_or (λ f. shown s o (bytes_line i f)) (named o s.world i) (unnamed s o))
+outcome_of s o (Forget i) = Some (forgetting s o i)
+
+-- the line may turn a core, or make one anew: no other changes a next hop
+abbrev pub may_turn : Event → Bool
+may_turn (Happen.CoreTurn n) = true
+may_turn (Happen.Restart n torn) = true
+may_turn (Happen.Need n d) = false
+may_turn Happen.Tick = false
+may_turn (Happen.Open n k) = false
+may_turn (Happen.Pull n k) = false
+may_turn (Happen.Transmit n k) = false
+may_turn (Happen.Deliver i) = false
+may_turn (Happen.Pump n k) = false
+may_turn (Happen.Arm n call) = false
+
+abbrev pub may_change_hops : DriveLine → Bool
+may_change_hops (Script (Happens event)) = may_turn event
+may_change_hops (Script (Rounds r)) = true
+may_change_hops (Script (Part a b)) = false
+may_change_hops (Script (Mend a b)) = false
+may_change_hops (Script (Heights d)) = false
+may_change_hops (Script (Sent a b life)) = false
+may_change_hops (Script (Taken b a life)) = false
+may_change_hops (Script (Exact d)) = false
+may_change_hops (Script (Walk n d)) = false
+may_change_hops (Script Rest) = false
+may_change_hops Step = true
+may_change_hops Needs = false
+may_change_hops (Near n k) = false
+may_change_hops (Far n k) = false
+may_change_hops (Bytes i) = false
+may_change_hops (Forget i) = false
+
+-- `ok`, unless `refused N` stands there already
+abbrev pub closing : Bool → List ℕ
+closing is_refused = if is_refused then [] else codes "ok" ++ 10 ∷ []
+
+-- a simulation with what is kept beside it, and a text
+abbrev pub DriveReply : Type 0
+DriveReply = RunningView × OwnView × List ℕ
+
+-- what is printed first, then what the line changed, and `ok`
+abbrev pub told : RunningView → Outcome → DriveReply
+told s r = (r.run, r.own, r.text ++ sent_text s.world r.run.world ++ hops_text s.nodes s.dests s.world r.run.world ++ closing r.refused)
+
+unfoldable pub answer_to : RunningView → OwnView → List ℕ → Option DriveReply
+answer_to s o text = option_and_then (λ line. option_map (told s) (outcome_of s o line)) (line_in s.world o.forgotten text)
+
+-- ---- any line
+
+-- where a drive is
+pub record PlaceView : Type 0 where
+  pub progress : Progress
+  pub own : OwnView
+
+abbrev pub Placed : Type 0
+Placed = PlaceView × List ℕ
+
+abbrev pub placed : Progress → OwnView → List ℕ → Placed
+placed progress o text = (record { progress = progress; own = o }, text)
+
+abbrev pub running_at : DriveReply → Placed
+running_at r = (record { progress = Progress.Runs r.0; own = r.1 }, r.2)
+
+-- `ok` alone
+abbrev pub acknowledged : OwnView → Progress → Placed
+acknowledged o progress = (record { progress = progress; own = o }, closing false)
+
+-- the line behind the last link and the last old node, which makes the world: at least one link is required
+abbrev pub first_answer : Times → OwnView → List ℕ → List (ℕ × ℕ) → List ℕ → List ℕ → Option DriveReply
+first_answer times o dests [] olds line = None
+first_answer times o dests (link ∷ links) olds line = option_and_then (λ w. answer_to (begun_in dests (plain times) w) o line) (started (link ∷ links) dests olds times)
+
+-- a line behind the first, which may say a link or an old node
+abbrev pub link_answer : Times → OwnView → List ℕ → List (ℕ × ℕ) → List ℕ → List ℕ → Option (ℕ × ℕ) → Option ℕ → Option Placed
+link_answer times o dests links olds line (Some link) old = option_map (acknowledged o) (with_link dests links olds link)
+link_answer times o dests links olds line None (Some n) = option_map (acknowledged o) (with_old_line dests links olds n)
+link_answer times o dests links olds line None None = option_map running_at (first_answer times o dests links olds line)
+
+-- what a line leaves, and what is printed for it; None for a fault
+unfoldable pub place_reply : Times → OwnView → Progress → List ℕ → Option Placed
+place_reply times o Progress.First line = option_map (acknowledged o) (first_progress line)
+place_reply times o (Progress.Links dests links olds) line = link_answer times o dests links olds line (link_of line) (old_of line)
+place_reply times o (Progress.Runs s) line = option_map running_at (answer_to s o line)
+
+-- ---- faults
+
+-- of a line behind the links: it is no line, or one of something that there is not
+abbrev pub cause_of_line : List ℕ → Cause
+cause_of_line line = if is_some (drive_line_of line) then Name else Word
+
+abbrev pub cause_behind_links : List ℕ → List (ℕ × ℕ) → List ℕ → Cause
+cause_behind_links dests [] line = NoLink
+cause_behind_links dests (link ∷ links) line = if has_topology (link ∷ links) dests then cause_of_line line else Topology
+
+unfoldable pub cause_of : Progress → List ℕ → Cause
+cause_of Progress.First line = Dests
+cause_of (Progress.Links dests links olds) line = cause_behind_links dests links line
+cause_of (Progress.Runs s) line = cause_of_line line
+
+unfoldable pub cause_words : Cause → List ℕ
+cause_words Dests = codes "the first line is `dests LIST`, the destinations"
+cause_words NoLink = codes "behind the first line a line `link A B` is required"
+cause_words Topology = codes "the links and destinations are refused"
+cause_words Name = codes "it names a node, a link or a destination that there is not"
+cause_words Word = codes "it is no line that may stand here"
+
+-- `fault N CAUSE`
+unfoldable pub fault_line : ℕ → Cause → List ℕ
+fault_line n cause = codes "fault " ++ decimal n ++ codes " " ++ cause_words cause ++ 10 ∷ []
+
+-- ---- all lines
+
+-- what is kept between two lines
+pub record DriveView : Type 0 where
+  pub lines : ℕ  -- how many came
+  pub place : PlaceView
+
+-- a line that is no fault leaves this
+abbrev pub taken : ℕ → Placed → DriveView × List ℕ
+taken n r = (record { lines = n; place = r.0 }, r.1)
+
+-- a line that is a fault leaves everything as it was
+abbrev pub drive_reply : Times → DriveView → List ℕ → DriveView × List ℕ
+drive_reply times v line =
+    option_map_or (taken (v.lines + 1)) (place_reply times v.place.own v.place.progress line) (record v { lines = v.lines + 1 }, fault_line (v.lines + 1) (cause_of v.place.progress line))
+
+-- a drive whose link ends have these times; no end of its input is a fault
+abbrev pub drive_rules : Times → Rules DriveView
+drive_rules times = record { start = record { lines = 0; place = record { progress = Progress.First; own = first_own } }; reply = λ v line. Some (drive_reply times v line); at_end = λ v n. None }
+
+-- `tora drive 1`
+abbrev pub greeting : List ℕ
+greeting = codes "tora drive 1" ++ 10 ∷ []
+
+-- ---- what drive_in promises
+
+-- Known bytes grew by the answers to the lines of the input, and the input ends so.
+abbrev pub Drives : Times → List ℕ → Option (List ℕ) → Option (List ℕ) → Ended → Type 0
+Drives times input old new ended = IsWholeText (whole_text (drive_rules times)) input old new ended
+
+-- The reader gave some bytes, and the writer got a front of the answers to them.
+abbrev pub IsDriveBegun : Times → Option (List ℕ) → Option (List ℕ) → Option (List ℕ) → Option (List ℕ) → Type 0
+IsDriveBegun times old_reader new_reader old_writer new_writer = IsFrontOfText (whole_text (drive_rules times)) old_reader new_reader old_writer new_writer

@@ -1,0 +1,307 @@
+//! The answer to a line of a running simulation.
+ghost use Rattle.std.specs.Prelude.{◌≡◌, ◌++◌, [], OnOk, IfOk, Err, Some, string_bytes, is_some, if◌then◌else◌};
+ghost use Rattle.std.specs.List.{flat_map};
+ghost use Rattle.std.specs.Option.{option_map_or};
+ghost use Rattle.tora_lines.specs.Gives.{Gives};
+ghost use Rattle.tora_lines.specs.LineText.{TakesReply};
+ghost use Rattle.tora_world.specs.World.{refusal_of};
+ghost use Rattle.tora_script.specs.RunningView.{running_view};
+ghost use Rattle.tora_script.specs.SimulationText.{refusal_text, event_reply};
+ghost use Rattle.tora_drive.specs.DriveText.{named, with_far, without_far, outcome, shown, unnamed, is_forgotten, event_outcome, after_step, need_line, needs_text, bytes_line, silenced, forgetting, outcome_of, may_change_hops, closing, answer_to};
+ghost use Rattle.tora_drive.specs.DriveView.{own_view};
+ghost use Rattle.tora_drive.specs.Records.{routes_of};
+
+use crate::driven::Driven;
+use crate::line::DriveLine;
+use crate::own::Own;
+use crate::records::{Route, routes, write_frame, write_hops, write_sent};
+use crate::stepping::make_step;
+use crate::taken::line_in;
+use std::alloc::{AllocError, Global};
+use tora_height::Id;
+use tora_lines::numbered;
+use tora_lines::words::LineError;
+use tora_script::{Running, SimulationLine, has_end};
+use tora_world::{Event, SimError};
+
+/// Puts `need N D` behind a text where a route is required.
+#[tactic(auto, unfolding(crate::specs::DriveText::need_line))]
+fn write_need<S: Driven>(out: &mut String, sim: &S, n: Id, d: Id) -> Result<(), AllocError>
+    ensures { OnOk result (string_bytes out.new ≡ string_bytes out.old ++ need_line (S.world sim.now) n d) }
+{
+    if sim.flag(n, d) {
+        writeln!(out, "need {n} {d}")
+    } else {
+        Ok(())
+    }
+}
+
+fn write_needs_of<S: Driven>(
+    out: &mut String,
+    sim: &S,
+    n: Id,
+    dests: &[Id],
+) -> Result<(), AllocError>
+    ensures { OnOk result (string_bytes out.new ≡ string_bytes out.old ++ flat_map (need_line (S.world sim.now) n) dests.now) }
+{
+    for d in dests {
+        write_need(out, sim, n, *d)?;
+    }
+    Ok(())
+}
+
+/// Puts the routes that are required behind a text.
+fn write_needs<S: Driven>(
+    out: &mut String,
+    sim: &S,
+    nodes: &[Id],
+    dests: &[Id],
+) -> Result<(), AllocError>
+    ensures { OnOk result (string_bytes out.new ≡ string_bytes out.old ++ needs_text (S.world sim.now) nodes.now dests.now) }
+{
+    for n in nodes {
+        write_needs_of(out, sim, *n, dests)?;
+    }
+    Ok(())
+}
+
+/// Puts `refused N` behind a text.
+fn refuse(out: &mut String, error: SimError) -> Result<(), AllocError>
+    ensures { OnOk result (string_bytes out.new ≡ string_bytes out.old ++ refusal_text (Some error)) }
+{
+    numbered(out, "refused ", u64::from(error.number()))
+}
+
+/// Makes an event happen, puts its refusal behind a text, and says whether it was refused.
+fn happen<S: Driven>(
+    running: &mut Running<S>,
+    event: &Event,
+    out: &mut String,
+) -> Result<bool, AllocError>
+    ensures reply { OnOk result (TakesReply (event_reply (running_view S.world running.old) event.now) (running_view S.world running.new) (string_bytes out.old) (string_bytes out.new)) }
+    ensures refused { IfOk result (λ r. r ≡ is_some (refusal_of (S.world running.old.sim) event.now)) }
+{
+    let refused = running.sim.happen(event)?;
+    match refused {
+        None => Ok(false),
+        Some(error) => {
+            refuse(out, error)?;
+            Ok(true)
+        }
+    }
+}
+
+/// Whether an event is the delivery of a datagram that can't be named any more.
+fn is_forgotten(own: &Own, event: &Event) -> bool
+    ensures { result ≡ is_forgotten (own_view own.now) event.now }
+{
+    match event {
+        Event::Deliver(i) => *i <= own.forgotten,
+        _ => false,
+    }
+}
+
+/// Makes an event happen, unless it names what is forgotten.
+fn event<S: Driven>(
+    running: &mut Running<S>,
+    own: &Own,
+    event: &Event,
+    out: &mut String,
+) -> Result<bool, AllocError>
+    requires { string_bytes out.old ≡ [] }
+    ensures { IfOk result (λ r. outcome (running_view S.world running.new) (own_view own.now) (string_bytes out.new) r ≡ event_outcome (running_view S.world running.old) (own_view own.now) event.now) }
+{
+    if is_forgotten(own, event) {
+        refuse(out, SimError::NoDatagram)?;
+        return Ok(true);
+    }
+    happen(running, event, out)
+}
+
+/// A round in which nothing is delivered.
+fn step<S: Driven>(running: &mut Running<S>, own: &Own) -> Result<(), AllocError>
+    ensures { OnOk result (running_view S.world running.new ≡ record (running_view S.world running.old) { world = after_step (running_view S.world running.old) (own_view own.now) }) }
+{
+    make_step(&mut running.sim, &running.nodes, &running.ends, &own.far)
+}
+
+/// Makes an end silent, or no longer so; a fault where there is no such end.
+fn silence<S: Driven>(
+    running: &Running<S>,
+    own: &mut Own,
+    end: (Id, Id),
+    is_far: bool,
+) -> Result<(), LineError>
+    ensures gives { Gives (λ _. shown (running_view S.world running.now) (own_view own.new) []) result
+        (silenced (running_view S.world running.now) (own_view own.old) end.0 end.1 (if is_far then with_far end (own_view own.old).far else without_far end (own_view own.old).far)) }
+    ensures kept { result ≡ Err LineError.Fault → own_view own.new ≡ own_view own.old }
+{
+    if !has_end(end.0, end.1, &running.ends) {
+        return Err(LineError::Fault);
+    }
+    if is_far {
+        own.silence(end)?;
+    } else {
+        own.wake(end);
+    }
+    Ok(())
+}
+
+/// Puts the bytes of a datagram behind an empty text, and says whether that is refused, since there is no such datagram.
+fn write_bytes<S: Driven>(
+    running: &Running<S>,
+    own: &Own,
+    i: u64,
+    out: &mut String,
+) -> Result<bool, AllocError>
+    requires { string_bytes out.old ≡ [] }
+    ensures { IfOk result (λ r. outcome (running_view S.world running.now) (own_view own.now) (string_bytes out.new) r
+        ≡ option_map_or (λ f. shown (running_view S.world running.now) (own_view own.now) (bytes_line i f)) (named (own_view own.now) (S.world running.now.sim) i) (unnamed (running_view S.world running.now) (own_view own.now))) }
+{
+    if i <= own.forgotten {
+        refuse(out, SimError::NoDatagram)?;
+        return Ok(true);
+    }
+    match running.sim.frame(i) {
+        Some(frame) => {
+            write_frame(out, i, &frame)?;
+            Ok(false)
+        }
+        None => {
+            refuse(out, SimError::NoDatagram)?;
+            Ok(true)
+        }
+    }
+}
+
+/// Forgets the datagrams up to a number, and says whether that is refused, since there is no such datagram.
+fn forget<S: Driven>(
+    running: &Running<S>,
+    own: &mut Own,
+    i: u64,
+    out: &mut String,
+) -> Result<bool, AllocError>
+    requires { string_bytes out.old ≡ [] }
+    ensures { IfOk result (λ r. outcome (running_view S.world running.now) (own_view own.new) (string_bytes out.new) r ≡ forgetting (running_view S.world running.now) (own_view own.old) i) }
+{
+    if i > running.sim.datagrams() {
+        refuse(out, SimError::NoDatagram)?;
+        return Ok(true);
+    }
+    if own.forgotten < i {
+        own.forgotten = i;
+    }
+    Ok(false)
+}
+
+/// Does what a line asks for, puts what is printed first behind an empty text, and says whether it was refused.
+#[tactic(auto, unfolding(crate::specs::DriveText::outcome_of))]
+fn perform<S: Driven>(
+    running: &mut Running<S>,
+    own: &mut Own,
+    line: DriveLine,
+    out: &mut String,
+) -> Result<bool, LineError>
+    requires { string_bytes out.old ≡ [] }
+    ensures gives { Gives (λ r. outcome (running_view S.world running.new) (own_view own.new) (string_bytes out.new) r) result (outcome_of (running_view S.world running.old) (own_view own.old) line) }
+    ensures kept { result ≡ Err LineError.Fault → running_view S.world running.new ≡ running_view S.world running.old }
+    ensures own { result ≡ Err LineError.Fault → own_view own.new ≡ own_view own.old }
+{
+    match line {
+        DriveLine::Script(SimulationLine::Happens(happens)) => {
+            let is_refused = event(running, own, &happens, out)?;
+            Ok(is_refused)
+        }
+        DriveLine::Script(line) => {
+            running.answer(line, out)?;
+            Ok(false)
+        }
+        DriveLine::Step => {
+            step(running, own)?;
+            Ok(false)
+        }
+        DriveLine::Needs => {
+            write_needs(out, &running.sim, &running.nodes, &running.dests)?;
+            Ok(false)
+        }
+        DriveLine::Near(n, k) => {
+            silence(running, own, (n, k), false)?;
+            Ok(false)
+        }
+        DriveLine::Far(n, k) => {
+            silence(running, own, (n, k), true)?;
+            Ok(false)
+        }
+        DriveLine::Bytes(i) => {
+            let is_refused = write_bytes(running, own, i, out)?;
+            Ok(is_refused)
+        }
+        DriveLine::Forget(i) => {
+            let is_refused = forget(running, own, i, out)?;
+            Ok(is_refused)
+        }
+    }
+}
+
+/// Whether a line may turn a core, or make one anew: no other changes a next hop.
+fn may_change_hops(line: &DriveLine) -> bool
+    ensures { result ≡ may_change_hops line.now }
+{
+    match line {
+        DriveLine::Script(SimulationLine::Happens(Event::CoreTurn(_))) => true,
+        DriveLine::Script(SimulationLine::Happens(Event::Restart(_, _))) => true,
+        DriveLine::Script(SimulationLine::Rounds(_)) => true,
+        DriveLine::Step => true,
+        _ => false,
+    }
+}
+
+/// The next hops before a line, where it may change them.
+fn routes_before<S: Driven>(
+    alloc: Global,
+    running: &Running<S>,
+    line: &DriveLine,
+) -> Result<Vec<Route>, AllocError>
+    ensures { IfOk result (λ v. v.items ≡ (if may_change_hops line.now then routes_of (S.world running.now.sim) running.now.nodes.items running.now.dests.items else [])) }
+{
+    if may_change_hops(line) {
+        routes(alloc, &running.sim, &running.nodes, &running.dests)
+    } else {
+        Ok(Vec::new(alloc))
+    }
+}
+
+/// Puts `ok` behind a text, unless the line was refused.
+fn close(out: &mut String, is_refused: bool) -> Result<(), AllocError>
+    ensures { OnOk result (string_bytes out.new ≡ string_bytes out.old ++ closing is_refused) }
+{
+    if is_refused {
+        Ok(())
+    } else {
+        writeln!(out, "ok")
+    }
+}
+
+/// Takes a line of a running simulation, and puts the answer behind an empty text. A line that is a fault changes nothing.
+#[tactic(auto, unfolding(crate::specs::DriveText::answer_to))]
+pub fn answer<S: Driven>(
+    alloc: Global,
+    running: &mut Running<S>,
+    own: &mut Own,
+    line: &[u8],
+    out: &mut String,
+) -> Result<(), LineError>
+    requires { string_bytes out.old ≡ [] }
+    ensures gives { Gives (λ _. (running_view S.world running.new, own_view own.new, string_bytes out.new)) result (answer_to (running_view S.world running.old) (own_view own.old) line.now) }
+    ensures kept { result ≡ Err LineError.Fault → running_view S.world running.new ≡ running_view S.world running.old }
+    ensures own { result ≡ Err LineError.Fault → own_view own.new ≡ own_view own.old }
+{
+    let line = line_in(alloc, &running.sim, own.forgotten, line)?;
+    let first = running.sim.datagrams();
+    let before = routes_before(alloc, running, &line)?;
+    let is_refused = perform(running, own, line, out)?;
+    write_sent(out, &running.sim, first)?;
+    write_hops(out, &running.sim, &before)?;
+    close(out, is_refused)?;
+    Ok(())
+}

@@ -1,0 +1,81 @@
+//! Why a line of a drive is a fault.
+ghost use Rattle.std.specs.Prelude.{◌≡◌, ◌++◌, OnOk, string_bytes};
+ghost use Rattle.tora_script.specs.SimulationView.{progress_of};
+ghost use Rattle.tora_drive.specs.DriveText.{cause_of_line, cause_behind_links, cause_of, cause_words, fault_line};
+
+use crate::line::drive_line;
+use std::alloc::AllocError;
+use tora_script::{LinkLines, Simulator, Stage};
+use tora_sim::topology_fault;
+
+/// Why a line is a fault.
+#[derive(Clone, Copy, Debug, PartialEq, Eq)]
+pub enum Cause {
+    /// It is the first, and no `dests LIST`.
+    Dests,
+    /// It stands behind the first line, and is no `link A B`.
+    NoLink,
+    /// It stands behind links of which there is no world.
+    Topology,
+    /// It names a node, a link or a destination that there is not.
+    Name,
+    /// It is of no such form.
+    Word,
+}
+
+impl Cause {
+    #[tactic(auto, unfolding(crate::specs::DriveText::cause_words))]
+    fn words(self) -> &'static str
+        ensures { result.now ≡ cause_words self }
+    {
+        match self {
+            Cause::Dests => "the first line is `dests LIST`, the destinations",
+            Cause::NoLink => "behind the first line a line `link A B` is required",
+            Cause::Topology => "the links and destinations are refused",
+            Cause::Name => "it names a node, a link or a destination that there is not",
+            Cause::Word => "it is no line that may stand here",
+        }
+    }
+}
+
+fn cause_of_line(line: &[u8]) -> Cause
+    ensures { result ≡ cause_of_line line.now }
+{
+    match drive_line(line) {
+        Some(_) => Cause::Name,
+        None => Cause::Word,
+    }
+}
+
+fn cause_behind_links(lines: &LinkLines, line: &[u8]) -> Cause
+    ensures { result ≡ cause_behind_links lines.now.dests.items lines.now.links.items line.now }
+{
+    if lines.links.is_empty() {
+        return Cause::NoLink;
+    }
+    match topology_fault(&lines.links, &lines.dests) {
+        None => cause_of_line(line),
+        Some(_) => Cause::Topology,
+    }
+}
+
+/// Why a line, that is a fault, is one.
+#[tactic(auto, unfolding(crate::specs::DriveText::cause_of))]
+pub fn fault_cause<S: Simulator>(stage: &Stage<S>, line: &[u8]) -> Cause
+    ensures { result ≡ cause_of (progress_of S.world stage.now) line.now }
+{
+    match stage {
+        Stage::First => Cause::Dests,
+        Stage::Links(lines) => cause_behind_links(lines, line),
+        Stage::Runs(_) => cause_of_line(line),
+    }
+}
+
+/// Puts `fault N CAUSE` behind a text.
+#[tactic(auto, unfolding(crate::specs::DriveText::fault_line))]
+pub fn write_fault(out: &mut String, number: u64, cause: Cause) -> Result<(), AllocError>
+    ensures { OnOk result (string_bytes out.new ≡ string_bytes out.old ++ fault_line number cause) }
+{
+    let words = cause.words();
+    writeln!(out, "fault {number} {words}")
+}

@@ -1,0 +1,17 @@
+//! What is kept of a drive between two lines.
+ghost use Rattle.tora_arq.specs.Settings.{IsTimes};
+
+use crate::own::Own;
+use tora_arq::Times;
+use tora_script::Stage;
+
+/// A drive, by how many lines came, the times of its link ends, none of which is 0, the simulation that the lines made, and
+/// what is kept beside it.
+#[derive(Drop)]
+pub struct Drive<S> {
+    pub lines: u64,
+    pub times: Times,
+    pub stage: Stage<S>,
+    pub own: Own,
+    ghost are_times: { ∥ IsTimes times ∥₁ },
+}

@@ -1,0 +1,30 @@
+//! What a drive asks of a simulator.
+ghost use Rattle.std.specs.Prelude.{◌≡◌};
+ghost use Rattle.tora_world.specs.World.{datagram};
+ghost use Rattle.tora_sim.specs.Readers.{flag_at};
+
+use tora_frame::Frame;
+use tora_height::Id;
+use tora_script::Simulator;
+use tora_sim::Sim;
+
+/// A simulated world that tells what a drive prints.
+pub trait Driven: Simulator {
+    /// A datagram, by its number from 1.
+    fn frame(&self, i: u64) -> Option<Frame>
+        ensures { result ≡ datagram (Self.world self.now) i };
+
+    /// Whether the core of a node requires a route to a destination.
+    fn flag(&self, n: Id, d: Id) -> bool
+        ensures { result ≡ flag_at (Self.world self.now) n d };
+}
+
+impl Driven for Sim {
+    fn frame(&self, i: u64) -> Option<Frame> {
+        Sim::frame(self, i)
+    }
+
+    fn flag(&self, n: Id, d: Id) -> bool {
+        Sim::flag(self, n, d)
+    }
+}

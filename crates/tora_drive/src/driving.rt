@@ -1,0 +1,55 @@
+//! A drive over a reader and a writer.
+ghost use Rattle.std.specs.Prelude.{◌≡◌, ◌≢◌, Ok, OnOk, IfOk, IfErr, IfSome};
+ghost use Rattle.std.specs.Io.KnownBytes.{Appends, IsAtEnd};
+ghost use Rattle.tora_arq.specs.Settings.{IsTimes};
+ghost use Rattle.tora_drive.specs.DriveText.{greeting, Drives, IsDriveBegun};
+
+use crate::drive::Drive;
+use crate::driven::Driven;
+use crate::own::Own;
+use std::alloc::Global;
+use std::io;
+use std::io::{Read, Write};
+use tora_arq::Times;
+use tora_lines::{Ended, Output, ReplayError, read_lines};
+use tora_script::Stage;
+
+/// Greets who drives: writes `tora drive 1`, and hands it on.
+pub fn greet<W: Output>(writer: &mut W) -> io::Result<()>
+    ensures { OnOk result (Appends (W.contents writer.old) (W.contents writer.new) greeting) }
+{
+    writer.put_all(b"tora drive 1\n")?;
+    writer.hand_on()
+}
+
+/// Reads lines to the end of the input, and writes the answer to each of them by one call of the
+/// writer's `write_all`, before it reads on.
+///
+/// A line of more than 4,096 bytes ends the drive: `fault N` is written, and the answer is `Ended::Fault(N)`.
+///
+/// # Errors
+/// `Memory` where memory was refused; `Read` where a read failed, or 2^32 reads came to no end; `Write` where a write failed.
+#[tactic(auto, unfolding(tora_lines::specs::Engine::text_of))]
+pub fn drive_in<S: Driven, R: Read, W: Write>(
+    alloc: Global,
+    times: Times,
+    reader: &mut R,
+    writer: &mut W,
+) -> Result<Ended, ReplayError>
+    requires { IsTimes times }
+    // What was written is the answers to all lines, and the input ends so.
+    ensures whole { IfOk result (λ ended. IfSome (R.remaining reader.old) (λ input.
+        Drives times input (W.contents writer.old) (W.contents writer.new) ended)) }
+    ensures at_end { result ≡ Ok Ended.Whole → IsAtEnd (R.remaining reader.new) }
+    // What was written begins the answers to what was read.
+    ensures begun { IfErr result (λ e. e ≢ ReplayError.Write →
+        IsDriveBegun times (R.remaining reader.old) (R.remaining reader.new) (W.contents writer.old) (W.contents writer.new)) }
+{
+    let state: Drive<S> = Drive {
+        lines: 0,
+        times,
+        stage: Stage::First,
+        own: Own::new(alloc),
+    };
+    read_lines(alloc, state, reader, writer)
+}

@@ -1,0 +1,30 @@
+//! A simulated world that another program drives: the lines of a simulation file, answered one by one, with what each of them
+//! put under way and changed. Own profile.
+//!
+//! The engine asks for a simulator (`Driven`), which `tora_sim::Sim` is. `docs/formats.md`, "Driving", says what the lines are.
+//!
+//! ```rust
+//! let ended = drive_in::<Sim, R, W>(alloc, Times::STANDARD, &mut reader, &mut writer)?;
+//! ```
+#![tactic(auto)]
+
+mod answer;
+mod cause;
+mod drive;
+mod driven;
+mod driving;
+mod laws;
+mod line;
+mod own;
+mod records;
+mod stepping;
+mod taken;
+mod taking;
+
+pub use cause::Cause;
+pub use drive::Drive;
+pub use driven::Driven;
+pub use driving::{drive_in, greet};
+pub use laws::drives_are_runs_of_events;
+pub use line::{DriveLine, drive_line};
+pub use records::Route;

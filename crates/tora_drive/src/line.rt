@@ -1,0 +1,65 @@
+//! The lines of a drive behind the links.
+ghost use Rattle.std.specs.Prelude.{◌≡◌};
+ghost use Rattle.tora_drive.specs.DriveLines.{own_line_of, drive_line_of};
+
+use tora_height::Id;
+use tora_lines::{after, words};
+use tora_script::{SimulationLine, is_word, pair, simulation_line};
+
+/// What a line behind the links asks for.
+#[derive(Clone, Copy, Debug)]
+pub enum DriveLine {
+    /// It is a line of a simulation file.
+    Script(SimulationLine),
+    /// A round in which no datagram is delivered.
+    Step,
+    /// The routes that are required are to be printed.
+    Needs,
+    /// The end of the first node towards the second is no longer silent.
+    Near(Id, Id),
+    /// The end of the first node towards the second sends nothing in a step.
+    Far(Id, Id),
+    /// The bytes of a datagram are to be printed, by its number from 1.
+    Bytes(u64),
+    /// The datagrams up to this number can't be named any more.
+    Forget(u64),
+}
+
+/// `near N K`, `far N K`, `bytes ID` or `forget ID`.
+#[tactic(auto, unfolding(crate::specs::DriveLines::own_line_of, crate::specs::DriveLines::for_number, tora_script::specs::SimulationLines::for_pair))]
+fn own_line(text: &[u8]) -> Option<DriveLine>
+    ensures { result ≡ own_line_of text.now }
+{
+    if let Some(rest) = after(b"near ", text) {
+        let (n, k) = pair(rest)?;
+        return Some(DriveLine::Near(n, k));
+    }
+    if let Some(rest) = after(b"far ", text) {
+        let (n, k) = pair(rest)?;
+        return Some(DriveLine::Far(n, k));
+    }
+    if let Some(rest) = after(b"bytes ", text) {
+        return Some(DriveLine::Bytes(words::number(rest)?));
+    }
+    if let Some(rest) = after(b"forget ", text) {
+        return Some(DriveLine::Forget(words::number(rest)?));
+    }
+    None
+}
+
+/// A line behind the links.
+#[tactic(auto, unfolding(crate::specs::DriveLines::drive_line_of))]
+pub fn drive_line(text: &[u8]) -> Option<DriveLine>
+    ensures { result ≡ drive_line_of text.now }
+{
+    if is_word(b"step", text) {
+        return Some(DriveLine::Step);
+    }
+    if is_word(b"needs", text) {
+        return Some(DriveLine::Needs);
+    }
+    match simulation_line(text) {
+        Some(line) => Some(DriveLine::Script(line)),
+        None => own_line(text),
+    }
+}

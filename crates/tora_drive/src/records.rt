@@ -1,0 +1,151 @@
+//! What is told of a line that changed a world.
+ghost use Rattle.std.specs.Prelude.{◌≡◌, ◌-◌, ◌++◌, ◌∷◌, [], codes, OnOk, IfOk, length, string_bytes};
+ghost use Rattle.tora_drive.specs.Records.{sent_line, sent_of, sent_from, is_same_hop, hop_line, routes_at, routes_of};
+ghost use Rattle.std.specs.List.{flat_map};
+ghost use Rattle.std.specs.Fmt.{decimal};
+ghost use Rattle.tora_drive.specs.DriveText.{bytes_line};
+
+use crate::driven::Driven;
+use std::alloc::{AllocError, Global};
+use tora_frame::{Frame, LONGEST_FRAME, encode};
+use tora_height::Id;
+use tora_script::Simulator;
+use tora_trace::HopText;
+
+/// The next hop of a node to a destination, as it was.
+#[derive(Clone, Copy, Debug)]
+pub struct Route {
+    pub node: Id,
+    pub destination: Id,
+    /// None where there was none.
+    pub hop: Option<Id>,
+}
+
+/// Puts `sent A B ID LENGTH` behind a text.
+#[tactic(auto, unfolding(crate::specs::Records::sent_line))]
+fn write_datagram(out: &mut String, i: u64, frame: &Frame) -> Result<(), AllocError>
+    ensures { OnOk result (string_bytes out.new ≡ string_bytes out.old ++ sent_line i frame.now) }
+{
+    let header = *frame.header();
+    let (sender, receiver) = (header.sender, header.receiver);
+    let length = encode(frame).len();
+    writeln!(out, "sent {sender} {receiver} {i} {length}")
+}
+
+/// Puts the line of a datagram behind a text.
+fn write_sent_one<S: Driven>(out: &mut String, sim: &S, i: u64) -> Result<(), AllocError>
+    ensures { OnOk result (string_bytes out.new ≡ string_bytes out.old ++ sent_of (S.world sim.now) i) }
+{
+    match sim.frame(i) {
+        Some(frame) => write_datagram(out, i, &frame),
+        None => Ok(()),
+    }
+}
+
+/// Puts the lines of the datagrams behind the first ones behind a text.
+pub fn write_sent<S: Driven>(out: &mut String, sim: &S, first: u64) -> Result<(), AllocError>
+    ensures { OnOk result (string_bytes out.new ≡ string_bytes out.old ++ sent_from (S.world sim.now) first (length (S.world sim.now).datagrams - first)) }
+{
+    for i in first..sim.datagrams() {
+        write_sent_one(out, sim, i + 1)?;
+    }
+    Ok(())
+}
+
+/// Puts the next hops of a node behind others.
+fn put_routes<S: Simulator>(
+    routes: &mut Vec<Route>,
+    sim: &S,
+    n: Id,
+    dests: &[Id],
+) -> Result<(), AllocError>
+    ensures { OnOk result (routes.new.items ≡ routes.old.items ++ routes_at (S.world sim.now) dests.now n) }
+{
+    for d in dests {
+        routes.push(Route {
+            node: n,
+            destination: *d,
+            hop: sim.next_hop(n, *d),
+        })?;
+    }
+    Ok(())
+}
+
+/// Puts `bytes ID` and hexadecimal digits behind a text.
+fn write_digits(out: &mut String, i: u64, digits: &str) -> Result<(), AllocError>
+    ensures { OnOk result (string_bytes out.new ≡ string_bytes out.old ++ codes "bytes " ++ decimal i ++ codes " " ++ digits.now ++ 10 ∷ []) }
+{
+    writeln!(out, "bytes {i} {digits}")
+}
+
+/// Puts `bytes ID HEX` behind a text.
+#[tactic(auto, unfolding(crate::specs::DriveText::bytes_line))]
+pub fn write_frame(out: &mut String, i: u64, frame: &Frame) -> Result<(), AllocError>
+    ensures { OnOk result (string_bytes out.new ≡ string_bytes out.old ++ bytes_line i frame.now) }
+{
+    let bytes = encode(frame);
+    let mut room = [0; 2 * LONGEST_FRAME];
+    let digits = &mut room[..2 * bytes.len()];
+    let Ok(()) = hex::encode_to_slice(bytes.as_slice(), digits) else {
+        unreachable!()
+    };
+    let Ok(digits) = str::from_utf8(digits) else {
+        unreachable!()
+    };
+    write_digits(out, i, digits)
+}
+
+/// The next hops of nodes to destinations.
+pub fn routes<S: Simulator>(
+    alloc: Global,
+    sim: &S,
+    nodes: &[Id],
+    dests: &[Id],
+) -> Result<Vec<Route>, AllocError>
+    ensures { IfOk result (λ v. v.items ≡ routes_of (S.world sim.now) nodes.now dests.now) }
+{
+    let mut routes = Vec::new(alloc);
+    for n in nodes {
+        put_routes(&mut routes, sim, *n, dests)?;
+    }
+    Ok(routes)
+}
+
+fn is_same_hop(a: Option<Id>, b: Option<Id>) -> bool
+    ensures { result ≡ is_same_hop a b }
+{
+    match (a, b) {
+        (None, None) => true,
+        (None, Some(_)) => false,
+        (Some(_), None) => false,
+        (Some(a), Some(b)) => a == b,
+    }
+}
+
+/// Puts `hop N D K` behind a text, where the next hop is another one now.
+#[tactic(auto, unfolding(crate::specs::Records::hop_line))]
+fn write_hop<S: Simulator>(out: &mut String, sim: &S, route: &Route) -> Result<(), AllocError>
+    ensures { OnOk result (string_bytes out.new ≡ string_bytes out.old ++ hop_line (S.world sim.now) route.now) }
+{
+    let (n, d) = (route.node, route.destination);
+    let next = sim.next_hop(n, d);
+    if is_same_hop(route.hop, next) {
+        return Ok(());
+    }
+    let hop = HopText(next);
+    writeln!(out, "hop {n} {d} {hop}")
+}
+
+/// Puts the lines of the next hops that are others now behind a text.
+pub fn write_hops<S: Simulator>(
+    out: &mut String,
+    sim: &S,
+    routes: &[Route],
+) -> Result<(), AllocError>
+    ensures { OnOk result (string_bytes out.new ≡ string_bytes out.old ++ flat_map (hop_line (S.world sim.now)) routes.now) }
+{
+    for route in routes {
+        write_hop(out, sim, route)?;
+    }
+    Ok(())
+}

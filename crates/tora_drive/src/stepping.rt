@@ -1,0 +1,110 @@
+//! A step: a round in which nothing is delivered, and silent ends send nothing.
+ghost use Rattle.std.specs.Prelude.{◌≡◌, ◌||◌, IfOk};
+ghost use Rattle.tora_world.specs.World.{world_after_all};
+ghost use Rattle.tora_script.specs.Rounds.{each, Happened};
+ghost use Rattle.tora_drive.specs.Steps.{is_far, sends_of, step_pass, step_passes, step};
+
+use std::alloc::AllocError;
+use tora_height::Id;
+use tora_script::{EndTurn, Simulator, repeat, turn_cores, turn_end, turn_ends};
+use tora_world::Event;
+
+/// The most times that an event is made to happen on end, as in a round.
+const MOST_TIMES: u64 = 1024;
+
+/// The most passes of a step, as of a round.
+const MOST_PASSES: u64 = 1000;
+
+/// Whether an end is silent.
+pub fn is_far(far: &[(Id, Id)], end: (Id, Id)) -> bool
+    ensures { result ≡ is_far far.now end }
+{
+    far.iter().any(|e| end.0 == e.0 && end.1 == e.1)
+}
+
+fn either(a: bool, b: bool) -> bool
+    ensures { result ≡ (a || b) }
+{
+    a || b
+}
+
+/// Lets an end send its frames, unless it is silent. The place is that of the end.
+fn send_of<S: Simulator>(
+    sim: &mut S,
+    place: usize,
+    end: (Id, Id),
+    far: &[(Id, Id)],
+) -> Result<bool, AllocError>
+    ensures { IfOk result (λ some. Happened (S.world sim.old) (sends_of far.now end (S.world sim.old)) (S.world sim.new) some) }
+{
+    if is_far(far, end) {
+        return Ok(false);
+    }
+    turn_end(sim, EndTurn::Transmit, place, end, MOST_TIMES)
+}
+
+/// Lets each end send its frames that is not silent.
+fn send_all<S: Simulator>(
+    sim: &mut S,
+    ends: &[(Id, Id)],
+    far: &[(Id, Id)],
+) -> Result<bool, AllocError>
+    ensures { IfOk result (λ some. Happened (S.world sim.old) (each (sends_of far.now) ends.now (S.world sim.old)) (S.world sim.new) some) }
+{
+    let mut some = false;
+    for (place, end) in ends.iter().enumerate() {
+        let any = send_of(sim, place, *end, far)?;
+        some = either(some, any);
+    }
+    Ok(some)
+}
+
+/// One pass, and whether it had an event.
+#[tactic(auto, unfolding(crate::specs::Steps::step_pass))]
+fn pass<S: Simulator>(
+    sim: &mut S,
+    nodes: &[Id],
+    ends: &[(Id, Id)],
+    far: &[(Id, Id)],
+) -> Result<bool, AllocError>
+    ensures { IfOk result (λ some. Happened (S.world sim.old) (step_pass nodes.now ends.now far.now (S.world sim.old)) (S.world sim.new) some) }
+{
+    let turned = turn_cores(sim, nodes)?;
+    let pulled = turn_ends(sim, ends, EndTurn::Pull, MOST_TIMES)?;
+    let sent = send_all(sim, ends, far)?;
+    let pumped = turn_ends(sim, ends, EndTurn::Pump, MOST_TIMES)?;
+    Ok(either(turned, either(pulled, either(sent, pumped))))
+}
+
+/// Passes until one has no event.
+fn make_passes<S: Simulator>(
+    sim: &mut S,
+    nodes: &[Id],
+    ends: &[(Id, Id)],
+    far: &[(Id, Id)],
+) -> Result<(), AllocError>
+    ensures { IfOk result (λ _. S.world sim.new ≡ world_after_all (S.world sim.old) (step_passes 1000 nodes.now ends.now far.now (S.world sim.old))) }
+{
+    for _ in 0..MOST_PASSES {
+        if !pass(sim, nodes, ends, far)? {
+            return Ok(());
+        }
+    }
+    Ok(())
+}
+
+/// One step.
+#[tactic(auto, unfolding(crate::specs::Steps::step))]
+pub fn make_step<S: Simulator>(
+    sim: &mut S,
+    nodes: &[Id],
+    ends: &[(Id, Id)],
+    far: &[(Id, Id)],
+) -> Result<(), AllocError>
+    ensures { IfOk result (λ _. S.world sim.new ≡ world_after_all (S.world sim.old) (step nodes.now ends.now far.now (S.world sim.old))) }
+{
+    repeat(sim, 0, &Event::Tick, 1)?;
+    turn_ends(sim, ends, EndTurn::Open, 1)?;
+    make_passes(sim, nodes, ends, far)?;
+    Ok(())
+}

@@ -1,0 +1,119 @@
+//! A drive takes a line.
+ghost use Rattle.std.specs.Prelude.{◌≡◌, ◌++◌, [], false, OnOk, Err, string_bytes};
+ghost use Rattle.tora_arq.specs.Settings.{IsTimes};
+ghost use Rattle.tora_lines.specs.Gives.{Gives};
+ghost use Rattle.tora_script.specs.RunningView.{running_view};
+ghost use Rattle.tora_script.specs.SimulationView.{progress_of};
+ghost use Rattle.tora_drive.specs.DriveText.{closing, first_answer, placed, place_reply};
+ghost use Rattle.tora_drive.specs.DriveView.{own_view, drive_kind};
+
+use crate::answer::answer;
+use crate::cause::{fault_cause, write_fault};
+use crate::drive::Drive;
+use crate::driven::Driven;
+use crate::own::Own;
+use std::alloc::{AllocError, Global};
+use tora_arq::Times;
+use tora_lines::FileKind;
+use tora_lines::words::LineError;
+use tora_script::{LinkLines, Running, Setup, Stage, first_line, link, old, take_link, take_old};
+
+/// Takes a line behind the last link and the last old node, which makes the world; at least one link is required. A line that is a
+/// fault changes nothing.
+fn begin<S: Driven>(
+    alloc: Global,
+    times: Times,
+    lines: &LinkLines,
+    own: &mut Own,
+    line: &[u8],
+    text: &mut String,
+) -> Result<Running<S>, LineError>
+    requires times { IsTimes times }
+    requires empty { string_bytes text.old ≡ [] }
+    ensures gives { Gives (λ s. (running_view S.world s, own_view own.new, string_bytes text.new)) result (first_answer times (own_view own.old) lines.now.dests.items lines.now.links.items lines.now.olds.items line.now) }
+    ensures own { result ≡ Err LineError.Fault → own_view own.new ≡ own_view own.old }
+{
+    if lines.links.is_empty() {
+        return Err(LineError::Fault);
+    }
+    let setup = Setup::plain(times);
+    let mut running = Running::new(alloc, &lines.dests, &lines.links, &lines.olds, setup)?;
+    answer(alloc, &mut running, own, line, text)?;
+    Ok(running)
+}
+
+/// Puts `ok` behind a text.
+fn acknowledge(text: &mut String) -> Result<(), AllocError>
+    ensures { OnOk result (string_bytes text.new ≡ string_bytes text.old ++ closing false) }
+{
+    writeln!(text, "ok")
+}
+
+/// Takes a line, and puts the answer behind an empty text. A line that is a fault changes nothing.
+#[tactic(auto, unfolding(crate::specs::DriveText::place_reply))]
+fn take_line<S: Driven>(
+    stage: &mut Stage<S>,
+    own: &mut Own,
+    times: Times,
+    alloc: Global,
+    line: &[u8],
+    text: &mut String,
+) -> Result<(), LineError>
+    requires times { IsTimes times }
+    requires empty { string_bytes text.old ≡ [] }
+    ensures gives { Gives (λ _. placed (progress_of S.world stage.new) (own_view own.new) (string_bytes text.new)) result (place_reply times (own_view own.old) (progress_of S.world stage.old) line.now) }
+    ensures kept { result ≡ Err LineError.Fault → progress_of S.world stage.new ≡ progress_of S.world stage.old }
+    ensures own { result ≡ Err LineError.Fault → own_view own.new ≡ own_view own.old }
+{
+    match stage {
+        Stage::First => {
+            *stage = Stage::Links(first_line(alloc, line)?);
+            acknowledge(text)?;
+            Ok(())
+        }
+        Stage::Links(lines) => {
+            if let Some(link) = link(line) {
+                take_link(lines, link)?;
+                acknowledge(text)?;
+                return Ok(());
+            }
+            if let Some(n) = old(line) {
+                take_old(lines, n)?;
+                acknowledge(text)?;
+                return Ok(());
+            }
+            *stage = Stage::Runs(begin(alloc, times, lines, own, line, text)?);
+            Ok(())
+        }
+        Stage::Runs(running) => answer(alloc, running, own, line, text),
+    }
+}
+
+impl<S: Driven> FileKind for Drive<S> {
+    ghost kind = { drive_kind S.world };
+
+    fn take(&mut self, alloc: Global, line: &[u8], text: &mut String) -> Result<(), LineError> {
+        let Some(number) = self.lines.checked_add(1) else {
+            return Err(LineError::Memory);
+        };
+        let times = self.times;
+        let taken = take_line(&mut self.stage, &mut self.own, times, alloc, line, text);
+        self.lines = number;
+        match taken {
+            Ok(()) => Ok(()),
+            Err(error) => match error {
+                LineError::Memory => Err(LineError::Memory),
+                LineError::Fault => {
+                    text.clear();
+                    write_fault(text, number, fault_cause(&self.stage, line))?;
+                    Ok(())
+                }
+            },
+        }
+    }
+
+    #[tactic(auto, unfolding(tora_lines::specs::LineText::text_from))]
+    fn end(&self, _alloc: Global, _number: u64) -> Result<Option<u64>, AllocError> {
+        Ok(None)
+    }
+}

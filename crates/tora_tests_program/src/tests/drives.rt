@@ -1,0 +1,138 @@
+//! Drives: the answers to their lines, line by line.
+use super::runs::{Files, NOTHING, Row, Way, expect_files, expect_rows};
+use tora_lines::Ended;
+
+/// A link, and a first step behind it: each end has sent a HELLO of each version.
+const STEPPED: &str = "dests 2\nlink 1 2\nneed 1 2\nstep\n";
+
+/// What that prints.
+const STEPPED_TEXT: &str =
+    "ok\nok\nok\nsent 1 2 1 28\nsent 1 2 2 28\nsent 2 1 3 28\nsent 2 1 4 28\nok\n";
+
+/// Lines at each place of a drive, with the answers to those in front of them.
+const ANSWERS: &[Row] = &[
+    (NOTHING, NOTHING, "", Ended::Whole),
+    // The end of the input is no fault, wherever it stands, and a last line without its end is a line.
+    (&["dests 2"], &["", "\n"], "ok\n", Ended::Whole),
+    (
+        &["dests 2\nlink 1 2\nneed 1 2"],
+        &["", "\n"],
+        "ok\nok\nok\n",
+        Ended::Whole,
+    ),
+    // A fault changes nothing, and the lines go on.
+    (
+        &["dest 2\n\ndests 2\nlink 1\nlink 1 2\nold 3\nold 2\nlink 2 3\nheights 3\nheights 2\n"],
+        NOTHING,
+        "fault 1 the first line is `dests LIST`, the destinations\n\
+         fault 2 the first line is `dests LIST`, the destinations\n\
+         ok\nfault 4 behind the first line a line `link A B` is required\nok\n\
+         fault 6 it is no line that may stand here\nok\nfault 8 it is no line that may stand here\n\
+         fault 9 it names a node, a link or a destination that there is not\n\
+         node 1 - hop -\nnode 2 (0,0,0,0,2) hop -\nok\n",
+        Ended::Whole,
+    ),
+    (
+        &["dests 2,2\nlink 1 2\n"],
+        &["step\n", "old 1\n", "needs\n"],
+        "ok\nok\nfault 3 the links and destinations are refused\n",
+        Ended::Whole,
+    ),
+];
+
+/// Lines of a drive's own behind the first step.
+const OWN_LINES: &[Row] = &[
+    (&[STEPPED], NOTHING, STEPPED_TEXT, Ended::Whole),
+    (
+        &[STEPPED],
+        &["needs\n"],
+        "ok\nok\nok\nsent 1 2 1 28\nsent 1 2 2 28\nsent 2 1 3 28\nsent 2 1 4 28\nok\nneed 1 2\nok\n",
+        Ended::Whole,
+    ),
+    // Datagrams that are not there, and those that are forgotten.
+    (
+        &[STEPPED],
+        &[
+            "deliver 5\ndeliver 0\nforget 5\nforget 2\ndeliver 2\nbytes 1\nforget 1\nbytes 2\ndeliver 3\n",
+        ],
+        "ok\nok\nok\nsent 1 2 1 28\nsent 1 2 2 28\nsent 2 1 3 28\nsent 2 1 4 28\nok\n\
+         refused 3\nrefused 3\nrefused 3\nok\nrefused 3\nrefused 3\nok\nrefused 3\nok\n",
+        Ended::Whole,
+    ),
+    // The HELLO of version 1 of node 2, in its bytes: as what node 1 got from 2, and from others.
+    (
+        &[STEPPED],
+        &[
+            "bytes 4\n\
+           take 1 2 01010000000000020000000100000000000000010000000000000000\n\
+           take 2 1 01010000000000020000000100000000000000010000000000000000\n\
+           take 1 2 01010000000000020000000100000000000000010000000000000001\n\
+           take 1 2 0\ntake 1 2\nforget 4\n\
+           take 1 2 01010000000000020000000100000000000000010000000000000000\n",
+        ],
+        "ok\nok\nok\nsent 1 2 1 28\nsent 1 2 2 28\nsent 2 1 3 28\nsent 2 1 4 28\nok\n\
+         bytes 4 01010000000000020000000100000000000000010000000000000000\nok\n\
+         ok\nrefused 3\nrefused 3\n\
+         fault 9 it is no line that may stand here\nfault 10 it is no line that may stand here\nok\n\
+         refused 3\n",
+        Ended::Whole,
+    ),
+    // A silent end sends nothing in a step, and what was due goes out in the next.
+    (
+        &["dests 2\nlink 1 2\nfar 1 2\nfar 1 2\nfar 2 3\nnear 3 1\nstep\nnear 1 2\nstep\n"],
+        NOTHING,
+        "ok\nok\nok\nok\nfault 5 it names a node, a link or a destination that there is not\n\
+         fault 6 it names a node, a link or a destination that there is not\n\
+         sent 2 1 1 28\nsent 2 1 2 28\nok\nok\nsent 1 2 3 28\nsent 1 2 4 28\nok\n",
+        Ended::Whole,
+    ),
+    // What an event is refused for, and what none of these is.
+    (
+        &[
+            "dests 2\nlink 1 2\nturn 1\nturn 3\npump 1 2\nstep 1\nneeds \nnear 1\nfar 1 2 3\nbytes x\nforget -1\nTake 1 2 00\n",
+        ],
+        NOTHING,
+        "ok\nok\nrefused 4\nrefused 2\nrefused 4\n\
+         fault 6 it is no line that may stand here\nfault 7 it is no line that may stand here\n\
+         fault 8 it is no line that may stand here\nfault 9 it is no line that may stand here\n\
+         fault 10 it is no line that may stand here\nfault 11 it is no line that may stand here\n\
+         fault 12 it is no line that may stand here\n",
+        Ended::Whole,
+    ),
+];
+
+/// Lines that are too long end a drive.
+const LONG: &[Files] = &[
+    Files {
+        front: "dests 2\n",
+        middles: &["x"],
+        times: 4097,
+        end: "\nlink 1 2\n",
+        text: "ok\nfault 2\n",
+        ended: Ended::Fault(2),
+    },
+    Files {
+        front: "",
+        middles: &["dests 2,"],
+        times: 131_072,
+        end: "",
+        text: "fault 1\n",
+        ended: Ended::Fault(1),
+    },
+];
+
+#[test]
+fn each_line_is_answered(rt: HostRuntime) {
+    expect_rows(&rt, Way::Drive, ANSWERS);
+}
+
+#[test]
+fn own_lines_are_answered(rt: HostRuntime) {
+    expect_rows(&rt, Way::Drive, OWN_LINES);
+}
+
+/// 4,097 bytes, and a MiB.
+#[test]
+fn long_lines_end_a_drive(rt: HostRuntime) {
+    expect_files(&rt, Way::Drive, LONG);
+}

@@ -1,0 +1,114 @@
+#!/usr/bin/env python3
+"""Drives a world by `tora drive`, and compares it with `tora sim` of the same events.
+
+usage: tools/drive.py [--ticks N] [--loss P] [--seed S] [--need N,D ..] [--keep FOLDER] PROGRAM FILE
+
+  PROGRAM         the program `tora`
+  FILE            `dests`, `link` and `old` lines of a simulation file
+  --ticks N       so many steps (100)
+  --loss P        a datagram is lost with this probability, from 0 to 1 (0)
+  --seed S        of the losses (1)
+  --need N,D      a need that is put before the first step; any number of them
+  --keep FOLDER   keeps there driven.txt, the lines that were said, and driven.sim, the simulation file of the same events
+
+Each datagram that is not lost is delivered right behind the step that put it under way. A step is a round in which every
+link is parted: so the same events are a simulation file of `part` lines, `rounds 1` and `deliver` lines. It says whether
+the heights of both are the same at the end, whether next hops as they were told are those at the end, and what was counted.
+"""
+import argparse
+import pathlib
+import random
+import subprocess
+import sys
+import tempfile
+
+
+class Drive:
+    """A running `tora drive`, the lines said to it, and the next hops that it told."""
+
+    def __init__(self, program):
+        self.process = subprocess.Popen([program, "drive"], stdin=subprocess.PIPE, stdout=subprocess.PIPE, text=True)
+        self.said = []
+        self.hops = {}
+        greeting = self.process.stdout.readline()
+        if greeting != "tora drive 1\n":
+            sys.exit(f"drive.py: it begins with {greeting!r}")
+
+    def say(self, line):
+        """The lines of the answer, the last one left out."""
+        self.process.stdin.write(line + "\n")
+        self.process.stdin.flush()
+        self.said.append(line)
+        answer = []
+        while True:
+            text = self.process.stdout.readline().rstrip("\n")
+            words = text.split(" ")
+            if text == "ok":
+                return answer
+            if not text or words[0] in ("refused", "fault"):
+                sys.exit(f"drive.py: the answer to {line!r} ends with {text!r}")
+            if words[0] == "hop":
+                self.hops[words[1], words[2]] = words[3]
+            answer.append(words)
+
+    def end(self):
+        self.process.stdin.close()
+        return self.process.wait()
+
+
+def heights(answer):
+    """The lines of `heights D`, and the next hop of each node."""
+    return [" ".join(words) for words in answer], {words[1]: words[4] for words in answer}
+
+
+def arguments():
+    parser = argparse.ArgumentParser(add_help=False)
+    parser.add_argument("--ticks", type=int, default=100)
+    parser.add_argument("--loss", type=float, default=0.0)
+    parser.add_argument("--seed", type=int, default=1)
+    parser.add_argument("--need", action="append", default=[])
+    parser.add_argument("--keep")
+    parser.add_argument("-h", "--help", action="store_true")
+    parser.add_argument("program", nargs="?")
+    parser.add_argument("file", nargs="?")
+    asked = parser.parse_args()
+    if asked.help or not asked.file:
+        print(__doc__, end="", file=sys.stdout if asked.help else sys.stderr)
+        sys.exit(0 if asked.help else 2)
+    return asked
+
+
+def main():
+    asked = arguments()
+    first = [line for line in pathlib.Path(asked.file).read_text().splitlines() if line.split(" ")[0] in ("dests", "link", "old")]
+    dests = [d for d in first[0].split(" ")[1].split(",") if d != "-"]
+    parts = ["part" + line[4:] for line in first if line.startswith("link ")]
+    chance = random.Random(asked.seed)
+    drive = Drive(asked.program)
+    for line in first + ["need " + need.replace(",", " ") for need in asked.need]:
+        drive.say(line)
+    sent = delivered = 0
+    for _ in range(asked.ticks):
+        for words in [words for words in drive.say("step") if words[0] == "sent"]:
+            sent += 1
+            if chance.random() >= asked.loss:
+                delivered += 1
+                # what a delivery leads to comes in the next step
+                drive.say(f"deliver {words[3]}")
+    ends = {d: heights(drive.say(f"heights {d}")) for d in dests}
+    status = drive.end()
+    script = first + parts + ["rounds 1" if line == "step" else line for line in drive.said[len(first):]]
+    with tempfile.TemporaryDirectory(prefix="drive-") as work:
+        folder = pathlib.Path(asked.keep or work)
+        (folder / "driven.txt").write_text("\n".join(drive.said) + "\n")
+        (folder / "driven.sim").write_text("\n".join(script) + "\n")
+        ran = subprocess.run([asked.program, "sim", folder / "driven.sim"], stdout=subprocess.PIPE, text=True, check=True)
+    same = ran.stdout.splitlines() == [line for d in dests for line in ends[d][0]]
+    told = all(drive.hops.get((n, d), "-") == hop for d in dests for n, hop in ends[d][1].items())
+    print(f"{asked.ticks} steps, {sent} datagrams, {delivered} delivered, status {status}")
+    print(f"heights of `tora sim`: {'the same' if same else 'others'}; next hops as told: {'the same' if told else 'others'}")
+    return 0 if same and told and status == 0 else 1
+
+
+if __name__ == "__main__":
+    sys.exit(main())
