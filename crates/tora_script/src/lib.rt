@@ -34,9 +34,7 @@ pub use rounds::{EndTurn, make_rounds, repeat, turn_cores, turn_end, turn_ends};
 pub use running::{Running, has_end, mend, part};
 pub use script_line::SimulationLine;
 pub use setup::Setup;
-pub use simulating::{
-    first_line, simulate_in, simulation_fault_is_the_first, take_link, take_old,
-};
+pub use simulating::{first_line, simulate_in, simulation_fault_is_the_first, take_link, take_old};
 pub use simulation::{Simulation, Stage};
 pub use simulator::Simulator;
 pub use told::{Told, simulate_telling, simulate_told, tell_cause};
