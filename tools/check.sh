@@ -344,7 +344,7 @@ check_lock() {
   refuses 4 "tora: life: $work/lives/life-2: " "$program" node "$work/4.toml" </dev/null
   disown "$process"
   kill -9 "$process"
-  wait "$process" 2>/dev/null || true
+  for ((it = 0; it < 100; it++)); do kill -0 "$process" 2>/dev/null || break; sleep 0.05; done
   refuses 0 '' "$program" node "$work/4.toml" </dev/null
   exec 9>&-
 }
