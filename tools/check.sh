@@ -128,6 +128,9 @@ check_simulator() {
   printf 'dests 1\nlink 1 2\nrounds 3\nround 3\n' >"$work/s"
   TORA_SIM="${command[*]}" refuses 1 "$work/s:4: the simulator calls this line a fault" python3 ../play.py --sim "$work/s" -o "$work/refused.html"
   TORA_SIM="${command[*]}" holds 'the laws of worlds at rest in random networks' python3 ../rest.py --networks 12
+  if [ "${command[0]}" = "$program" ]; then
+    holds 'a driven world, which is the simulated one' python3 ../drive.py --ticks 200 --loss 0.4 --need 1,3 "$program" three.sim
+  fi
 }
 
 check_study() {
