@@ -9,7 +9,7 @@ ghost use Rattle.tora_commands.specs.Driving.{EndsDrive};
 ghost use Rattle.tora_commands.specs.TimesWord.{asked_times};
 
 use crate::sim_command::tell;
-use crate::{INPUT, TIMES, USAGE, asked_times, status, stop};
+use crate::{INPUT, SetupFault, USAGE, asked_times, status, stop};
 use std::alloc::Global;
 use std::io::Read;
 use std::process::ExitCode;
@@ -72,7 +72,7 @@ pub fn run<T: AllocGlobal + Eprint, R: Read + Drop, W: Output>(
     ensures ends { IfSome (asked_times (option_map (λ w. w.now) times.entry)) (λ t. EndsDrive t W.contents W.did_flush (R.remaining reader) writer.old writer.new (exit_status result)) }
 {
     let Some(times) = asked_times(times) else {
-        return stop(rt, USAGE, TIMES);
+        return stop(rt, USAGE, SetupFault::Times.cause());
     };
     run_with(rt, times, reader, writer)
 }
