@@ -1,0 +1,86 @@
+/*
+ * Three fixed nodes on a line, each in range of the next alone. The first sends 100 packets to the
+ * third, four a second from 10 s on; then the routing tables are printed. ns3/README.md tells what
+ * comes out.
+ *
+ *   tora-line [--program=PATH] [--pcap=PREFIX] [--record=FILE]
+ */
+#include "ns3/core-module.h"
+#include "ns3/internet-module.h"
+#include "ns3/mobility-module.h"
+#include "ns3/network-module.h"
+#include "ns3/tora-helper.h"
+#include "ns3/wifi-module.h"
+#include "ns3/yans-wifi-helper.h"
+
+#include <iostream>
+
+using namespace ns3;
+
+int
+main(int argc, char* argv[])
+{
+    std::string program = "tora";
+    std::string pcap;
+    std::string record;
+    CommandLine cmd(__FILE__);
+    cmd.AddValue("program", "the engine", program);
+    cmd.AddValue("pcap", "the beginning of the names of pcap files", pcap);
+    cmd.AddValue("record", "the file for the lines of the run", record);
+    cmd.Parse(argc, argv);
+
+    NodeContainer nodes(3);
+    MobilityHelper mobility;
+    mobility.SetPositionAllocator("ns3::GridPositionAllocator", "DeltaX", DoubleValue(200));
+    mobility.SetMobilityModel("ns3::ConstantPositionMobilityModel");
+    mobility.Install(nodes);
+
+    YansWifiChannelHelper channel;
+    channel.SetPropagationDelay("ns3::ConstantSpeedPropagationDelayModel");
+    channel.AddPropagationLoss("ns3::RangePropagationLossModel", "MaxRange", DoubleValue(250));
+    YansWifiPhyHelper phy;
+    phy.SetChannel(channel.Create());
+    WifiMacHelper mac;
+    mac.SetType("ns3::AdhocWifiMac");
+    WifiHelper wifi;
+    wifi.SetStandard(WIFI_STANDARD_80211b);
+    NetDeviceContainer devices = wifi.Install(phy, mac, nodes);
+
+    ToraHelper tora;
+    tora.Set("Program", StringValue(program));
+    tora.Set("Record", StringValue(record));
+    InternetStackHelper stack;
+    stack.SetRoutingHelper(tora);
+    stack.Install(nodes);
+    Ipv4AddressHelper addresses("10.1.1.0", "255.255.255.0");
+    Ipv4InterfaceContainer interfaces = addresses.Assign(devices);
+
+    uint32_t received = 0;
+    Ptr<Socket> sink = Socket::CreateSocket(nodes.Get(2), UdpSocketFactory::GetTypeId());
+    sink->Bind(InetSocketAddress(Ipv4Address::GetAny(), 9));
+    sink->SetRecvCallback(Callback<void, Ptr<Socket>>([&received](Ptr<Socket> socket) {
+        while (socket->Recv())
+        {
+            received++;
+        }
+    }));
+    Ptr<Socket> source = Socket::CreateSocket(nodes.Get(0), UdpSocketFactory::GetTypeId());
+    source->Connect(InetSocketAddress(interfaces.GetAddress(2), 9));
+    for (uint32_t i = 0; i < 100; i++)
+    {
+        Simulator::Schedule(Seconds(10 + 0.25 * i),
+                            [source]() { source->Send(Create<Packet>(64)); });
+    }
+    if (!pcap.empty())
+    {
+        phy.EnablePcapAll(pcap);
+    }
+    auto out = Create<OutputStreamWrapper>(&std::cout);
+    Ipv4RoutingHelper::PrintRoutingTableAllAt(Seconds(40), out);
+
+    Simulator::Stop(Seconds(41));
+    Simulator::Run();
+    Simulator::Destroy();
+    std::cout << "received " << received << " of 100" << std::endl;
+    return received == 100 ? 0 : 1;
+}

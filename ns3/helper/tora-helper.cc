@@ -1,0 +1,55 @@
+#include "tora-helper.h"
+
+#include "ns3/ipv4-list-routing.h"
+#include "ns3/ipv4.h"
+#include "ns3/tora-routing.h"
+#include "ns3/tora-world.h"
+
+namespace ns3
+{
+
+ToraHelper::ToraHelper()
+{
+    m_factory.SetTypeId("ns3::ToraRouting");
+}
+
+ToraHelper*
+ToraHelper::Copy() const
+{
+    return new ToraHelper(*this);
+}
+
+Ptr<Ipv4RoutingProtocol>
+ToraHelper::Create(Ptr<Node> node) const
+{
+    Ptr<ToraRouting> routing = m_factory.Create<ToraRouting>();
+    node->AggregateObject(routing);
+    return routing;
+}
+
+void
+ToraHelper::Set(std::string name, const AttributeValue& value)
+{
+    m_factory.Set(name, value);
+}
+
+void
+ToraHelper::AddLink(Ptr<Node> a, Ptr<Node> b) const
+{
+    ToraWorld::Get()->AddLink(a->GetId(), b->GetId());
+}
+
+int64_t
+ToraHelper::AssignStreams(NodeContainer c, int64_t stream) const
+{
+    int64_t current = stream;
+    for (auto node = c.Begin(); node != c.End(); node++)
+    {
+        Ptr<ToraRouting> routing = (*node)->GetObject<ToraRouting>();
+        NS_ASSERT_MSG(routing, "TORA is not installed on node " << (*node)->GetId());
+        current += routing->AssignStreams(current);
+    }
+    return current - stream;
+}
+
+} // namespace ns3

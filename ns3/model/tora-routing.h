@@ -1,0 +1,456 @@
+#ifndef TORA_ROUTING_H
+#define TORA_ROUTING_H
+
+#include "tora-header.h"
+#include "tora-queue.h"
+#include "tora-world.h"
+
+#include "ns3/arp-cache.h"
+#include "ns3/ipv4-routing-protocol.h"
+#include "ns3/ipv4.h"
+#include "ns3/node.h"
+#include "ns3/random-variable-stream.h"
+#include "ns3/socket.h"
+#include "ns3/traced-callback.h"
+#include "ns3/traced-value.h"
+
+#include <map>
+#include <set>
+#include <string>
+#include <tuple>
+#include <vector>
+
+namespace ns3
+{
+
+class WifiMpdu;
+enum WifiMacDropReason : uint8_t; // opaque enum declaration
+
+/**
+ * \defgroup tora TORA Routing
+ *
+ * The Temporally-Ordered Routing Algorithm (Park and Corson, INFOCOM 1997). The protocol itself
+ * runs in the program `tora` of this repository, whose answers are proved; the classes here carry
+ * its frames and the data packets over ns-3's devices. ns3/README.md tells how they are used.
+ */
+
+/**
+ * \ingroup tora
+ * \brief TORA: the routes of a node, as the engine's core of that node has them.
+ *
+ * The engine decides which neighbours are linked and which of them is the next hop to a destination
+ * (ToraWorld). This class carries the frames of the node's link ends over the radio, and the node's
+ * data packets along the next hops.
+ *
+ * Frames that are due in a tick go out in one broadcast packet, at a random moment within the tick.
+ * A HELLO that says what the last one to the same neighbour said waits for other frames, but not
+ * longer than BeaconInterval after the last packet; then a packet goes out at any rate, also
+ * without frames: it says that the node is there. Frames go only to neighbours that were heard
+ * within HeardTimeout. No more than one such packet of a node waits for the radio: frames that
+ * become due meanwhile wait in the node, and a frame that says the same later takes the place of an
+ * earlier one.
+ *
+ * With Salvage a data packet that the radio gives up waits, too, and its next hop is not used until
+ * it is heard again.
+ *
+ * A data packet without a next hop waits in a queue of at most MaxQueueLen packets for at most
+ * MaxQueueTime, and is then dropped; its source gets an ICMP message "host unreachable". A data
+ * packet that comes back to a node which sent or forwarded it is dropped and counted.
+ */
+class ToraRouting : public Ipv4RoutingProtocol
+{
+  public:
+    /// The UDP port of the broadcast packets.
+    static const uint16_t PORT;
+    /// The most bytes of a broadcast packet, with its IPv4 and UDP headers.
+    static const uint32_t MAX_PACKET_SIZE;
+
+    /// Why a data packet was dropped.
+    enum DropReason
+    {
+        NO_DESTINATION, //!< no node of the world has the address
+        NO_INTERFACE,   //!< the node has no interface that is up, or does not forward
+        QUEUE_FULL,     //!< it was the first of a queue that was full
+        TIME_OVER,      //!< it waited for MaxQueueTime
+        CAME_BACK       //!< the node had sent or forwarded it before
+    };
+
+    /**
+     * TracedCallback signature for changes of a next hop.
+     *
+     * \param destination the destination
+     * \param before the next hop until now, or 0.0.0.0
+     * \param after the next hop from now on, or 0.0.0.0
+     */
+    typedef void (*RouteTracedCallback)(Ipv4Address destination,
+                                        Ipv4Address before,
+                                        Ipv4Address after);
+    /**
+     * TracedCallback signature for neighbours that are heard, or not any longer.
+     *
+     * \param neighbour the neighbour
+     */
+    typedef void (*LinkTracedCallback)(Ipv4Address neighbour);
+    /**
+     * TracedCallback signature for broadcast packets.
+     *
+     * \param packet the packet, with its header
+     * \param header the header
+     */
+    typedef void (*ControlTracedCallback)(Ptr<const Packet> packet, const ToraHeader& header);
+    /**
+     * TracedCallback signature for data packets that are dropped.
+     *
+     * \param packet the packet
+     * \param header its header
+     * \param reason why
+     */
+    typedef void (*DropTracedCallback)(Ptr<const Packet> packet,
+                                       const Ipv4Header& header,
+                                       DropReason reason);
+
+    /**
+     * \brief Get the type ID.
+     * \return the object TypeId
+     */
+    static TypeId GetTypeId();
+
+    ToraRouting();
+    ~ToraRouting() override;
+
+    // Inherited from Ipv4RoutingProtocol
+    Ptr<Ipv4Route> RouteOutput(Ptr<Packet> p,
+                               const Ipv4Header& header,
+                               Ptr<NetDevice> oif,
+                               Socket::SocketErrno& sockerr) override;
+    bool RouteInput(Ptr<const Packet> p,
+                    const Ipv4Header& header,
+                    Ptr<const NetDevice> idev,
+                    UnicastForwardCallback ucb,
+                    MulticastForwardCallback mcb,
+                    LocalDeliverCallback lcb,
+                    ErrorCallback ecb) override;
+    void NotifyInterfaceUp(uint32_t interface) override;
+    void NotifyInterfaceDown(uint32_t interface) override;
+    void NotifyAddAddress(uint32_t interface, Ipv4InterfaceAddress address) override;
+    void NotifyRemoveAddress(uint32_t interface, Ipv4InterfaceAddress address) override;
+    void SetIpv4(Ptr<Ipv4> ipv4) override;
+    void PrintRoutingTable(Ptr<OutputStreamWrapper> stream,
+                           Time::Unit unit = Time::S) const override;
+
+    /**
+     * Assign a fixed random variable stream number to the random variables
+     * used by this model.  Return the number of streams (possibly zero) that
+     * have been assigned.
+     *
+     * \param stream first stream index to use
+     * \return the number of stream indices assigned by this model
+     */
+    int64_t AssignStreams(int64_t stream);
+    /**
+     * \param length the most packets that wait for a route
+     */
+    void SetMaxQueueLen(uint32_t length);
+    /**
+     * \returns the most packets that wait for a route
+     */
+    uint32_t GetMaxQueueLen() const;
+    /**
+     * The node begins anew, as after a loss of power: its routes and the packets that wait are
+     * lost, its life files are kept.
+     */
+    void Restart();
+
+    /**
+     * \returns the node's number in the engine: its first address as a number, or 0 where it has
+     * none
+     */
+    uint32_t GetId() const;
+    /**
+     * \returns the number of the ns-3 node
+     */
+    uint32_t GetNodeNumber() const;
+    /**
+     * \returns all addresses of the node but those of the loopback interface
+     */
+    std::vector<Ipv4Address> GetAddresses() const;
+    /**
+     * \returns whether the node's link ends speak version 1 of frames alone
+     */
+    bool IsOld() const;
+    /**
+     * Finds the next hop to a destination.
+     *
+     * \param destination any address of the destination
+     * \returns the address of the next hop, or 0.0.0.0
+     */
+    Ipv4Address GetNextHop(Ipv4Address destination) const;
+    /**
+     * \returns the neighbours that were heard within HeardTimeout
+     */
+    std::vector<Ipv4Address> GetHeard() const;
+    /**
+     * \returns how many data packets wait for a route
+     */
+    uint32_t GetQueueSize() const;
+    /**
+     * \returns how many data packets came back to the node
+     */
+    uint32_t GetCameBack() const;
+
+    // For ToraWorld
+    /**
+     * Frames of this node are due.
+     *
+     * \param frames the frames
+     */
+    void TakeFrames(const std::vector<ToraFrame>& frames);
+    /**
+     * A next hop changed.
+     *
+     * \param destination the number of the destination
+     * \param neighbour the number of the neighbour, or 0 for none
+     */
+    void SetNextHop(uint32_t destination, uint32_t neighbour);
+    /**
+     * The engine's round of a tick is over.
+     */
+    void OnTick();
+
+  protected:
+    void DoInitialize() override;
+    void DoDispose() override;
+
+  private:
+    /// What is known of a neighbour that was heard.
+    struct Neighbour
+    {
+        Ipv4Address address; //!< its address on the interface
+        uint32_t interface {
+            0
+        };                          //!< the interface on which it was heard
+        Time heard;                 //!< when it was heard last
+        uint8_t newest{0};          //!< the newest version of frames that it has shown
+        bool isSuspect{false};      //!< whether the radio gave up a frame to it since it was heard
+        bool isNoticed{false};      //!< whether the engine was told that beacons are missed
+        std::vector<uint8_t> hello; //!< the lives that the last HELLO to it named
+    };
+
+    /// Of an IPv4 packet what tells it from others: source, destination, protocol, number and
+    /// offset.
+    using PacketName = std::tuple<uint32_t, uint32_t, uint8_t, uint16_t, uint16_t>;
+
+    /**
+     * \param header a header
+     * \returns what tells its packet from others
+     */
+    static PacketName NameOf(const Ipv4Header& header);
+    /**
+     * Opens the socket of an interface.
+     *
+     * \param interface the interface
+     */
+    void Open(uint32_t interface);
+    /**
+     * Closes the socket of an interface.
+     *
+     * \param interface the interface
+     */
+    void Close(uint32_t interface);
+    /**
+     * Begins or ends to look at what a radio reports.
+     *
+     * \param interface the interface of the radio
+     * \param isWatched whether it begins
+     */
+    void Watch(uint32_t interface, bool isWatched);
+    /**
+     * A broadcast packet came.
+     *
+     * \param socket the socket
+     */
+    void Receive(Ptr<Socket> socket);
+    /**
+     * A neighbour was heard.
+     *
+     * \param header the header of its packet
+     * \param address its address
+     * \param interface the interface
+     */
+    void Hear(const ToraHeader& header, Ipv4Address address, uint32_t interface);
+    /**
+     * The radio begins to send a packet.
+     *
+     * \param packet the packet
+     * \param power the power in watts
+     */
+    void OnTxBegin(Ptr<const Packet> packet, double power);
+    /**
+     * The radio gave a packet up.
+     *
+     * \param reason why
+     * \param mpdu the packet
+     */
+    void OnDroppedMpdu(WifiMacDropReason reason, Ptr<const WifiMpdu> mpdu);
+    /**
+     * A data packet that the radio gave up waits for a route once more.
+     *
+     * \param packet the packet, as the radio has it
+     */
+    void Salvage(Ptr<const Packet> packet);
+    /**
+     * Sends a packet that was given up before.
+     *
+     * \param route its route
+     * \param packet the packet
+     * \param header its header
+     */
+    void SendSalvaged(Ptr<Ipv4Route> route, Ptr<const Packet> packet, const Ipv4Header& header);
+    /// Lets go of neighbours that were not heard lately.
+    void ExpireNeighbours();
+    /**
+     * Schedules the next broadcast.
+     *
+     * \param within the time within which it comes, at a random moment
+     */
+    void ScheduleBroadcast(Time within);
+    /// Broadcasts what is due, or a beacon.
+    void Broadcast();
+    /**
+     * Takes as many frames from those that are due as go into a packet.
+     *
+     * \returns the header of the packet
+     */
+    ToraHeader TakePacket();
+    /**
+     * Finds the route to a destination.
+     *
+     * \param destination any address
+     * \returns the route, or nothing where there is none
+     */
+    Ptr<Ipv4Route> RouteTo(Ipv4Address destination) const;
+    /**
+     * A route over a given interface without a next hop.
+     *
+     * \param destination the destination
+     * \param interface the interface
+     * \returns the route
+     */
+    Ptr<Ipv4Route> DirectRoute(Ipv4Address destination, uint32_t interface) const;
+    /**
+     * A route to this node itself, over which a packet comes to RouteInput().
+     *
+     * \param destination the destination
+     * \param oif the device that is asked for, or none
+     * \returns the route
+     */
+    Ptr<Ipv4Route> LoopbackRoute(Ipv4Address destination, Ptr<NetDevice> oif) const;
+    /**
+     * Finds the interface that an address is a broadcast address of.
+     *
+     * \param address the address
+     * \returns the interface, or -1
+     */
+    int32_t InterfaceOfBroadcast(Ipv4Address address) const;
+    /**
+     * Forwards a packet, or lets it wait for a route.
+     *
+     * \param entry the packet
+     */
+    void Forward(const ToraQueueEntry& entry);
+    /**
+     * Drops a data packet, and tells its source.
+     *
+     * \param entry the packet
+     * \param reason why
+     */
+    void Drop(const ToraQueueEntry& entry, DropReason reason);
+    /**
+     * Tells the source of a packet that its destination can't be reached.
+     *
+     * \param entry the packet
+     */
+    void SendUnreachable(const ToraQueueEntry& entry);
+    /// Sends the packets that wait and have a route, and asks for the routes of all others.
+    void ServeQueue();
+    /**
+     * Schedules ServeQueue().
+     *
+     * \param delay after which time; without it behind what happens now
+     */
+    void ScheduleQueue(Time delay = Time(0));
+    /**
+     * Sends packets that wait for a destination. ARP keeps three packets for a neighbour whose
+     * hardware address it does not know: until it does, the first one goes alone, and the others
+     * wait.
+     *
+     * \param destination the destination
+     * \param route the route to it
+     */
+    void Release(Ipv4Address destination, Ptr<Ipv4Route> route);
+    /**
+     * Tells whether a packet can go at once.
+     *
+     * \param route its route
+     * \returns whether ARP knows the next hop, or is not needed
+     */
+    bool IsResolved(Ptr<Ipv4Route> route) const;
+    /**
+     * Lets ARP ask for a neighbour anew that it gave up: it is heard.
+     *
+     * \param address its address
+     * \param interface the interface
+     */
+    void ReviveInArp(Ipv4Address address, uint32_t interface) const;
+    /**
+     * \param interface an interface
+     * \returns its ARP cache, or nothing where its device needs none
+     */
+    Ptr<ArpCache> ArpOf(uint32_t interface) const;
+
+    // Attributes
+    Time m_tick;           //!< how long a tick takes
+    std::string m_times;   //!< the times of link ends
+    std::string m_program; //!< the engine's program
+    std::string m_record;  //!< the file of the lines of the run
+    bool m_isSalvaging;    //!< whether packets that the radio gives up wait for another route
+    bool m_isNoticing;     //!< whether the engine is told of neighbours that are gone
+    bool m_isTaking;       //!< whether received frames are handed over as bytes
+    bool m_isOld;          //!< whether link ends speak version 1 of frames alone
+    Time m_beaconInterval; //!< how long the node is silent at most
+    Time m_heardTimeout;   //!< how long a neighbour counts as heard
+    Time m_maxQueueTime;   //!< how long a packet waits at most
+
+    Ptr<Ipv4> m_ipv4;                           //!< IP of the node
+    Ptr<NetDevice> m_lo;                        //!< its loopback device
+    Ptr<ToraWorld> m_world;                     //!< the world, from the start on
+    Ptr<UniformRandomVariable> m_random;        //!< the moments of broadcasts
+    uint32_t m_id{0};                           //!< the node's number in the engine
+    std::map<uint32_t, Ptr<Socket>> m_sockets;  //!< sockets by interface
+    std::map<uint32_t, Neighbour> m_neighbours; //!< neighbours that are heard
+    std::map<uint32_t, uint32_t> m_hops;        //!< next hops by destination
+    ToraQueue m_queue;                          //!< packets that wait for a route
+    std::vector<ToraFrame> m_due;               //!< frames that wait to be broadcast
+    bool m_isUrgent{false};                     //!< whether one of them is more than an old HELLO
+    bool m_isScheduled{false};                  //!< whether a broadcast is scheduled
+    bool m_isQueueScheduled{false};             //!< whether ServeQueue() is scheduled
+    Time m_lastBroadcast;                       //!< when the last broadcast was made
+    uint64_t m_serial{0};                       //!< how many packets were broadcast
+    std::set<uint32_t> m_radios;                //!< interfaces whose radio is looked at
+    uint32_t m_unsent{0};                       //!< radios that have not sent the last one
+    std::map<PacketName, Time> m_seen;          //!< packets sent or forwarded, and when
+    std::map<Ipv4Address, Time> m_resolving;    //!< next hops that ARP was asked for, and when
+    std::map<uint32_t, Time> m_asked;           //!< destinations asked for, and when
+
+    TracedCallback<Ipv4Address, Ipv4Address, Ipv4Address> m_routeTrace;      //!< "RouteChange"
+    TracedCallback<Ipv4Address> m_linkUpTrace;                               //!< "LinkUp"
+    TracedCallback<Ipv4Address> m_linkDownTrace;                             //!< "LinkDown"
+    TracedCallback<Ptr<const Packet>, const ToraHeader&> m_controlTrace;     //!< "Control"
+    TracedCallback<Ptr<const Packet>, const Ipv4Header&, DropReason> m_drop; //!< "Drop"
+    TracedValue<uint64_t> m_controlBytes;                                    //!< "ControlBytes"
+    TracedValue<uint32_t> m_cameBack;                                        //!< "CameBack"
+};
+
+} // namespace ns3
+
+#endif /* TORA_ROUTING_H */
