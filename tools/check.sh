@@ -287,7 +287,7 @@ check_completion() {
   local it
   while IFS= read -r it; do
     echo "$it: $(cd ../../examples/line-of-four && ../../tools/completion/offers.sh "$it")"
-  done >"$work/completion" <<<$'tora \ntora s\n../../tora i\ntora -v sim --t\ntora sim --times 1 \ntora node --ch\ntora node --log w\ntora node n1\ntora help '
+  done >"$work/completion" <<<$'tora \ntora s\n../../tora i\ntora -v sim --t\ntora sim --times 1 \ntora node --ch\ntora node --log w\ntora node n1\ntora drive --t\ntora help '
   same completion "$work/completion"
 }
 
