@@ -8,3 +8,4 @@ pub mod ThreadHistories
 pub mod ThreadExchanges
 pub mod NodeHistories
 pub mod LinkHistories
+pub mod Orders

@@ -7,6 +7,7 @@ use Rattle.tora_arq.specs.LinkEnd.{EndState, first_end}
 use Rattle.tora_running.specs.Parts.{LinkPart, end_after, IsPossible, AreLinkParts}
 use Rattle.tora_running.specs.Parts.LinkPart.{Opens, Ticks, Takes, Sends, Hears, Tells, Beats, Breaks}
 use Rattle.tora_seat.specs.Serving.{SeatState}
+use Rattle.tora_world.specs.Topology.{neighbours_of}
 use Rattle.tora_world.specs.World.{first_seat}
 use Rattle.tora_node.specs.CoreRuns.{ServedItem, serving_told, AreServed}
 use Rattle.tora_running.specs.Network.{Network, Part, settings_at, neighbours_at, beside, with_part, after_part, after_parts, IsRun}
@@ -15,7 +16,7 @@ use Rattle.tora_running.specs.Histories.{parts_of_link, served_in, IsNotStarted}
 
 -- ---- what a part leaves as it is
 
-beside_ends : (w : Network) (n k : ℕ) (part : LinkPart) → (beside w n k part).ends ≡ w.ends
+pub beside_ends : (w : Network) (n k : ℕ) (part : LinkPart) → (beside w n k part).ends ≡ w.ends
 beside_ends w n k (Opens number now) = refl
 beside_ends w n k (Ticks now) = refl
 beside_ends w n k (Takes cargo) = refl
@@ -35,7 +36,7 @@ beside_settings w n k (Tells now event) a b = refl
 beside_settings w n k (Beats now) a b = refl
 beside_settings w n k Breaks a b = refl
 
-beside_seats : (w : Network) (n k : ℕ) (part : LinkPart) → (beside w n k part).seats ≡ w.seats
+pub beside_seats : (w : Network) (n k : ℕ) (part : LinkPart) → (beside w n k part).seats ≡ w.seats
 beside_seats w n k (Opens number now) = refl
 beside_seats w n k (Ticks now) = refl
 beside_seats w n k (Takes cargo) = refl
@@ -45,17 +46,17 @@ beside_seats w n k (Tells now event) = refl
 beside_seats w n k (Beats now) = refl
 beside_seats w n k Breaks = refl
 
-beside_neighbours : (w : Network) (n k : ℕ) (part : LinkPart) (a : ℕ) → neighbours_at (beside w n k part) a ≡ neighbours_at w a
-beside_neighbours w n k (Opens number now) a = refl
-beside_neighbours w n k (Ticks now) a = refl
-beside_neighbours w n k (Takes cargo) a = refl
-beside_neighbours w n k (Sends now frame sending) a = refl
-beside_neighbours w n k (Hears now frame) a = refl
-beside_neighbours w n k (Tells now event) a = refl
-beside_neighbours w n k (Beats now) a = refl
-beside_neighbours w n k Breaks a = refl
+pub beside_topology : (w : Network) (n k : ℕ) (part : LinkPart) → (beside w n k part).topology ≡ w.topology
+beside_topology w n k (Opens number now) = refl
+beside_topology w n k (Ticks now) = refl
+beside_topology w n k (Takes cargo) = refl
+beside_topology w n k (Sends now frame sending) = refl
+beside_topology w n k (Hears now frame) = refl
+beside_topology w n k (Tells now event) = refl
+beside_topology w n k (Beats now) = refl
+beside_topology w n k Breaks = refl
 
-part_settings : (w : Network) (part : Part) (a b : ℕ) → settings_at (after_part w part) a b ≡ settings_at w a b
+pub part_settings : (w : Network) (part : Part) (a b : ℕ) → settings_at (after_part w part) a b ≡ settings_at w a b
 part_settings w (Starts n) a b = refl
 part_settings w (OfLink n k part) a b = beside_settings (with_part w n k part) n k part a b
 part_settings w (Serves n item offers) a b = refl
@@ -102,7 +103,7 @@ core_parts n (Starts m ∷ parts) w run others =
     (core_parts n parts (after_part w (Starts m)) run.1 others.1)
 core_parts n (Asks m now what ∷ parts) w run others = core_parts n parts (after_part w (Asks m now what)) run.1 others
 core_parts n (OfLink m j part ∷ parts) w run others =
-    subst (λ ks. AreServed ks (w.seats n) (served_in n parts) ((after_parts parts (after_part w (OfLink m j part))).seats n)) (beside_neighbours (with_part w m j part) m j part n)
+    subst (λ ks. AreServed ks (w.seats n) (served_in n parts) ((after_parts parts (after_part w (OfLink m j part))).seats n)) (ap (λ t. neighbours_of t n) (beside_topology (with_part w m j part) m j part))
     (subst (λ (f : ℕ → SeatState). AreServed (neighbours_at (after_part w (OfLink m j part)) n) (f n) (served_in n parts) ((after_parts parts (after_part w (OfLink m j part))).seats n)) (beside_seats (with_part w m j part) m j part)
     (core_parts n parts (after_part w (OfLink m j part)) run.1 others))
 core_parts n (Serves m item offers ∷ parts) w run others = go (nat_eq n m) refl (core_parts n parts w' run.1 others)

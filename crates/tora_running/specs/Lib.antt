@@ -1,6 +1,7 @@
 pub mod Parts
 pub mod Network
 pub mod Histories
+pub mod Orders
 pub mod Exchanges
 pub mod Nodes
 pub mod Laws

@@ -1,10 +1,12 @@
--- Two running nodes, computed: a run in which a datagram is lost, a packet is handed back, both nodes are killed, and a route is found in a
--- second life of their link.
-use Rattle.std.specs.Prelude.{◌≡◌, ℕ, Bool, true, false, List, [], ◌∷◌, slice_get, Option, Some, None}
-use Rattle.tora_frame.specs.FrameParts.{FrameParts}
+-- Two running nodes, computed: a run in which a datagram is lost, a packet is handed back, both nodes are killed, a route is found in a
+-- second life of their link, and is lost with it: a wire breaks, and the other end hears nothing any more.
+use Rattle.std.specs.Prelude.{◌≡◌, ℕ, Bool, true, false, List, [], ◌∷◌, length, slice_get, Option, Some, None}
+use Rattle.tora_frame.specs.FrameParts.{FrameParts, frame_of}
+use Rattle.tora_frame.specs.declared.parts.Version.TheVariants.{One}
+use Rattle.tora_frame.specs.declared.parts.Body.TheVariants.{Hello}
 use Rattle.tora_arq.specs.declared.Life.{Life}
 use Rattle.tora_arq.specs.declared.LinkEvent.{LinkEvent}
-use Rattle.tora_arq.specs.declared.state.Phase.TheVariants.{Bound}
+use Rattle.tora_arq.specs.declared.state.Phase.TheVariants.{Closed, Bound}
 use Rattle.tora_arq.specs.LinkEnd.{frame_due, first_event}
 use Rattle.tora_core.specs.CoreRun.{hop_of}
 use Rattle.tora_seat.specs.declared.What.TheVariants as Told
@@ -13,9 +15,9 @@ use Rattle.tora_seat.specs.declared.Cargo.{Cargo}
 use Rattle.tora_seat.specs.Serving.{serving_of}
 use Rattle.tora_world.specs.Lists.{reversed}
 use Rattle.tora_world.specs.World.{Sending}
-use Rattle.tora_world.specs.World.Sending.{Goes, IsLost}
+use Rattle.tora_world.specs.World.Sending.{Goes, IsLost, IsGone}
 use Rattle.tora_world.specs.Worked.{pair, times, life, update}
-use Rattle.tora_running.specs.Parts.LinkPart.{Opens, Takes, Sends, Hears, Tells, Beats}
+use Rattle.tora_running.specs.Parts.LinkPart.{Opens, Ticks, Takes, Sends, Hears, Tells, Beats, Breaks}
 use Rattle.tora_running.specs.Network.{Network, Part, first_network, settings_at, neighbours_at, after_part, after_parts, packets_sent, packets_taken}
 use Rattle.tora_running.specs.Network.Part.{Starts, OfLink, Serves, Asks}
 
@@ -71,6 +73,25 @@ starts n w = Starts n
 abbrev pub needs : ℕ → ℕ → Reads
 needs n d w = Asks n 0 (Told.Need d)
 
+abbrev pub shows : ℕ → Reads
+shows n w = Asks n 0 Told.Show
+
+abbrev pub ticks : ℕ → ℕ → ℕ → Reads
+ticks n k now w = OfLink n k (Ticks now)
+
+abbrev pub beats : ℕ → ℕ → ℕ → Reads
+beats n k now w = OfLink n k (Beats now)
+
+abbrev pub breaks : ℕ → ℕ → Reads
+breaks n k w = OfLink n k Breaks
+
+-- a HELLO of a node that is no neighbour
+abbrev pub strange : FrameParts
+strange = frame_of (record { version = One; sender = 9; receiver = 1; life = 1; heard = 0 }) Hello
+
+abbrev pub hears_strange : ℕ → ℕ → Reads
+hears_strange n k w = OfLink n k (Hears 0 strange)
+
 abbrev pub read_from : Network → List Reads → List Part
 read_from w [] = []
 read_from w (next ∷ more) = next w ∷ read_from (after_part w (next w)) more
@@ -122,6 +143,32 @@ pub record HasMet (w : Network) : Type 0 where
   pub taken : packets_taken w 2 1 (reversed new_life) ≡ update ∷ []
   pub none : packets_taken w 2 1 life ≡ []
   pub hop : hop_of (w.seats 1).core 2 ≡ Some 2
+
+-- ---- the end of that life
+
+-- a beat comes, and node 1 is asked for its text; an acknowledgement goes out though its send has failed; a frame of another node is refused. Then
+-- the wire of node 1 breaks, and node 2 hears nothing for 60 ticks
+abbrev pub last_turns : List Reads
+last_turns =
+    beats 1 2 10 ∷ serves 1 true ∷ shows 1 ∷ serves 1 true ∷ sends 2 1 IsGone ∷ hears 1 2 2 ∷ hears_strange 1 2 ∷ breaks 1 2 ∷ tells 1 2 ∷ serves 1 true
+    ∷ ticks 2 1 60 ∷ tells 2 1 ∷ serves 2 true ∷ []
+
+abbrev pub last_parts : List Part
+last_parts = read_from met last_turns
+
+abbrev pub left : Network
+left = after_parts last_parts met
+
+-- both lives have ended, at the ends and at the cores, nothing waits in the lanes, and node 1 has no route any more
+pub record HasLeft (w : Network) : Type 0 where
+  pub closed : (w.ends 1 2).phase ≡ Closed
+  pub other : (w.ends 2 1).phase ≡ Closed
+  pub over : (w.seats 1).current 2 ≡ None
+  pub other_over : (w.seats 2).current 1 ≡ None
+  pub served : w.items 1 ≡ []
+  pub other_served : w.items 2 ≡ []
+  pub gone : length (w.frames 2 1) ≡ 3
+  pub hop : hop_of (w.seats 1).core 2 ≡ None
 
 -- ---- what is no run: a number is drawn again
 

@@ -18,9 +18,10 @@ ghost use Rattle.tora_world.specs.Topology.{is_node};
 ghost use Rattle.tora_running.specs.Exchanges.{ExchangeTheSame};
 ghost use Rattle.tora_running.specs.Histories.{IsAfterRefused, IsNotStarted, parts_of_last, parts_of_link, parts_of_turns, parts_served, served_in};
 ghost use Rattle.tora_running.specs.Network.{IsRun, Network, Part, after_parts, neighbours_at, settings_at};
+ghost use Rattle.tora_running.specs.Orders.{AreHistories, IsOrder};
 ghost use Rattle.tora_running.specs.Nodes.{HasExchanged, HaveHistories};
 ghost use Rattle.tora_running.specs.Parts.{AreLinkParts};
-ghost use Rattle.tora_running.specs.Worked.{start, first_parts, parted, second_parts, met, HandsBack, HasMet, drawn_again, TakesTwice};
+ghost use Rattle.tora_running.specs.Worked.{start, first_parts, parted, second_parts, met, last_parts, left, HandsBack, HasMet, HasLeft, drawn_again, TakesTwice};
 
 use tora_arq::{data_frames_are_what_was_submitted, refused_frames_change_nothing};
 use tora_life::drawn_life_numbers_rise;
@@ -140,6 +141,16 @@ pub fn histories_are_of_the_threads()
         → AreServed (neighbours_at w n) (w.seats n) (served_in n parts) ((after_parts parts w).seats n) }
 {}
 
+/// A run of parts is nothing but an order of what the threads did: histories of the threads, start after start of each node, and an
+/// order of all their parts that keeps lanes, datagrams and numbers (`IsOrder`). So that order is all that the laws of running
+/// nodes ask beside the contracts of the threads.
+pub fn runs_are_orders_of_histories()
+    // Where each thread made its parts as its own definition has them, in any order that keeps these, all laws of runs hold.
+    ensures runs { (w : Network) (parts : List Part) → AreHistories w parts → IsOrder w parts → IsRun w parts }
+    // And each run is such an order.
+    ensures orders { (w : Network) (parts : List Part) → IsRun w parts → AreHistories w parts × IsOrder w parts }
+{}
+
 /// What `run_node` says of its links is what histories come to: for each link there are parts of a new end of version 2 with the
 /// standard times, made one after another, and they exchange what the turns do whose tally is told of it; they put the items that
 /// the core served, and take the cargoes that serving put.
@@ -162,6 +173,10 @@ pub fn worked_networks_hold()
     // taken in it, once, though its datagram comes twice: node 1 has a route.
     ensures second { IsRun parted second_parts }
     ensures met { HasMet met }
+    // A beat comes, a user asks, a send fails whose datagram went out, and a frame of another node is refused; then the wire of node 1
+    // breaks, node 2 hears nothing for 60 ticks, and the route is gone.
+    ensures last { IsRun met last_parts }
+    ensures left { HasLeft left }
     // That numbers rise is needed: were the same numbers drawn again after a start, an old datagram would be taken a second time.
     ensures numbers { TakesTwice drawn_again }
 {}

@@ -8,5 +8,5 @@ pub use laws::{
     running_cores_refuse_only_needs, running_entries_at_rest_are_heights,
     running_nodes_are_a_world, running_nodes_keep_the_no_gap_law,
     running_nodes_keep_the_prefix_law, running_routes_at_rest_arrive, running_walks_arrive,
-    worked_networks_hold,
+    runs_are_orders_of_histories, worked_networks_hold,
 };

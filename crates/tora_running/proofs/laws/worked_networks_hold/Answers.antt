@@ -23,6 +23,14 @@ pub returns-clause-met : goal.returns-clause-met
 unfolding after_release after_packet after_packets on_data on_matched on_frame_in on_frame after_tick on_submit after_cut on_transmit_in on_transmit ready_run first_due after_join new_level after_erase after_link_loss after_update_loss after_cuts_tried after_broadcast after_broadcasts after_step after_settling after_input after_link_item after_other_item serving_of height_fault
 returns-clause-met c = record { bound = refl; other = refl; sent = refl; taken = refl; none = refl; hop = refl }
 
+pub returns-clause-last : goal.returns-clause-last
+unfolding after_release after_packet after_packets on_data on_matched on_frame_in on_frame after_tick on_submit after_cut on_transmit_in on_transmit ready_run first_due after_join new_level after_erase after_link_loss after_update_loss after_cuts_tried after_broadcast after_broadcasts after_step after_settling after_input after_link_item after_other_item serving_of height_fault
+returns-clause-last c = ((refl, tt, tt), ((refl, refl, refl), ((refl, tt), ((refl, refl, refl), ((refl, refl, tt), ((refl, tt, inl (inr (inr (inl refl)))), ((refl, tt, inr tt), ((refl, tt, tt), ((refl, refl, tt), ((refl, refl, refl), ((refl, tt, tt), ((refl, refl, tt), ((refl, refl, refl), tt)))))))))))))
+
+pub returns-clause-left : goal.returns-clause-left
+unfolding after_release after_packet after_packets on_data on_matched on_frame_in on_frame after_tick on_submit after_cut on_transmit_in on_transmit ready_run first_due after_join new_level after_erase after_link_loss after_update_loss after_cuts_tried after_broadcast after_broadcasts after_step after_settling after_input after_link_item after_other_item serving_of height_fault
+returns-clause-left c = record { closed = refl; other = refl; over = refl; other_over = refl; served = refl; other_served = refl; gone = refl; hop = refl }
+
 pub returns-clause-numbers : goal.returns-clause-numbers
 unfolding after_release after_packet after_packets on_data on_matched on_frame_in on_frame after_tick on_submit after_cut on_transmit_in on_transmit ready_run first_due after_join new_level after_erase after_link_loss after_update_loss after_cuts_tried after_broadcast after_broadcasts after_step after_settling after_input after_link_item after_other_item serving_of height_fault
 returns-clause-numbers c = record { sent = refl; taken = refl }
