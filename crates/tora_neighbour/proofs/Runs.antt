@@ -8,7 +8,7 @@ use Rattle.tora_frame.specs.FrameGrammar.{frame_spelling, frame_reading}
 use Rattle.tora_arq.specs.Settings.{Settings}
 use Rattle.tora_arq.specs.LinkEnd.{EndState}
 use Rattle.tora_arq.specs.LinkFacts.{list_of}
-use Rattle.tora_neighbour.specs.Turns.{Turn, IsTurn, AreTurns, AreBeats, AreTold, is_beat_due, beat_after, tally_after}
+use Rattle.tora_neighbour.specs.Turns.{Turn, IsTurn, AreTurns, AreBeats, AreTold, AreRead, is_beat_due, beat_after, tally_after}
 use Rattle.tora_neighbour.specs.Traffic.{Outside, Traffic, Came, AreDrawn, entries_of, numbers_opened, frames_sent, readings_come}
 use Rattle.tora_neighbour.specs.declared.tally.Tally.{Tally}
 use Rattle.tora_neighbour.specs.Intake.{Reading}
@@ -72,3 +72,12 @@ tally_more first (u ∷ ts) mid t after so one = tally_more (counted_in u.intake
 pub told_more : (told : ℕ → Type 0) (ts : List Turn) (t : Turn) → AreTold told ts → told t.now → AreTold told (ts ++ t ∷ [])
 told_more told [] t so one = (one, tt)
 told_more told (u ∷ ts) t so one = (so.0, told_more told ts t so.1 one)
+
+pub read_more : {T : Type 0} (read : T → ℕ → T → Type 0) (first : T) (ts : List Turn) (mid : T) (t : Turn) (after : T) → AreRead read first ts mid → read mid t.now after → AreRead read first (ts ++ t ∷ []) after
+read_more read first [] mid t after so one = (after, subst (λ x. read x t.now after) so one, refl)
+read_more read first (u ∷ ts) mid t after so one = (so.0, so.1, read_more read so.0 ts mid t after so.2 one)
+
+-- a source whose readings are those of a clock that stays
+pub read_told : {T : Type 0} (told : T → ℕ → Type 0) (ticks : T) (ts : List Turn) (after : T) → AreRead (λ before now next. told before now × (next ≡ before)) ticks ts after → AreTold (told ticks) ts
+read_told told ticks [] after so = tt
+read_told told ticks (t ∷ ts) after so = (so.1.0, read_told told ticks ts after (subst (λ x. AreRead (λ before now next. told before now × (next ≡ before)) x ts after) so.1.1 so.2))

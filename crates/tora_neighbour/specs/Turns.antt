@@ -131,6 +131,11 @@ abbrev pub AreTold : (ℕ → Type 0) → List Turn → Type 0
 AreTold told [] = Unit {0}
 AreTold told (t ∷ turns) = told t.now × AreTold told turns
 
+-- each turn has read its own tick, one after another
+abbrev pub AreRead : {T : Type 0} → (T → ℕ → T → Type 0) → T → List Turn → T → Type 0
+AreRead read ticks [] after = after ≡ ticks
+AreRead {T = T} read ticks (t ∷ turns) after = (between : T) × read ticks t.now between × AreRead read between turns after
+
 -- ---- the tally
 
 -- each datagram that came is counted

@@ -46,6 +46,10 @@ module _ {D W : Type 0} {disk : Disk.Ghosts D} {wire : Wire.Ghosts W} where
   abbrev pub wire_made : NewLink D W disk wire → W
   wire_made new = new.link.wire
 
+  -- its life file was opened on this disk
+  abbrev pub OpenedOn : (ℕ → ℕ → D → ℕ → Type 0) → D → NewLink D W disk wire → Type 0
+  OpenedOn opened of new = opened new.link.end.settings.me new.link.end.settings.peer of new.link.file.numbers.drawn
+
 -- the links of a node whose core begins as this one, in ascending order of their peers
 abbrev pub links_of : CoreView → List LinkName
 links_of first = map (name_of first.me) first.neighbours

@@ -1,10 +1,13 @@
 -- The links of a node as they are made.
-use Rattle.std.specs.Prelude.{ℕ}
+use Rattle.std.specs.Prelude.{◌≡◌, ℕ, List, Result, Ok}
 use Rattle.tora_arq.specs.EndRange.{LinkEndView, link_end_of}
 use Rattle.tora_arq.specs.LinkEnd.{first_end}
 use Rattle.tora_arq.specs.Settings.{settings_of}
 use Rattle.tora_arq.specs.declared.TheConstants.Times.{STANDARD}
 use Rattle.tora_frame.specs.declared.parts.Version.TheVariants.{Two}
+use Rattle.tora_life.specs.Calls.{OpensBy}
+use Rattle.tora_life.specs.declared.disk.DiskError.{DiskError}
+use Rattle.tora_life.specs.declared.numbers.Numbers.{Numbers}
 use Rattle.tora_life.specs.declared.tags.Owner.{Owner}
 
 -- the end of a node's link to this peer: of version 2, with the standard times, never opened
@@ -14,3 +17,7 @@ new_end me peer = link_end_of (settings_of Two me peer STANDARD) first_end
 -- the life file of this node for its link to this peer
 abbrev pub owner_of : ℕ → ℕ → Owner
 owner_of me peer = record { node = me; peer = peer }
+
+-- the file of this node for its link to this peer was opened on this disk, by these calls of it, and this is the number that counts as its last
+abbrev pub IsOpened : {D : Type 0} → (D → Result (Unit {0}) DiskError → D → Type 0) → (D → ℕ → List ℕ → Result ℕ DiskError → List ℕ → D → Type 0) → (D → ℕ → List ℕ → Result (Unit {0}) DiskError → D → Type 0) → ℕ → ℕ → D → ℕ → Type 0
+IsOpened {D = D} syncs reads writes me peer disk drawn = (numbers : Numbers) × (after : D) × OpensBy syncs reads writes (owner_of me peer) disk (Ok numbers) after × (numbers.drawn ≡ drawn)

@@ -9,7 +9,7 @@ use Rattle.tora_lane.specs.Ports.{InEnd, CoreEnd, Lane}
 use Rattle.tora_life.specs.declared.disk.Disk as Disk
 use Rattle.tora_neighbour.specs.LaneHub.{IsSamePort}
 use Rattle.tora_neighbour.specs.Puts.{put_in}
-use Rattle.tora_neighbour.specs.Traffic.{cargoes_taken, entries_put}
+use Rattle.tora_neighbour.specs.Traffic.{AreDrawn, cargoes_taken, entries_put, numbers_opened}
 use Rattle.tora_neighbour.specs.declared.lane_hub.LaneHub.{LaneHub}
 use Rattle.tora_neighbour.specs.declared.wire.Wire as Wire
 use Rattle.tora_neighbour.specs.declared.wire.WireError.{WireError}
@@ -41,10 +41,11 @@ begun_by handle = handle.promise.0.value
 
 -- ---- the thread of a link
 
--- its link, its wire and its clock
+-- its link, its wire, its clock, and the last number of its life file
 pub record LinkStart (W C : Type 0) : Type 0 where
   pub link : LinkName
   pub wire : W
+  pub drawn : ℕ
   pub clock : C
 
 -- the two ends of the lanes of a link, as its hub
@@ -53,19 +54,21 @@ hub_of ends = record { port = ends.0; outs = ends.1 }
 
 module _ {D W C : Type 0} {disk : Disk.Ghosts D} {wire : Wire.Ghosts W} where
   abbrev pub link_to_start : C → NewLink D W disk wire → LinkStart W C
-  link_to_start clock new = record { link = link_made new; wire = new.link.wire; clock = clock }
+  link_to_start clock new = record { link = link_made new; wire = new.link.wire; drawn = new.link.file.numbers.drawn; clock = clock }
 
   abbrev pub started : Start D W C disk wire → LinkStart W C
-  started start = record { link = link_made start.new; wire = start.new.link.wire; clock = start.clock.now }
+  started start = record { link = link_made start.new; wire = start.new.link.wire; drawn = start.new.link.file.numbers.drawn; clock = start.clock.now }
 
   abbrev pub hub_started : Start D W C disk wire → LaneHub
   hub_started start = start.hub
 
--- It has run this link with this wire, at ticks that the clock told. What it has put and taken is what its turns did, by the same
+-- It has run this link with this wire, at ticks that the clock told, under the numbers behind this one. What it has put and taken is what its turns did, by the same
 -- port and out of the same lane
-pub record LinkLeaves {W : Type 0} (send : W → List ℕ → Result (Unit {0}) WireError → W → Type 0) (receive : W → Result (Option ℕ) WireError → List ℕ → W → Type 0) (told : ℕ → Type 0) (link : LinkName) (wire : W) (hub : LaneHub) (rest : LinkRest) : Type 0 where
+pub record LinkLeaves {W : Type 0} (send : W → List ℕ → Result (Unit {0}) WireError → W → Type 0) (receive : W → Result (Option ℕ) WireError → List ℕ → W → Type 0) (told : ℕ → Type 0) (link : LinkName) (wire : W) (drawn : ℕ) (hub : LaneHub) (rest : LinkRest) : Type 0 where
   pub run : IsLinkRun link.me link.peer rest.outcome.fault rest.outcome.tally
   pub called : HasCalled send receive told wire run.turns run.last run.ending
+  pub last_drawn : ℕ
+  pub numbers : AreDrawn drawn (numbers_opened (run.turns ++ run.last ∷ [])) last_drawn
   pub puts : map put_in rest.hub.port.put ≡ map put_in hub.port.put ++ entries_put (run.turns ++ run.last ∷ [])
   pub takes : rest.hub.outs.received ≡ hub.outs.received ++ cargoes_taken (run.turns ++ run.last ∷ [])
   pub port : IsSamePort hub.port rest.hub.port

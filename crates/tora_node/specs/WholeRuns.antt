@@ -4,7 +4,7 @@ use Rattle.std.specs.Io.KnownBytes.{Consumes}
 use Rattle.tora_core.specs.CoreRun.{CoreView, core_after_all}
 use Rattle.tora_lane.specs.LaneRule.{items_of}
 use Rattle.tora_neighbour.specs.Puts.{put_in}
-use Rattle.tora_neighbour.specs.Traffic.{cargoes_taken, entries_put}
+use Rattle.tora_neighbour.specs.Traffic.{AreDrawn, cargoes_taken, entries_put, numbers_opened}
 use Rattle.tora_neighbour.specs.declared.fault.NodeError.{NodeError}
 use Rattle.tora_neighbour.specs.declared.tally.Tally.{Tally}
 use Rattle.tora_neighbour.specs.declared.wire.WireError.{WireError}
@@ -29,10 +29,14 @@ pub record LinkExchanged (me : ℕ) (xs : List ServedItem) (place peer : ℕ) (o
   pub waiting : List Cargo
   pub cargoes : cargoes_taken (run.turns ++ run.last ∷ []) ++ waiting ≡ put_to peer (offers_made xs)
 
--- and it has run it with this wire, at ticks that the clock told
-pub record LinkRan {W : Type 0} (send : W → List ℕ → Result (Unit {0}) WireError → W → Type 0) (receive : W → Result (Option ℕ) WireError → List ℕ → W → Type 0) (told : ℕ → Type 0) (me : ℕ) (xs : List ServedItem) (place peer : ℕ) (wire : W) (outcome : Outcome) : Type 0 where
+-- and it has run it with this wire, at ticks that the clock told, under the numbers behind the last one of its life file, each the next
+pub record LinkRan {W : Type 0} (send : W → List ℕ → Result (Unit {0}) WireError → W → Type 0) (receive : W → Result (Option ℕ) WireError → List ℕ → W → Type 0) (told opened : ℕ → Type 0) (me : ℕ) (xs : List ServedItem) (place peer : ℕ) (wire : W) (outcome : Outcome) : Type 0 where
   pub exchanged : LinkExchanged me xs place peer outcome
   pub called : HasCalled send receive told wire exchanged.run.turns exchanged.run.last exchanged.run.ending
+  pub drawn : ℕ
+  pub file : opened drawn
+  pub last_drawn : ℕ
+  pub numbers : AreDrawn drawn (numbers_opened (exchanged.run.turns ++ exchanged.run.last ∷ [])) last_drawn
 
 -- Some bytes were read, and the items of the last seat that the core served, and then those left in the lane, are what they ask
 pub record CommandsRan (told : ℕ → Type 0) (input : Option (List ℕ)) (seat : ℕ) (served : List Item) : Type 0 where
@@ -47,9 +51,9 @@ pub record CommandsRan (told : ℕ → Type 0) (input : Option (List ℕ)) (seat
   pub ends : EndsAt end given put rest gone
   pub items : items_of seat served ++ left ≡ put
 
--- The threads of a node that began with this core, these wires and this input. Items were served one after another, the core is the run
+-- The threads of a node that began with this core, these wires, these disks and this input. Items were served one after another, the core is the run
 -- of the inputs that serving made of them, and each link and the commands had a thread that put them. The first of their faults is the answer
-pub record NodeRan {W : Type 0} (send : W → List ℕ → Result (Unit {0}) WireError → W → Type 0) (receive : W → Result (Option ℕ) WireError → List ℕ → W → Type 0) (told : ℕ → Type 0) (first : CoreView) (wires : List W) (input : Option (List ℕ))
+pub record NodeRan {W D : Type 0} (send : W → List ℕ → Result (Unit {0}) WireError → W → Type 0) (receive : W → Result (Option ℕ) WireError → List ℕ → W → Type 0) (told : ℕ → Type 0) (opened : ℕ → ℕ → D → ℕ → Type 0) (first : CoreView) (wires : List W) (disks : List D) (input : Option (List ℕ))
     (answer : Option NodeError) (core : CoreView) (tallies : List Tally) (taken : List Item) (gone : Bool) : Type 0 where
   pub xs : List ServedItem
   pub after : SeatState
@@ -60,14 +64,14 @@ pub record NodeRan {W : Type 0} (send : W → List ℕ → Result (Unit {0}) Wir
   pub core_is : core ≡ core_after_all first (inputs_stepped first.neighbours (state_of (first_seat first)) xs)
   pub ends : EndsSo fault xs gone
   pub count : length outcomes ≡ length first.neighbours
-  pub links : (place peer : ℕ) (wire : W) (outcome : Outcome) → slice_get first.neighbours place ≡ Some peer → slice_get wires place ≡ Some wire → slice_get outcomes place ≡ Some outcome
-      → LinkRan send receive told first.me xs place peer wire outcome
+  pub links : (place peer : ℕ) (wire : W) (disk : D) (outcome : Outcome) → slice_get first.neighbours place ≡ Some peer → slice_get wires place ≡ Some wire → slice_get disks place ≡ Some disk → slice_get outcomes place ≡ Some outcome
+      → LinkRan send receive told (opened first.me peer disk) first.me xs place peer wire outcome
   pub commands : CommandsRan told input (length first.neighbours) taken
   pub answer_is : first_fault fault first.neighbours outcomes ≡ answer
   pub tallies_are : tallies ≡ map (λ o. o.tally) outcomes
 
 -- a node that ends with a fault: one of its start, or the first one of its threads
-abbrev pub EndsWithFault : {W : Type 0} → (W → List ℕ → Result (Unit {0}) WireError → W → Type 0) → (W → Result (Option ℕ) WireError → List ℕ → W → Type 0) → (ℕ → Type 0) → CoreView → List W → Option (List ℕ) → NodeError → Type 0
-EndsWithFault send receive told first wires input e =
+abbrev pub EndsWithFault : {W D : Type 0} → (W → List ℕ → Result (Unit {0}) WireError → W → Type 0) → (W → Result (Option ℕ) WireError → List ℕ → W → Type 0) → (ℕ → Type 0) → (ℕ → ℕ → D → ℕ → Type 0) → CoreView → List W → List D → Option (List ℕ) → NodeError → Type 0
+EndsWithFault send receive told opened first wires disks input e =
     IsStartFault first e
-    ⊎ ((core : CoreView) × (tallies : List Tally) × (taken : List Item) × (gone : Bool) × NodeRan send receive told first wires input (Some e) core tallies taken gone)
+    ⊎ ((core : CoreView) × (tallies : List Tally) × (taken : List Item) × (gone : Bool) × NodeRan send receive told opened first wires disks input (Some e) core tallies taken gone)

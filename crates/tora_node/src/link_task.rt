@@ -37,7 +37,7 @@ impl<'a, D: Disk + Drop, W: Wire + Drop, C: Clock> Task<LinkRest> for Start<'a, 
     ghost use Rattle.tora_node.specs.LinkRuns.{link_made};
     ghost use Rattle.tora_node.specs.Threads.{LinkLeaves};
 
-    ghost leaves = { λ t rest. LinkLeaves W.did_send W.did_receive (C.did_tell t.clock.now) (link_made t.new) t.new.link.wire t.hub rest };
+    ghost leaves = { λ t rest. LinkLeaves W.did_send W.did_receive (C.did_tell t.clock.now) (link_made t.new) t.new.link.wire t.new.link.file.numbers.drawn t.hub rest };
 
     fn run<R: Wait + Log>(self, rt: &R) -> LinkRest {
         let Start { new, hub, clock } = self;

@@ -2,8 +2,9 @@
 ghost use Rattle.std.specs.Prelude.{◌≡◌, ◌⊎◌, ◌<◌, ◌≤◌, IfErr, IfOk, IfSome, length, map};
 ghost use Rattle.tora_lane.specs.NodeLanes.{AreLanes};
 ghost use Rattle.tora_neighbour.specs.declared.fault.NodeError.{NodeError};
-ghost use Rattle.tora_node.specs.LinkRuns.{name_of, link_ended, link_made, wire_made, IsOpening};
-ghost use Rattle.tora_node.specs.Threads.{started, link_to_start, hub_started, hub_of};
+ghost use Rattle.tora_node.specs.NewLinks.{IsOpened};
+ghost use Rattle.tora_node.specs.LinkRuns.{name_of, link_ended, link_made, wire_made, OpenedOn, IsOpening};
+ghost use Rattle.tora_node.specs.Threads.{Each, started, link_to_start, hub_started, hub_of};
 
 use crate::start::{NewEnd, NewLink, Start};
 use std::alloc::Global;
@@ -54,6 +55,7 @@ pub(crate) fn new_links<D: Disk + Drop, W: Wire + Drop>(
     requires wires { length wires.items ≡ length ends.items }
     ensures made { IfOk result (λ links. map link_made links.items ≡ map link_ended ends.items) }
     ensures wired { IfOk result (λ links. map wire_made links.items ≡ wires.items) }
+    ensures opened { IfOk result (λ links. Each (OpenedOn (IsOpened D.syncs D.reads D.writes)) disks.items links.items) }
     ensures fault { IfErr result (IsOpening (map link_ended ends.items)) }
 {
     let mut links = Vec::new(alloc);
@@ -85,7 +87,7 @@ fn new_link<D: Disk + Drop, W: Wire + Drop>(
     disk: D,
     wire: W,
 ) -> Result<NewLink<D, W>, LifeError>
-    ensures { IfOk result (λ link. (link_made link ≡ link_ended new) × (wire_made link ≡ wire)) }
+    ensures { IfOk result (λ link. (link_made link ≡ link_ended new) × (wire_made link ≡ wire) × OpenedOn (IsOpened D.syncs D.reads D.writes) disk link) }
 {
     let NewEnd { end } = new;
     match LifeFile::open(disk, end.me(), end.peer()) {

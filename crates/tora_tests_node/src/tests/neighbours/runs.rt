@@ -35,6 +35,8 @@ enum Told {
     Beat(u64),
     /// The life was cut.
     Cut(u64),
+    /// The other end was silent.
+    Silent(u64),
 }
 
 /// What is put of this.
@@ -43,6 +45,7 @@ fn put_of(told: &Told) -> Put {
         Told::Up(now) => (*now, What::Up(LIFE)),
         Told::Beat(now) => (*now, What::Beat),
         Told::Cut(now) => (*now, What::Down(LIFE, Reason::Cut)),
+        Told::Silent(now) => (*now, What::Down(LIFE, Reason::Silent)),
     };
     Put { now, what }
 }
@@ -158,6 +161,33 @@ const BOUND: Run = Run {
 #[test]
 fn a_link_comes_up_and_the_hub_ends_it(rt: HostRuntime) {
     runs(&rt, rt.alloc(), &BOUND);
+}
+
+/// Each turn reads the clock, so that the link goes silent 50 ticks after its one datagram, and a beat comes every ten. With a tick
+/// that serves several turns the fuse ends the run.
+const SILENT: Run = Run {
+    step: 1,
+    fuse: Some((200, FuseMode::Always)),
+    cuts: 0,
+    room: 8,
+    fault: None,
+    tally: Some((1, 1)),
+    count: 8,
+    puts: &[
+        Told::Up(0),
+        Told::Beat(0),
+        Told::Beat(10),
+        Told::Beat(20),
+        Told::Beat(30),
+        Told::Beat(40),
+        Told::Silent(50),
+        Told::Beat(50),
+    ],
+};
+
+#[test]
+fn each_turn_reads_the_clock(rt: HostRuntime) {
+    runs(&rt, rt.alloc(), &SILENT);
 }
 
 /// The first turn takes 256 cuts, before the life is bound; the one of the second turn ends it.

@@ -28,6 +28,8 @@ returns g c =
         last_calls = calls.1;
         ticks = t.7;
       };
+      last_drawn = after.link.file.numbers.drawn;
+      numbers = t.5.drawn;
       puts = t.5.puts;
       takes = t.5.takes;
       port = same.0;

@@ -1,11 +1,11 @@
 use Rattle.std.proofs.Common.{◌≡◌, ◌<◌, List, None}
 use Rattle.tora_neighbour.specs.Datagrams.{RoseBy}
 use Rattle.tora_neighbour.specs.Tally.{first_tally}
-use Rattle.tora_neighbour.specs.Turns.{Turn, AreTurns, AreBeats, AreTold, IsRow, calls_failed, tally_after}
+use Rattle.tora_neighbour.specs.Turns.{Turn, AreTurns, AreBeats, AreRead, IsRow, calls_failed, tally_after}
 use Rattle.tora_neighbour.specs.Traffic.{Traffic, outside}
 use Rattle.tora_neighbour.specs.Calls.{AreCalls}
 use Rattle.tora_neighbour.specs.Causes.{IsReady}
-use Rattle.tora_neighbour.proofs.neighbour.run_neighbour.Given as goal
+use Rattle.tora_neighbour.proofs.neighbour.run_turns.Given as goal
 
 abbrev pub invariant-loop : goal.invariant-loop
 invariant-loop g l = record {
@@ -22,6 +22,6 @@ invariant-loop g l = record {
       × (l.course.tally ≡ tally_after first_tally turns)
       × Traffic (outside g.H.Hub.puts g.H.Hub.takes g.W.Wire.tells g.W.Wire.coming g.W.Wire.tries l.fn.link l.fn.hub) turns (outside g.H.Hub.puts g.H.Hub.takes g.W.Wire.tells g.W.Wire.coming g.W.Wire.tries l.link l.hub)
       × AreCalls g.H.Hub.did_take g.H.Hub.did_put g.W.Wire.did_send g.W.Wire.did_receive l.fn.hub l.fn.link.wire turns l.hub l.link.wire
-      × AreTold (g.C.Clock.did_tell l.fn.clock) turns
+      × AreRead g.T.Ticks.did_read l.fn.ticks turns l.ticks
       × IsRow 0 (calls_failed turns) l.course.row;
 }
