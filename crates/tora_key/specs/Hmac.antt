@@ -1,7 +1,6 @@
 -- HMAC-SHA-256 (RFC 2104, FIPS 198-1), as functions on lists of bytes.
 use Rattle.std.specs.Prelude.{ℕ, ◌-◌, List, ◌++◌, length, map, take, replicate, bit_xor, nat_lt, if◌then◌else◌}
 use Rattle.sha2.specs.Sha256.{sha256}
-use Rattle.tora_key.specs.declared.key.Key.{Key}
 
 -- a key of more than 64 bytes is hashed first
 abbrev pub shortened : List ℕ → List ℕ
@@ -10,9 +9,6 @@ shortened key = if nat_lt 64 (length key) then sha256 key else key
 -- the block of a key: zeros follow it, up to 64 bytes
 unfoldable pub padded : List ℕ → List ℕ
 padded key = shortened key ++ replicate (64 - length (shortened key)) 0
-
-abbrev pub block_of : Key → List ℕ
-block_of key = key.block
 
 -- a byte of a block under the byte of a pad
 abbrev pub masked_byte : ℕ → ℕ → ℕ

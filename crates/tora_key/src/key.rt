@@ -1,9 +1,12 @@
 //! HMAC-SHA-256 (RFC 2104, FIPS 198-1).
-ghost use Rattle.std.specs.Prelude.{◌≡◌, ◌++◌, ◌≤◌, ◌-◌, length, replicate, bytes_eq};
+ghost use Rattle.std.specs.Prelude.{◌≡◌, ◌++◌, ◌≤◌, ◌-◌, ℕ, List, length, replicate, bytes_eq};
+ghost use Rattle.sha2.specs.Hashers.{Holds256};
 ghost use Rattle.sha2.specs.Sha256.{sha256};
-ghost use Rattle.tora_key.specs.Hmac.{block_of, padded, masked, hmac_under, hmac_of, tag_of};
+ghost use Rattle.tora_key.specs.Hmac.{padded, masked, hmac_under, hmac_of, tag_of};
 
 use sha2::{Digest, Sha256};
+use std::alloc::AllocError;
+use std::marker::Model;
 
 /// The bytes of a block of SHA-256.
 const BLOCK: usize = 64;
@@ -15,44 +18,73 @@ const INNER_PAD: u8 = 0x36;
 
 const OUTER_PAD: u8 = 0x5c;
 
-/// A key, made once from bytes of any length: the block that RFC 2104 pads it to. It takes no memory.
-///
-/// The memory that held a key is not overwritten when the key is let go: a value is moved into its `drop`, which leaves the
-/// bytes where it was, and a write to a value that nobody reads any more is left out when the program is built.
+/// A key, made once from bytes of any length: the block that RFC 2104 pads it to, which contracts see, and the two hashers that
+/// have taken this block under the inner and under the outer pad. A tag begins with copies of these, and so hashes two blocks
+/// less. It takes no memory. `clear` overwrites it.
 #[derive(Drop)]
 pub struct Key {
     block: [u8; BLOCK],
+    inner: Sha256,
+    outer: Sha256,
+}
+
+impl Model for Key {
+    ghost use Rattle.std.specs.Prelude.{ℕ, List};
+    ghost use Rattle.sha2.specs.Hashers.{Holds256};
+    ghost use Rattle.tora_key.specs.Hmac.{masked};
+
+    ghost Value = { List ℕ };
+
+    ghost view = { λ k. k.block };
+
+    ghost invariant = { λ k. record { inner : Holds256 k.inner (masked 0x36 k.block); outer : Holds256 k.outer (masked 0x5c k.block) } };
 }
 
 impl Key {
     /// The key of these bytes. More than 64 of them are hashed first, as the RFC says.
     #[tactic(auto, unfolding(crate::specs::Hmac::padded))]
     pub fn new(bytes: &[u8]) -> Key
-        ensures { block_of result ≡ padded bytes.now }
+        ensures { result ≡ padded bytes.now }
     {
         if bytes.len() > BLOCK {
-            return Key {
-                block: block_with(&Sha256::digest(bytes)),
-            };
+            return Key::of(block_with(&Sha256::digest(bytes)));
         }
+        Key::of(block_with(bytes))
+    }
+
+    /// The key of a block.
+    fn of(block: [u8; BLOCK]) -> Key
+        ensures { result ≡ block }
+    {
+        let inner = Sha256::new_with_prefix(&masked_block(&block, INNER_PAD));
+        let outer = Sha256::new_with_prefix(&masked_block(&block, OUTER_PAD));
         Key {
-            block: block_with(bytes),
+            block,
+            inner,
+            outer,
         }
+    }
+
+    /// Puts the key of no bytes, whose block is 64 zeros, into its place.
+    pub fn clear(&mut self)
+        ensures { self.new ≡ replicate 64 0 }
+    {
+        *self = Key::of([0; BLOCK]);
     }
 
     /// The HMAC-SHA-256 of a message.
     #[tactic(auto, unfolding(crate::specs::Hmac::hmac_under))]
     pub fn hmac(&self, message: &[u8]) -> [u8; 32]
-        ensures { result ≡ hmac_under (block_of self.now) message.now }
+        ensures { result ≡ hmac_under self.now message.now }
     {
-        let inner = digest_of(&self.block, INNER_PAD, message);
-        digest_of(&self.block, OUTER_PAD, &inner)
+        let inner = digest_behind(&self.inner, message);
+        digest_behind(&self.outer, &inner)
     }
 
     /// The tag of a message: the first 16 bytes of its HMAC-SHA-256.
     #[tactic(auto, unfolding(crate::specs::Hmac::tag_of))]
     pub fn tag(&self, message: &[u8]) -> [u8; TAG]
-        ensures { result ≡ tag_of (block_of self.now) message.now }
+        ensures { result ≡ tag_of self.now message.now }
     {
         let whole = self.hmac(message);
         let mut tag = [0; TAG];
@@ -73,13 +105,12 @@ fn block_with(bytes: &[u8]) -> [u8; BLOCK]
     block
 }
 
-// The digest of a masked block and a message.
-fn digest_of(block: &[u8; BLOCK], pad: u8, message: &[u8]) -> [u8; 32]
-    ensures { result ≡ sha256 (masked pad block.now ++ message.now) }
+// The digest of what a hasher has taken and a message behind it.
+fn digest_behind(hasher: &Sha256, message: &[u8]) -> [u8; 32]
+    ensures { (front : List ℕ) → Holds256 hasher.now front → result ≡ sha256 (front ++ message.now) }
 {
-    let front = masked_block(block, pad);
-    let mut hasher = Sha256::new();
-    hasher.update(&front);
+    let copy: Result<Sha256, AllocError> = hasher.clone();
+    let Ok(mut hasher) = copy else { unreachable!() };
     hasher.update(message);
     hasher.finalize()
 }

@@ -1,6 +1,6 @@
 //! Messages with tags.
 ghost use Rattle.std.specs.Prelude.{◌≡◌, ◌+◌, ◌≤◌, length, take, drop, option_map};
-ghost use Rattle.tora_key.specs.Hmac.{block_of, tag_of};
+ghost use Rattle.tora_key.specs.Hmac.{tag_of};
 ghost use Rattle.tora_key.specs.Sealing.{sealed, is_authentic, opened};
 
 use crate::key::{Key, TAG, is_same};
@@ -11,7 +11,7 @@ impl Key {
     pub fn seal(&self, message: &[u8], room: &mut [u8]) -> usize
         requires { length message.now + 16 ≤ length room.old }
         ensures count { result ≡ length message.now + 16 }
-        ensures sealed { take result room.new ≡ sealed (block_of self.now) message.now }
+        ensures sealed { take result room.new ≡ sealed self.now message.now }
     {
         let tag = self.tag(message);
         let end = message.len();
@@ -23,7 +23,7 @@ impl Key {
     /// Whether the last 16 bytes are the tag of the rest. Tags are compared to their end.
     #[tactic(auto, unfolding(crate::specs::Sealing::is_authentic))]
     pub fn is_authentic(&self, bytes: &[u8]) -> bool
-        ensures { result ≡ is_authentic (block_of self.now) bytes.now }
+        ensures { result ≡ is_authentic self.now bytes.now }
     {
         if bytes.len() < TAG {
             return false;
@@ -34,7 +34,7 @@ impl Key {
 
     /// The message of authentic bytes, without its tag.
     pub fn open<'a>(&self, bytes: &'a [u8]) -> Option<&'a [u8]>
-        ensures { option_map (λ message. message.now) result ≡ opened (block_of self.now) bytes.now }
+        ensures { option_map (λ message. message.now) result ≡ opened self.now bytes.now }
     {
         if self.is_authentic(bytes) {
             Some(&bytes[..bytes.len().saturating_sub(TAG)])

@@ -104,3 +104,19 @@ fn tags_are_compared_to_the_end(rt: HostRuntime) {
         "the first bit differs",
     );
 }
+
+const MESSAGE: &[u8] = b"a datagram";
+
+// A message and its tag come open under the key, and under no cleared one; a cleared key is that of no bytes.
+fn cleared_key_opens_nothing(rt: &impl Abort, mut key: Key, room: &mut [u8; 26]) {
+    let end = key.seal(MESSAGE, room);
+    sees(rt, key.open(&room[..end]).is_some(), "the key opens");
+    key.clear();
+    sees(rt, key.open(&room[..end]).is_none(), "a cleared key opens");
+    same_bytes(rt, &key.tag(MESSAGE), &Key::new(&[]).tag(MESSAGE), 0);
+}
+
+#[test]
+fn key_is_cleared(rt: HostRuntime) {
+    cleared_key_opens_nothing(&rt, Key::new(&[7; 32]), &mut [0; 26]);
+}
