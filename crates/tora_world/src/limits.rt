@@ -1,5 +1,5 @@
 //! How large a world may be.
-ghost use Rattle.std.specs.Prelude.{◌≡◌};
+ghost use Rattle.std.specs.Prelude.{◌≡◌, ◌≤◌};
 ghost use Rattle.tora_world.specs.Topology.{at_most, most_neighbours, most_destinations, most_nodes};
 
 use tora_core::{MOST_DESTINATIONS, MOST_NEIGHBOURS};
@@ -37,21 +37,24 @@ impl Limits {
 
     /// How many neighbours a node may have.
     pub fn most_neighbours(self) -> usize
-        ensures { result ≡ most_neighbours self }
+        ensures value { result ≡ most_neighbours self }
+        ensures bound { result ≤ MOST_NEIGHBOURS }
     {
         at_most(MOST_NEIGHBOURS, self.neighbours)
     }
 
     /// How many destinations a table may have.
     pub fn most_destinations(self) -> usize
-        ensures { result ≡ most_destinations self }
+        ensures value { result ≡ most_destinations self }
+        ensures bound { result ≤ MOST_DESTINATIONS }
     {
         at_most(MOST_DESTINATIONS, self.destinations)
     }
 
     /// How many nodes a world may have.
     pub fn most_nodes(self) -> usize
-        ensures { result ≡ most_nodes self }
+        ensures value { result ≡ most_nodes self }
+        ensures bound { result ≤ GREATEST_NODES }
     {
         at_most(GREATEST_NODES, self.nodes)
     }
@@ -59,7 +62,8 @@ impl Limits {
 
 /// A limit, or the greatest where it is above that.
 fn at_most(greatest: usize, limit: usize) -> usize
-    ensures { result ≡ at_most greatest limit }
+    ensures value { result ≡ at_most greatest limit }
+    ensures bound { result ≤ greatest }
 {
     if limit < greatest { limit } else { greatest }
 }
