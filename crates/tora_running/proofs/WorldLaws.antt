@@ -7,7 +7,7 @@ use Rattle.tora_core.specs.CoreRun.{core_after_all, has_destination}
 use Rattle.tora_seat.specs.declared.Cargo.{Cargo}
 use Rattle.tora_seat.specs.declared.Item.{Item}
 use Rattle.tora_seat.specs.Serving.{SeatState, Parcel, serving_of}
-use Rattle.tora_world.specs.Topology.{Topology, topology_fault, neighbours_of, new_core, is_link}
+use Rattle.tora_world.specs.Topology.{Topology, IsWithinLimits, neighbours_of, new_core, is_link}
 use Rattle.tora_world.specs.Lists.{reversed, packets_of, parcels_in, Begins}
 use Rattle.tora_world.specs.World.{World, first_world}
 use Rattle.tora_world.specs.FreeWorld.{after_schedule}
@@ -36,7 +36,7 @@ module _ (t : Topology) (times : Times) (network : Network) (h : IsOfWorld t tim
   cores : world.CoresFollow t w → CoresFollow t network
   cores law n = ap (λ (f : ℕ → SeatState). (f n).core) (sym is.seats) ∙ law n ∙ ap (λ (f : ℕ → List (Input × ℕ)). core_after_all (new_core t n) (f n)) is.inputs
 
-  gapless : ((n k : ℕ) → topology_fault t ≡ None → is_link t n k ≡ true → (life : Life) → (w.seats n).current k ≡ Some life → packets_of life (parcels_in (w.put n k)) ≡ broadcast_from k (new_core t n) (w.inputs n) []) → IsWithoutGap t network
+  gapless : ((n k : ℕ) → IsWithinLimits t → is_link t n k ≡ true → (life : Life) → (w.seats n).current k ≡ Some life → packets_of life (parcels_in (w.put n k)) ≡ broadcast_from k (new_core t n) (w.inputs n) []) → IsWithoutGap t network
   gapless law sound n k life link now =
       ap (λ (f : ℕ → ℕ → List Cargo). packets_of life (parcels_in (f n k))) (sym is.put) ∙ law n k sound link life (ap (λ (f : ℕ → SeatState). (f n).current k) is.seats ∙ now)
       ∙ ap (λ (f : ℕ → List (Input × ℕ)). broadcast_from k (new_core t n) (f n) []) is.inputs
@@ -56,7 +56,7 @@ refuses_only_needs law t times network h n answers item items error q r =
     let x = law t times h.0 n answers item items error (ap (λ (f : ℕ → List Item). f n) is.items ∙ q) (ap₂ (λ (u : Topology) (f : ℕ → SeatState). (serving_of answers (neighbours_of u n) (f n) item).answer) is.topology is.seats ∙ r) in
     (x.0, x.1, ap (λ (f : ℕ → SeatState). has_destination x.0 (f n).core.views) (sym is.seats) ∙ x.2, x.3)
 
-module _ (t : Topology) (times : Times) (network : Network) (h : IsOfWorld t times network) (sound : topology_fault t ≡ None) (ids : AreIds t) where
+module _ (t : Topology) (times : Times) (network : Network) (h : IsOfWorld t times network) (sound : IsWithinLimits t) (ids : AreIds t) where
   abbrev left : World
   left = after_schedule h.0 (first_world t times)
 

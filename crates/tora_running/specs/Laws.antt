@@ -6,7 +6,7 @@ use Rattle.tora_frame.specs.FrameParts.{FrameParts}
 use Rattle.tora_arq.specs.declared.Life.{Life}
 use Rattle.tora_arq.specs.declared.Times.{Times}
 use Rattle.tora_core.specs.CoreRun.{core_after_all}
-use Rattle.tora_world.specs.Topology.{Topology, topology_fault, new_core, is_link}
+use Rattle.tora_world.specs.Topology.{Topology, IsWithinLimits, new_core, is_link}
 use Rattle.tora_world.specs.Lists.{reversed, Begins, IsIn}
 use Rattle.tora_world.specs.World.{World, first_world}
 use Rattle.tora_world.specs.FreeWorld.{Schedule, after_schedule}
@@ -68,7 +68,7 @@ packets_broadcast t w n k = broadcast_from k (new_core t n) (w.inputs n) []
 -- while a life is current at a core, all that the core broadcast since its link came up was sent in it
 abbrev pub IsWithoutGap : Topology → Network → Type 0
 IsWithoutGap t w =
-    topology_fault t ≡ None → (n k : ℕ) (life : Life) → is_link t n k ≡ true → (w.seats n).current k ≡ Some life → packets_sent w n k life ≡ packets_broadcast t w n k
+    IsWithinLimits t → (n k : ℕ) (life : Life) → is_link t n k ≡ true → (w.seats n).current k ≡ Some life → packets_sent w n k life ≡ packets_broadcast t w n k
 
 -- a world that has what the network has; its clock, life files, datagrams and armed calls are those of a first world, and nothing below asks
 -- for them
@@ -88,9 +88,9 @@ shown w = record (first_world w.topology w.times) {
 abbrev pub RefusesOnlyNeeds : Network → Type 0
 RefusesOnlyNeeds w = OnlyNeedsAreRefused (shown w)
 
--- this holds of the world that is shown, where the topology is not refused and has nodes' numbers
+-- this holds of the world that is shown, where the topology is not refused within some limits and has nodes' numbers
 abbrev pub HoldsOfSound : (World → Type 0) → Topology → Network → Type 0
-HoldsOfSound Holds t w = topology_fault t ≡ None → AreIds t → Holds (shown w)
+HoldsOfSound Holds t w = IsWithinLimits t → AreIds t → Holds (shown w)
 
 -- where each entry for a destination that is not NULL is the neighbour's height, the hops from a node with a height arrive
 abbrev pub WalksArrive : World → Type 0

@@ -8,13 +8,13 @@ use Rattle.tora_sim.specs.Nodes.{NodeView}
 use Rattle.tora_sim.proofs.FreshEnds.{below_next, same_item}
 
 -- the last bits are less than there are places
-pub bits_within : (n : ℕ) → last_bits n < 256
-bits_within n = mod_below n 256 (omega arith)
+pub bits_within : (n : ℕ) → last_bits n < 1024
+bits_within n = mod_below n 1024 (omega arith)
 
 pub none_guessed : (nodes : List NodeView) (places ends : List ℕ) → AreGuessed nodes 0 places ends
 none_guessed nodes places ends i x lt there last = absurd (omega (arith, lt))
 
-pub one_guessed : (nodes : List NodeView) (count : ℕ) (y : NodeView) (places ends : List ℕ) → length places ≡ 256 → length ends ≡ 256 → slice_get nodes count ≡ Some y → AreGuessed nodes count places ends
+pub one_guessed : (nodes : List NodeView) (count : ℕ) (y : NodeView) (places ends : List ℕ) → length places ≡ 1024 → length ends ≡ 1024 → slice_get nodes count ≡ Some y → AreGuessed nodes count places ends
     → AreGuessed nodes (count + 1) (set places (last_bits y.node) (kept_place count)) (set ends (last_bits y.node) (kept_place y.first))
 one_guessed nodes count y places ends as_many_places as_many_ends at h i x lt there last = go (below_next i count lt)
   where
@@ -34,7 +34,7 @@ one_guessed nodes count y places ends as_many_places as_many_ends at h i x lt th
           end = ap (λ (z : NodeView). slice_index (set ends b (kept_place y.first)) (last_bits z.node)) is ∙ get_or-set_same ends b (kept_place y.first) 0 (omega (arith, within, as_many_ends)) ∙ ap (λ (z : NodeView). kept_place z.first) (sym is);
         }
 
-pub more_guessed : (nodes : List NodeView) (count : ℕ) (y : NodeView) (places ends : List ℕ) (b p e : ℕ) → b ≡ last_bits y.node → p ≡ kept_place count → e ≡ kept_place y.first → length places ≡ 256 → length ends ≡ 256
+pub more_guessed : (nodes : List NodeView) (count : ℕ) (y : NodeView) (places ends : List ℕ) (b p e : ℕ) → b ≡ last_bits y.node → p ≡ kept_place count → e ≡ kept_place y.first → length places ≡ 1024 → length ends ≡ 1024
     → slice_get nodes count ≡ Some y → AreGuessed nodes count places ends → AreGuessed nodes (count + 1) (set places b p) (set ends b e)
 more_guessed nodes count y places ends b p e b_is p_is e_is as_many_places as_many_ends at h =
     subst (λ m. AreGuessed nodes (count + 1) (set places m p) (set ends m e)) (sym b_is)

@@ -96,22 +96,22 @@ ends-fewer n (x ∷ links) (suc i) =
 
 -- ---- how many of them are not the node itself
 
--- where there are more than 33, more than 32 are others
-pub many-above : (n : ℕ) (links : List (ℕ × ℕ)) → 33 < length (different (other_ends n (links_in links))) → nat_lt 32 (length (different_neighbours n (links_in links))) ≡ true
-many-above n links more =
+-- where there are more than 33, more than 32 are others, and so more than any smaller number
+pub many-above : (most n : ℕ) (links : List (ℕ × ℕ)) → most ≤ 32 → 33 < length (different (other_ends n (links_in links))) → nat_lt most (length (different_neighbours n (links_in links))) ≡ true
+many-above most n links small more =
     let ns : List ℕ = different (other_ends n (links_in links)) in
     let e = split-different n (other_ends n (links_in links)) in
     go (has_number n ns) refl e
   where
     go : (b : Bool) → has_number n (different (other_ends n (links_in links))) ≡ b → IsSplit n (different (other_ends n (links_in links)))
-        → nat_lt 32 (length (different_neighbours n (links_in links))) ≡ true
+        → nat_lt most (length (different_neighbours n (links_in links))) ≡ true
     go b is e =
         let all : length (different_neighbours n (links_in links)) + one_if b ≡ length (different (other_ends n (links_in links))) =
         subst (λ d. length (different_neighbours n (links_in links)) + one_if d ≡ length (different (other_ends n (links_in links)))) is e in
-        let some : 32 < length (different_neighbours n (links_in links)) = few b all in
+        let some : most < length (different_neighbours n (links_in links)) = few b all in
         grind (arith, nat_tests)
       where
-        few : (d : Bool) → length (different_neighbours n (links_in links)) + one_if d ≡ length (different (other_ends n (links_in links))) → 32 < length (different_neighbours n (links_in links))
+        few : (d : Bool) → length (different_neighbours n (links_in links)) + one_if d ≡ length (different (other_ends n (links_in links))) → most < length (different_neighbours n (links_in links))
         few true h = omega arith
         few false h = omega arith
 
@@ -119,31 +119,23 @@ pub fresh_node : (k : ℕ) (ns : List ℕ) → has_number k ns ≡ false → len
 fresh_node k ns absent = ap (λ b. length (cond b ns (with_number k ns))) absent ∙ length-with_number k ns
 
 -- too many after a link are too many
-pub many-ends : (n : ℕ) (links : List (ℕ × ℕ)) (left : ℕ) (items : List ℕ) (d : ℕ × ℕ) → 0 < left → left ≤ length links → items ≡ ends_from n links left
-    → 33 < length (with_end n (link_in (get_or links (left - 1) d)) items) → nat_lt 32 (length (different_neighbours n (links_in links))) ≡ true
-many-ends n links left items d some within is more =
+pub many-ends : (most n : ℕ) (links : List (ℕ × ℕ)) (left : ℕ) (items : List ℕ) (d : ℕ × ℕ) → most ≤ 32 → 0 < left → left ≤ length links → items ≡ ends_from n links left
+    → 33 < length (with_end n (link_in (get_or links (left - 1) d)) items) → nat_lt most (length (different_neighbours n (links_in links))) ≡ true
+many-ends most n links left items d small some within is more =
     let i : ℕ = left - 1 in
     let next : i + 1 ≡ left = omega arith in
     let same : ends_from n links (i + 1) ≡ items = ap (ends_from n links) next ∙ sym is in
     let is_step : ends_from n links i ≡ with_end n (link_in (get_or links i d)) items = ends-step n links i d (omega arith) ∙ ap (with_end n (link_in (get_or links i d))) same in
     let fewer = ends-fewer n links i in
     let size = ap length is_step in
-    many-above n links (omega arith)
+    many-above most n links small (omega arith)
 
--- of at most 33, 32 or fewer are others, or all 33 are
-pub few-of-most : (n : ℕ) (links : List (ℕ × ℕ)) (b : Bool) → b ≡ has_number n (different (other_ends n (links_in links)))
-    → length (different (other_ends n (links_in links))) ≤ 33 → 32 < length (different (other_ends n (links_in links)))
-    → not b ≡ nat_lt 32 (length (different_neighbours n (links_in links)))
-few-of-most n links b is most more = go b (subst (λ d. length (different_neighbours n (links_in links)) + one_if d ≡ length (different (other_ends n (links_in links)))) (sym is) (split-different n (other_ends n (links_in links))))
+-- how many of the ends are other nodes
+pub other-count : (n : ℕ) (links : List (ℕ × ℕ)) → cond (has_number n (different (other_ends n (links_in links)))) (length (different (other_ends n (links_in links))) - 1) (length (different (other_ends n (links_in links))))
+    ≡ length (different_neighbours n (links_in links))
+other-count n links = go (has_number n (different (other_ends n (links_in links)))) (split-different n (other_ends n (links_in links)))
   where
-    go : (d : Bool) → length (different_neighbours n (links_in links)) + one_if d ≡ length (different (other_ends n (links_in links))) → not d ≡ nat_lt 32 (length (different_neighbours n (links_in links)))
-    go true e = let few : length (different_neighbours n (links_in links)) ≤ 32 = omega arith in grind (arith, nat_tests)
-    go false e = let many : 32 < length (different_neighbours n (links_in links)) = omega arith in grind (arith, nat_tests)
-
-pub few-within : (n : ℕ) (links : List (ℕ × ℕ)) (m : ℕ) → m ≡ length (different (other_ends n (links_in links))) → m ≤ 32
-    → nat_lt 32 m ≡ nat_lt 32 (length (different_neighbours n (links_in links)))
-few-within n links m is few = go (has_number n (different (other_ends n (links_in links)))) (split-different n (other_ends n (links_in links)))
-  where
-    go : (d : Bool) → length (different_neighbours n (links_in links)) + one_if d ≡ length (different (other_ends n (links_in links))) → nat_lt 32 m ≡ nat_lt 32 (length (different_neighbours n (links_in links)))
-    go true e = let fewer : length (different_neighbours n (links_in links)) ≤ 32 = omega arith in grind (arith, nat_tests)
-    go false e = let fewer : length (different_neighbours n (links_in links)) ≤ 32 = omega arith in grind (arith, nat_tests)
+    go : (d : Bool) → length (different_neighbours n (links_in links)) + one_if d ≡ length (different (other_ends n (links_in links)))
+        → cond d (length (different (other_ends n (links_in links))) - 1) (length (different (other_ends n (links_in links)))) ≡ length (different_neighbours n (links_in links))
+    go true e = omega arith
+    go false e = omega arith

@@ -59,9 +59,9 @@ all_others [] = refl
 all_others (n ∷ nodes) = ap (λ (xs : List ℕ). n ∷ xs) (all_others nodes)
 
 -- so there is a place for it
-pub room : (n : ℕ) (olds nodes : List ℕ) → has_number n nodes ≡ true → has_number n olds ≡ false → length olds + length (others olds nodes) ≤ 64 → length olds < 64
+pub room : (n : ℕ) (olds nodes : List ℕ) → has_number n nodes ≡ true → has_number n olds ≡ false → length olds + length (others olds nodes) ≤ 1024 → length olds < 1024
 room n olds nodes there new h = omega (arith, h, fewer n olds nodes there new)
 
-pub kept : (n : ℕ) (olds nodes : List ℕ) → has_number n nodes ≡ true → has_number n olds ≡ false → length olds + length (others olds nodes) ≤ 64 →
-    length (olds ++ n ∷ []) + length (others (olds ++ n ∷ []) nodes) ≤ 64
+pub kept : (n : ℕ) (olds nodes : List ℕ) → has_number n nodes ≡ true → has_number n olds ≡ false → length olds + length (others olds nodes) ≤ 1024 →
+    length (olds ++ n ∷ []) + length (others (olds ++ n ∷ []) nodes) ≤ 1024
 kept n olds nodes there new h = omega (arith, h, fewer n olds nodes there new, length-append olds (n ∷ []))

@@ -4,7 +4,7 @@ use Rattle.std.specs.List.{All, AllByRecursion}
 use Rattle.std.proofs.lemmas.Bool.{cond_both}
 use Rattle.std.proofs.lemmas.Bool.Decides.{nat_tests}
 use Rattle.tora_core.specs.Numbers.{has_number, has_repeat, with_number, ascending, IsAscending}
-use Rattle.tora_world.specs.Topology.{Topology, Link, nodes_in, with_node, other_ends, neighbours_of}
+use Rattle.tora_world.specs.Topology.{Topology, Link, nodes_in, with_node, other_ends, neighbours_of, greatest_limits}
 use Rattle.tora_world.specs.World.{place_of}
 use Rattle.tora_sim.specs.Topologies.{IsTopology}
 use Rattle.tora_world.proofs.SoundTopology.{has-with_number, length-with_number}
@@ -118,10 +118,10 @@ stay-ascending ns asc = stay-on [] ns asc (none-below ns)
 -- ---- the nodes and the neighbours of a topology
 
 pub neighbours-ascend : PutInOrder → (t : Topology) → IsTopology t → (n : ℕ) → IsAscending (neighbours_of t n)
-neighbours-ascend order t h n = order (other_ends n t.links) (others-once n t.links (sound t h.sound).links)
+neighbours-ascend order t h n = order (other_ends n t.links) (others-once n t.links (sound t (greatest_limits, h.sound)).links)
 
 pub few-neighbours : (t : Topology) → IsTopology t → (n : ℕ) → length (neighbours_of t n) ≤ 32
-few-neighbours t h n = let few = few-ends t (sound t h.sound) n in omega (arith, length-ascending (other_ends n t.links))
+few-neighbours t h n = let few = few-ends t (sound t (greatest_limits, h.sound)) n in omega (arith, length-ascending (other_ends n t.links))
 
 pub nodes-ascend : StaysInOrder → (links : List Link) → IsAscending (nodes_in links)
 nodes-ascend stays [] = tt
@@ -176,5 +176,5 @@ positive-peer t h n i d lt = end-positive n (get_or (neighbours_of t n) i d) t.l
 
 pub other-peer : (t : Topology) → IsTopology t → (n i d : ℕ) → i < length (neighbours_of t n) → n ≢ get_or (neighbours_of t n) i d
 other-peer t h n i d lt same =
-    let apart = others-apart n t.links (sound t h.sound).others in
+    let apart = others-apart n t.links (sound t (greatest_limits, h.sound)).others in
     true≢false (sym (subst (λ m. has_number m (other_ends n t.links) ≡ true) (sym same) (linked t n i d lt)) ∙ apart)

@@ -1,9 +1,9 @@
--- Guesses of where nodes and link ends stand, by the last eight bits of a node's number.
+-- Guesses of where nodes and link ends stand, by the last ten bits of a node's number.
 use Rattle.std.specs.Prelude.{◌≡◌, ℕ, ◌<◌, ◌%◌, nat_lt, List, slice_get, slice_index, Some, if◌then◌else◌}
 use Rattle.tora_sim.specs.Nodes.{NodeView}
 
 abbrev pub last_bits : ℕ → ℕ
-last_bits n = n % 256
+last_bits n = n % 1024
 
 -- a place as it is kept: one that does not fit in 16 bits is kept as the first
 abbrev pub kept_place : ℕ → ℕ

@@ -2,7 +2,8 @@
 use Rattle.std.specs.Prelude.{◌≡◌, ℕ, ◌+◌, ◌==◌, ◌<◌, ◌≤◌, List, [], ◌∷◌, ◌++◌, length, map, None, if◌then◌else◌}
 use Rattle.std.specs.List.{All}
 use Rattle.tora_core.specs.Numbers.{has_number}
-use Rattle.tora_world.specs.Topology.{Topology, Link, topology_fault, nodes_in, with_node}
+use Rattle.tora_world.specs.Topology.{Topology, Link, topology_fault_within, greatest_limits, nodes_in, with_node}
+use Rattle.tora_world.specs.declared.limits.TheConstants.{GREATEST_NODES}
 
 abbrev pub link_in : ℕ × ℕ → Link
 link_in ends = record { a = ends.0; b = ends.1 }
@@ -40,5 +41,5 @@ pub record AreNumbers (t : Topology) : Type 0 where
 
 pub record IsTopology (t : Topology) : Type 0 where
   pub numbers : AreNumbers t
-  pub sound : topology_fault t ≡ None
-  pub old_nodes : length t.olds + length (others t.olds (nodes_in t.links)) ≤ 64
+  pub sound : topology_fault_within greatest_limits t ≡ None
+  pub old_nodes : length t.olds + length (others t.olds (nodes_in t.links)) ≤ GREATEST_NODES

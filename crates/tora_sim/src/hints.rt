@@ -6,16 +6,16 @@ use crate::nodes::NodeSlot;
 use tora_height::Id;
 
 /// How many guesses there are of each kind.
-const PLACES: usize = 256;
+const PLACES: usize = 1024;
 
-/// Guesses of where a node and its first link end stand, by the last eight bits of its number.
+/// Guesses of where a node and its first link end stand, by the last ten bits of its number.
 ///
 /// A guess may be wrong, as where two numbers end in the same bits: who takes one looks what stands there, and searches
 /// where it is another.
 #[derive(Clone, Copy)]
 pub struct Hints {
-    nodes: [u16; 256],
-    ends: [u16; 256],
+    nodes: [u16; 1024],
+    ends: [u16; 1024],
 }
 
 /// A place as it is kept; one that does not fit is kept as the first.
@@ -38,8 +38,8 @@ impl Hints {
         ensures { AreGuessed nodes.now (length nodes.now) result.nodes result.ends }
     {
         let mut hints = Hints {
-            nodes: [0; 256],
-            ends: [0; 256],
+            nodes: [0; 1024],
+            ends: [0; 1024],
         };
         for (place, node) in nodes.iter().enumerate() {
             let at = bits(node.key());

@@ -34,8 +34,8 @@ mod walks;
 mod watching;
 
 pub use sim::Sim;
-pub use topology::{MOST_NODES, Topology, topology_fault};
-pub use tora_world::{Call, Event, SimError};
+pub use topology::{Topology, topology_fault, topology_fault_within};
+pub use tora_world::{Call, Event, GREATEST_NODES, Limits, MOST_NODES, SimError};
 // the laws that every world of a simulator keeps
 pub use tora_world::{
     entries_at_rest_are_heights, events_run_out, exact_entries_give_walks, no_gap_law,

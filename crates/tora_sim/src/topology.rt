@@ -1,8 +1,8 @@
 //! Which nodes there are, which links, and the destinations of their tables.
-ghost use Rattle.std.specs.Prelude.{◌≡◌, ◌⊎◌, ◌<◌, ◌≤◌, None, Some, IfErr, IfOk, OnOk, true, false, MatchOption, MatchBool, length, map, nat_lt, position};
+ghost use Rattle.std.specs.Prelude.{◌≡◌, ◌⊎◌, ◌<◌, ◌≤◌, ◌-◌, if◌then◌else◌, None, Some, IfErr, IfOk, OnOk, true, false, MatchOption, MatchBool, length, map, nat_lt, position};
 ghost use Rattle.std.specs.List.{list_any};
 ghost use Rattle.tora_core.specs.Numbers.{ascending, has_number, has_repeat, with_number};
-ghost use Rattle.tora_world.specs.Topology.{Link, is_node, version_at, topology_fault, nodes_in, neighbours_of, with_node, different, different_neighbours, other_ends, has_too_many, is_same_link, has_link, has_repeated_link, has_own_link};
+ghost use Rattle.tora_world.specs.Topology.{Link, is_node, version_at, topology_fault, topology_fault_within, most_neighbours, nodes_in, neighbours_of, with_node, different, different_neighbours, other_ends, has_too_many_within, is_same_link, has_link, has_repeated_link, has_own_link};
 ghost use Rattle.tora_sim.specs.Topologies.{topology_of, with_olds, with_old, link_in, links_in, with_end, AreNumbers, IsTopology};
 ghost use Rattle.arrayvec.specs.ArrayVec.{array_vec_len};
 
@@ -11,12 +11,10 @@ use arrayvec::ArrayVec;
 use std::alloc::{AllocError, Global};
 use std::marker::Model;
 use tora_core::numbers::{has_number, has_repeat, insert_number};
-use tora_core::{CoreError, MOST_DESTINATIONS, MOST_NEIGHBOURS};
+use tora_core::{CoreError, MOST_NEIGHBOURS};
 use tora_frame::Version;
 use tora_height::Id;
-
-/// The most nodes of a world. Own profile.
-pub const MOST_NODES: usize = 64;
+use tora_world::{GREATEST_NODES, Limits};
 
 /// The most nodes at the other ends of a node's links: one more than its neighbours, since a link of the node to itself
 /// names the node.
@@ -24,15 +22,15 @@ const MOST_ENDS: usize = MOST_NEIGHBOURS + 1;
 
 /// The links of a world and the destinations that each node's table has.
 ///
-/// There are at most 64 nodes, each with at most 32 neighbours, and at most 64 destinations. No link, either way round,
-/// and no destination is named twice, and no link leads from a node to itself. No number is 0. The link ends of some nodes
-/// may speak version 1 of frames alone.
+/// There are at most 64 nodes, each with at most 32 neighbours, and at most 64 destinations, or as many as the limits allow
+/// within which it was made. No link, either way round, and no destination is named twice, and no link leads from a node to
+/// itself. No number is 0. The link ends of some nodes may speak version 1 of frames alone.
 #[derive(Debug, Drop)]
 pub struct Topology {
     links: Vec<(Id, Id)>,
     destinations: Vec<Id>,
     /// The nodes whose link ends speak version 1 of frames alone.
-    olds: ArrayVec<Id, MOST_NODES>,
+    olds: ArrayVec<Id, GREATEST_NODES>,
 }
 
 impl Model for Topology {
@@ -52,9 +50,9 @@ impl Topology {
     /// The nodes are those that the links name. The lists are in any order, and no number in them is 0. They are copied.
     ///
     /// # Errors
-    /// In this order: `TooMany` where there are more than `MOST_NODES` nodes, more than `MOST_NEIGHBOURS` neighbours of
-    /// a node, or more than `MOST_DESTINATIONS` destinations; `Repeated` where a link, either way round, or a
-    /// destination is named twice; `OwnId` where a link leads from a node to itself; `Memory`.
+    /// In this order: `TooMany` where there are more than 64 nodes, more than 32 neighbours of a node, or more than 64
+    /// destinations; `Repeated` where a link, either way round, or a destination is named twice; `OwnId` where a link leads
+    /// from a node to itself; `Memory`.
     pub fn new(
         alloc: Global,
         links: &[(Id, Id)],
@@ -66,7 +64,28 @@ impl Topology {
         ensures fault { IfErr result (λ e. ((e ≡ CoreError.Memory) × (topology_fault (topology_of links.now destinations.now) ≡ None))
             ⊎ (topology_fault (topology_of links.now destinations.now) ≡ Some e)) }
     {
-        if let Some(error) = topology_fault(links, destinations) {
+        Topology::with_limits(alloc, Limits::STANDARD, links, destinations)
+    }
+
+    /// The topology of these links and destinations, as `new` makes it, but within these limits.
+    ///
+    /// # Errors
+    /// In this order: `TooMany` where there are more nodes, neighbours of a node or destinations than the limits allow;
+    /// `Repeated` where a link, either way round, or a destination is named twice; `OwnId` where a link leads from a node to
+    /// itself; `Memory`.
+    pub fn with_limits(
+        alloc: Global,
+        limits: Limits,
+        links: &[(Id, Id)],
+        destinations: &[Id],
+    ) -> Result<Topology, CoreError>
+        requires { AreNumbers (topology_of links.now destinations.now) }
+        ensures made { IfOk result (λ t. t ≡ topology_of links.now destinations.now) }
+        ensures sound { IfOk result (λ _. topology_fault_within limits (topology_of links.now destinations.now) ≡ None) }
+        ensures fault { IfErr result (λ e. ((e ≡ CoreError.Memory) × (topology_fault_within limits (topology_of links.now destinations.now) ≡ None))
+            ⊎ (topology_fault_within limits (topology_of links.now destinations.now) ≡ Some e)) }
+    {
+        if let Some(error) = topology_fault_within(limits, links, destinations) {
             return Err(error);
         }
         let Ok(links) = Vec::from_slice(alloc, links) else {
@@ -136,7 +155,7 @@ impl Topology {
     }
 
     /// The nodes, in ascending order.
-    pub(crate) fn nodes(&self) -> ArrayVec<Id, MOST_NODES>
+    pub(crate) fn nodes(&self) -> ArrayVec<Id, GREATEST_NODES>
         ensures items { result.items ≡ nodes_in self.now.links }
         ensures kept { IsTopology self.now }
     {
@@ -206,7 +225,19 @@ fn neighbours_of(links: &[(Id, Id)], n: Id) -> ArrayVec<Id, MOST_NEIGHBOURS>
 pub fn topology_fault(links: &[(Id, Id)], destinations: &[Id]) -> Option<CoreError>
     ensures { result ≡ topology_fault (topology_of links.now destinations.now) }
 {
-    if has_too_many(links, destinations) {
+    topology_fault_within(Limits::STANDARD, links, destinations)
+}
+
+/// Why there is no topology of these links and destinations within the limits, if there is none: the cause that
+/// `Topology::with_limits` answers, unless that is `Memory`.
+pub fn topology_fault_within(
+    limits: Limits,
+    links: &[(Id, Id)],
+    destinations: &[Id],
+) -> Option<CoreError>
+    ensures { result ≡ topology_fault_within limits (topology_of links.now destinations.now) }
+{
+    if has_too_many(limits, links, destinations) {
         return Some(CoreError::TooMany);
     }
     if has_repeated_link(links) || has_repeat(destinations) {
@@ -218,29 +249,31 @@ pub fn topology_fault(links: &[(Id, Id)], destinations: &[Id]) -> Option<CoreErr
     None
 }
 
-/// Whether there are more than `MOST_NODES` nodes, `MOST_NEIGHBOURS` neighbours of a node, or `MOST_DESTINATIONS`
-/// destinations.
-fn has_too_many(links: &[(Id, Id)], destinations: &[Id]) -> bool
-    ensures { result ≡ has_too_many (topology_of links.now destinations.now) }
+/// Whether there are more nodes, neighbours of a node, or destinations than the limits allow.
+fn has_too_many(limits: Limits, links: &[(Id, Id)], destinations: &[Id]) -> bool
+    ensures { result ≡ has_too_many_within limits (topology_of links.now destinations.now) }
 {
-    if destinations.len() > MOST_DESTINATIONS {
+    if destinations.len() > limits.most_destinations() {
         return true;
     }
+    let most = limits.most_nodes();
     match nodes_of(links) {
         None => true,
-        Some(nodes) => some_has_many_neighbours(nodes.as_slice(), links),
+        Some(nodes) => {
+            nodes.len() > most || some_has_many_neighbours(limits, nodes.as_slice(), links)
+        }
     }
 }
 
-fn some_has_many_neighbours(nodes: &[Id], links: &[(Id, Id)]) -> bool
-    ensures { result ≡ list_any (λ n. nat_lt MOST_NEIGHBOURS (length (different_neighbours n (links_in links.now)))) nodes.now }
+fn some_has_many_neighbours(limits: Limits, nodes: &[Id], links: &[(Id, Id)]) -> bool
+    ensures { result ≡ list_any (λ n. nat_lt (most_neighbours limits) (length (different_neighbours n (links_in links.now)))) nodes.now }
 {
-    nodes.iter().any(|n| has_many_neighbours(*n, links))
+    nodes.iter().any(|n| has_many_neighbours(limits.most_neighbours(), *n, links))
 }
 
-/// The nodes that links name, ascending, where there are at most 64.
-fn nodes_of(links: &[(Id, Id)]) -> Option<ArrayVec<Id, MOST_NODES>>
-    ensures { MatchOption result (64 < length (nodes_in (links_in links.now))) (λ nodes. nodes.items ≡ nodes_in (links_in links.now)) }
+/// The nodes that links name, ascending, where there are at most as many as any limits allow.
+fn nodes_of(links: &[(Id, Id)]) -> Option<ArrayVec<Id, GREATEST_NODES>>
+    ensures { MatchOption result (GREATEST_NODES < length (nodes_in (links_in links.now))) (λ nodes. nodes.items ≡ nodes_in (links_in links.now)) }
 {
     let mut nodes = ArrayVec::new();
     let mut left = links.len();
@@ -257,9 +290,10 @@ fn nodes_of(links: &[(Id, Id)]) -> Option<ArrayVec<Id, MOST_NODES>>
     Some(nodes)
 }
 
-/// Whether the links of a node name more than `MOST_NEIGHBOURS` others.
-fn has_many_neighbours(n: Id, links: &[(Id, Id)]) -> bool
-    ensures { result ≡ nat_lt MOST_NEIGHBOURS (length (different_neighbours n (links_in links.now))) }
+/// Whether the links of a node name more than so many others.
+fn has_many_neighbours(most: usize, n: Id, links: &[(Id, Id)]) -> bool
+    requires { most ≤ MOST_NEIGHBOURS }
+    ensures { result ≡ nat_lt most (length (different_neighbours n (links_in links.now))) }
 {
     let mut ends: ArrayVec<Id, MOST_ENDS> = ArrayVec::new();
     let mut left = links.len();
@@ -269,7 +303,18 @@ fn has_many_neighbours(n: Id, links: &[(Id, Id)]) -> bool
             return true;
         }
     }
-    ends.len() > MOST_NEIGHBOURS && !has_number(n, ends.as_slice())
+    count_others(n, ends.as_slice()) > most
+}
+
+/// How many of the ends, which differ, are other nodes.
+fn count_others(n: Id, ends: &[Id]) -> usize
+    ensures { result ≡ (if has_number n ends.now then length ends.now - 1 else length ends.now) }
+{
+    if has_number(n, ends) {
+        ends.len().saturating_sub(1)
+    } else {
+        ends.len()
+    }
 }
 
 /// Puts the other end of a link of the node, if it is one; answers whether there was room.

@@ -1,8 +1,8 @@
 -- Worlds at rest that events reach: what their entries are, and where walks lead.
-use Rattle.std.proofs.Common.{◌≡◌, ◌≢◌, ℕ, true, List, [], None, Some, sym, ap, ◌∙◌, subst}
+use Rattle.std.proofs.Common.{◌≡◌, ◌≢◌, ℕ, true, List, [], Some, sym, ap, ◌∙◌, subst}
 use Rattle.tora_height.specs.Height.{Quintuple}
 use Rattle.tora_arq.specs.declared.Times.{Times}
-use Rattle.tora_world.specs.Topology.{Topology, is_node, topology_fault}
+use Rattle.tora_world.specs.Topology.{Topology, is_node, IsWithinLimits}
 use Rattle.tora_world.specs.World.{World, first_world}
 use Rattle.tora_world.specs.FreeWorld.{Schedule, after_schedule}
 use Rattle.tora_world.specs.Layers.{LinkLaws, LifeLaws, CoreLaws, SeatLaws, RuleLaws}
@@ -14,7 +14,7 @@ use Rattle.tora_world.proofs.Entries.{IsCoreOf, core_of_run}
 use Rattle.tora_world.proofs.EntriesAtRest.{entries_are_heights}
 use Rattle.tora_world.proofs.WalksAtRest.{hops_down, comes_down, no_loop, arrives_at_rest}
 
-module _ (laws : LinkLaws) (lows : LifeLaws) (cores : CoreLaws) (seats : SeatLaws) (rules : RuleLaws) (t : Topology) (times : Times) (es : Schedule) (accepted : topology_fault t ≡ None) (ids : AreIds t) where
+module _ (laws : LinkLaws) (lows : LifeLaws) (cores : CoreLaws) (seats : SeatLaws) (rules : RuleLaws) (t : Topology) (times : Times) (es : Schedule) (accepted : IsWithinLimits t) (ids : AreIds t) where
   abbrev last : World
   last = after_schedule es (first_world t times)
 

@@ -15,7 +15,7 @@ use Rattle.tora_core.specs.Numbers.{has_number, ascending, IsAscending}
 use Rattle.tora_core.specs.View.{View, first_view}
 use Rattle.tora_core.specs.CoreRun.{CoreView, core_after_all, view_of, height_of, entry_in, entry_of}
 use Rattle.tora_core.specs.Kept.{IsRow, destinations_of}
-use Rattle.tora_world.specs.Topology.{Topology, neighbours_of, is_node, is_link, new_core, topology_fault}
+use Rattle.tora_world.specs.Topology.{Topology, neighbours_of, is_node, is_link, new_core, IsWithinLimits}
 use Rattle.tora_world.specs.Lists.{reversed, packets_of, parcels_in}
 use Rattle.tora_world.specs.World.{World, first_world}
 use Rattle.tora_world.specs.FreeWorld.{Schedule, after_schedule}
@@ -76,7 +76,7 @@ has_entry w n k d x e = go (is_node w.topology n) (view_of (w.seats n).core d) r
     go true (Some v) is found f = record { node = is; view = v; found = found; entry = f }
     go false o is found f = absurd cc
 
-module _ (laws : LinkLaws) (lows : LifeLaws) (cores : CoreLaws) (seats : SeatLaws) (rules : RuleLaws) (t : Topology) (times : Times) (es : Schedule) (accepted : topology_fault t ≡ None) (ids : AreIds t) where
+module _ (laws : LinkLaws) (lows : LifeLaws) (cores : CoreLaws) (seats : SeatLaws) (rules : RuleLaws) (t : Topology) (times : Times) (es : Schedule) (accepted : IsWithinLimits t) (ids : AreIds t) where
   abbrev last : World
   last = after_schedule es (first_world t times)
 

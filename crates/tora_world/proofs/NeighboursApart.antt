@@ -4,7 +4,7 @@ use Rattle.std.proofs.lemmas.Bool.{cond_both, cases_Bool, and_from, false_from_n
 use Rattle.std.specs.Prelude.{fold}
 use Rattle.tora_core.specs.Numbers.{has_number, with_number, has_repeat}
 use Rattle.tora_core.specs.declared.errors.CoreError.TheVariants as Fault
-use Rattle.tora_world.specs.Topology.{Link, Topology, other_ends, neighbours_of, is_same_link, has_link, has_repeated_link, has_too_many, has_own_link, topology_fault}
+use Rattle.tora_world.specs.Topology.{Link, Topology, other_ends, neighbours_of, is_same_link, has_link, has_repeated_link, has_too_many_within, has_own_link, IsWithinLimits}
 use Rattle.tora_world.proofs.Events.{turned}
 use Rattle.tora_world.proofs.LinksUp.{or_left, or_none}
 use Rattle.tora_world.specs.Layers.{CoreLaws}
@@ -114,8 +114,8 @@ ends_apart n (link ∷ links) h = go (cases_Bool (nat_eq link.a n)) (cases_Bool 
         ∙ ap (λ y. has_repeat (if y then link.a ∷ other_ends n links else other_ends n links)) b ∙ again d.1
 
 -- a topology that is not refused names no link twice
-names_once : (t : Topology) → topology_fault t ≡ None → has_repeated_link t.links ≡ false
-names_once t none = go (has_too_many t) (has_repeated_link t.links) none
+names_once : (t : Topology) → IsWithinLimits t → has_repeated_link t.links ≡ false
+names_once t (limits, none) = go (has_too_many_within limits t) (has_repeated_link t.links) none
   where
     go : (many twice : Bool) →
         (if many then Some Fault.TooMany else if twice || has_repeat t.destinations then Some Fault.Repeated else if has_own_link t.links then Some Fault.OwnId else None) ≡ None → twice ≡ false
@@ -123,5 +123,5 @@ names_once t none = go (has_too_many t) (has_repeated_link t.links) none
     go false true e = absurd (cc)
     go false false e = refl
 
-pub neighbours_apart : CoreLaws → (t : Topology) (n : ℕ) → topology_fault t ≡ None → has_repeat (neighbours_of t n) ≡ false
+pub neighbours_apart : CoreLaws → (t : Topology) (n : ℕ) → IsWithinLimits t → has_repeat (neighbours_of t n) ≡ false
 neighbours_apart cores t n none = repeat_sorted cores [] (other_ends n t.links) refl (ends_apart n t.links (names_once t none)) (λ j i. refl)

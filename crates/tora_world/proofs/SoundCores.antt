@@ -9,7 +9,7 @@ use Rattle.tora_core.specs.declared.errors.CoreError.TheVariants as Refusal
 use Rattle.tora_core.specs.Numbers.{has_number, has_repeat, with_number}
 use Rattle.tora_core.specs.CoreRun.{core_refusal}
 use Rattle.tora_core.proofs.NumberLemmas.{all-has, all-with_number, all-ascending, length-ascending}
-use Rattle.tora_world.specs.Topology.{Topology, Link, other_ends, neighbours_of, nodes_in, with_node, is_node, topology_fault}
+use Rattle.tora_world.specs.Topology.{Topology, Link, other_ends, neighbours_of, nodes_in, with_node, is_node, IsWithinLimits}
 use Rattle.tora_world.specs.Walks.{AreIds}
 use Rattle.tora_world.specs.Layers.{CoreLaws, RuleLaws}
 use Rattle.tora_world.proofs.NeighboursApart.{neighbours_apart}
@@ -40,7 +40,7 @@ node_id t ids n h = all-has IsId n (nodes_in t.links) (nodes_ids t.links ids.lin
 not_above : (most count : ℕ) → count ≤ most → nat_lt most count ≡ false
 not_above most count le = grind (arith, nat_tests, le)
 
-module _ (cores : CoreLaws) (rules : RuleLaws) (t : Topology) (accepted : topology_fault t ≡ None) (ids : AreIds t) where
+module _ (cores : CoreLaws) (rules : RuleLaws) (t : Topology) (accepted : IsWithinLimits t) (ids : AreIds t) where
   h : IsSound t
   h = sound t accepted
 

@@ -5,7 +5,8 @@ use Rattle.std.proofs.lemmas.Bool.{cond_both}
 use Rattle.std.proofs.lemmas.Bool.Decides.{nat_tests}
 use Rattle.tora_core.specs.declared.errors.CoreError.TheVariants as Fault
 use Rattle.tora_core.specs.Numbers.{has_number, has_repeat, with_number, without_number}
-use Rattle.tora_world.specs.Topology.{Topology, Link, nodes_in, with_node, different, different_neighbours, other_ends, is_same_link, has_link, has_repeated_link, has_own_link, has_too_many, topology_fault}
+use Rattle.tora_world.specs.Topology.{Topology, Link, nodes_in, with_node, different, different_neighbours, other_ends, is_same_link, has_link, has_repeated_link, has_own_link, has_too_many_within, topology_fault_within, at_most, most_nodes, most_neighbours, most_destinations, greatest_limits, IsWithinLimits}
+use Rattle.tora_world.specs.declared.limits.Limits.{Limits}
 
 -- ---- numbers put at their places
 
@@ -105,29 +106,71 @@ no-cause false false true e = absurd cc
 no-cause false false false e = (refl, refl, refl)
 
 pub record IsSound (t : Topology) : Type 0 where
-  pub nodes : length (nodes_in t.links) ≤ 64
+  pub nodes : length (nodes_in t.links) ≤ 1024
   pub neighbours : list_any (λ n. nat_lt 32 (length (different_neighbours n t.links))) (nodes_in t.links) ≡ false
   pub links : has_repeated_link t.links ≡ false
   pub few_destinations : length t.destinations ≤ 64
   pub destinations : has_repeat t.destinations ≡ false
   pub others : has_own_link t.links ≡ false
 
-pub sound : (t : Topology) → topology_fault t ≡ None → IsSound t
-sound t e =
-    let h = no-cause (has_too_many t) (has_repeated_link t.links || has_repeat t.destinations) (has_own_link t.links) e in
-    let many : Bool = nat_lt 64 (length (nodes_in t.links)) in
-    let some : Bool = list_any (λ n. nat_lt 32 (length (different_neighbours n t.links))) (nodes_in t.links) in
-    let first : (nat_lt 64 (length (nodes_in t.links)) || list_any (λ n. nat_lt 32 (length (different_neighbours n t.links))) (nodes_in t.links)) ≡ false = or-false-left _ (nat_lt 64 (length t.destinations)) h.0 in
-    let table : nat_lt 64 (length t.destinations) ≡ false = or-false-right (nat_lt 64 (length (nodes_in t.links)) || list_any (λ n. nat_lt 32 (length (different_neighbours n t.links))) (nodes_in t.links)) _ h.0 in
-    let few : nat_lt 64 (length (nodes_in t.links)) ≡ false = or-false-left _ (list_any (λ n. nat_lt 32 (length (different_neighbours n t.links))) (nodes_in t.links)) first in
+-- what is within a limit is within the greatest
+pub within-greatest : (greatest limit count : ℕ) → nat_lt (at_most greatest limit) count ≡ false → nat_lt greatest count ≡ false
+within-greatest greatest limit count few = go (nat_lt limit greatest) refl few
+  where
+    go : (b : Bool) → nat_lt limit greatest ≡ b → nat_lt (if b then limit else greatest) count ≡ false → nat_lt greatest count ≡ false
+    go true less e = grind (arith, nat_tests)
+    go false more e = e
+
+-- of no number the first holds, so of none the second
+none-weaker : (p q : ℕ → Bool) → ((n : ℕ) → p n ≡ false → q n ≡ false) → (ns : List ℕ) → list_any p ns ≡ false → list_any q ns ≡ false
+none-weaker p q weaker [] none = refl
+none-weaker p q weaker (n ∷ ns) none =
+    or-false (q n) (list_any q ns) (weaker n (or-false-left (p n) (list_any p ns) none)) (none-weaker p q weaker ns (or-false-right (p n) (list_any p ns) none))
+
+-- the three parts of the first cause
+pub record AreFew (limits : Limits) (t : Topology) : Type 0 where
+  pub nodes : nat_lt (most_nodes limits) (length (nodes_in t.links)) ≡ false
+  pub neighbours : list_any (λ n. nat_lt (most_neighbours limits) (length (different_neighbours n t.links))) (nodes_in t.links) ≡ false
+  pub destinations : nat_lt (most_destinations limits) (length t.destinations) ≡ false
+
+few-of : (a b c : Bool) → (a || b || c) ≡ false → (a ≡ false) × (b ≡ false) × (c ≡ false)
+few-of a b c e = (or-false-left a b (or-false-left (a || b) c e), or-false-right a b (or-false-left (a || b) c e), or-false-right (a || b) c e)
+
+pub are-few : (limits : Limits) (t : Topology) → has_too_many_within limits t ≡ false → AreFew limits t
+are-few limits t e =
+    let h = few-of (nat_lt (most_nodes limits) (length (nodes_in t.links)))
+    (list_any (λ n. nat_lt (most_neighbours limits) (length (different_neighbours n t.links))) (nodes_in t.links))
+    (nat_lt (most_destinations limits) (length t.destinations)) e in
+    record { nodes = h.0; neighbours = h.1; destinations = h.2 }
+
+pub sound : (t : Topology) → IsWithinLimits t → IsSound t
+sound t (limits, e) =
+    let h = no-cause (has_too_many_within limits t) (has_repeated_link t.links || has_repeat t.destinations) (has_own_link t.links) e in
+    let few = are-few limits t h.0 in
+    let table = within-greatest 64 limits.destinations (length t.destinations) few.destinations in
+    let nodes = within-greatest 1024 limits.nodes (length (nodes_in t.links)) few.nodes in
     record {
-      nodes = grind (arith, nat_tests);
-      neighbours = or-false-right (nat_lt 64 (length (nodes_in t.links))) _ first;
+      nodes = not-above 1024 (length (nodes_in t.links)) nodes;
+      neighbours = none-weaker _ _ (λ n. within-greatest 32 limits.neighbours (length (different_neighbours n t.links))) (nodes_in t.links) few.neighbours;
       links = or-false-left _ (has_repeat t.destinations) h.1;
-      few_destinations = grind (arith, nat_tests);
+      few_destinations = not-above 64 (length t.destinations) table;
       destinations = or-false-right (has_repeated_link t.links) _ h.1;
       others = h.2;
     }
+  where
+    not-above : (most count : ℕ) → nat_lt most count ≡ false → count ≤ most
+    not-above most count e = grind (arith, nat_tests)
+
+-- what is not refused within limits is not refused within the greatest
+pub within-all : (t : Topology) (limits : Limits) → topology_fault_within limits t ≡ None → topology_fault_within greatest_limits t ≡ None
+within-all t limits e =
+    let h = no-cause (has_too_many_within limits t) (has_repeated_link t.links || has_repeat t.destinations) (has_own_link t.links) e in
+    let few = are-few limits t h.0 in
+    let nodes = within-greatest 1024 limits.nodes (length (nodes_in t.links)) few.nodes in
+    let near = none-weaker _ _ (λ n. within-greatest 32 limits.neighbours (length (different_neighbours n t.links))) (nodes_in t.links) few.neighbours in
+    let table = within-greatest 64 limits.destinations (length t.destinations) few.destinations in
+    let many : has_too_many_within greatest_limits t ≡ false = or-false _ _ (or-false _ _ nodes near) table in
+    rw (many, h.1, h.2) refl
 
 -- ---- the other ends of a node's links
 

@@ -1,8 +1,8 @@
 -- Exact entries and walks in every world that events reach.
-use Rattle.std.proofs.Common.{◌≡◌, ◌↔◌, ℕ, true, None, Some, sym, ap, ◌∙◌, subst}
+use Rattle.std.proofs.Common.{◌≡◌, ◌↔◌, ℕ, true, Some, sym, ap, ◌∙◌, subst}
 use Rattle.tora_height.specs.Height.{Quintuple}
 use Rattle.tora_arq.specs.declared.Times.{Times}
-use Rattle.tora_world.specs.Topology.{Topology, is_node, topology_fault}
+use Rattle.tora_world.specs.Topology.{Topology, is_node, IsWithinLimits}
 use Rattle.tora_world.specs.World.{World, first_world}
 use Rattle.tora_world.specs.FreeWorld.{Schedule, after_schedule}
 use Rattle.tora_world.specs.Layers.{LinkLaws, LifeLaws, CoreLaws, RuleLaws}
@@ -13,7 +13,7 @@ use Rattle.tora_world.proofs.Entries.{IsCoreOf, core_of_run}
 use Rattle.tora_world.proofs.ExactEntries.{exact_is, is_exact}
 use Rattle.tora_world.proofs.WalksDown.{arrives}
 
-module _ (laws : LinkLaws) (lows : LifeLaws) (cores : CoreLaws) (rules : RuleLaws) (t : Topology) (times : Times) (es : Schedule) (accepted : topology_fault t ≡ None) (ids : AreIds t) where
+module _ (laws : LinkLaws) (lows : LifeLaws) (cores : CoreLaws) (rules : RuleLaws) (t : Topology) (times : Times) (es : Schedule) (accepted : IsWithinLimits t) (ids : AreIds t) where
   abbrev last : World
   last = after_schedule es (first_world t times)
 

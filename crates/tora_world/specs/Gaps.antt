@@ -12,7 +12,7 @@ use Rattle.tora_seat.specs.declared.What.TheVariants as Tells
 use Rattle.tora_seat.specs.declared.Item.{Item}
 use Rattle.tora_world.specs.declared.Event.{Event}
 use Rattle.tora_world.specs.declared.Event.TheVariants.{Need, Tick, Open, Pull, Transmit, Deliver, Pump, CoreTurn, Arm, Restart}
-use Rattle.tora_world.specs.Topology.{Topology, topology_fault, new_core, is_link}
+use Rattle.tora_world.specs.Topology.{Topology, IsWithinLimits, new_core, is_link}
 use Rattle.tora_world.specs.Lists.{Begins}
 use Rattle.tora_world.specs.World.{World, Choice, first_world, neighbours, refusal_by, sent_packets}
 use Rattle.tora_world.specs.FreeWorld.{FreeEvent, if_happens, free_by, Schedule, after_schedule}
@@ -100,8 +100,8 @@ abbrev pub SendsInLatest : World → Schedule → World → ℕ → ℕ → Type
 SendsInLatest first es w n k =
     (event : FreeEvent) (c : Choice) (life : Life) → (free_life_after c w n k event (latest_life n k es first None) ≡ Some life → ⊥) → sent_packets (free_by c w event) n k life ≡ sent_packets w n k life
 
--- this holds of every link end of every run over a topology that is not refused
+-- this holds of every link end of every run over a topology that is not refused within some limits
 abbrev pub EveryEnd : (Topology → World → Schedule → World → ℕ → ℕ → Type 0) → Type 0
 EveryEnd Holds =
-    (t : Topology) (times : Times) (es : Schedule) (n k : ℕ) → topology_fault t ≡ None → is_link t n k ≡ true
+    (t : Topology) (times : Times) (es : Schedule) (n k : ℕ) → IsWithinLimits t → is_link t n k ≡ true
     → Holds t (first_world t times) es (after_schedule es (first_world t times)) n k

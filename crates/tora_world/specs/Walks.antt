@@ -7,7 +7,7 @@ use Rattle.tora_height.specs.HeightOrder.{IsLower, height_cmp}
 use Rattle.tora_packet.specs.PacketParts.{IsId}
 use Rattle.tora_arq.specs.declared.Times.{Times}
 use Rattle.tora_core.specs.CoreRun.{height_of, entry_of, hop_of}
-use Rattle.tora_world.specs.Topology.{Topology, Link, topology_fault, nodes_in, neighbours_of, is_node}
+use Rattle.tora_world.specs.Topology.{Topology, Link, IsWithinLimits, nodes_in, neighbours_of, is_node}
 use Rattle.tora_world.specs.World.{World, first_world}
 use Rattle.tora_world.specs.FreeWorld.{Schedule, after_schedule}
 
@@ -98,7 +98,7 @@ pub record AreIds (t : Topology) : Type 0 where
   pub links : AllByRecursion (λ (link : Link). IsId link.a × IsId link.b) t.links
   pub destinations : AllByRecursion IsId t.destinations
 
--- this holds of every world that events reach over a topology that is not refused
+-- this holds of every world that events reach over a topology that is not refused within some limits
 abbrev pub EveryWorld : (World → Type 0) → Type 0
 EveryWorld Holds =
-    (t : Topology) (times : Times) (es : Schedule) → topology_fault t ≡ None → AreIds t → Holds (after_schedule es (first_world t times))
+    (t : Topology) (times : Times) (es : Schedule) → IsWithinLimits t → AreIds t → Holds (after_schedule es (first_world t times))

@@ -5,6 +5,7 @@ ghost use Rattle.std.specs.Prelude.{◌≡◌};
 ghost use Rattle.tora_world.specs.Errors.{sim_error_number};
 
 mod laws;
+mod limits;
 mod rest;
 mod table;
 
@@ -13,6 +14,7 @@ pub use laws::{
     only_needs_are_refused, prefix_law, simulator_runs_are_free_runs, worked_events_hold,
     worked_free_events_hold, worked_schedules_hold,
 };
+pub use limits::{GREATEST_NODES, Limits, MOST_NODES};
 pub use rest::{
     entries_at_rest_are_heights, rest_is_computed, routes_at_rest_arrive, walks_at_rest_go_down,
 };

@@ -1,5 +1,5 @@
 use Rattle.std.proofs.Common.{◌≤◌, ℕ, List, length, sym, subst}
-use Rattle.tora_world.specs.Topology.{other_ends}
+use Rattle.tora_world.specs.Topology.{other_ends, greatest_limits}
 use Rattle.tora_sim.specs.Topologies.{topology_of, links_in}
 use Rattle.tora_world.proofs.SoundTopology.{sound, few-ends}
 use Rattle.tora_sim.proofs.topology.Topology.neighbours.Goals as goal
@@ -8,4 +8,4 @@ pub neighbours_of-requires : goal.neighbours_of-requires
 neighbours_of-requires c =
     let s = c.self.inside in
     subst (λ (links : List (ℕ × ℕ)). length (other_ends c.args.n (links_in links)) ≤ 32) (sym c.deref.ensures.value)
-    (few-ends (topology_of s.links.items s.destinations.items) (sound (topology_of s.links.items s.destinations.items) c.self.invariant.sound) c.args.n)
+    (few-ends (topology_of s.links.items s.destinations.items) (sound (topology_of s.links.items s.destinations.items) (greatest_limits, c.self.invariant.sound)) c.args.n)

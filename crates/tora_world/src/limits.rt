@@ -1,0 +1,69 @@
+//! How large a world may be.
+ghost use Rattle.std.specs.Prelude.{◌≡◌, ◌≤◌};
+ghost use Rattle.tora_world.specs.Topology.{at_most, most_neighbours, most_destinations, most_nodes};
+
+use tora_core::{MOST_DESTINATIONS, MOST_NEIGHBOURS};
+
+/// The most nodes of a world within the standard limits. Own profile.
+pub const MOST_NODES: usize = 64;
+
+/// The most nodes of a world within any limits. Own profile.
+pub const GREATEST_NODES: usize = 1024;
+
+/// The most neighbours of a node, destinations of a table and nodes of a world.
+///
+/// A limit above the greatest, which is 32 neighbours, 64 destinations or 1,024 nodes, stands for the greatest. Own profile.
+#[derive(Clone, Copy, Debug, PartialEq, Eq)]
+pub struct Limits {
+    pub neighbours: usize,
+    pub destinations: usize,
+    pub nodes: usize,
+}
+
+impl Limits {
+    /// 32 neighbours of a node, 64 destinations and 64 nodes.
+    pub const STANDARD: Limits = Limits {
+        neighbours: 32,
+        destinations: 64,
+        nodes: 64,
+    };
+
+    /// The greatest limits: 32 neighbours of a node, 64 destinations and 1,024 nodes.
+    pub const GREATEST: Limits = Limits {
+        neighbours: 32,
+        destinations: 64,
+        nodes: 1024,
+    };
+
+    /// How many neighbours a node may have.
+    pub fn most_neighbours(self) -> usize
+        ensures value { result ≡ most_neighbours self }
+        ensures bound { result ≤ MOST_NEIGHBOURS }
+    {
+        at_most(MOST_NEIGHBOURS, self.neighbours)
+    }
+
+    /// How many destinations a table may have.
+    pub fn most_destinations(self) -> usize
+        ensures value { result ≡ most_destinations self }
+        ensures bound { result ≤ MOST_DESTINATIONS }
+    {
+        at_most(MOST_DESTINATIONS, self.destinations)
+    }
+
+    /// How many nodes a world may have.
+    pub fn most_nodes(self) -> usize
+        ensures value { result ≡ most_nodes self }
+        ensures bound { result ≤ GREATEST_NODES }
+    {
+        at_most(GREATEST_NODES, self.nodes)
+    }
+}
+
+/// A limit, or the greatest where it is above that.
+fn at_most(greatest: usize, limit: usize) -> usize
+    ensures value { result ≡ at_most greatest limit }
+    ensures bound { result ≤ greatest }
+{
+    if limit < greatest { limit } else { greatest }
+}
