@@ -11,3 +11,4 @@ pub mod PollLemmas
 pub mod RefusalLemmas
 pub mod PeerLemmas
 pub mod FloodLemmas
+pub mod StillLemmas

@@ -12,3 +12,4 @@ pub mod Polls
 pub mod Texts
 pub mod Floods
 pub mod WorkedHellos
+pub mod Still

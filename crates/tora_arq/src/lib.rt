@@ -33,6 +33,7 @@ mod receive;
 mod rings;
 mod settings;
 mod state;
+mod still;
 mod transmit;
 
 pub use facts::{
