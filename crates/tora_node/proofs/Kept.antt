@@ -17,6 +17,7 @@ use Rattle.tora_seat.specs.Offers.{AreOffered, place_of}
 use Rattle.tora_seat.specs.Serving.{Offer}
 use Rattle.tora_seat.specs.declared.Cargo.{Cargo}
 use Rattle.tora_seat.specs.declared.What.{What}
+use Rattle.tora_node.specs.declared.wake.WakingLanes.{WakingLanes}
 use Rattle.tora_node.specs.WireCalls.{AreWireCalls, LastWireCalls}
 
 -- ---- calls of the wire
@@ -115,6 +116,11 @@ pub offered_as : {O P : Type 0} (f : O → P) (did : P → ℕ → Cargo → Boo
     → AreOffered did ks (f outs) offers (f after)
 offered_as f did ks outs [] after h = ap f h
 offered_as f did ks outs (o ∷ offers) after h = (f h.0, h.1, offered_as f did ks h.0 offers after h.2)
+
+-- the same of lanes that wake, which are the lanes inside
+pub offered_inside : {O K P : Type 0} (f : O → P) (did : P → ℕ → Cargo → Bool → P → Type 0) (ks : List ℕ) (outs : WakingLanes O K) (offers : List Offer) (after : WakingLanes O K) → AreOffered (λ before place cargo put next. did (f before.lanes) place cargo put (f next.lanes)) ks outs offers after
+    → AreOffered did ks (f outs.lanes) offers (f after.lanes)
+offered_inside f did ks outs offers after h = offered_as (λ o. f o.lanes) did ks outs offers after h
 
 abbrev pub ring_of : SendEnd → Ring
 ring_of end = end.ring

@@ -4,6 +4,7 @@ ghost use Rattle.tora_seat.specs.Rows.{first_seat};
 
 use crate::core_thread::run_core;
 use crate::task::Task;
+use crate::wake::{Wake, WakingLanes};
 use log::Log;
 use std::alloc::Global;
 use std::io::Write;
@@ -22,18 +23,19 @@ pub(crate) struct CoreRest {
     pub(crate) fault: Option<NodeError>,
 }
 
-/// The work of the core's thread: the seat, its lanes, and what it writes to.
+/// The work of the core's thread: the seat, its lanes, what wakes the neighbours' threads, and what it writes to.
 #[derive(Drop)]
-pub(crate) struct CoreStart<'a, Wr> {
+pub(crate) struct CoreStart<'a, K, Wr> {
     alloc: Global,
     pub(crate) seat: CoreSeat,
     pub(crate) port: CorePort,
     pub(crate) outs: OutPuts,
+    wakers: Vec<K>,
     writer: &'a mut Wr,
     ghost lanes: { length seat.core.neighbours ≤ length outs.ends.items },
 }
 
-impl<'a, Wr: Write> Task<CoreRest> for CoreStart<'a, Wr> {
+impl<'a, K: Wake + Drop, Wr: Write> Task<CoreRest> for CoreStart<'a, K, Wr> {
     ghost use Rattle.tora_node.specs.Threads.{CoreLeaves};
 
     ghost leaves = { λ t rest. CoreLeaves t.seat t.port t.outs.ends.items rest };
@@ -44,26 +46,34 @@ impl<'a, Wr: Write> Task<CoreRest> for CoreStart<'a, Wr> {
             seat,
             port,
             outs,
+            wakers,
             writer,
         } = self;
+        let outs = WakingLanes {
+            lanes: outs,
+            wakers,
+        };
         let end = run_core(rt, alloc, seat, port, outs, writer);
+        let outs = end.outs;
+        let WakingLanes { lanes, wakers: _ } = outs;
         CoreRest {
             seat: end.seat,
             port: end.port.end(),
-            outs: end.outs,
+            outs: lanes,
             fault: end.fault,
         }
     }
 }
 
 /// Puts the parts of the core's work together.
-pub(crate) fn new_core_start<'a, Wr>(
+pub(crate) fn new_core_start<'a, K: Drop, Wr>(
     alloc: Global,
     core: Core,
     port: CorePort,
     outs: Vec<OutPut>,
+    wakers: Vec<K>,
     writer: &'a mut Wr,
-) -> Option<CoreStart<'a, Wr>>
+) -> Option<CoreStart<'a, K, Wr>>
     requires { length core.neighbours ≤ length outs.items }
     ensures { IfSome result (λ start. (start.seat ≡ first_seat core) × (start.port ≡ port) × (start.outs.ends.items ≡ outs.items)) }
 {
@@ -75,6 +85,7 @@ pub(crate) fn new_core_start<'a, Wr>(
         seat,
         port,
         outs: OutPuts { ends: outs },
+        wakers,
         writer,
     })
 }

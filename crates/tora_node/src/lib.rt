@@ -22,6 +22,7 @@ mod start;
 mod starting;
 mod task;
 mod threads;
+mod wake;
 mod words;
 
 pub use commands::{
@@ -30,5 +31,6 @@ pub use commands::{
 pub use config::Config;
 pub use core_thread::{CoreEnd, run_core};
 pub use log_hub::LogHub;
-pub use node::{Ended, run_node};
+pub use node::{Ended, run_node, run_node_with_wakers};
+pub use wake::{NoWake, Wake, WakingLanes};
 pub use words::commands_are_read_as_written;

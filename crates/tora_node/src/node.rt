@@ -14,6 +14,7 @@ use crate::link_task::{LinkFault, LinkRest, Outcome};
 use crate::settle::settle_links;
 use crate::starting::{new_ends, new_lanes, new_links, new_starts};
 use crate::threads::{Rests, run_threads};
+use crate::wake::{NoWake, Wake};
 use log::Log;
 use std::alloc::Global;
 use std::io::{Read, Write};
@@ -191,6 +192,59 @@ pub fn run_node<
     ensures ran { IfOk result (λ ended. NodeRan W.did_send W.did_receive (C.did_tell clock.now) (IsOpened D.syncs D.reads D.writes) config wires.items disks.items (Rd.remaining reader.old) None ended.core ended.tallies ended.taken ended.gone) }
     ensures failed { IfErr result (EndsWithFault W.did_send W.did_receive (C.did_tell clock.now) (IsOpened D.syncs D.reads D.writes) config wires.items disks.items (Rd.remaining reader.old)) }
 {
+    run_node_with_wakers(
+        rt,
+        alloc,
+        config,
+        wires,
+        disks,
+        Vec::<NoWake>::new(alloc),
+        clock,
+        reader,
+        writer,
+    )
+}
+
+/// Runs a node as `run_node` does, and wakes the thread of a neighbour once a cargo was put into its lane: the wakers stand in the
+/// order of the wires, and where there is none, nobody is woken. No clause says that anybody is.
+///
+/// # Errors
+/// As for `run_node`.
+pub fn run_node_with_wakers<
+    R: Threads + Wait + Log + Sync,
+    D: Disk + Send + Drop,
+    W: Wire + Send + Drop,
+    K: Wake + Send + Drop,
+    C: Clock + Sync,
+    Rd: Read,
+    Wr: Write + Send,
+>(
+    rt: &R,
+    alloc: Global,
+    config: Config,
+    wires: Vec<W>,
+    disks: Vec<D>,
+    wakers: Vec<K>,
+    clock: &C,
+    reader: &mut Rd,
+    writer: &mut Wr,
+) -> Result<Ended, NodeError>
+    requires wires { length wires.items ≡ length config.neighbours }
+    requires disks { length disks.items ≡ length config.neighbours }
+    // Where it ends without a fault, the core is the run of what serving makes of some items from the first core on.
+    ensures core { IfOk result (λ ended. IsRunOf config ended.core) }
+    // Then each tally is that of a run of a new end of version 2 with the standard times, which has ended without a fault.
+    ensures links { IfOk result (λ ended. AreFaultless (links_of config) ended.tallies) }
+    // A fault of a link names one of the neighbours.
+    ensures fault { IfErr result (IsNodeFault config.neighbours) }
+    // A fault is one of the start, or the first one of what the threads came to.
+    ensures cause { IfErr result (IsCause config) }
+    ensures count { IfOk result (λ ended. (0 < length config.neighbours) × (length config.neighbours ≤ MOST_LINKS)) }
+    // What its threads did: the runs of its links with their wires, the commands that were read, and the items that the core
+    // served, which are what these have put, as the lanes carry it.
+    ensures ran { IfOk result (λ ended. NodeRan W.did_send W.did_receive (C.did_tell clock.now) config wires.items (Rd.remaining reader.old) None ended.core ended.tallies ended.taken ended.gone) }
+    ensures failed { IfErr result (EndsWithFault W.did_send W.did_receive (C.did_tell clock.now) config wires.items (Rd.remaining reader.old)) }
+{
     what_was_offered_was_sent();
     let core = config.into_core();
     let Some(ends) = new_ends(alloc, &core) else {
@@ -210,7 +264,7 @@ pub fn run_node<
     let Ok(()) = outcomes.reserve(starts.len()) else {
         return Err(NodeError::Memory);
     };
-    let Some(core_task) = new_core_start(alloc, core, port, outs, writer) else {
+    let Some(core_task) = new_core_start(alloc, core, port, outs, wakers, writer) else {
         return Err(NodeError::Memory);
     };
     let Some(rests) = run_threads(rt, alloc, core_task, command, starts, clock, reader) else {

@@ -3,7 +3,7 @@ use Rattle.tora_lane.specs.Offering.{DidOffer}
 use Rattle.tora_lane.specs.Ports.{CoreEnd}
 use Rattle.tora_node.specs.CoreRuns.{EndsSo, offers_made}
 use Rattle.tora_node.proofs.Faults.{core_fault}
-use Rattle.tora_node.proofs.Kept.{offered_as}
+use Rattle.tora_node.proofs.Kept.{offered_inside}
 use Rattle.tora_node.proofs.core_task.CoreStartTaskCoreRest.run.Goals as goal
 
 pub returns : goal.returns
@@ -15,7 +15,7 @@ returns g c =
       taken = ap (λ (p : CoreEnd). p.taken) c.end.ensures ∙ r.1;
       lane = ap (λ (p : CoreEnd). p.lane) c.end.ensures ∙ c.run_core-end.ensures.lane;
       served = r.2;
-      offered = offered_as (λ o. o.ends.items) DidOffer c.args.self.seat.core.neighbours c.args.self.outs (offers_made r.0) after.outs r.3;
+      offered = offered_inside (λ o. o.ends.items) DidOffer c.args.self.seat.core.neighbours _ (offers_made r.0) after.outs r.3;
       core_is = r.4;
       ends = subst (λ (p : CoreEnd). EndsSo after.fault r.0 p.gone) (sym c.end.ensures) r.6;
       neighbours = c.run_core-end.ensures.neighbours;

@@ -13,7 +13,7 @@ use Rattle.tora_node.specs.Threads.{CoreLeaves}
 use Rattle.tora_node.proofs.Lists.{as_long}
 use Rattle.tora_node.proofs.Runs.{opening_fault, did_not_start}
 use Rattle.tora_node.proofs.Whole.{Left, always, answers, have_ends}
-use Rattle.tora_node.proofs.node.run_node.Goals as goal
+use Rattle.tora_node.proofs.node.run_node_with_wakers.Goals as goal
 
 pub new_links-requires-clause-disks : goal.new_links-requires-clause-disks
 new_links-requires-clause-disks g c =
