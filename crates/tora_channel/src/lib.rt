@@ -7,7 +7,14 @@
 #![tactic(auto)]
 
 mod channel;
+mod line;
+mod look_up;
 mod parts;
+mod table;
+mod table_text;
 
 pub use channel::{Channel, Copies, Place};
+pub use line::ChannelLine;
 pub use parts::{Parts, channel_parts};
+pub use table::ChannelTable;
+pub use table_text::{LineCause, TableError, channel_line, channel_table};

@@ -1,0 +1,35 @@
+//! A line of a channel file.
+ghost use Rattle.std.specs.Prelude.{◌≡◌};
+ghost use Rattle.tora_channel.specs.TableOrder.{key_at, key_of};
+
+use crate::parts::Parts;
+use tora_height::Id;
+
+/// A line of a channel file: what the link of two nodes has from a round on, both ways. Own profile.
+#[derive(Clone, Copy, Debug, PartialEq, Eq)]
+pub struct ChannelLine {
+    /// The first round, from 0, that has these parts.
+    pub round: u64,
+    /// The lower of the two nodes.
+    pub low: Id,
+    /// The higher of the two nodes.
+    pub high: Id,
+    pub parts: Parts,
+}
+
+/// Where a line stands in a table: by link, and then by round.
+pub fn key(low: Id, high: Id, round: u64) -> u128
+    ensures { result ≡ key_at low high round }
+{
+    let link = u128::from(low) * 0x1_0000_0000 + u128::from(high);
+    link * 0x1_0000_0000_0000_0000 + u128::from(round)
+}
+
+impl ChannelLine {
+    /// Where the line stands in a table.
+    pub fn key(&self) -> u128
+        ensures { result ≡ key_of self.now }
+    {
+        key(self.low, self.high, self.round)
+    }
+}
