@@ -1,7 +1,8 @@
 #!/usr/bin/env bash
 # Checks sweep.sh --slurm on a real Slurm of this machine: a controller and two nodes, in a folder of their own, which end with it.
 # A small sweep is run through it whose CSV has to be that of the local run, byte for byte, also when a job is killed, a node is
-# drained and the sweep is broken off and taken up again; and a run that fails is told with its log.
+# drained and the sweep is broken off and taken up again; and a run that fails is told with its log. Where the module for ns-3 is
+# built (ns3/build), the same is asked of a small comparison.
 # usage: tools/check-slurm.sh
 # It takes the Debian packages slurm-wlm, munge and parallel, and root or a user of its own Slurm. TORA_SIM is the command that
 # simulates; else it is the program that stands in crates/tora/out, or out/tora_unproved, which ./tora leaves.
@@ -168,6 +169,26 @@ check_refusals() {
   holds 'an option that sbatch refuses ends with status 1' test "$status" = 1
 }
 
+compare() {
+  "$here/../ns3/compare/run" --protocols "$1" --nodes 5 --speeds '1 5' --seeds 2 "${@:3}" "$2" --seconds=3
+}
+
+# A comparison without TORA, which needs no engine; and one with a protocol that there is not.
+check_comparison() {
+  local status=0
+  if [ ! -x "${TORA_NS3_OUT:-$here/../out/ns3}/tora-compare" ]; then
+    echo "check-slurm: the comparison is not built (ns3/build): it is left out" >&2
+    return
+  fi
+  compare 'AODV OLSR' "$work/compare-local" --jobs 2 >/dev/null 2>&1
+  compare 'AODV OLSR' "$work/compare-plain" --slurm='--time=5' >/dev/null 2>"$work/told"
+  holds 'the CSV of a comparison through Slurm is that of the local run' cmp "$work/compare-local/compare.csv" "$work/compare-plain/compare.csv"
+  compare 'AODV NONE' "$work/compare-failed" --slurm >/dev/null 2>"$work/told" || status=$?
+  holds 'a failed run of a comparison ends with status 1' test "$status" = 1
+  holds 'it is told with its log' grep -q "compare: the run NONE-5-1-5-1 failed; its log: $work/compare-failed/logs/" "$work/told"
+  holds 'its other rows are there, and the header' test "$(wc -l <"$work/compare-failed/compare.csv")" = 5
+}
+
 write_configuration
 write_simulator
 start_daemons
@@ -176,5 +197,6 @@ check_killed
 check_broken_off
 check_failing
 check_refusals
+check_comparison
 echo "$passed passed, $failed failed"
 [ "$failed" = 0 ]

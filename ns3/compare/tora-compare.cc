@@ -64,6 +64,7 @@ struct Setup
     std::string times;            ///< its times
     std::string tick{"100ms"};    ///< its tick
     bool isNoticing{false};       ///< whether it is told of neighbours that are gone
+    bool isReturnNoticed{false};  ///< whether links are cut that packets come back from
     bool isSalvaging{false};      ///< whether packets that the radio gives up wait once more
     std::string record;           ///< the file for the lines of the run
     bool hasHeader{false};        ///< whether the names of the columns are printed, too
@@ -248,6 +249,7 @@ Comparison::MakeRouting()
         tora->Set("Times", StringValue(m_setup.times));
         tora->Set("Tick", StringValue(m_setup.tick));
         tora->Set("Notice", BooleanValue(m_setup.isNoticing));
+        tora->Set("NoticeReturn", BooleanValue(m_setup.isReturnNoticed));
         tora->Set("Salvage", BooleanValue(m_setup.isSalvaging));
         tora->Set("Record", StringValue(m_setup.record));
         routing = std::move(tora);
@@ -540,6 +542,7 @@ main(int argc, char* argv[])
     cmd.AddValue("times", "TORA: times of link ends", setup.times);
     cmd.AddValue("tick", "TORA: the tick", setup.tick);
     cmd.AddValue("notice", "TORA: the radio's reports cut links", setup.isNoticing);
+    cmd.AddValue("returns", "TORA: packets that come back cut links", setup.isReturnNoticed);
     cmd.AddValue("salvage", "TORA: packets that the radio gives up wait", setup.isSalvaging);
     cmd.AddValue("record", "TORA: the file for the lines of the run", setup.record);
     cmd.AddValue("header", "print the names of the columns, too", setup.hasHeader);

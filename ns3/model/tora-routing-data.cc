@@ -90,7 +90,7 @@ ToraRouting::OnTick()
     }
     for (auto it = m_seen.begin(); it != m_seen.end();)
     {
-        it = it->second + SEEN_LIMIT < now ? m_seen.erase(it) : std::next(it);
+        it = it->second.last + SEEN_LIMIT < now ? m_seen.erase(it) : std::next(it);
     }
     ServeQueue();
     if (m_isUrgent || now + m_tick >= m_lastBroadcast + m_beaconInterval)
@@ -244,7 +244,7 @@ ToraRouting::RouteInput(Ptr<const Packet> p,
     }
     if (idev != m_lo && m_ipv4->GetInterfaceForAddress(header.GetSource()) >= 0)
     {
-        Drop(entry, CAME_BACK);
+        Return(entry);
         return true;
     }
     if (m_ipv4->IsDestinationAddress(header.GetDestination(), interface))
@@ -269,7 +269,7 @@ ToraRouting::RouteInput(Ptr<const Packet> p,
     }
     else if (m_seen.count(NameOf(header)) > 0)
     {
-        Drop(entry, CAME_BACK);
+        Return(entry);
     }
     else
     {
@@ -287,10 +287,10 @@ ToraRouting::Forward(const ToraQueueEntry& entry)
         Drop(entry, NO_DESTINATION);
         return;
     }
-    m_seen[NameOf(entry.header)] = Simulator::Now();
+    m_seen[NameOf(entry.header)] = {Simulator::Now(), 0};
     if (Ptr<Ipv4Route> route = RouteTo(destination))
     {
-        entry.forward(route, entry.packet, entry.header);
+        Send(entry, route);
         return;
     }
     NS_LOG_LOGIC("a packet to " << destination << " waits");
@@ -299,6 +299,31 @@ ToraRouting::Forward(const ToraQueueEntry& entry)
         Drop(*first, QUEUE_FULL);
     }
     ScheduleQueue();
+}
+
+void
+ToraRouting::Send(const ToraQueueEntry& entry, Ptr<Ipv4Route> route)
+{
+    auto seen = m_seen.find(NameOf(entry.header));
+    auto hop = m_hops.find(m_world->IdOf(entry.header.GetDestination()));
+    if (seen != m_seen.end() && hop != m_hops.end())
+    {
+        seen->second.hop = hop->second;
+    }
+    entry.forward(route, entry.packet, entry.header);
+}
+
+void
+ToraRouting::Return(const ToraQueueEntry& entry)
+{
+    auto seen = m_seen.find(NameOf(entry.header));
+    auto hop = m_hops.find(m_world->IdOf(entry.header.GetDestination()));
+    if (m_isReturnNoticed && seen != m_seen.end() && hop != m_hops.end() && hop->second != 0 &&
+        seen->second.hop == hop->second)
+    {
+        m_world->Notice(m_id, hop->second);
+    }
+    Drop(entry, CAME_BACK);
 }
 
 void
@@ -363,7 +388,7 @@ ToraRouting::Release(Ipv4Address destination, Ptr<Ipv4Route> route)
     }
     for (auto& entry : m_queue.Take(destination, most))
     {
-        entry.forward(route, entry.packet, entry.header);
+        Send(entry, route);
     }
 }
 

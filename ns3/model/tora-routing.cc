@@ -65,8 +65,8 @@ ToraRouting::GetTypeId()
                           MakeStringChecker())
             .AddAttribute(
                 "Record",
-                "The file for the lines of the run, which tora sim reads, or nothing; Notice does "
-                "nothing then. The same for all nodes.",
+                "The file for the lines of the run, which tora sim reads, or nothing; Notice and "
+                "NoticeReturn do nothing then. The same for all nodes.",
                 StringValue(""),
                 MakeStringAccessor(&ToraRouting::m_record),
                 MakeStringChecker())
@@ -82,6 +82,12 @@ ToraRouting::GetTypeId()
                           "neighbour, or two of its beacons are missed.",
                           BooleanValue(false),
                           MakeBooleanAccessor(&ToraRouting::m_isNoticing),
+                          MakeBooleanChecker())
+            .AddAttribute("NoticeReturn",
+                          "Whether a data packet that comes back cuts the link to the next hop "
+                          "that it went to.",
+                          BooleanValue(false),
+                          MakeBooleanAccessor(&ToraRouting::m_isReturnNoticed),
                           MakeBooleanChecker())
             .AddAttribute(
                 "Salvage",

@@ -55,7 +55,9 @@ enum WifiMacDropReason : uint8_t; // opaque enum declaration
  *
  * A data packet without a next hop waits in a queue of at most MaxQueueLen packets for at most
  * MaxQueueTime, and is then dropped; its source gets an ICMP message "host unreachable". A data
- * packet that comes back to a node which sent or forwarded it is dropped and counted.
+ * packet that comes back to a node which sent or forwarded it is dropped and counted. TORA's rules
+ * let two neighbours point at each other until an input changes the entries of one of them
+ * (docs/protocol.md): with NoticeReturn the link to the next hop that the packet went to is cut.
  */
 class ToraRouting : public Ipv4RoutingProtocol
 {
@@ -240,6 +242,13 @@ class ToraRouting : public Ipv4RoutingProtocol
     /// offset.
     using PacketName = std::tuple<uint32_t, uint32_t, uint8_t, uint16_t, uint16_t>;
 
+    /// A data packet that was sent or forwarded.
+    struct Seen
+    {
+        Time last;       //!< when it was taken last
+        uint32_t hop{0}; //!< the number of the next hop that it went to, or 0 where it waits
+    };
+
     /**
      * \param header a header
      * \returns what tells its packet from others
@@ -359,6 +368,20 @@ class ToraRouting : public Ipv4RoutingProtocol
      */
     void Forward(const ToraQueueEntry& entry);
     /**
+     * Sends a packet, and notes its next hop.
+     *
+     * \param entry the packet
+     * \param route its route
+     */
+    void Send(const ToraQueueEntry& entry, Ptr<Ipv4Route> route);
+    /**
+     * A data packet came back. With NoticeReturn the link is cut that it went out by, where that is
+     * still the next hop.
+     *
+     * \param entry the packet
+     */
+    void Return(const ToraQueueEntry& entry);
+    /**
      * Drops a data packet, and tells its source.
      *
      * \param entry the packet
@@ -409,17 +432,18 @@ class ToraRouting : public Ipv4RoutingProtocol
     Ptr<ArpCache> ArpOf(uint32_t interface) const;
 
     // Attributes
-    Time m_tick;           //!< how long a tick takes
-    std::string m_times;   //!< the times of link ends
-    std::string m_program; //!< the engine's program
-    std::string m_record;  //!< the file of the lines of the run
-    bool m_isSalvaging;    //!< whether packets that the radio gives up wait for another route
-    bool m_isNoticing;     //!< whether the engine is told of neighbours that are gone
-    bool m_isTaking;       //!< whether received frames are handed over as bytes
-    bool m_isOld;          //!< whether link ends speak version 1 of frames alone
-    Time m_beaconInterval; //!< how long the node is silent at most
-    Time m_heardTimeout;   //!< how long a neighbour counts as heard
-    Time m_maxQueueTime;   //!< how long a packet waits at most
+    Time m_tick;            //!< how long a tick takes
+    std::string m_times;    //!< the times of link ends
+    std::string m_program;  //!< the engine's program
+    std::string m_record;   //!< the file of the lines of the run
+    bool m_isSalvaging;     //!< whether packets that the radio gives up wait for another route
+    bool m_isNoticing;      //!< whether the engine is told of neighbours that are gone
+    bool m_isReturnNoticed; //!< whether a link is cut that a packet came back from
+    bool m_isTaking;        //!< whether received frames are handed over as bytes
+    bool m_isOld;           //!< whether link ends speak version 1 of frames alone
+    Time m_beaconInterval;  //!< how long the node is silent at most
+    Time m_heardTimeout;    //!< how long a neighbour counts as heard
+    Time m_maxQueueTime;    //!< how long a packet waits at most
 
     Ptr<Ipv4> m_ipv4;                           //!< IP of the node
     Ptr<NetDevice> m_lo;                        //!< its loopback device
@@ -438,7 +462,7 @@ class ToraRouting : public Ipv4RoutingProtocol
     uint64_t m_serial{0};                       //!< how many packets were broadcast
     std::set<uint32_t> m_radios;                //!< interfaces whose radio is looked at
     uint32_t m_unsent{0};                       //!< radios that have not sent the last one
-    std::map<PacketName, Time> m_seen;          //!< packets sent or forwarded, and when
+    std::map<PacketName, Seen> m_seen;          //!< packets sent or forwarded
     std::map<Ipv4Address, Time> m_resolving;    //!< next hops that ARP was asked for, and when
     std::map<uint32_t, Time> m_asked;           //!< destinations asked for, and when
 

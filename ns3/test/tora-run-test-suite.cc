@@ -478,6 +478,79 @@ class ToraCameBackTestCase : public TestCase
 
 /**
  * \ingroup tora
+ * \brief With NoticeReturn a packet that comes back cuts the link that it went out by, and the
+ * route is found anew.
+ */
+class ToraNoticeReturnTestCase : public TestCase
+{
+  public:
+    ToraNoticeReturnTestCase()
+        : TestCase("A packet that comes back cuts the link that it went out by")
+    {
+    }
+
+  private:
+    /**
+     * A packet comes twice to the middle of three nodes.
+     *
+     * \param isNoticed whether NoticeReturn is on
+     * \returns the next hops of the middle node to the last one, from then on
+     */
+    std::vector<Ipv4Address> Try(bool isNoticed)
+    {
+        ToraHelper tora;
+        tora.Set("NoticeReturn", BooleanValue(isNoticed));
+        ToraNet net({0, 200, 400}, tora);
+        net.Flow(0, 2, 5, 4);
+        net.Run(10);
+        std::vector<Ipv4Address> hops;
+        Ptr<ToraRouting> routing = net.RoutingOf(1);
+        routing->TraceConnectWithoutContext(
+            "RouteChange",
+            Callback<void, Ipv4Address, Ipv4Address, Ipv4Address>(
+                [&hops, &net](Ipv4Address to, Ipv4Address, Ipv4Address after) {
+                    if (to == net.AddressOf(2))
+                    {
+                        hops.push_back(after);
+                    }
+                }));
+        auto forward = Callback<void, Ptr<Ipv4Route>, Ptr<const Packet>, const Ipv4Header&>(
+            [](Ptr<Ipv4Route>, Ptr<const Packet>, const Ipv4Header&) {});
+        Ipv4Header header;
+        header.SetSource(net.AddressOf(0));
+        header.SetDestination(net.AddressOf(2));
+        header.SetIdentification(999);
+        for (uint32_t i = 0; i < 2; i++)
+        {
+            routing->RouteInput(Create<Packet>(),
+                                header,
+                                net.m_nodes.Get(1)->GetDevice(0),
+                                forward,
+                                Ipv4RoutingProtocol::MulticastForwardCallback(),
+                                Ipv4RoutingProtocol::LocalDeliverCallback(),
+                                Ipv4RoutingProtocol::ErrorCallback());
+        }
+        net.Run(11);
+        net.Flow(0, 2, 2, 20);
+        net.Run(30);
+        NS_TEST_EXPECT_MSG_EQ(routing->GetCameBack(), 1, "it is counted");
+        NS_TEST_EXPECT_MSG_EQ(net.m_received, 24, "all other packets arrive");
+        return hops;
+    }
+
+    void DoRun() override
+    {
+        NS_TEST_EXPECT_MSG_EQ(Try(false).empty(), true, "the route stays");
+        std::vector<Ipv4Address> hops = Try(true);
+        Ipv4Address last("10.1.1.3");
+        NS_TEST_EXPECT_MSG_EQ((!hops.empty() && hops.front() != last && hops.back() == last),
+                              true,
+                              "the route is lost and found");
+    }
+};
+
+/**
+ * \ingroup tora
  * \brief Small simulations.
  */
 class ToraRunTestSuite : public TestSuite
@@ -494,6 +567,7 @@ class ToraRunTestSuite : public TestSuite
         AddTestCase(new ToraChangesTestCase, TestCase::QUICK);
         AddTestCase(new ToraRecordTestCase, TestCase::QUICK);
         AddTestCase(new ToraCameBackTestCase, TestCase::QUICK);
+        AddTestCase(new ToraNoticeReturnTestCase, TestCase::QUICK);
     }
 };
 
