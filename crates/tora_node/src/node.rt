@@ -240,10 +240,10 @@ pub fn run_node_with_wakers<
     // A fault is one of the start, or the first one of what the threads came to.
     ensures cause { IfErr result (IsCause config) }
     ensures count { IfOk result (λ ended. (0 < length config.neighbours) × (length config.neighbours ≤ MOST_LINKS)) }
-    // What its threads did: the runs of its links with their wires, the commands that were read, and the items that the core
+    // What its threads did: the runs of its links with their wires and life files, the commands that were read, and the items that the core
     // served, which are what these have put, as the lanes carry it.
-    ensures ran { IfOk result (λ ended. NodeRan W.did_send W.did_receive (C.did_tell clock.now) config wires.items (Rd.remaining reader.old) None ended.core ended.tallies ended.taken ended.gone) }
-    ensures failed { IfErr result (EndsWithFault W.did_send W.did_receive (C.did_tell clock.now) config wires.items (Rd.remaining reader.old)) }
+    ensures ran { IfOk result (λ ended. NodeRan W.did_send W.did_receive (C.did_tell clock.now) (IsOpened D.syncs D.reads D.writes) config wires.items disks.items (Rd.remaining reader.old) None ended.core ended.tallies ended.taken ended.gone) }
+    ensures failed { IfErr result (EndsWithFault W.did_send W.did_receive (C.did_tell clock.now) (IsOpened D.syncs D.reads D.writes) config wires.items disks.items (Rd.remaining reader.old)) }
 {
     what_was_offered_was_sent();
     let core = config.into_core();
