@@ -28,7 +28,9 @@ from way import positions
 
 TICK = 1 / TICKS_A_SECOND  # seconds of a round
 MOST_NODES = 64
+GREATEST_NODES = 1024  # with --large
 MOST_NEIGHBOURS = 32
+MOST_DESTINATIONS = 64
 
 
 def simulation_lines(scenario, changes, every, need):
@@ -145,8 +147,9 @@ def make(options):
     """The scenario and the lines of the simulation file."""
     source = random.Random(checked(options).seed)
     ways, parameters = motion(options, source)
-    if not 2 <= len(ways) <= MOST_NODES:
-        raise Refused(f"{len(ways)} nodes; a simulated world has 2 to {MOST_NODES}")
+    most = GREATEST_NODES if options.large else MOST_NODES
+    if not 2 <= len(ways) <= most:
+        raise Refused(f"{len(ways)} nodes; a simulated world has 2 to {most}")
     times = [at * TICK for at in range(0, options.rounds, options.sample)]
     places = list(zip(*(positions(way, times) for way in ways)))
     contacts = Contacts(places, options.range)
@@ -164,7 +167,7 @@ def make(options):
         "most_met": max(met.values()), "most_at_once": contacts.most, "breaks": 0,
         "left_out": [node for node in range(1, len(ways) + 1) if node not in degree], "positions": places,
         "parameters": parameters | {"need_rounds": options.need},
-    }
+    } | ({"large": True} if options.large else {})
     choose_flows(scenario, sorted(degree), options, source)
     return scenario, simulation_lines(scenario, contacts.changes, options.heights, options.need)
 
@@ -206,7 +209,8 @@ def options_of(words):
     files.add_argument("--ns2", metavar="FILE", help="read a setdest file; its node 0 becomes node 1")
     files.add_argument("--bonnmotion", metavar="FILE", help="read a BonnMotion file; its first line becomes node 1")
     add("--coordinates", type=int, choices=(2, 3), default=2, help="of a BonnMotion file (2)")
-    add("--nodes", type=at_least(2, MOST_NODES), default=20, help="nodes of random waypoint (20)")
+    add("--large", action="store_true", help=f"up to {GREATEST_NODES} nodes, for `tora sim --large`")
+    add("--nodes", type=at_least(2, GREATEST_NODES if "--large" in words else MOST_NODES), default=20, help="nodes of random waypoint (20)")
     add("--seed", type=at_least(0), default=1, help="seed of motion, destinations and flows (1)")
     add("--area", default="", metavar="WxH", help="metres; else a square with about --degree neighbours a node")
     add("--degree", type=float, default=6.0, help="neighbours a node in the mean, where no --area is given (6)")
@@ -219,7 +223,7 @@ def options_of(words):
     add("--heights", type=at_least(0), default=0, help="rounds between `heights` lines; 0: none, as a trace has them (0)")
     add("--need", type=at_least(1), default=10, help="rounds between the needs of every flow (10)")
     add("--limit", type=at_least(1, MOST_NEIGHBOURS), default=MOST_NEIGHBOURS, help="links of a node (32)")
-    add("--destinations", type=at_least(1, MOST_NODES), default=4, help="destinations, drawn by the seed (4)")
+    add("--destinations", type=at_least(1, MOST_DESTINATIONS), default=4, help="destinations, drawn by the seed (4)")
     add("--flows", type=at_least(0), default=0, help="flows, drawn by the seed; 0: as many as nodes (0)")
     add("--times", default="10,50,5,8", metavar="HELLO,SILENCE,RETRY,TRIES", help="times of a link end (10,50,5,8)")
     add_models(parser)

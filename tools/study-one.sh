@@ -25,6 +25,7 @@ read -r -a measure <<<"${MEASURE:-}"
 python3 "$here/scenario.py" "$run" --nodes "$nodes" --seed "$seed" "$@" ${vary[@]+"${vary[@]}"}
 times=$(sed -n 's/^ "times": \[\(.*\)\],$/\1/p' "$run.json")
 [ "$times" = 10,50,5,8 ] || simulate+=(--times "$times")
+if grep -q '^ "large": true' "$run.json"; then simulate+=(--large); fi
 "${simulate[@]}" --trace "$run.trace" "$run.sim" >"$run.out"
 version=$("${simulate[0]}" --version 2>/dev/null </dev/null | head -n 1) || version=''
 python3 "$here/measure.py" ${measure[@]+"${measure[@]}"} --version "$version" "$run.json" "$run.trace" >"$run.csv"

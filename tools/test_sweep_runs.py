@@ -26,9 +26,14 @@ class RunsTest(unittest.TestCase):
         for vary in (["pause"], ["seed=1,2"], ["pause=0", "pause=9"], ["speed=3"], ["times=1"]):
             with self.subTest(vary=vary), self.assertRaises(Usage):
                 list(runs([5], 1, vary, []))
-        for sizes, options in (([65], []), ([1], []), ([5], ["--pause", "x"]), ([5], ["--none"])):
+        for sizes, options in (([65], []), ([1025], ["--large"]), ([1], []), ([5], ["--pause", "x"]), ([5], ["--none"])):
             with self.subTest(sizes=sizes), self.assertRaises(SystemExit), contextlib.redirect_stderr(io.StringIO()):
                 list(runs(sizes, 1, [], options))
+
+    def test_large(self):
+        """With --large there may be 1,024 nodes."""
+        self.assertEqual([size for _, size, *_ in runs([64], 1, [], [])], [64])
+        self.assertEqual([size for _, size, *_ in runs([65, 1024], 1, [], ["--large"])], [65, 1024])
 
 
 if __name__ == "__main__":

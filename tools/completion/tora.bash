@@ -21,7 +21,7 @@ _tora() {
       # the launcher at the top of the repository has words of its own
       if [ -f "$(dirname "${COMP_WORDS[0]}")/tools/build.py" ]; then words+=' build test install uninstall'; fi
       ;;
-    sim) words+=' --times --channel --seed --notice --trace' files='*.sim' ;;
+    sim) words+=' --times --channel --seed --notice --large --trace' files='*.sim' ;;
     drive) words+=' --times' ;;
     node) words+=' --check --log --log-time' files='*.toml' ;;
     help) words='replay sim drive node key' ;;

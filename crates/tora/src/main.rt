@@ -93,6 +93,7 @@ fn main(rt: HostRuntime) -> ExitCode {
                         channel: sim.get_str("channel"),
                         seed: sim.get_str("seed"),
                         has_notice: sim.get_flag("notice"),
+                        is_large: sim.get_flag("large"),
                     };
                     simulate_to_output(&rt, words, path, sim.get_str("trace"), is_verbose)
                 }

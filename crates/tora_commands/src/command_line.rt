@@ -171,6 +171,11 @@ fn notice<'a>(alloc: Global) -> Arg<'a> {
     flag(alloc, "notice", help)
 }
 
+/// `--large` of `sim`.
+fn large<'a>(alloc: Global) -> Arg<'a> {
+    flag(alloc, "large", "Allows up to 1024 nodes, in place of 64")
+}
+
 /// `--trace` of `sim`.
 fn trace<'a>(alloc: Global) -> Arg<'a> {
     Arg::new(alloc, "trace")
@@ -202,6 +207,7 @@ fn sim<'a>(alloc: Global) -> Result<Command<'a>, AllocError> {
         .arg(channel(alloc))?
         .arg(seed(alloc))?
         .arg(notice(alloc))?
+        .arg(large(alloc))?
         .arg(trace(alloc))?
         .arg(file)
 }

@@ -63,9 +63,9 @@ pub fn simulate_file<T: Files + AllocGlobal + Eprint, W: Output>(
     is_verbose: bool,
     writer: &mut W,
 ) -> ExitCode
-    ensures usage { asked_setup (option_map (λ w. w.now) words.entry.times) (option_map (λ w. w.now) words.entry.channel) (option_map (λ w. w.now) words.entry.seed) words.entry.has_notice ≡ None → (exit_status result ≡ 2) × (writer.new ≡ writer.old) }
-    ensures ends { IfSome (asked_setup (option_map (λ w. w.now) words.entry.times) (option_map (λ w. w.now) words.entry.channel) (option_map (λ w. w.now) words.entry.seed) words.entry.has_notice) (λ s. EndsTraced T.File.remaining (rules_over s) W.contents W.did_flush writer.old writer.new (exit_status result)) }
-    ensures untraced { trace.entry ≡ None → IfSome (asked_setup (option_map (λ w. w.now) words.entry.times) (option_map (λ w. w.now) words.entry.channel) (option_map (λ w. w.now) words.entry.seed) words.entry.has_notice) (λ s. EndsFile T.File.remaining (rules_over s) W.contents W.did_flush writer.old writer.new (exit_status result)) }
+    ensures usage { asked_setup (option_map (λ w. w.now) words.entry.times) (option_map (λ w. w.now) words.entry.channel) (option_map (λ w. w.now) words.entry.seed) words.entry.has_notice words.entry.is_large ≡ None → (exit_status result ≡ 2) × (writer.new ≡ writer.old) }
+    ensures ends { IfSome (asked_setup (option_map (λ w. w.now) words.entry.times) (option_map (λ w. w.now) words.entry.channel) (option_map (λ w. w.now) words.entry.seed) words.entry.has_notice words.entry.is_large) (λ s. EndsTraced T.File.remaining (rules_over s) W.contents W.did_flush writer.old writer.new (exit_status result)) }
+    ensures untraced { trace.entry ≡ None → IfSome (asked_setup (option_map (λ w. w.now) words.entry.times) (option_map (λ w. w.now) words.entry.channel) (option_map (λ w. w.now) words.entry.seed) words.entry.has_notice words.entry.is_large) (λ s. EndsFile T.File.remaining (rules_over s) W.contents W.did_flush writer.old writer.new (exit_status result)) }
 {
     let setup = match asked_setup(words) {
         Ok(setup) => setup,

@@ -2,12 +2,13 @@
 ghost use Rattle.std.specs.Prelude.{◌≡◌, IfOk, option_map};
 ghost use Rattle.std.specs.Result.{result_ok};
 ghost use Rattle.tora_arq.specs.Settings.{IsTimes};
-ghost use Rattle.tora_commands.specs.SetupWords.{asked_seed, channel_asked, asked_channel, asked_setup};
+ghost use Rattle.tora_commands.specs.SetupWords.{asked_seed, channel_asked, asked_channel, asked_limits, asked_setup};
 
 use crate::times_word::asked_times;
 use tora_channel::{Channel, channel_parts};
 use tora_lines::words;
 use tora_script::Setup;
+use tora_world::Limits;
 
 /// The words behind options of `tora sim`; nothing where the option is not there.
 #[derive(Clone, Copy)]
@@ -17,6 +18,8 @@ pub struct SetupWords<'a> {
     pub seed: Option<&'a str>,
     /// Whether `--notice` is there.
     pub has_notice: bool,
+    /// Whether `--large` is there.
+    pub is_large: bool,
 }
 
 /// Why words are no setup.
@@ -83,10 +86,21 @@ fn channel<'a>(channel: Option<&'a str>, seed: Option<&str>) -> Result<Channel, 
     }
 }
 
+/// The limits of a world, which are the greatest where a large one is asked for.
+fn limits(is_large: bool) -> Limits
+    ensures { result ≡ asked_limits is_large }
+{
+    if is_large {
+        Limits::GREATEST
+    } else {
+        Limits::STANDARD
+    }
+}
+
 /// What the words ask for, or the first fault: of the times, then of the seed and the channel.
 #[tactic(auto, unfolding(crate::specs::SetupWords::asked_setup))]
 pub fn asked_setup<'a>(words: SetupWords<'a>) -> Result<Setup, SetupFault<'a>>
-    ensures value { result_ok result ≡ asked_setup (option_map (λ w. w.now) words.entry.times) (option_map (λ w. w.now) words.entry.channel) (option_map (λ w. w.now) words.entry.seed) words.entry.has_notice }
+    ensures value { result_ok result ≡ asked_setup (option_map (λ w. w.now) words.entry.times) (option_map (λ w. w.now) words.entry.channel) (option_map (λ w. w.now) words.entry.seed) words.entry.has_notice words.entry.is_large }
     ensures times { IfOk result (λ s. IsTimes s.times) }
 {
     let Some(times) = asked_times(words.times) else {
@@ -97,5 +111,6 @@ pub fn asked_setup<'a>(words: SetupWords<'a>) -> Result<Setup, SetupFault<'a>>
         times,
         channel,
         has_notice: words.has_notice,
+        limits: limits(words.is_large),
     })
 }

@@ -13,6 +13,7 @@ use Rattle.tora_script.specs.declared.script_line.SimulationLine.TheVariants.{Ha
 use Rattle.tora_channel.specs.declared.channel.Channel.{Channel}
 use Rattle.tora_script.specs.Rounds.{Sky, moment_of, round, after_round, rounds}
 use Rattle.tora_script.specs.Setup.{plain}
+use Rattle.tora_world.specs.Topology.{standard_limits}
 use Rattle.tora_script.specs.Simulator.{started}
 use Rattle.tora_script.specs.SimulationLines.{dests_of, link_of, old_of}
 use Rattle.tora_script.specs.SimulationText.{RunningView, Progress, Reply, begun_in, event_reply, after_rounds, has_end, part_of, without_parted, heights_text, count_text, exact_text, walk_text, at_rest_reply, running_reply, with_link}
@@ -140,7 +141,7 @@ runs : (times : Times) (before : RunningView) (found : Option DriveReply) (q : P
 runs times before None q h led e = absurd cc
 runs times before (Some r) q h led e = at_place times (running_at r) q (some_placed _ q e) ((led r refl).notice ∙ h.0, onward times before r.0 h.1 (led r refl))
 
-begins : (times : Times) (o : OwnView) (dests : List ℕ) (links : List (ℕ × ℕ)) (olds line : List ℕ) (first : Option World) (q : Placed) → started links dests olds times ≡ first
+begins : (times : Times) (o : OwnView) (dests : List ℕ) (links : List (ℕ × ℕ)) (olds line : List ℕ) (first : Option World) (q : Placed) → started standard_limits links dests olds times ≡ first
     → option_map running_at (option_and_then (λ w. answer_to (begun_in dests (plain times) w) o line) first) ≡ Some q → Holds times q.0.progress
 begins times o dests links olds line None q is e = absurd cc
 begins times o dests links olds line (Some w) q is e =
@@ -161,7 +162,7 @@ one_old times o dests links olds false q e = absurd cc
 
 behind : (times : Times) (o : OwnView) (dests : List ℕ) (links : List (ℕ × ℕ)) (olds line : List ℕ) (q : Placed) → option_map running_at (first_answer times o dests links olds line) ≡ Some q → Holds times q.0.progress
 behind times o dests [] olds line q e = absurd cc
-behind times o dests (link ∷ links) olds line q e = begins times o dests (link ∷ links) olds line (started (link ∷ links) dests olds times) q refl e
+behind times o dests (link ∷ links) olds line q e = begins times o dests (link ∷ links) olds line (started standard_limits (link ∷ links) dests olds times) q refl e
 
 linked : (times : Times) (o : OwnView) (dests : List ℕ) (links : List (ℕ × ℕ)) (olds line : List ℕ) (link : Option (ℕ × ℕ)) (old : Option ℕ) (q : Placed) → link_answer times o dests links olds line link old ≡ Some q → Holds times q.0.progress
 linked times o dests links olds line (Some link) old q e = one_link times o dests links olds link q e

@@ -16,6 +16,7 @@ use Rattle.tora_world.specs.declared.SimError.TheVariants as Refused
 use Rattle.tora_world.specs.World.{World, datagram, refusal_of, world_after_all}
 use Rattle.tora_sim.specs.Readers.{flag_at}
 use Rattle.tora_script.specs.declared.script_line.SimulationLine.TheVariants.{Happens, Rounds, Part, Mend, Heights, Sent, Taken, Exact, Walk, Rest}
+use Rattle.tora_world.specs.Topology.{standard_limits}
 use Rattle.tora_script.specs.Simulator.{has_topology, started}
 use Rattle.tora_script.specs.Setup.{plain}
 use Rattle.tora_script.specs.SimulationLines.{link_of, old_of}
@@ -195,12 +196,12 @@ acknowledged o progress = (record { progress = progress; own = o }, closing fals
 -- the line behind the last link and the last old node, which makes the world: at least one link is required
 abbrev pub first_answer : Times → OwnView → List ℕ → List (ℕ × ℕ) → List ℕ → List ℕ → Option DriveReply
 first_answer times o dests [] olds line = None
-first_answer times o dests (link ∷ links) olds line = option_and_then (λ w. answer_to (begun_in dests (plain times) w) o line) (started (link ∷ links) dests olds times)
+first_answer times o dests (link ∷ links) olds line = option_and_then (λ w. answer_to (begun_in dests (plain times) w) o line) (started standard_limits (link ∷ links) dests olds times)
 
 -- a line behind the first, which may say a link or an old node
 abbrev pub link_answer : Times → OwnView → List ℕ → List (ℕ × ℕ) → List ℕ → List ℕ → Option (ℕ × ℕ) → Option ℕ → Option Placed
 link_answer times o dests links olds line (Some link) old = option_map (acknowledged o) (with_link dests links olds link)
-link_answer times o dests links olds line None (Some n) = option_map (acknowledged o) (with_old_line dests links olds n)
+link_answer times o dests links olds line None (Some n) = option_map (acknowledged o) (with_old_line standard_limits dests links olds n)
 link_answer times o dests links olds line None None = option_map running_at (first_answer times o dests links olds line)
 
 -- what a line leaves, and what is printed for it; None for a fault
@@ -217,7 +218,7 @@ cause_of_line line = if is_some (drive_line_of line) then Name else Word
 
 abbrev pub cause_behind_links : List ℕ → List (ℕ × ℕ) → List ℕ → Cause
 cause_behind_links dests [] line = NoLink
-cause_behind_links dests (link ∷ links) line = if has_topology (link ∷ links) dests then cause_of_line line else Topology
+cause_behind_links dests (link ∷ links) line = if has_topology standard_limits (link ∷ links) dests then cause_of_line line else Topology
 
 unfoldable pub cause_of : Progress → List ℕ → Cause
 cause_of Progress.First line = Dests

@@ -4,6 +4,7 @@ use Rattle.tora_arq.specs.declared.Times.{Times}
 use Rattle.tora_lines.specs.LineText.{state_behind}
 use Rattle.tora_world.specs.declared.Event.{Event}
 use Rattle.tora_world.specs.World.{World, world_after_all}
+use Rattle.tora_world.specs.Topology.{standard_limits}
 use Rattle.tora_script.specs.Simulator.{started}
 use Rattle.tora_script.specs.SimulationText.{RunningView, Progress}
 use Rattle.tora_drive.specs.DriveText.{DriveView, drive_rules}
@@ -14,7 +15,7 @@ pub record IsOfEvents (times : Times) (w : World) : Type 0 where
   pub dests : List ℕ
   pub olds : List ℕ
   pub first : World
-  pub begins : started links dests olds times ≡ Some first
+  pub begins : started standard_limits links dests olds times ≡ Some first
   pub events : List Event
   pub world_is : w ≡ world_after_all first events
 

@@ -17,6 +17,7 @@ use tora_arq::Times;
 use tora_lines::FileKind;
 use tora_lines::words::LineError;
 use tora_script::{LinkLines, Running, Setup, Stage, first_line, link, old, take_link, take_old};
+use tora_world::Limits;
 
 /// Takes a line behind the last link and the last old node, which makes the world; at least one link is required. A line that is a
 /// fault changes nothing.
@@ -78,7 +79,7 @@ fn take_line<S: Driven>(
                 return Ok(());
             }
             if let Some(n) = old(line) {
-                take_old(lines, n)?;
+                take_old(Limits::STANDARD, lines, n)?;
                 acknowledge(text)?;
                 return Ok(());
             }

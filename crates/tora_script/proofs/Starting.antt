@@ -5,7 +5,8 @@ use Rattle.tora_arq.specs.declared.Times.{Times}
 use Rattle.tora_world.specs.declared.Event.{Event}
 use Rattle.tora_world.specs.declared.SimError.{SimError}
 use Rattle.tora_world.specs.Errors.{sim_error_number}
-use Rattle.tora_world.specs.Topology.{Link, topology_fault}
+use Rattle.tora_world.specs.declared.limits.Limits.{Limits}
+use Rattle.tora_world.specs.Topology.{Link, topology_fault_within}
 use Rattle.tora_world.specs.World.{World, first_world, effect_by, own_choice, refusal_of, world_after, world_by}
 use Rattle.tora_sim.specs.Topologies.{link_in, topology_of, AreNumbers}
 use Rattle.tora_sim.specs.Steps.{IsRefused}
@@ -19,9 +20,9 @@ numbers_of links dests pairs ids = record {
 }
 
 -- a topology without a fault has a first world
-pub started_as : (links : List (ℕ × ℕ)) (dests olds : List ℕ) (times : Times) (w : World) → topology_fault (topology_of links dests) ≡ None → w ≡ first_world (mixed_topology links dests olds) times → started links dests olds times ≡ Some w
+pub started_as : (limits : Limits) (links : List (ℕ × ℕ)) (dests olds : List ℕ) (times : Times) (w : World) → topology_fault_within limits (topology_of links dests) ≡ None → w ≡ first_world (mixed_topology links dests olds) times → started limits links dests olds times ≡ Some w
 unfolding started
-started_as links dests olds times w sound made = rw (sound, made) refl
+started_as limits links dests olds times w sound made = rw (sound, made) refl
 
 -- what a refusal leaves
 left_by : {A : Type 0} (r : Option SimError) (e : SimError) (w x : A) → r ≡ Some e → w ≡ (if is_some r then w else x)

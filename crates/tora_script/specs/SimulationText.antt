@@ -17,6 +17,7 @@ use Rattle.tora_script.specs.SimulationLines.{dests_of, link_of, old_of, simulat
 use Rattle.tora_script.specs.Rounds.{Sky, is_same_pair, is_parted, rounds}
 use Rattle.tora_script.specs.Air.{AirView, first_air}
 use Rattle.tora_channel.specs.declared.channel.Channel.{Channel}
+use Rattle.tora_world.specs.declared.limits.Limits.{Limits}
 use Rattle.tora_script.specs.declared.setup.Setup.{Setup}
 use Rattle.tora_script.specs.Setup.{plain}
 use Rattle.tora_world.specs.Walks.{height_at, hop_at, exact_in, walk_of}
@@ -173,9 +174,9 @@ with_link dests links (n ∷ olds) link = None
 abbrev pub is_linked : ℕ → List (ℕ × ℕ) → Bool
 is_linked n links = list_any (λ p. (p.0 == n) || (p.1 == n)) links
 
--- one old node more, where a link names it, and there is a topology of the links
-abbrev pub with_old_line : List ℕ → List (ℕ × ℕ) → List ℕ → ℕ → Option Progress
-with_old_line dests links olds n = if is_linked n links && has_topology links dests then Some (Links dests links (with_old n olds)) else None
+-- one old node more, where a link names it, and there is a topology of the links within the limits
+abbrev pub with_old_line : Limits → List ℕ → List (ℕ × ℕ) → List ℕ → ℕ → Option Progress
+with_old_line limits dests links olds n = if is_linked n links && has_topology limits links dests then Some (Links dests links (with_old n olds)) else None
 
 -- ---- any line
 
@@ -188,7 +189,7 @@ silent progress = (progress, [])
 
 -- behind the links: the world is made, and the line is one of its simulation
 abbrev pub first_run : Setup → List ℕ → List (ℕ × ℕ) → List ℕ → List ℕ → Option Reply
-first_run setup dests links olds line = option_and_then (λ w. line_reply (begun_in dests setup w) line) (started links dests olds setup.times)
+first_run setup dests links olds line = option_and_then (λ w. line_reply (begun_in dests setup w) line) (started setup.limits links dests olds setup.times)
 
 -- the line behind the last link and the last old node: at least one link is required
 abbrev pub behind_links : Setup → List ℕ → List (ℕ × ℕ) → List ℕ → List ℕ → Option (Progress × List ℕ)
@@ -198,7 +199,7 @@ behind_links setup dests (link ∷ links) olds line = option_map left_by (first_
 -- a line behind the first, which may say a link or an old node
 abbrev pub link_reply : Setup → List ℕ → List (ℕ × ℕ) → List ℕ → List ℕ → Option (ℕ × ℕ) → Option ℕ → Option (Progress × List ℕ)
 link_reply setup dests links olds line (Some link) old = option_map silent (with_link dests links olds link)
-link_reply setup dests links olds line None (Some n) = option_map silent (with_old_line dests links olds n)
+link_reply setup dests links olds line None (Some n) = option_map silent (with_old_line setup.limits dests links olds n)
 link_reply setup dests links olds line None None = behind_links setup dests links olds line
 
 -- behind the first line
@@ -213,18 +214,18 @@ simulation_reply setup (Runs s) line = option_map left_by (line_reply s line)
 -- ---- the end
 
 -- the first line or a link is still required: a fault of the line that would come next; where there is no such topology, of the last link's line
-abbrev pub end_of_links : ℕ → List ℕ → List (ℕ × ℕ) → Option ℕ
-end_of_links n dests [] = Some n
-end_of_links n dests (link ∷ links) = if has_topology (link ∷ links) dests then None else Some (n - 1)
+abbrev pub end_of_links : Limits → ℕ → List ℕ → List (ℕ × ℕ) → Option ℕ
+end_of_links limits n dests [] = Some n
+end_of_links limits n dests (link ∷ links) = if has_topology limits (link ∷ links) dests then None else Some (n - 1)
 
-unfoldable pub simulation_at_end : Progress → ℕ → Option ℕ
-simulation_at_end First n = Some n
-simulation_at_end (Links dests links olds) n = end_of_links n dests links
-simulation_at_end (Runs s) n = None
+unfoldable pub simulation_at_end : Setup → Progress → ℕ → Option ℕ
+simulation_at_end setup First n = Some n
+simulation_at_end setup (Links dests links olds) n = end_of_links setup.limits n dests links
+simulation_at_end setup (Runs s) n = None
 
 -- the rules of a simulation that is made with this
 abbrev pub rules_over : Setup → Rules Progress
-rules_over setup = record { start = First; reply = simulation_reply setup; at_end = simulation_at_end }
+rules_over setup = record { start = First; reply = simulation_reply setup; at_end = simulation_at_end setup }
 
 -- ---- all lines
 

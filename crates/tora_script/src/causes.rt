@@ -10,7 +10,7 @@ use std::fmt::{self, Display, Formatter, Write};
 use tora_core::CoreError;
 use tora_height::Id;
 use tora_lines::words;
-use tora_sim::topology_fault;
+use tora_sim::{Limits, topology_fault_within};
 
 /// Why a line of a simulation file is a fault.
 #[derive(Clone, Copy, Debug, PartialEq, Eq)]
@@ -24,6 +24,8 @@ pub enum SimulationCause {
     List,
     NoLink,
     TooMany,
+    TooManyStandard,
+    TooManyAtAll,
     Repeated,
     RepeatedLink(u64, u64),
     RepeatedDestination(Id),
@@ -64,6 +66,10 @@ impl SimulationCause {
             Self::NoLink => "behind the first line a line `link A B` is required",
             Self::TooMany =>
                 "the links and destinations are refused: there are more than 64 nodes, 32 neighbours of a node or 64 destinations",
+            Self::TooManyStandard =>
+                "the links and destinations are refused: there are more than 64 nodes, 32 neighbours of a node or 64 destinations; with `--large` there may be 1024 nodes",
+            Self::TooManyAtAll =>
+                "the links and destinations are refused: there are more than 1024 nodes, 32 neighbours of a node or 64 destinations",
             Self::Repeated =>
                 "the links and destinations are refused: a link, either way round, or a destination stands twice",
             Self::RepeatedLink(_, _) => "the links and destinations are refused: ",
@@ -241,11 +247,20 @@ fn repeated_cause(lines: &LinkLines) -> SimulationCause {
         .unwrap_or(SimulationCause::Repeated)
 }
 
-/// Why there is no topology of the links and destinations, if there is none.
-fn topology_cause(lines: &LinkLines) -> Option<SimulationCause> {
-    match topology_fault(&lines.links, &lines.dests) {
+/// What there is too much of: more than the standard limits allow, or more than any.
+fn many_cause(limits: Limits, lines: &LinkLines) -> SimulationCause {
+    match topology_fault_within(Limits::GREATEST, &lines.links, &lines.dests) {
+        Some(CoreError::TooMany) if limits == Limits::STANDARD => SimulationCause::TooMany,
+        Some(CoreError::TooMany) => SimulationCause::TooManyAtAll,
+        _ => SimulationCause::TooManyStandard,
+    }
+}
+
+/// Why there is no topology of the links and destinations within the limits, if there is none.
+fn topology_cause(limits: Limits, lines: &LinkLines) -> Option<SimulationCause> {
+    match topology_fault_within(limits, &lines.links, &lines.dests) {
         None => None,
-        Some(CoreError::TooMany) => Some(SimulationCause::TooMany),
+        Some(CoreError::TooMany) => Some(many_cause(limits, lines)),
         Some(CoreError::Repeated) => Some(repeated_cause(lines)),
         Some(CoreError::OwnId) => Some(SimulationCause::OwnLink),
         Some(CoreError::Memory) => Some(SimulationCause::Other),
@@ -264,7 +279,7 @@ fn old_cause(lines: &LinkLines, line: &[u8]) -> SimulationCause {
 }
 
 /// Why a line behind the first line or a link, which is no link, is a fault.
-fn link_cause(lines: &LinkLines, line: &[u8]) -> SimulationCause {
+fn link_cause(limits: Limits, lines: &LinkLines, line: &[u8]) -> SimulationCause {
     let is_link = line.starts_with(b"link ");
     if lines.links.is_empty() {
         return match shape_cause(line) {
@@ -273,7 +288,7 @@ fn link_cause(lines: &LinkLines, line: &[u8]) -> SimulationCause {
             None => SimulationCause::NoLink,
         };
     }
-    match topology_cause(lines) {
+    match topology_cause(limits, lines) {
         Some(cause) => cause,
         None if is_link && lines.olds.is_empty() => {
             shape_cause(line).unwrap_or(SimulationCause::Pair)
@@ -282,21 +297,30 @@ fn link_cause(lines: &LinkLines, line: &[u8]) -> SimulationCause {
     }
 }
 
-/// Why a line, that is a fault, is one.
+/// Why a line, that is a fault within the standard limits, is one.
 pub fn simulation_cause<S>(stage: &Stage<S>, line: &[u8]) -> SimulationCause {
+    simulation_cause_within(Limits::STANDARD, stage, line)
+}
+
+/// Why a line, that is a fault within the limits, is one.
+pub fn simulation_cause_within<S>(
+    limits: Limits,
+    stage: &Stage<S>,
+    line: &[u8],
+) -> SimulationCause {
     match stage {
         Stage::First => first_cause(line),
-        Stage::Links(lines) => link_cause(lines, line),
+        Stage::Links(lines) => link_cause(limits, lines, line),
         Stage::Runs(_) => line_cause(line),
     }
 }
 
 /// Why an input, that ends where it may not, is a fault.
-pub fn end_cause<S>(stage: &Stage<S>) -> SimulationCause {
+pub fn end_cause<S>(limits: Limits, stage: &Stage<S>) -> SimulationCause {
     match stage {
         Stage::First => SimulationCause::Missing,
         Stage::Links(lines) if lines.links.is_empty() => SimulationCause::NoLink,
-        Stage::Links(lines) => match topology_cause(lines) {
+        Stage::Links(lines) => match topology_cause(limits, lines) {
             Some(cause) => cause,
             None => SimulationCause::Other,
         },

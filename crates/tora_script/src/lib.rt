@@ -25,7 +25,7 @@ mod told;
 mod world_simulator;
 
 pub use air::Air;
-pub use causes::{SimulationCause, simulation_cause};
+pub use causes::{SimulationCause, simulation_cause, simulation_cause_within};
 pub use clear::clear_channel_delivers_at_once;
 pub use link_lines::LinkLines;
 pub use parse::{is_word, link, old, pair, simulation_line, simulation_lines_are_read_as_written};

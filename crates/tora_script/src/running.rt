@@ -24,7 +24,7 @@ use tora_height::{Entry, Id};
 use tora_lines::numbered;
 use tora_lines::words::LineError;
 use tora_trace::{HeightText, HopText};
-use tora_world::{Event, SimError};
+use tora_world::{Event, Limits, SimError};
 
 /// A simulation behind its links: what the links fix, the pairs of nodes that are parted, and the world.
 #[derive(Drop)]
@@ -153,10 +153,11 @@ fn write_at_rest(out: &mut String, is_at_rest: bool) -> Result<(), AllocError>
     }
 }
 
-/// The first world; a fault where there is no such topology.
+/// The first world; a fault where there is no such topology within the limits.
 #[tactic(auto, unfolding(crate::specs::Simulator::started))]
 fn start<S: Simulator>(
     alloc: Global,
+    limits: Limits,
     links: &[(Id, Id)],
     dests: &[Id],
     olds: &[Id],
@@ -165,9 +166,9 @@ fn start<S: Simulator>(
     requires links { ArePairs links.now }
     requires dests { AreIds dests.now }
     requires times { IsTimes times }
-    ensures { Gives (λ sim. S.world sim) result (started links.now dests.now olds.now times) }
+    ensures { Gives (λ sim. S.world sim) result (started limits links.now dests.now olds.now times) }
 {
-    match S::start(alloc, links, dests, olds, times) {
+    match S::start(alloc, limits, links, dests, olds, times) {
         Ok(sim) => Ok(sim),
         Err(CoreError::Memory) => Err(LineError::Memory),
         Err(_) => Err(LineError::Fault),
@@ -186,9 +187,9 @@ impl<S: Simulator> Running<S> {
         requires links { ArePairs links.now }
         requires dests { AreIds dests.now }
         requires times { IsTimes setup.times }
-        ensures { Gives (running_view S.world) result (option_map (begun_in dests.now setup) (started links.now dests.now olds.now setup.times)) }
+        ensures { Gives (running_view S.world) result (option_map (begun_in dests.now setup) (started setup.limits links.now dests.now olds.now setup.times)) }
     {
-        let sim: S = start(alloc, links, dests, olds, setup.times)?;
+        let sim: S = start(alloc, setup.limits, links, dests, olds, setup.times)?;
         let nodes = sim.nodes(alloc)?;
         let ends = sim.ends(alloc)?;
         let mut own = Vec::new(alloc);

@@ -22,7 +22,7 @@ use tora_arq::Times;
 use tora_height::Id;
 use tora_lines::words::LineError;
 use tora_lines::{Ended, FileKind, ReplayError, read_lines};
-use tora_sim::topology_fault;
+use tora_sim::{Limits, topology_fault_within};
 
 /// Takes the first line.
 pub fn first_line(alloc: Global, line: &[u8]) -> Result<LinkLines, LineError>
@@ -57,16 +57,17 @@ pub fn is_linked(n: Id, links: &[(Id, Id)]) -> bool
     links.iter().any(|link| link.0 == n || link.1 == n)
 }
 
-/// Takes an old node; it is a fault where no link names the node, or there is no topology of the links, and then changes nothing.
-pub fn take_old(lines: &mut LinkLines, n: Id) -> Result<(), LineError>
+/// Takes an old node; it is a fault where no link names the node, or there is no topology of the links within
+/// the limits, and then changes nothing.
+pub fn take_old(limits: Limits, lines: &mut LinkLines, n: Id) -> Result<(), LineError>
     ensures gives { Gives (λ _. Progress.Links lines.new.dests.items lines.new.links.items lines.new.olds.items) result
-        (with_old_line lines.old.dests.items lines.old.links.items lines.old.olds.items n) }
+        (with_old_line limits lines.old.dests.items lines.old.links.items lines.old.olds.items n) }
     ensures kept { result ≡ Err LineError.Fault → lines.new ≡ lines.old }
 {
     if !is_linked(n, &lines.links) {
         return Err(LineError::Fault);
     }
-    if topology_fault(&lines.links, &lines.dests).is_some() {
+    if topology_fault_within(limits, &lines.links, &lines.dests).is_some() {
         return Err(LineError::Fault);
     }
     lines.push_old(n)?;
@@ -109,13 +110,13 @@ fn behind_links<S: Simulator>(
 }
 
 /// The number of the line that is a fault where the input ends behind links, if one is.
-fn end_of_links(lines: &LinkLines, number: u64) -> Option<u64>
-    ensures { result ≡ end_of_links number lines.now.dests.items lines.now.links.items }
+fn end_of_links(limits: Limits, lines: &LinkLines, number: u64) -> Option<u64>
+    ensures { result ≡ end_of_links limits number lines.now.dests.items lines.now.links.items }
 {
     if lines.links.is_empty() {
         return Some(number);
     }
-    match topology_fault(&lines.links, &lines.dests) {
+    match topology_fault_within(limits, &lines.links, &lines.dests) {
         None => None,
         Some(_) => Some(number.saturating_sub(1)),
     }
@@ -144,7 +145,7 @@ fn take_line<S: Simulator>(
                 return take_link(lines, link);
             }
             if let Some(n) = parse::old(line) {
-                return take_old(lines, n);
+                return take_old(setup.limits, lines, n);
             }
             *stage = Stage::Runs(behind_links(alloc, setup, lines, line, text)?);
             Ok(())
@@ -166,7 +167,7 @@ impl<S: Simulator> FileKind for Simulation<S> {
     fn end(&self, _alloc: Global, number: u64) -> Result<Option<u64>, AllocError> {
         match &self.stage {
             Stage::First => Ok(Some(number)),
-            Stage::Links(lines) => Ok(end_of_links(lines, number)),
+            Stage::Links(lines) => Ok(end_of_links(self.setup.limits, lines, number)),
             Stage::Runs(_) => Ok(None),
         }
     }

@@ -12,18 +12,19 @@ use std::alloc::{AllocError, Global};
 use tora_arq::{Life, Times};
 use tora_core::CoreError;
 use tora_height::{Entry, Id};
-use tora_world::{Event, SimError};
+use tora_world::{Event, Limits, SimError};
 
 /// A simulated world.
 pub trait Simulator: Drop {
     ghost world: { Self → World };
 
-    /// The first world of links and destinations, or why there is no such topology.
+    /// The first world of links and destinations, or why there is no such topology within the limits.
     ///
     /// The link ends of the old nodes speak version 1 of frames alone, and those of all other nodes both versions; an old
     /// node that no link names changes nothing. Each link end has these times.
     fn start(
         alloc: Global,
+        limits: Limits,
         links: &[(Id, Id)],
         dests: &[Id],
         olds: &[Id],
@@ -32,7 +33,7 @@ pub trait Simulator: Drop {
         requires links { ArePairs links.now }
         requires dests { AreIds dests.now }
         requires times { IsTimes times }
-        ensures { Starts world links.now dests.now olds.now times result };
+        ensures { Starts world limits links.now dests.now olds.now times result };
 
     /// Whether an event may be possible now: where the answer is `false`, `happen` refuses it.
     ///

@@ -6,7 +6,7 @@ ghost use Rattle.tora_lines.specs.LineText.{fault_of};
 ghost use Rattle.tora_script.specs.ToldView.{told_kind};
 ghost use Rattle.tora_script.specs.SimulationText.{first_simulation_fault, Simulates, IsSimulationBegun, first_fault_over, SimulatesOver, IsBegunOver};
 
-use crate::causes::{SimulationCause, end_cause, simulation_cause};
+use crate::causes::{SimulationCause, end_cause, simulation_cause_within};
 use crate::parse::simulation_line;
 use crate::running::has_number;
 use crate::script_line::SimulationLine;
@@ -71,7 +71,8 @@ impl<S: Simulator, T: Eprint> FileKind for Told<'_, S, T> {
             }
             Ok(()) => {}
             Err(LineError::Fault) => {
-                let cause = simulation_cause(&self.state.stage, line);
+                let limits = self.state.setup.limits;
+                let cause = simulation_cause_within(limits, &self.state.stage, line);
                 tell_cause(self.rt, self.number, cause);
             }
             Err(LineError::Memory) => {}
@@ -82,7 +83,10 @@ impl<S: Simulator, T: Eprint> FileKind for Told<'_, S, T> {
     fn end(&self, alloc: Global, number: u64) -> Result<Option<u64>, AllocError> {
         let fault = self.state.end(alloc, number)?;
         match fault {
-            Some(line) => tell_cause(self.rt, line, end_cause(&self.state.stage)),
+            Some(line) => {
+                let cause = end_cause(self.state.setup.limits, &self.state.stage);
+                tell_cause(self.rt, line, cause);
+            }
             None => {}
         }
         Ok(fault)

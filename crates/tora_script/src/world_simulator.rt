@@ -8,7 +8,7 @@ use tora_arq::{Life, Times};
 use tora_core::CoreError;
 use tora_height::{Entry, Id};
 use tora_sim::{Sim, Topology};
-use tora_world::{Event, SimError};
+use tora_world::{Event, Limits, SimError};
 
 /// Makes nodes of a topology old; where there is no such node, nothing is changed.
 fn make_old(topology: &mut Topology, olds: &[Id])
@@ -33,12 +33,13 @@ impl Simulator for Sim {
 
     fn start(
         alloc: Global,
+        limits: Limits,
         links: &[(Id, Id)],
         dests: &[Id],
         olds: &[Id],
         times: Times,
     ) -> Result<Sim, CoreError> {
-        let mut topology = Topology::new(alloc, links, dests)?;
+        let mut topology = Topology::with_limits(alloc, limits, links, dests)?;
         make_old(&mut topology, olds);
         match Sim::with_times(alloc, &topology, times) {
             Ok(sim) => Ok(sim),

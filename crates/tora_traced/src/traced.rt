@@ -12,7 +12,7 @@ use tora_height::{Entry, Id};
 use tora_script::{Simulator, is_parted};
 use tora_seat::{Item, What};
 use tora_trace::Trace;
-use tora_world::{Event, SimError};
+use tora_world::{Event, Limits, SimError};
 
 /// A simulator, and the trace of its events.
 #[derive(Drop)]
@@ -156,12 +156,13 @@ impl<S: Watched> Simulator for Traced<S> {
 
     fn start(
         alloc: Global,
+        limits: Limits,
         links: &[(Id, Id)],
         dests: &[Id],
         olds: &[Id],
         times: Times,
     ) -> Result<Traced<S>, CoreError> {
-        let sim: S = S::start(alloc, links, dests, olds, times)?;
+        let sim: S = S::start(alloc, limits, links, dests, olds, times)?;
         let Ok(nodes) = sim.nodes(alloc) else {
             return Err(CoreError::Memory);
         };

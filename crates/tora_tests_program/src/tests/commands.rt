@@ -239,6 +239,7 @@ fn simulated_once<T: Files + AllocGlobal + Eprint>(
         channel,
         seed: None,
         has_notice: false,
+        is_large: false,
     };
     simulate_file(rt, words, path, trace, false, writer)
 }

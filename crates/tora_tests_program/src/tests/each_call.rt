@@ -8,7 +8,7 @@ use tora_core::CoreError;
 use tora_height::{Entry, Height, Id};
 use tora_script::{Air, Simulator, make_rounds};
 use tora_sim::{Sim, Topology};
-use tora_world::{Call, Event, SimError};
+use tora_world::{Call, Event, Limits, SimError};
 
 /// A simulator that keeps the events that happen in it.
 #[derive(Drop)]
@@ -24,12 +24,13 @@ impl Simulator for Recorder {
 
     fn start(
         alloc: Global,
+        limits: Limits,
         links: &[(Id, Id)],
         dests: &[Id],
         olds: &[Id],
         times: Times,
     ) -> Result<Recorder, CoreError> {
-        let sim = <Sim as Simulator>::start(alloc, links, dests, olds, times)?;
+        let sim = <Sim as Simulator>::start(alloc, limits, links, dests, olds, times)?;
         Ok(Recorder {
             sim,
             events: Vec::new(alloc),
@@ -112,7 +113,14 @@ fn clear_rounds<S: Simulator>(sim: &mut S, alloc: Global, count: u64) -> Result<
 
 /// The events of a need of node 1 and three rounds, after which the route is found.
 fn recorded(rt: &impl Abort, alloc: Global) -> Vec<Event> {
-    let started = <Recorder as Simulator>::start(alloc, &LINKS, &[4], &[], Times::STANDARD);
+    let started = <Recorder as Simulator>::start(
+        alloc,
+        Limits::STANDARD,
+        &LINKS,
+        &[4],
+        &[],
+        Times::STANDARD,
+    );
     let mut recorder = started.expect(rt, "a simulator");
     let needed = recorder.happen(&Event::Need(1, 4));
     sees(rt, matches!(needed, Ok(None)), "the need happens");

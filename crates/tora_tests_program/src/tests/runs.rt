@@ -3,12 +3,14 @@ use super::expected::{expect_ended, expect_written, is_memory};
 use super::failing_streams::{ArrayWriter, Fails, Lines, LinesReader};
 use std::process::Abort;
 use tora_arq::Times;
+use tora_channel::Channel;
 use tora_commands::{replay_and_flush, simulate_and_flush, simulate_told_and_flush};
 use tora_drive::drive_in;
 use tora_lines::{Ended, ReplayError};
 use tora_replay::replay;
-use tora_sim::Sim;
-use tora_simulate::{simulate, simulate_with};
+use tora_script::Setup;
+use tora_sim::{Limits, Sim};
+use tora_simulate::{simulate, simulate_telling_and_flush, simulate_with};
 
 /// A call that runs the lines of a file.
 #[derive(Clone, Copy)]
@@ -25,6 +27,8 @@ pub enum Way {
     StandardTimes,
     /// A simulation whose link ends are silent after 20 ticks.
     ShortSilence,
+    /// A simulation of a world within the greatest limits.
+    LargeSimulation,
     /// A drive.
     Drive,
 }
@@ -66,6 +70,21 @@ impl Way {
             ),
             Way::StandardTimes => simulate_with(alloc, Times::STANDARD, reader, writer),
             Way::ShortSilence => simulate_with(alloc, SHORT_SILENCE, reader, writer),
+            Way::LargeSimulation => {
+                simulate_telling_and_flush::<Sim, T, LinesReader<'_>, ArrayWriter>(
+                    rt,
+                    alloc,
+                    Setup {
+                        times: Times::STANDARD,
+                        channel: Channel::CLEAR,
+                        has_notice: false,
+                        limits: Limits::GREATEST,
+                    },
+                    reader,
+                    writer,
+                    false,
+                )
+            }
             Way::Drive => drive_in::<Sim, LinesReader<'_>, ArrayWriter>(
                 alloc,
                 Times::STANDARD,

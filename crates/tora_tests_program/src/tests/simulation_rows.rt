@@ -120,6 +120,26 @@ pub const LINES_OF_NODES: &[Files] = &[
     },
 ];
 
+/// A line of 65 nodes and a star of 34 in a large world.
+pub const LARGE_WORLDS: &[Files] = &[
+    Files {
+        front: "dests 4\n",
+        middles: &[LINKS_OF_A_LINE],
+        times: 1,
+        end: "link 64 65\nold 65\nwalk 65 4\nwalk 66 4\n",
+        text: "walk -\nfault 68\n",
+        ended: Ended::Fault(68),
+    },
+    Files {
+        front: "dests 4\n",
+        middles: &[STAR],
+        times: 1,
+        end: "link 34 1\n",
+        text: "fault 34\n",
+        ended: Ended::Fault(34),
+    },
+];
+
 const LINKS_OF_A_LINE: &str = "link 1 2\nlink 2 3\nlink 3 4\nlink 4 5\nlink 5 6\nlink 6 7\n\
     link 7 8\nlink 8 9\nlink 9 10\nlink 10 11\nlink 11 12\nlink 12 13\n\
     link 13 14\nlink 14 15\nlink 15 16\nlink 16 17\nlink 17 18\nlink 18 19\n\

@@ -63,6 +63,12 @@ fn nodes_are_counted(rt: HostRuntime) {
     expect_files(&rt, Way::Simulation, LINES_OF_NODES);
 }
 
+/// More than 64 nodes are taken in a large world, and more than 32 neighbours are not.
+#[test]
+fn large_worlds_are_taken(rt: HostRuntime) {
+    expect_files(&rt, Way::LargeSimulation, LARGE_WORLDS);
+}
+
 #[test]
 fn links_taken_and_not(rt: HostRuntime) {
     expect_rows(&rt, Way::Simulation, LINKS);

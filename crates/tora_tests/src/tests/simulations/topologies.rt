@@ -12,7 +12,7 @@ use std::process::Abort;
 use tora_core::CoreError;
 use tora_core::CoreError::{OwnId, Repeated, TooMany};
 use tora_height::Id;
-use tora_sim::{SimError, Topology, topology_fault};
+use tora_sim::{Limits, SimError, Topology, topology_fault, topology_fault_within};
 
 /// Whether no number in links is 0.
 fn are_links(links: &[(Id, Id)]) -> bool
@@ -37,6 +37,20 @@ pub fn made(
     let numbers_are = are_numbers(destinations);
     assert!(rt; links_are && numbers_are);
     Topology::new(alloc, links, destinations)
+}
+
+/// A topology of numbers that are not 0, within these limits.
+fn made_within(
+    rt: &impl Abort,
+    alloc: Global,
+    limits: Limits,
+    links: &[(Id, Id)],
+    destinations: &[Id],
+) -> Result<Topology, CoreError> {
+    let links_are = are_links(links);
+    let numbers_are = are_numbers(destinations);
+    assert!(rt; links_are && numbers_are);
+    Topology::with_limits(alloc, limits, links, destinations)
 }
 
 /// Links: these, those from each of so many nodes to the next, those from node 1 to so many others with these behind them,
@@ -116,6 +130,79 @@ const LIMITS: &[Row] = &[
 #[test]
 fn too_many_are_refused(rt: HostRuntime) {
     refuses(&rt, rt.alloc(), LIMITS);
+}
+
+/// Few nodes, links of a node and destinations.
+const SMALL: Limits = Limits {
+    neighbours: 2,
+    destinations: 1,
+    nodes: 3,
+};
+
+/// Limits above the greatest.
+const ABOVE: Limits = Limits {
+    neighbours: 1000,
+    destinations: 1000,
+    nodes: 10000,
+};
+
+/// Limits, and a topology that they let in or refuse.
+type RowWithin = (Limits, Row);
+
+/// As many nodes, links of a node and destinations as limits allow, and one more of each. What is above the greatest stands for
+/// the greatest.
+const LIMITS_ASKED: &[RowWithin] = &[
+    (SMALL, (Links::Chain(2), These(&[]), None)),
+    (SMALL, (Links::Chain(3), These(&[1]), None)),
+    (SMALL, (Links::Chain(4), These(&[1]), Some(TooMany))),
+    (SMALL, (Links::Chain(3), These(&[1, 2]), Some(TooMany))),
+    (SMALL, (Links::Star(3, &[]), These(&[1]), Some(TooMany))),
+    (SMALL, (Links::Star(2, &[(1, 1)]), These(&[1]), Some(OwnId))),
+    (
+        SMALL,
+        (Links::Star(2, &[(1, 2)]), These(&[1]), Some(Repeated)),
+    ),
+    (Limits::STANDARD, (Links::Chain(64), These(&[1]), None)),
+    (
+        Limits::STANDARD,
+        (Links::Chain(65), These(&[1]), Some(TooMany)),
+    ),
+    (Limits::GREATEST, (Links::Chain(65), These(&[1]), None)),
+    (Limits::GREATEST, (Links::Chain(1023), These(&[1]), None)),
+    (Limits::GREATEST, (Links::Chain(1024), These(&[1]), None)),
+    (
+        Limits::GREATEST,
+        (Links::Chain(1025), These(&[1]), Some(TooMany)),
+    ),
+    (Limits::GREATEST, (Links::Star(32, &[]), These(&[1]), None)),
+    (
+        Limits::GREATEST,
+        (Links::Star(33, &[]), These(&[1]), Some(TooMany)),
+    ),
+    (
+        Limits::GREATEST,
+        (Links::Listed(&[(1, 2)]), Counted(1, 64), None),
+    ),
+    (
+        Limits::GREATEST,
+        (Links::Listed(&[(1, 2)]), Counted(1, 65), Some(TooMany)),
+    ),
+    (ABOVE, (Links::Chain(1024), These(&[1]), None)),
+    (ABOVE, (Links::Chain(1025), These(&[1]), Some(TooMany))),
+    (ABOVE, (Links::Star(33, &[]), These(&[1]), Some(TooMany))),
+];
+
+#[test]
+fn more_than_limits_allow_are_refused(rt: HostRuntime) {
+    let alloc = rt.alloc();
+    for (i, (limits, (links, destinations, cause))) in LIMITS_ASKED.iter().enumerate() {
+        let links = links_of(alloc, *links).expect(&rt, "memory");
+        let destinations = list_of(alloc, *destinations).expect(&rt, "memory");
+        let fault = topology_fault_within(*limits, &links, &destinations);
+        same_at(&rt, &fault, cause, "the fault", &i);
+        let error = made_within(&rt, alloc, *limits, &links, &destinations).err();
+        same_at(&rt, &error, cause, "the error", &i);
+    }
 }
 
 /// Links and destinations that are named twice, and a link of a node to itself.
