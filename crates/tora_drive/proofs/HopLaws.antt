@@ -7,7 +7,7 @@ use Rattle.std.proofs.lemmas.Bool.Decides.{nat_tests}
 use Rattle.std.proofs.lemmas.Grind.{flat_map-append}
 use Rattle.tora_frame.specs.FrameParts.{FrameParts}
 use Rattle.tora_arq.specs.declared.LinkEvent.{LinkEvent}
-use Rattle.tora_arq.specs.LinkEnd.{EndState, after_transmit, frame_due, first_event}
+use Rattle.tora_arq.specs.LinkEnd.{EndState, after_transmit, bound_life, frame_due, first_event}
 use Rattle.tora_sim.specs.Cuts.{after_cut_at}
 use Rattle.tora_seat.specs.declared.Cargo.{Cargo}
 use Rattle.tora_world.specs.declared.Call.{Call}
@@ -22,9 +22,9 @@ use Rattle.tora_core.specs.Numbers.{has_number}
 use Rattle.tora_world.specs.Walks.{exact_in, walk_of}
 use Rattle.tora_script.specs.SimulationText.{RunningView, Reply, event_reply, has_end, cut_both, part_of, without_parted, heights_text, count_text, exact_text, walk_text, at_rest_reply, running_reply}
 use Rattle.tora_drive.specs.declared.line.DriveLine.{DriveLine}
-use Rattle.tora_drive.specs.declared.line.DriveLine.TheVariants.{Script, Step, Needs, Near, Far, Bytes, Forget}
+use Rattle.tora_drive.specs.declared.line.DriveLine.TheVariants.{Script, Step, Needs, Near, Far, Notice, Bytes, Forget}
 use Rattle.tora_drive.specs.Records.{routes_at, routes_of, is_same_hop, hop_line, hops_text}
-use Rattle.tora_drive.specs.DriveText.{OwnView, Outcome, outcome, quiet, shown, unnamed, named, with_far, without_far, is_forgotten, needs_text, bytes_line, outcome_of, may_turn, may_change_hops}
+use Rattle.tora_drive.specs.DriveText.{OwnView, Outcome, outcome, quiet, shown, unnamed, impossible, named, with_far, without_far, is_forgotten, needs_text, bytes_line, outcome_of, may_turn, may_change_hops}
 
 -- ---- events
 
@@ -130,6 +130,10 @@ forgot : (s : RunningView) (o p : OwnView) (b : Bool) (r : Outcome) → (if b th
 forgot s o p true r e = unchanged s (shown s p []) r refl e
 forgot s o p false r e = unchanged s (unnamed s o) r refl e
 
+noticed : (s : RunningView) (o : OwnView) (n k : ℕ) (b : Bool) (r : Outcome) → (if b then shown (record s { world = after_cut_at s.world n k }) o [] else impossible s o) ≡ r → SameCores s.world r.run.world
+noticed s o n k true r e = subst (λ (x : World). SameCores s.world x) (ap (λ (x : Outcome). x.run.world) e) (cut s.world n k)
+noticed s o n k false r e = unchanged s (impossible s o) r refl e
+
 pub line_stays : (s : RunningView) (o : OwnView) (line : DriveLine) (r : Outcome) → may_change_hops line ≡ false → outcome_of s o line ≡ Some r → SameCores s.world r.run.world
 unfolding outcome_of running_reply
 line_stays s o (Script (Happens event)) r h e = happened s o event (is_forgotten o event) r h (this _ r e)
@@ -146,6 +150,7 @@ line_stays s o Step r h e = absurd cc
 line_stays s o Needs r h e = unchanged s (shown s o (needs_text s.world s.nodes s.dests)) r refl (this _ r e)
 line_stays s o (Near n k) r h e = unchanged s (shown s (record o { far = without_far (n, k) o.far }) []) r refl (where_some (has_end n k s.ends) _ r e)
 line_stays s o (Far n k) r h e = unchanged s (shown s (record o { far = with_far (n, k) o.far }) []) r refl (where_some (has_end n k s.ends) _ r e)
+line_stays s o (Notice n k) r h e = noticed s o n k (is_some (bound_life (s.world.ends n k))) r (where_some (has_end n k s.ends) _ r e)
 line_stays s o (Bytes i) r h e = bytes_shown s o i (named o s.world i) r (this _ r e)
 line_stays s o (Forget i) r h e = forgot s o (record o { forgotten = max o.forgotten i }) (nat_le i (length s.world.datagrams)) r (this _ r e)
 

@@ -3,5 +3,6 @@ pub mod DriveLaws
 pub mod HopLaws
 pub mod RecordLaws
 pub mod RunLaws
+pub mod ScheduleLaws
 pub mod StepLaws
 pub mod TakenLaws

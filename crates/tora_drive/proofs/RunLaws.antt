@@ -1,14 +1,24 @@
 -- The world behind the lines of a drive is the world behind events.
-use Rattle.std.proofs.Common.{◌≡◌, ℕ, Bool, true, false, List, [], ◌∷◌, ◌++◌, length, if◌then◌else◌, Option, Some, None, refl, sym, ap, subst, ◌∙◌, ◌&&◌, zero, suc}
+use Rattle.std.proofs.Common.{◌≡◌, ℕ, Bool, true, false, List, [], ◌∷◌, ◌++◌, length, if◌then◌else◌, Option, Some, None, refl, sym, ap, subst, ◌∙◌, ◌&&◌, zero, suc, map, codes}
 use Rattle.std.specs.Prelude.{nat_lt, nat_le, max, is_some, option_map}
+use Rattle.std.specs.List.{AllByRecursion}
 use Rattle.std.specs.Option.{option_map_or, option_and_then}
+use Rattle.std.proofs.lemmas.List.Elements.{recursion_from_All}
+use Rattle.std.specs.Result.{result_ok}
+use Rattle.hex.specs.Hex.{decode_of}
 use Rattle.tora_frame.specs.FrameParts.{FrameParts}
 use Rattle.tora_arq.specs.declared.Times.{Times}
+use Rattle.tora_arq.specs.LinkEnd.{bound_life}
 use Rattle.tora_core.specs.Numbers.{has_number}
+use Rattle.tora_lines.specs.Fronts.{after, or_else, ◌>>=◌}
 use Rattle.tora_lines.specs.LineText.{reply, state_behind}
+use Rattle.tora_lines.specs.Words.{cut, id_of}
 use Rattle.tora_world.specs.declared.Event.{Event}
-use Rattle.tora_world.specs.World.{World, refusal_of, world_after_all, sent_packets, taken_packets}
-use Rattle.tora_world.specs.Walks.{exact_in, walk_of}
+use Rattle.tora_world.specs.World.{World, refusal_of, world_after, world_after_all, sent_packets, taken_packets}
+use Rattle.tora_world.specs.Topology.{Link}
+use Rattle.tora_world.specs.Walks.{exact_in, walk_of, AreIds}
+use Rattle.tora_packet.specs.PacketParts.{IsId}
+use Rattle.tora_sim.specs.Topologies.{link_in, topology_of}
 use Rattle.tora_script.specs.declared.script_line.SimulationLine.TheVariants.{Happens, Rounds, Part, Mend, Heights, Sent, Taken, Exact, Walk, Rest}
 use Rattle.tora_channel.specs.declared.channel.Channel.{Channel}
 use Rattle.tora_script.specs.Rounds.{Sky, moment_of, round, after_round, rounds}
@@ -18,24 +28,36 @@ use Rattle.tora_script.specs.Simulator.{started}
 use Rattle.tora_script.specs.SimulationLines.{dests_of, link_of, old_of}
 use Rattle.tora_script.specs.SimulationText.{RunningView, Progress, Reply, begun_in, event_reply, after_rounds, has_end, part_of, without_parted, heights_text, count_text, exact_text, walk_text, at_rest_reply, running_reply, with_link}
 use Rattle.tora_script.proofs.RoundLaws.{after_append}
+use Rattle.tora_script.proofs.SimulationFound.{dests_found, link_found}
 use Rattle.tora_drive.specs.declared.line.DriveLine.{DriveLine}
-use Rattle.tora_drive.specs.declared.line.DriveLine.TheVariants.{Script, Step, Needs, Near, Far, Bytes, Forget}
-use Rattle.tora_drive.specs.DriveText.{OwnView, Outcome, outcome, quiet, shown, unnamed, named, with_far, without_far, is_forgotten, needs_text, bytes_line, outcome_of, DriveReply, told, answer_to, Placed, DriveView, acknowledged, running_at, first_answer, link_answer, place_reply, drive_reply, drive_rules}
-use Rattle.tora_drive.specs.Runs.{IsOfEvents, DrivesAreRuns}
+use Rattle.tora_drive.specs.declared.line.DriveLine.TheVariants.{Script, Step, Needs, Near, Far, Notice, Bytes, Forget}
+use Rattle.tora_drive.specs.DriveText.{OwnView, Outcome, outcome, quiet, shown, unnamed, impossible, named, with_far, without_far, is_forgotten, needs_text, bytes_line, outcome_of, DriveReply, told, answer_to, Placed, DriveView, acknowledged, running_at, first_answer, link_answer, place_reply, drive_reply, drive_rules}
+use Rattle.tora_sim.specs.Cuts.{after_cut_at}
+use Rattle.tora_drive.specs.DriveLines.{drive_line_of}
+use Rattle.tora_drive.specs.Runs.{DriveEvent, after_driven, after_all_driven, happening, IsNotice, SaysNoNotice, IsOfEvents, DrivesAreRuns}
 use Rattle.tora_drive.specs.Steps.{step}
-use Rattle.tora_drive.specs.Taking.{line_in}
+use Rattle.tora_drive.specs.Taking.{taking, line_in}
 
 -- ---- a line
 
--- events lead from one simulation to another, neither of which notices parted links
-pub record Leads (before after : RunningView) : Type 0 where
-  pub events : List Event
-  pub after_is : after.world ≡ world_after_all before.world events
-  pub notice : after.has_notice ≡ before.has_notice
+-- events of the simulator alone lead where they lead
+happened_all : (w : World) (events : List Event) → after_all_driven w (happening events) ≡ world_after_all w events
+happened_all w [] = refl
+happened_all w (event ∷ events) = happened_all (world_after w event) events
 
--- an outcome with this world has that of these events
-leads_by : (s : RunningView) (q r : Outcome) (events : List Event) → q.run.world ≡ world_after_all s.world events → q.run.has_notice ≡ s.has_notice → q ≡ r → Leads s r.run
-leads_by s q r events is notice e = record { events = events; after_is = sym (ap (λ (x : Outcome). x.run.world) e) ∙ is; notice = sym (ap (λ (x : Outcome). x.run.has_notice) e) ∙ notice }
+-- events lead from one simulation to another, neither of which notices parted links; unless it cuts, they are those of the simulator alone
+pub record Leads (MayCut : Type 0) (before after : RunningView) : Type 0 where
+  pub events : List DriveEvent
+  pub after_is : after.world ≡ after_all_driven before.world events
+  pub notice : after.has_notice ≡ before.has_notice
+  pub plain : (MayCut → ⊥) → (happened : List Event) × (events ≡ happening happened)
+
+where_some : (b : Bool) (q r : Outcome) → (if b then Some q else None) ≡ Some r → q ≡ r
+where_some true q r e = cc
+where_some false q r e = absurd cc
+
+this : (q r : Outcome) → Some q ≡ Some r → q ≡ r
+this q r e = cc
 
 -- rounds are events
 sky_leads : (r : ℕ) (nodes : List ℕ) (ends parted : List (ℕ × ℕ)) (channel : Channel) (s : Sky) → (events : List Event) × ((rounds r nodes ends parted channel s).world ≡ world_after_all s.world events)
@@ -46,160 +68,218 @@ sky_leads (suc r) nodes ends parted channel s =
     let rest = sky_leads r nodes ends parted channel (after_round nodes ends parted channel s) in
     (here ++ rest.0, rest.1 ∙ sym (after_append s.world here rest.0))
 
-rounds_lead : (s : RunningView) (o : OwnView) (n : ℕ) (r : Outcome) → quiet o (after_rounds n s, []) ≡ r → Leads s r.run
-rounds_lead s o n r e =
-    let led = sky_leads n s.nodes s.ends s.parted s.channel (record { world = s.world; air = s.air }) in
-    leads_by s (quiet o (after_rounds n s, [])) r led.0 led.1 refl e
+module _ (MayCut : Type 0) where
+  -- an outcome with this world has that of these events
+  leads_by : (s : RunningView) (q r : Outcome) (events : List Event) → q.run.world ≡ world_after_all s.world events → q.run.has_notice ≡ s.has_notice → q ≡ r → Leads MayCut s r.run
+  leads_by s q r events is notice e = record {
+    events = happening events;
+    after_is = sym (ap (λ (x : Outcome). x.run.world) e) ∙ is ∙ sym (happened_all s.world events);
+    notice = sym (ap (λ (x : Outcome). x.run.has_notice) e) ∙ notice;
+    plain = λ none. (events, refl);
+  }
 
-where_some : (b : Bool) (q r : Outcome) → (if b then Some q else None) ≡ Some r → q ≡ r
-where_some true q r e = cc
-where_some false q r e = absurd cc
+  rounds_lead : (s : RunningView) (o : OwnView) (n : ℕ) (r : Outcome) → quiet o (after_rounds n s, []) ≡ r → Leads MayCut s r.run
+  rounds_lead s o n r e =
+      let led = sky_leads n s.nodes s.ends s.parted s.channel (record { world = s.world; air = s.air }) in
+      leads_by s (quiet o (after_rounds n s, [])) r led.0 led.1 refl e
 
-this : (q r : Outcome) → Some q ≡ Some r → q ≡ r
-this q r e = cc
+  happened : (s : RunningView) (o : OwnView) (event : Event) (forgotten : Bool) (r : Outcome)
+      → (if forgotten then unnamed s o else outcome (event_reply s event).0 o (event_reply s event).1 (is_some (refusal_of s.world event))) ≡ r → Leads MayCut s r.run
+  happened s o event true r e = leads_by s (unnamed s o) r [] refl refl e
+  happened s o event false r e = leads_by s (outcome (event_reply s event).0 o (event_reply s event).1 (is_some (refusal_of s.world event))) r (event ∷ []) refl refl e
 
-happened : (s : RunningView) (o : OwnView) (event : Event) (forgotten : Bool) (r : Outcome)
-    → (if forgotten then unnamed s o else outcome (event_reply s event).0 o (event_reply s event).1 (is_some (refusal_of s.world event))) ≡ r → Leads s r.run
-happened s o event true r e = leads_by s (unnamed s o) r [] refl refl e
-happened s o event false r e = leads_by s (outcome (event_reply s event).0 o (event_reply s event).1 (is_some (refusal_of s.world event))) r (event ∷ []) refl refl e
+  replied : (s : RunningView) (o : OwnView) (b : Bool) (q : Reply) (r : Outcome) → q.0.world ≡ s.world → q.0.has_notice ≡ s.has_notice → option_map (quiet o) (if b then Some q else None) ≡ Some r → Leads MayCut s r.run
+  replied s o true q r stays notice e = leads_by s (quiet o q) r [] stays notice (this _ r e)
+  replied s o false q r stays notice e = absurd cc
 
-replied : (s : RunningView) (o : OwnView) (b : Bool) (q : Reply) (r : Outcome) → q.0.world ≡ s.world → q.0.has_notice ≡ s.has_notice → option_map (quiet o) (if b then Some q else None) ≡ Some r → Leads s r.run
-replied s o true q r stays notice e = leads_by s (quiet o q) r [] stays notice (this _ r e)
-replied s o false q r stays notice e = absurd cc
+  bytes_shown : (s : RunningView) (o : OwnView) (i : ℕ) (f : Option FrameParts) (r : Outcome) → option_map_or (λ f. shown s o (bytes_line i f)) f (unnamed s o) ≡ r → Leads MayCut s r.run
+  bytes_shown s o i None r e = leads_by s (unnamed s o) r [] refl refl e
+  bytes_shown s o i (Some f) r e = leads_by s (shown s o (bytes_line i f)) r [] refl refl e
 
-bytes_shown : (s : RunningView) (o : OwnView) (i : ℕ) (f : Option FrameParts) (r : Outcome) → option_map_or (λ f. shown s o (bytes_line i f)) f (unnamed s o) ≡ r → Leads s r.run
-bytes_shown s o i None r e = leads_by s (unnamed s o) r [] refl refl e
-bytes_shown s o i (Some f) r e = leads_by s (shown s o (bytes_line i f)) r [] refl refl e
+  forgot : (s : RunningView) (o p : OwnView) (b : Bool) (r : Outcome) → (if b then shown s p [] else unnamed s o) ≡ r → Leads MayCut s r.run
+  forgot s o p true r e = leads_by s (shown s p []) r [] refl refl e
+  forgot s o p false r e = leads_by s (unnamed s o) r [] refl refl e
 
-forgot : (s : RunningView) (o p : OwnView) (b : Bool) (r : Outcome) → (if b then shown s p [] else unnamed s o) ≡ r → Leads s r.run
-forgot s o p true r e = leads_by s (shown s p []) r [] refl refl e
-forgot s o p false r e = leads_by s (unnamed s o) r [] refl refl e
+  cuts : (s : RunningView) (o : OwnView) (n k : ℕ) (b : Bool) (r : Outcome) → MayCut → (if b then shown (record s { world = after_cut_at s.world n k }) o [] else impossible s o) ≡ r → Leads MayCut s r.run
+  cuts s o n k true r may e = record {
+    events = DriveEvent.Cuts n k ∷ [];
+    after_is = sym (ap (λ (x : Outcome). x.run.world) e);
+    notice = sym (ap (λ (x : Outcome). x.run.has_notice) e);
+    plain = λ none. absurd (none may);
+  }
+  cuts s o n k false r may e = leads_by s (impossible s o) r [] refl refl e
 
-line_leads : (s : RunningView) (o : OwnView) (line : DriveLine) (r : Outcome) → s.has_notice ≡ false → outcome_of s o line ≡ Some r → Leads s r.run
-unfolding outcome_of running_reply
-line_leads s o (Script (Happens event)) r h e = happened s o event (is_forgotten o event) r (this _ r e)
-line_leads s o (Script (Rounds n)) r h e = rounds_lead s o n r (this _ r e)
-line_leads s o (Script (Part a b)) r h e = replied s o (has_end a b s.ends) (part_of s a b, []) r (rw h refl) refl e
-line_leads s o (Script (Mend a b)) r h e = replied s o (has_end a b s.ends) (record s { parted = without_parted a b s.parted }, []) r refl refl e
-line_leads s o (Script (Heights d)) r h e = replied s o (has_number d s.dests) (s, heights_text s.world d s.nodes) r refl refl e
-line_leads s o (Script (Sent a b life)) r h e = replied s o (has_end a b s.ends) (s, count_text (length (sent_packets s.world a b life))) r refl refl e
-line_leads s o (Script (Taken b a life)) r h e = replied s o (has_end b a s.ends) (s, count_text (length (taken_packets s.world b a life))) r refl refl e
-line_leads s o (Script (Exact d)) r h e = replied s o (has_number d s.dests) (s, exact_text (exact_in s.world d)) r refl refl e
-line_leads s o (Script (Walk n d)) r h e = replied s o (has_number n s.nodes && has_number d s.dests) (s, walk_text (walk_of s.world n d)) r refl refl e
-line_leads s o (Script Rest) r h e = leads_by s (quiet o (at_rest_reply s)) r [] refl refl (this _ r e)
-line_leads s o Step r h e = leads_by s _ r (step s.nodes s.ends o.far s.world) refl refl (this _ r e)
-line_leads s o Needs r h e = leads_by s (shown s o (needs_text s.world s.nodes s.dests)) r [] refl refl (this _ r e)
-line_leads s o (Near n k) r h e = leads_by s (shown s (record o { far = without_far (n, k) o.far }) []) r [] refl refl (where_some (has_end n k s.ends) _ r e)
-line_leads s o (Far n k) r h e = leads_by s (shown s (record o { far = with_far (n, k) o.far }) []) r [] refl refl (where_some (has_end n k s.ends) _ r e)
-line_leads s o (Bytes i) r h e = bytes_shown s o i (named o s.world i) r (this _ r e)
-line_leads s o (Forget i) r h e = forgot s o (record o { forgotten = max o.forgotten i }) (nat_le i (length s.world.datagrams)) r (this _ r e)
+  line_leads : (s : RunningView) (o : OwnView) (line : DriveLine) (r : Outcome) → ((n k : ℕ) → line ≡ Notice n k → MayCut) → s.has_notice ≡ false → outcome_of s o line ≡ Some r → Leads MayCut s r.run
+  unfolding outcome_of running_reply
+  line_leads s o (Script (Happens event)) r cut h e = happened s o event (is_forgotten o event) r (this _ r e)
+  line_leads s o (Script (Rounds n)) r cut h e = rounds_lead s o n r (this _ r e)
+  line_leads s o (Script (Part a b)) r cut h e = replied s o (has_end a b s.ends) (part_of s a b, []) r (rw h refl) refl e
+  line_leads s o (Script (Mend a b)) r cut h e = replied s o (has_end a b s.ends) (record s { parted = without_parted a b s.parted }, []) r refl refl e
+  line_leads s o (Script (Heights d)) r cut h e = replied s o (has_number d s.dests) (s, heights_text s.world d s.nodes) r refl refl e
+  line_leads s o (Script (Sent a b life)) r cut h e = replied s o (has_end a b s.ends) (s, count_text (length (sent_packets s.world a b life))) r refl refl e
+  line_leads s o (Script (Taken b a life)) r cut h e = replied s o (has_end b a s.ends) (s, count_text (length (taken_packets s.world b a life))) r refl refl e
+  line_leads s o (Script (Exact d)) r cut h e = replied s o (has_number d s.dests) (s, exact_text (exact_in s.world d)) r refl refl e
+  line_leads s o (Script (Walk n d)) r cut h e = replied s o (has_number n s.nodes && has_number d s.dests) (s, walk_text (walk_of s.world n d)) r refl refl e
+  line_leads s o (Script Rest) r cut h e = leads_by s (quiet o (at_rest_reply s)) r [] refl refl (this _ r e)
+  line_leads s o Step r cut h e = leads_by s _ r (step s.nodes s.ends o.far s.world) refl refl (this _ r e)
+  line_leads s o Needs r cut h e = leads_by s (shown s o (needs_text s.world s.nodes s.dests)) r [] refl refl (this _ r e)
+  line_leads s o (Near n k) r cut h e = leads_by s (shown s (record o { far = without_far (n, k) o.far }) []) r [] refl refl (where_some (has_end n k s.ends) _ r e)
+  line_leads s o (Far n k) r cut h e = leads_by s (shown s (record o { far = with_far (n, k) o.far }) []) r [] refl refl (where_some (has_end n k s.ends) _ r e)
+  line_leads s o (Notice n k) r cut h e = cuts s o n k (is_some (bound_life (s.world.ends n k))) r (cut n k refl) (where_some (has_end n k s.ends) _ r e)
+  line_leads s o (Bytes i) r cut h e = bytes_shown s o i (named o s.world i) r (this _ r e)
+  line_leads s o (Forget i) r cut h e = forgot s o (record o { forgotten = max o.forgotten i }) (nat_le i (length s.world.datagrams)) r (this _ r e)
 
--- the world of an answer
-told_leads : (s : RunningView) (o : OwnView) (line : DriveLine) (found : Option Outcome) (r : DriveReply) → s.has_notice ≡ false → outcome_of s o line ≡ found → option_map (told s) found ≡ Some r → Leads s r.0
-told_leads s o line None r h is e = absurd cc
-told_leads s o line (Some q) r h is e =
-    let same : told s q ≡ r = cc in
-    let led : Leads s q.run = line_leads s o line q h is in
-    record { events = led.events; after_is = sym (ap (λ (x : DriveReply). x.0.world) same) ∙ led.after_is; notice = sym (ap (λ (x : DriveReply). x.0.has_notice) same) ∙ led.notice }
+  -- the world of an answer
+  told_leads : (s : RunningView) (o : OwnView) (line : DriveLine) (found : Option Outcome) (r : DriveReply) → ((n k : ℕ) → line ≡ Notice n k → MayCut) → s.has_notice ≡ false → outcome_of s o line ≡ found → option_map (told s) found ≡ Some r → Leads MayCut s r.0
+  told_leads s o line None r cut h is e = absurd cc
+  told_leads s o line (Some q) r cut h is e =
+      let same : told s q ≡ r = cc in
+      let led : Leads MayCut s q.run = line_leads s o line q cut h is in
+      record {
+        events = led.events;
+        after_is = sym (ap (λ (x : DriveReply). x.0.world) same) ∙ led.after_is;
+        notice = sym (ap (λ (x : DriveReply). x.0.has_notice) same) ∙ led.notice;
+        plain = led.plain;
+      }
 
-said_leads : (s : RunningView) (o : OwnView) (said : Option DriveLine) (r : DriveReply) → s.has_notice ≡ false → option_and_then (λ line. option_map (told s) (outcome_of s o line)) said ≡ Some r → Leads s r.0
-said_leads s o None r h e = absurd cc
-said_leads s o (Some line) r h e = told_leads s o line (outcome_of s o line) r h refl e
+  said_leads : (s : RunningView) (o : OwnView) (said : Option DriveLine) (r : DriveReply) → ((n k : ℕ) → said ≡ Some (Notice n k) → MayCut) → s.has_notice ≡ false → option_and_then (λ line. option_map (told s) (outcome_of s o line)) said ≡ Some r → Leads MayCut s r.0
+  said_leads s o None r cut h e = absurd cc
+  said_leads s o (Some line) r cut h e = told_leads s o line (outcome_of s o line) r (λ n k is. cut n k (rw is refl)) h refl e
 
-answer_leads : (s : RunningView) (o : OwnView) (text : List ℕ) (r : DriveReply) → s.has_notice ≡ false → answer_to s o text ≡ Some r → Leads s r.0
+-- bytes that are taken in are no notice
+no_option : {A : Type 0} (n k : ℕ) (f : A → Option DriveLine) (found : Option A) → ((x : A) → f x ≡ Some (Notice n k) → ⊥) → (found >>= f) ≡ Some (Notice n k) → ⊥
+no_option n k f None never e = absurd cc
+no_option n k f (Some x) never e = never x e
+
+taken_in : (w : World) (forgotten n k : ℕ) (text : List ℕ) → taking w forgotten text ≡ Some (Notice n k) → ⊥
+unfolding taking
+taken_in w forgotten n k text e =
+    no_option n k _ (cut 32 text) (λ a. no_option n k _ (id_of a.0) (λ receiver. no_option n k _ (cut 32 a.1) (λ b. no_option n k _ (id_of b.0) (λ sender. no_option n k _ (result_ok (decode_of b.1)) (λ bytes is. absurd cc))))) e
+
+not_taken : (w : World) (forgotten n k : ℕ) (text : List ℕ) (rest : Option (List ℕ)) (other : Option DriveLine) → or_else rest (taking w forgotten) other ≡ Some (Notice n k) → other ≡ Some (Notice n k)
+not_taken w forgotten n k text None other e = e
+not_taken w forgotten n k text (Some rest) other e = absurd (taken_in w forgotten n k rest e)
+
+is_notice : (w : World) (forgotten n k : ℕ) (text : List ℕ) → line_in w forgotten text ≡ Some (Notice n k) → IsNotice text
+unfolding line_in
+is_notice w forgotten n k text e = (n, k, not_taken w forgotten n k text (after (codes "take ") text) (drive_line_of text) e)
+
+answer_leads : (s : RunningView) (o : OwnView) (text : List ℕ) (r : DriveReply) → s.has_notice ≡ false → answer_to s o text ≡ Some r → Leads (IsNotice text) s r.0
 unfolding answer_to
-answer_leads s o text r h e = said_leads s o (line_in s.world o.forgotten text) r h e
+answer_leads s o text r h e = said_leads (IsNotice text) s o (line_in s.world o.forgotten text) r (λ n k is. is_notice s.world o.forgotten n k text is) h e
 
 -- ---- where a drive is
 
 -- its world, where there is one, is of events
-abbrev Holds : Times → Progress → Type 0
-Holds times Progress.First = Unit {0}
-Holds times (Progress.Links dests links olds) = Unit {0}
-Holds times (Progress.Runs s) = (s.has_notice ≡ false) × IsOfEvents times s.world
+abbrev Holds : Times → Type 0 → Progress → Type 0
+Holds times CutsNothing Progress.First = Unit {0}
+Holds times CutsNothing (Progress.Links dests links olds) = AreIds (topology_of links dests)
+Holds times CutsNothing (Progress.Runs s) = (s.has_notice ≡ false) × IsOfEvents times CutsNothing s.world
 
--- events more
-onward : (times : Times) (before after : RunningView) → IsOfEvents times before.world → Leads before after → IsOfEvents times after.world
-onward times before after h led = record {
-  links = h.links;
-  dests = h.dests;
-  olds = h.olds;
-  first = h.first;
-  begins = h.begins;
-  events = h.events ++ led.events;
-  world_is = led.after_is ∙ ap (λ (w : World). world_after_all w led.events) h.world_is ∙ sym (after_append h.first h.events led.events);
-}
+driven_append : (w : World) (xs ys : List DriveEvent) → after_all_driven w (xs ++ ys) ≡ after_all_driven (after_all_driven w xs) ys
+driven_append w [] ys = refl
+driven_append w (x ∷ xs) ys = driven_append (after_driven w x) xs ys
 
-at_place : (times : Times) (r q : Placed) → r ≡ q → Holds times r.0.progress → Holds times q.0.progress
-at_place times r q e h = subst (λ (x : Placed). Holds times x.0.progress) e h
+happening_append : (xs ys : List Event) → happening (xs ++ ys) ≡ happening xs ++ happening ys
+happening_append [] ys = refl
+happening_append (x ∷ xs) ys = rw (happening_append xs ys) refl
 
-some_placed : (r q : Placed) → Some r ≡ Some q → r ≡ q
-some_placed r q e = cc
+both_plain : (xs ys : List DriveEvent) → ((happened : List Event) × (xs ≡ happening happened)) → ((happened : List Event) × (ys ≡ happening happened)) → (happened : List Event) × (xs ++ ys ≡ happening happened)
+both_plain xs ys p q = (p.0 ++ q.0, rw (p.1, q.1) (sym (happening_append p.0 q.0)))
 
--- a reply of a running simulation
-runs : (times : Times) (before : RunningView) (found : Option DriveReply) (q : Placed) → (before.has_notice ≡ false) × IsOfEvents times before.world → ((r : DriveReply) → found ≡ Some r → Leads before r.0) → option_map running_at found ≡ Some q → Holds times q.0.progress
-runs times before None q h led e = absurd cc
-runs times before (Some r) q h led e = at_place times (running_at r) q (some_placed _ q e) ((led r refl).notice ∙ h.0, onward times before r.0 h.1 (led r refl))
+-- the numbers that lines name are ids
+one_more : (links : List (ℕ × ℕ)) (link : ℕ × ℕ) → AllByRecursion (λ (l : Link). IsId l.a × IsId l.b) (map link_in links) → IsId link.0 × IsId link.1 → AllByRecursion (λ (l : Link). IsId l.a × IsId l.b) (map link_in (links ++ link ∷ []))
+one_more [] link h p = (p, tt)
+one_more (l ∷ links) link h p = (h.0, one_more links link h.1 p)
 
-begins : (times : Times) (o : OwnView) (dests : List ℕ) (links : List (ℕ × ℕ)) (olds line : List ℕ) (first : Option World) (q : Placed) → started standard_limits links dests olds times ≡ first
-    → option_map running_at (option_and_then (λ w. answer_to (begun_in dests (plain times) w) o line) first) ≡ Some q → Holds times q.0.progress
-begins times o dests links olds line None q is e = absurd cc
-begins times o dests links olds line (Some w) q is e =
-    let new : IsOfEvents times w = record { links = links; dests = dests; olds = olds; first = w; begins = is; events = []; world_is = refl } in
-    runs times (begun_in dests (plain times) w) (answer_to (begun_in dests (plain times) w) o line) q (refl, new) (λ r h. answer_leads (begun_in dests (plain times) w) o line r refl h) e
+module _ (times : Times) (CutsNothing : Type 0) where
+  -- events more
+  onward : (MayCut : Type 0) → (CutsNothing → MayCut → ⊥) → (before after : RunningView) → IsOfEvents times CutsNothing before.world → Leads MayCut before after → IsOfEvents times CutsNothing after.world
+  onward MayCut none before after h led = record {
+    links = h.links;
+    dests = h.dests;
+    olds = h.olds;
+    ids = h.ids;
+    first = h.first;
+    begins = h.begins;
+    events = h.events ++ led.events;
+    world_is = led.after_is ∙ ap (λ (w : World). after_all_driven w led.events) h.world_is ∙ sym (driven_append h.first h.events led.events);
+    plain = λ nothing. both_plain h.events led.events (h.plain nothing) (led.plain (none nothing));
+  }
 
-first_line : (times : Times) (o : OwnView) (dests : Option (List ℕ)) (q : Placed) → option_map (acknowledged o) (option_map (λ dests. Progress.Links dests [] []) dests) ≡ Some q → Holds times q.0.progress
-first_line times o None q e = absurd cc
-first_line times o (Some dests) q e = at_place times (acknowledged o (Progress.Links dests [] [])) q (some_placed _ q e) tt
+  at_place : (r q : Placed) → r ≡ q → Holds times CutsNothing r.0.progress → Holds times CutsNothing q.0.progress
+  at_place r q e h = subst (λ (x : Placed). Holds times CutsNothing x.0.progress) e h
 
-one_link : (times : Times) (o : OwnView) (dests : List ℕ) (links : List (ℕ × ℕ)) (olds : List ℕ) (link : ℕ × ℕ) (q : Placed) → option_map (acknowledged o) (with_link dests links olds link) ≡ Some q → Holds times q.0.progress
-one_link times o dests links [] link q e = at_place times (acknowledged o (Progress.Links dests (links ++ link ∷ []) [])) q (some_placed _ q e) tt
-one_link times o dests links (n ∷ olds) link q e = absurd cc
+  some_placed : (r q : Placed) → Some r ≡ Some q → r ≡ q
+  some_placed r q e = cc
 
-one_old : (times : Times) (o : OwnView) (dests : List ℕ) (links : List (ℕ × ℕ)) (olds : List ℕ) (b : Bool) (q : Placed) → option_map (acknowledged o) (if b then Some (Progress.Links dests links olds) else None) ≡ Some q → Holds times q.0.progress
-one_old times o dests links olds true q e = at_place times (acknowledged o (Progress.Links dests links olds)) q (some_placed _ q e) tt
-one_old times o dests links olds false q e = absurd cc
+  -- a reply of a running simulation
+  runs : (MayCut : Type 0) → (CutsNothing → MayCut → ⊥) → (before : RunningView) (found : Option DriveReply) (q : Placed) → (before.has_notice ≡ false) × IsOfEvents times CutsNothing before.world → ((r : DriveReply) → found ≡ Some r → Leads MayCut before r.0) → option_map running_at found ≡ Some q → Holds times CutsNothing q.0.progress
+  runs MayCut none before None q h led e = absurd cc
+  runs MayCut none before (Some r) q h led e = at_place (running_at r) q (some_placed _ q e) ((led r refl).notice ∙ h.0, onward MayCut none before r.0 h.1 (led r refl))
 
-behind : (times : Times) (o : OwnView) (dests : List ℕ) (links : List (ℕ × ℕ)) (olds line : List ℕ) (q : Placed) → option_map running_at (first_answer times o dests links olds line) ≡ Some q → Holds times q.0.progress
-behind times o dests [] olds line q e = absurd cc
-behind times o dests (link ∷ links) olds line q e = begins times o dests (link ∷ links) olds line (started standard_limits (link ∷ links) dests olds times) q refl e
+  begins : (o : OwnView) (dests : List ℕ) (links : List (ℕ × ℕ)) (olds line : List ℕ) (first : Option World) (q : Placed) → (CutsNothing → IsNotice line → ⊥) → AreIds (topology_of links dests) → started standard_limits links dests olds times ≡ first
+      → option_map running_at (option_and_then (λ w. answer_to (begun_in dests (plain times) w) o line) first) ≡ Some q → Holds times CutsNothing q.0.progress
+  begins o dests links olds line None q none ids is e = absurd cc
+  begins o dests links olds line (Some w) q none ids is e =
+      let new : IsOfEvents times CutsNothing w = record { links = links; dests = dests; olds = olds; ids = ids; first = w; begins = is; events = []; world_is = refl; plain = λ nothing. ([], refl) } in
+      runs (IsNotice line) none (begun_in dests (plain times) w) (answer_to (begun_in dests (plain times) w) o line) q (refl, new) (λ r h. answer_leads (begun_in dests (plain times) w) o line r refl h) e
 
-linked : (times : Times) (o : OwnView) (dests : List ℕ) (links : List (ℕ × ℕ)) (olds line : List ℕ) (link : Option (ℕ × ℕ)) (old : Option ℕ) (q : Placed) → link_answer times o dests links olds line link old ≡ Some q → Holds times q.0.progress
-linked times o dests links olds line (Some link) old q e = one_link times o dests links olds link q e
-linked times o dests links olds line None (Some n) q e = one_old times o dests links _ _ q e
-linked times o dests links olds line None None q e = behind times o dests links olds line q e
+  first_line : (o : OwnView) (line : List ℕ) (dests : Option (List ℕ)) (q : Placed) → dests_of line ≡ dests → option_map (acknowledged o) (option_map (λ dests. Progress.Links dests [] []) dests) ≡ Some q → Holds times CutsNothing q.0.progress
+  first_line o line None q is e = absurd cc
+  first_line o line (Some dests) q is e =
+      at_place (acknowledged o (Progress.Links dests [] [])) q (some_placed _ q e) (record { links = tt; destinations = recursion_from_All IsId dests (dests_found line dests is).ids })
 
-placed_on : (times : Times) (o : OwnView) (progress : Progress) (line : List ℕ) (q : Placed) → Holds times progress → place_reply times o progress line ≡ Some q → Holds times q.0.progress
-unfolding place_reply
-placed_on times o Progress.First line q h e = first_line times o (dests_of line) q e
-placed_on times o (Progress.Links dests links olds) line q h e = linked times o dests links olds line (link_of line) (old_of line) q e
-placed_on times o (Progress.Runs s) line q h e = runs times s (answer_to s o line) q h (λ r is. answer_leads s o line r h.0 is) e
+  one_link : (o : OwnView) (dests : List ℕ) (links : List (ℕ × ℕ)) (olds line : List ℕ) (link : ℕ × ℕ) (q : Placed) → AreIds (topology_of links dests) → link_of line ≡ Some link → option_map (acknowledged o) (with_link dests links olds link) ≡ Some q → Holds times CutsNothing q.0.progress
+  one_link o dests links [] line link q ids is e =
+      let named = link_found line link is in
+      at_place (acknowledged o (Progress.Links dests (links ++ link ∷ []) [])) q (some_placed _ q e) (record { links = one_more links link ids.links (named.first, named.second); destinations = ids.destinations })
+  one_link o dests links (n ∷ olds) line link q ids is e = absurd cc
 
--- ---- all lines
+  one_old : (o : OwnView) (dests : List ℕ) (links : List (ℕ × ℕ)) (olds : List ℕ) (b : Bool) (q : Placed) → AreIds (topology_of links dests) → option_map (acknowledged o) (if b then Some (Progress.Links dests links olds) else None) ≡ Some q → Holds times CutsNothing q.0.progress
+  one_old o dests links olds true q ids e = at_place (acknowledged o (Progress.Links dests links olds)) q (some_placed _ q e) ids
+  one_old o dests links olds false q ids e = absurd cc
 
-answered : (times : Times) (v : DriveView) (line : List ℕ) (found : Option Placed) → place_reply times v.place.own v.place.progress line ≡ found → Holds times v.place.progress → Holds times (drive_reply times v line).0.place.progress
-answered times v line None is h = rw is h
-answered times v line (Some q) is h = rw is (placed_on times v.place.own v.place.progress line q h is)
+  behind : (o : OwnView) (dests : List ℕ) (links : List (ℕ × ℕ)) (olds line : List ℕ) (q : Placed) → (CutsNothing → IsNotice line → ⊥) → AreIds (topology_of links dests) → option_map running_at (first_answer times o dests links olds line) ≡ Some q → Holds times CutsNothing q.0.progress
+  behind o dests [] olds line q none ids e = absurd cc
+  behind o dests (link ∷ links) olds line q none ids e = begins o dests (link ∷ links) olds line (started standard_limits (link ∷ links) dests olds times) q none ids refl e
 
-longer : (times : Times) (v next : DriveView) (out line : List ℕ) (too_long : Bool) → (if too_long then None else Some (drive_reply times v line)) ≡ Some (next, out) → Holds times v.place.progress → Holds times next.place.progress
-longer times v next out line true e h = absurd cc
-longer times v next out line false e h =
-    let is : drive_reply times v line ≡ (next, out) = cc in
-    subst (λ (x : DriveView × List ℕ). Holds times x.0.place.progress) is (answered times v line (place_reply times v.place.own v.place.progress line) refl h)
+  linked : (o : OwnView) (dests : List ℕ) (links : List (ℕ × ℕ)) (olds line : List ℕ) (link : Option (ℕ × ℕ)) (old : Option ℕ) (q : Placed) → (CutsNothing → IsNotice line → ⊥) → AreIds (topology_of links dests) → link_of line ≡ link → link_answer times o dests links olds line link old ≡ Some q → Holds times CutsNothing q.0.progress
+  linked o dests links olds line (Some link) old q none ids is e = one_link o dests links olds line link q ids is e
+  linked o dests links olds line None (Some n) q none ids is e = one_old o dests links _ _ q ids e
+  linked o dests links olds line None None q none ids is e = behind o dests links olds line q none ids e
 
-one_line : (times : Times) (v last : DriveView) (line : List ℕ) (lines : List (List ℕ)) (found : Option (DriveView × List ℕ))
-    → ((next : DriveView) → state_behind (drive_rules times) next lines ≡ Some last → Holds times next.place.progress → Holds times last.place.progress) → reply (drive_rules times) v line ≡ found → Holds times v.place.progress
-    → option_and_then (λ r. state_behind (drive_rules times) r.0 lines) found ≡ Some last → Holds times last.place.progress
-unfolding reply
-one_line times v last line lines None others is h e = absurd cc
-one_line times v last line lines (Some r) others is h e = others r.0 e (longer times v r.0 r.1 line (nat_lt 4096 (length line)) is h)
+  placed_on : (o : OwnView) (progress : Progress) (line : List ℕ) (q : Placed) → (CutsNothing → IsNotice line → ⊥) → Holds times CutsNothing progress → place_reply times o progress line ≡ Some q → Holds times CutsNothing q.0.progress
+  unfolding place_reply
+  placed_on o Progress.First line q none h e = first_line o line (dests_of line) q refl e
+  placed_on o (Progress.Links dests links olds) line q none h e = linked o dests links olds line (link_of line) (old_of line) q none h refl e
+  placed_on o (Progress.Runs s) line q none h e = runs (IsNotice line) none s (answer_to s o line) q h (λ r is. answer_leads s o line r h.0 is) e
 
-behind_lines : (times : Times) (lines : List (List ℕ)) (v last : DriveView) → state_behind (drive_rules times) v lines ≡ Some last → Holds times v.place.progress → Holds times last.place.progress
-unfolding state_behind
-behind_lines times [] v last e h = let same : v ≡ last = cc in subst (λ (x : DriveView). Holds times x.place.progress) same h
-behind_lines times (line ∷ lines) v last e h = one_line times v last line lines (reply (drive_rules times) v line) (λ next is holds. behind_lines times lines next last is holds) refl h e
+  -- ---- all lines
+
+  answered : (v : DriveView) (line : List ℕ) (found : Option Placed) → (CutsNothing → IsNotice line → ⊥) → place_reply times v.place.own v.place.progress line ≡ found → Holds times CutsNothing v.place.progress → Holds times CutsNothing (drive_reply times v line).0.place.progress
+  answered v line None none is h = rw is h
+  answered v line (Some q) none is h = rw is (placed_on v.place.own v.place.progress line q none h is)
+
+  longer : (v next : DriveView) (out line : List ℕ) (too_long : Bool) → (CutsNothing → IsNotice line → ⊥) → (if too_long then None else Some (drive_reply times v line)) ≡ Some (next, out) → Holds times CutsNothing v.place.progress → Holds times CutsNothing next.place.progress
+  longer v next out line true none e h = absurd cc
+  longer v next out line false none e h =
+      let is : drive_reply times v line ≡ (next, out) = cc in
+      subst (λ (x : DriveView × List ℕ). Holds times CutsNothing x.0.place.progress) is (answered v line (place_reply times v.place.own v.place.progress line) none refl h)
+
+  one_line : (v last : DriveView) (line : List ℕ) (lines : List (List ℕ)) (found : Option (DriveView × List ℕ)) → (CutsNothing → IsNotice line → ⊥)
+      → ((next : DriveView) → state_behind (drive_rules times) next lines ≡ Some last → Holds times CutsNothing next.place.progress → Holds times CutsNothing last.place.progress) → reply (drive_rules times) v line ≡ found → Holds times CutsNothing v.place.progress
+      → option_and_then (λ r. state_behind (drive_rules times) r.0 lines) found ≡ Some last → Holds times CutsNothing last.place.progress
+  unfolding reply
+  one_line v last line lines None none others is h e = absurd cc
+  one_line v last line lines (Some r) none others is h e = others r.0 e (longer v r.0 r.1 line (nat_lt 4096 (length line)) none is h)
+
+  behind_lines : (lines : List (List ℕ)) (v last : DriveView) → (CutsNothing → SaysNoNotice lines) → state_behind (drive_rules times) v lines ≡ Some last → Holds times CutsNothing v.place.progress → Holds times CutsNothing last.place.progress
+  unfolding state_behind
+  behind_lines [] v last none e h = let same : v ≡ last = cc in subst (λ (x : DriveView). Holds times CutsNothing x.place.progress) same h
+  behind_lines (line ∷ lines) v last none e h = one_line v last line lines (reply (drive_rules times) v line) (λ nothing. (none nothing).0) (λ next is holds. behind_lines lines next last (λ nothing. (none nothing).1) is holds) refl h e
 
 pub drives_are_runs : DrivesAreRuns
 drives_are_runs times lines v s e is =
-    let h : Holds times v.place.progress = behind_lines times lines (drive_rules times).start v e tt in
+    let h : Holds times (SaysNoNotice lines) v.place.progress = behind_lines times (SaysNoNotice lines) lines (drive_rules times).start v (λ nothing. nothing) e tt in
     (rw is at h).1

@@ -4,7 +4,7 @@ use Rattle.tora_lines.specs.Words.{number_of}
 use Rattle.tora_lines.specs.Fronts.{after, or_else, ◌>>=◌}
 use Rattle.tora_script.specs.SimulationLines.{is_word, for_pair, simulation_line_of}
 use Rattle.tora_drive.specs.declared.line.DriveLine.{DriveLine}
-use Rattle.tora_drive.specs.declared.line.DriveLine.TheVariants.{Script, Step, Needs, Near, Far, Bytes, Forget}
+use Rattle.tora_drive.specs.declared.line.DriveLine.TheVariants.{Script, Step, Needs, Near, Far, Notice, Bytes, Forget}
 
 -- a word and the number of a datagram
 unfoldable pub for_number : (ℕ → DriveLine) → List ℕ → Option DriveLine
@@ -12,13 +12,14 @@ for_number make text = do
   i ← number_of text
   Some (make i)
 
--- `near N K`, `far N K`, `bytes ID` or `forget ID`
+-- `near N K`, `far N K`, `notice N K`, `bytes ID` or `forget ID`
 unfoldable pub own_line_of : List ℕ → Option DriveLine
 own_line_of text =
     or_else (after (codes "near ") text) (for_pair Near)
     (or_else (after (codes "far ") text) (for_pair Far)
+    (or_else (after (codes "notice ") text) (for_pair Notice)
     (or_else (after (codes "bytes ") text) (for_number Bytes)
-    (or_else (after (codes "forget ") text) (for_number Forget) None)))
+    (or_else (after (codes "forget ") text) (for_number Forget) None))))
 
 -- `step`, `needs`, a line of a simulation file behind its links, or another of a drive's own
 abbrev pub or_own : Option DriveLine → List ℕ → Option DriveLine

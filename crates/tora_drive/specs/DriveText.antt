@@ -7,6 +7,7 @@ use Rattle.hex.specs.Hex.{encode_lower}
 use Rattle.tora_frame.specs.FrameParts.{FrameParts}
 use Rattle.tora_frame.specs.FrameGrammar.{frame_spelling}
 use Rattle.tora_arq.specs.declared.Times.{Times}
+use Rattle.tora_arq.specs.LinkEnd.{bound_life}
 use Rattle.tora_lines.specs.declared.ended.Ended.{Ended}
 use Rattle.tora_lines.specs.LineText.{Rules, whole_text}
 use Rattle.tora_lines.specs.Engine.{IsWholeText, IsFrontOfText}
@@ -14,6 +15,7 @@ use Rattle.tora_world.specs.declared.Event.{Event}
 use Rattle.tora_world.specs.declared.Event.TheVariants as Happen
 use Rattle.tora_world.specs.declared.SimError.TheVariants as Refused
 use Rattle.tora_world.specs.World.{World, datagram, refusal_of, world_after_all}
+use Rattle.tora_sim.specs.Cuts.{after_cut_at}
 use Rattle.tora_sim.specs.Readers.{flag_at}
 use Rattle.tora_script.specs.declared.script_line.SimulationLine.TheVariants.{Happens, Rounds, Part, Mend, Heights, Sent, Taken, Exact, Walk, Rest}
 use Rattle.tora_world.specs.Topology.{standard_limits}
@@ -24,7 +26,7 @@ use Rattle.tora_script.specs.SimulationText.{RunningView, Progress, Reply, begun
 use Rattle.tora_drive.specs.declared.cause.Cause.{Cause}
 use Rattle.tora_drive.specs.declared.cause.Cause.TheVariants.{Dests, NoLink, Topology, Name, Word}
 use Rattle.tora_drive.specs.declared.line.DriveLine.{DriveLine}
-use Rattle.tora_drive.specs.declared.line.DriveLine.TheVariants.{Script, Step, Needs, Near, Far, Bytes, Forget}
+use Rattle.tora_drive.specs.declared.line.DriveLine.TheVariants.{Script, Step, Needs, Near, Far, Notice, Bytes, Forget}
 use Rattle.tora_drive.specs.DriveLines.{drive_line_of}
 use Rattle.tora_drive.specs.Records.{sent_text, hops_text}
 use Rattle.tora_drive.specs.Steps.{is_end, is_far, step}
@@ -74,6 +76,10 @@ shown s o text = record { run = s; own = o; text = text; refused = false }
 abbrev pub unnamed : RunningView → OwnView → Outcome
 unnamed s o = record { run = s; own = o; text = refusal_text (Some Refused.NoDatagram); refused = true }
 
+-- it is not possible now
+abbrev pub impossible : RunningView → OwnView → Outcome
+impossible s o = record { run = s; own = o; text = refusal_text (Some Refused.NotPossible); refused = true }
+
 -- the event is the delivery of a datagram that can't be named any more
 abbrev pub is_forgotten : OwnView → Event → Bool
 is_forgotten o (Happen.Deliver i) = nat_le i o.forgotten
@@ -112,6 +118,10 @@ bytes_line i f = codes "bytes " ++ decimal i ++ codes " " ++ encode_lower (frame
 abbrev pub silenced : RunningView → OwnView → ℕ → ℕ → List (ℕ × ℕ) → Option Outcome
 silenced s o n k far = if has_end n k s.ends then Some (shown s (record o { far = far }) []) else None
 
+-- the end of a node towards another cuts the life that it is bound to, and is then closed; refused where it is bound to none
+abbrev pub noticed : RunningView → OwnView → ℕ → ℕ → Outcome
+noticed s o n k = if is_some (bound_life (s.world.ends n k)) then shown (record s { world = after_cut_at s.world n k }) o [] else impossible s o
+
 -- the datagrams up to a number are forgotten, and those that were stay so
 abbrev pub forgetting : RunningView → OwnView → ℕ → Outcome
 forgetting s o i = if nat_le i (length s.world.datagrams) then shown s (record o { forgotten = max o.forgotten i }) [] else unnamed s o
@@ -124,6 +134,7 @@ outcome_of s o Step = Some (shown (record s { world = after_step s o }) o [])
 outcome_of s o Needs = Some (shown s o (needs_text s.world s.nodes s.dests))
 outcome_of s o (Near n k) = silenced s o n k (without_far (n, k) o.far)
 outcome_of s o (Far n k) = silenced s o n k (with_far (n, k) o.far)
+outcome_of s o (Notice n k) = if has_end n k s.ends then Some (noticed s o n k) else None
 outcome_of s o (Bytes i) = Some (option_map_or (λ f. shown s o (bytes_line i f)) (named o s.world i) (unnamed s o))
 outcome_of s o (Forget i) = Some (forgetting s o i)
 
@@ -155,6 +166,7 @@ may_change_hops Step = true
 may_change_hops Needs = false
 may_change_hops (Near n k) = false
 may_change_hops (Far n k) = false
+may_change_hops (Notice n k) = false
 may_change_hops (Bytes i) = false
 may_change_hops (Forget i) = false
 

@@ -1,13 +1,13 @@
 //! The answer to a line of a running simulation.
-ghost use Rattle.std.specs.Prelude.{◌≡◌, ◌++◌, [], OnOk, IfOk, Err, Some, string_bytes, is_some, if◌then◌else◌};
+ghost use Rattle.std.specs.Prelude.{◌≡◌, ◌++◌, [], OnOk, IfOk, Err, Some, None, string_bytes, is_some, if◌then◌else◌};
 ghost use Rattle.std.specs.List.{flat_map};
 ghost use Rattle.std.specs.Option.{option_map_or};
 ghost use Rattle.tora_lines.specs.Gives.{Gives};
 ghost use Rattle.tora_lines.specs.LineText.{TakesReply};
 ghost use Rattle.tora_world.specs.World.{refusal_of};
 ghost use Rattle.tora_script.specs.RunningView.{running_view};
-ghost use Rattle.tora_script.specs.SimulationText.{refusal_text, event_reply};
-ghost use Rattle.tora_drive.specs.DriveText.{named, with_far, without_far, outcome, shown, unnamed, is_forgotten, event_outcome, after_step, need_line, needs_text, bytes_line, silenced, forgetting, outcome_of, may_change_hops, closing, answer_to};
+ghost use Rattle.tora_script.specs.SimulationText.{refusal_text, event_reply, has_end};
+ghost use Rattle.tora_drive.specs.DriveText.{named, with_far, without_far, outcome, shown, unnamed, is_forgotten, event_outcome, after_step, need_line, needs_text, bytes_line, silenced, noticed, forgetting, outcome_of, may_change_hops, closing, answer_to};
 ghost use Rattle.tora_drive.specs.DriveView.{own_view};
 ghost use Rattle.tora_drive.specs.Records.{routes_of};
 
@@ -147,6 +147,30 @@ fn silence<S: Driven>(
     Ok(())
 }
 
+/// Cuts the life that an end is bound to, and says whether that is refused, since it is bound to none; a fault where there is no such
+/// end. A refusal stands behind an empty text.
+fn notice<S: Driven>(
+    running: &mut Running<S>,
+    own: &Own,
+    end: (Id, Id),
+    out: &mut String,
+) -> Result<bool, LineError>
+    requires { string_bytes out.old ≡ [] }
+    ensures gives { Gives (λ r. outcome (running_view S.world running.new) (own_view own.now) (string_bytes out.new) r) result
+        (if has_end end.0 end.1 (running_view S.world running.old).ends then Some (noticed (running_view S.world running.old) (own_view own.now) end.0 end.1) else None) }
+    ensures kept { result ≡ Err LineError.Fault → running_view S.world running.new ≡ running_view S.world running.old }
+{
+    if !has_end(end.0, end.1, &running.ends) {
+        return Err(LineError::Fault);
+    }
+    if running.sim.bound_life(end.0, end.1).is_none() {
+        refuse(out, SimError::NotPossible)?;
+        return Ok(true);
+    }
+    running.sim.cut(end.0, end.1);
+    Ok(false)
+}
+
 /// Puts the bytes of a datagram behind an empty text, and says whether that is refused, since there is no such datagram.
 fn write_bytes<S: Driven>(
     running: &Running<S>,
@@ -231,6 +255,10 @@ fn perform<S: Driven>(
         DriveLine::Far(n, k) => {
             silence(running, own, (n, k), true)?;
             Ok(false)
+        }
+        DriveLine::Notice(n, k) => {
+            let is_refused = notice(running, own, (n, k), out)?;
+            Ok(is_refused)
         }
         DriveLine::Bytes(i) => {
             let is_refused = write_bytes(running, own, i, out)?;

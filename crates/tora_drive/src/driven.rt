@@ -1,8 +1,10 @@
 //! What a drive asks of a simulator.
 ghost use Rattle.std.specs.Prelude.{◌≡◌};
 ghost use Rattle.tora_world.specs.World.{datagram};
+ghost use Rattle.tora_arq.specs.LinkEnd.{bound_life};
 ghost use Rattle.tora_sim.specs.Readers.{flag_at};
 
+use tora_arq::Life;
 use tora_frame::Frame;
 use tora_height::Id;
 use tora_script::Simulator;
@@ -17,6 +19,10 @@ pub trait Driven: Simulator {
     /// Whether the core of a node requires a route to a destination.
     fn flag(&self, n: Id, d: Id) -> bool
         ensures { result ≡ flag_at (Self.world self.now) n d };
+
+    /// The life that the end of a node towards another is bound in; `None` where it is not bound, or where there is no such end.
+    fn bound_life(&self, n: Id, k: Id) -> Option<Life>
+        ensures { result ≡ bound_life ((Self.world self.now).ends n k) };
 }
 
 impl Driven for Sim {
@@ -26,5 +32,9 @@ impl Driven for Sim {
 
     fn flag(&self, n: Id, d: Id) -> bool {
         Sim::flag(self, n, d)
+    }
+
+    fn bound_life(&self, n: Id, k: Id) -> Option<Life> {
+        Sim::bound_life(self, n, k)
     }
 }

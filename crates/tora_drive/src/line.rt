@@ -19,13 +19,15 @@ pub enum DriveLine {
     Near(Id, Id),
     /// The end of the first node towards the second sends nothing in a step.
     Far(Id, Id),
+    /// The end of the first node towards the second cuts the life that it is bound to.
+    Notice(Id, Id),
     /// The bytes of a datagram are to be printed, by its number from 1.
     Bytes(u64),
     /// The datagrams up to this number can't be named any more.
     Forget(u64),
 }
 
-/// `near N K`, `far N K`, `bytes ID` or `forget ID`.
+/// `near N K`, `far N K`, `notice N K`, `bytes ID` or `forget ID`.
 #[tactic(auto, unfolding(crate::specs::DriveLines::own_line_of, crate::specs::DriveLines::for_number, tora_script::specs::SimulationLines::for_pair))]
 fn own_line(text: &[u8]) -> Option<DriveLine>
     ensures { result ≡ own_line_of text.now }
@@ -37,6 +39,10 @@ fn own_line(text: &[u8]) -> Option<DriveLine>
     if let Some(rest) = after(b"far ", text) {
         let (n, k) = pair(rest)?;
         return Some(DriveLine::Far(n, k));
+    }
+    if let Some(rest) = after(b"notice ", text) {
+        let (n, k) = pair(rest)?;
+        return Some(DriveLine::Notice(n, k));
     }
     if let Some(rest) = after(b"bytes ", text) {
         return Some(DriveLine::Bytes(words::number(rest)?));

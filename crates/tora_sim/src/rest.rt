@@ -87,8 +87,8 @@ impl Sim {
         }
     }
 
-    /// The life that the end of `n` towards `k` is bound in.
-    fn bound_life(&self, n: Id, k: Id) -> Option<Life>
+    /// The life that the end of node `n` towards `k` is bound in; `None` where it is not bound, or where there is no such link.
+    pub fn bound_life(&self, n: Id, k: Id) -> Option<Life>
         ensures { result ≡ bound_life ((world_of self.now).ends n k) }
     {
         match place(&self.links, &self.hints, n, k) {

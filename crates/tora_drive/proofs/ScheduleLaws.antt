@@ -1,0 +1,108 @@
+-- The worlds of drives are worlds of schedules, so that the laws of all schedules hold of them.
+use Rattle.std.proofs.Common.{◌≡◌, ℕ, Bool, true, false, List, [], ◌∷◌, ◌++◌, if◌then◌else◌, is_some, fold, Option, Some, None, refl, sym, ap, subst, ◌∙◌}
+use Rattle.tora_arq.specs.declared.Times.{Times}
+use Rattle.tora_core.specs.declared.errors.CoreError.{CoreError}
+use Rattle.tora_world.specs.declared.Event.TheVariants.{Tick}
+use Rattle.tora_world.specs.Topology.{Topology, is_link, is_node, topology_fault, standard_limits}
+use Rattle.tora_world.specs.World.{World, own_choice, first_world}
+use Rattle.tora_world.specs.FreeWorld.{Schedule, free_by, after_schedule}
+use Rattle.tora_world.specs.FreeWorld.FreeEvent.{CutsBound}
+use Rattle.tora_world.specs.Law.{EveryRun, TakenBeginsSent}
+use Rattle.tora_world.specs.Gaps.{EveryEnd, IsWithoutGap}
+use Rattle.tora_world.specs.Walks.{AreIds, EveryWorld}
+use Rattle.tora_sim.specs.Topologies.{topology_of, with_olds, with_old}
+use Rattle.tora_script.specs.Simulator.{with_old_node, mixed_topology, started}
+use Rattle.tora_drive.specs.Runs.{DriveEvent, after_driven, after_all_driven, schedule_of_one, schedule_of, SaysNoNotice, IsOfEvents, EveryDrive, AreSchedules, HasNoGaps}
+use Rattle.tora_drive.proofs.RunLaws.{drives_are_runs}
+
+-- ---- events are a schedule
+
+cut_by : (b : Bool) (w : World) (n k : ℕ) → after_schedule (if b then (CutsBound n k, own_choice w Tick) ∷ [] else []) w ≡ (if b then free_by (own_choice w Tick) w (CutsBound n k) else w)
+unfolding after_schedule
+cut_by true w n k = refl
+cut_by false w n k = refl
+
+one_by : (w : World) (event : DriveEvent) → after_schedule (schedule_of_one w event) w ≡ after_driven w event
+unfolding after_schedule
+one_by w (DriveEvent.Happens event) = refl
+one_by w (DriveEvent.Cuts n k) = cut_by (is_link w.topology n k) w n k
+
+schedule_append : (xs ys : Schedule) (w : World) → after_schedule (xs ++ ys) w ≡ after_schedule ys (after_schedule xs w)
+unfolding after_schedule
+schedule_append [] ys w = refl
+schedule_append (x ∷ xs) ys w = schedule_append xs ys (free_by x.1 w x.0)
+
+pub are_schedules : AreSchedules
+unfolding after_schedule
+are_schedules w [] = refl
+are_schedules w (event ∷ events) =
+    let rest : Schedule = schedule_of (after_driven w event) events in
+    are_schedules (after_driven w event) events ∙ ap (λ (x : World). after_schedule rest x) (sym (one_by w event)) ∙ sym (schedule_append (schedule_of_one w event) rest w)
+
+-- ---- the first world
+
+begun_by : (fault : Option CoreError) (w first : World) → (if is_some fault then None else Some w) ≡ Some first → (fault ≡ None) × (first ≡ w)
+begun_by None w first e = (refl, cc)
+begun_by (Some cause) w first e = absurd cc
+
+begun : (links : List (ℕ × ℕ)) (dests olds : List ℕ) (times : Times) (first : World) → started standard_limits links dests olds times ≡ Some first → (topology_fault (topology_of links dests) ≡ None) × (first ≡ first_world (mixed_topology links dests olds) times)
+unfolding started
+begun links dests olds times first e = begun_by (topology_fault (topology_of links dests)) (first_world (mixed_topology links dests olds) times) first e
+
+one_mixed : (b : Bool) (t : Topology) (olds : List ℕ) → topology_fault t ≡ None → topology_fault (if b then with_olds t olds else t) ≡ None
+one_mixed true t olds h = h
+one_mixed false t olds h = h
+
+mixed : (t : Topology) (olds : List ℕ) → topology_fault t ≡ None → topology_fault (fold with_old_node t olds) ≡ None
+mixed t [] h = h
+mixed t (n ∷ olds) h = mixed (with_old_node t n) olds (one_mixed (is_node t n) t (with_old n t.olds) h)
+
+one_mixed_ids : (b : Bool) (t : Topology) (olds : List ℕ) → AreIds t → AreIds (if b then with_olds t olds else t)
+one_mixed_ids true t olds h = record { links = h.links; destinations = h.destinations }
+one_mixed_ids false t olds h = h
+
+mixed_ids : (t : Topology) (olds : List ℕ) → AreIds t → AreIds (fold with_old_node t olds)
+mixed_ids t [] h = h
+mixed_ids t (n ∷ olds) h = mixed_ids (with_old_node t n) olds (one_mixed_ids (is_node t n) t (with_old n t.olds) h)
+
+-- ---- the laws
+
+-- the world is the one behind a schedule, over a topology that is not refused
+record IsOfRun (times : Times) (w : World) : Type 0 where
+  topology : Topology
+  sound : topology_fault topology ≡ None
+  ids : AreIds topology
+  schedule : Schedule
+  world_is : w ≡ after_schedule schedule (first_world topology times)
+
+of_run : (times : Times) (CutsNothing : Type 0) (w : World) → IsOfEvents times CutsNothing w → IsOfRun times w
+of_run times CutsNothing w h =
+    let first = begun h.links h.dests h.olds times h.first h.begins in
+    record {
+      topology = mixed_topology h.links h.dests h.olds;
+      sound = mixed (topology_of h.links h.dests) h.olds first.0;
+      ids = mixed_ids (topology_of h.links h.dests) h.olds h.ids;
+      schedule = schedule_of h.first h.events;
+      world_is = h.world_is ∙ are_schedules h.first h.events ∙ ap (λ (x : World). after_schedule (schedule_of h.first h.events) x) first.1;
+    }
+
+pub drives_keep_the_prefix_law : EveryRun (λ first es w. TakenBeginsSent w) → EveryDrive (λ times lines w. TakenBeginsSent w)
+drives_keep_the_prefix_law law times lines v s e is =
+    let run : IsOfRun times s.world = of_run times (SaysNoNotice lines) s.world (drives_are_runs times lines v s e is) in
+    subst (λ (x : World). TakenBeginsSent x) (sym run.world_is) (law run.topology times run.schedule)
+
+pub drives_keep_the_no_gap_law : EveryEnd (λ t first es w n k. IsWithoutGap t first es w n k) → EveryDrive (λ times lines w. HasNoGaps times w)
+drives_keep_the_no_gap_law law times lines v s e is =
+    let run : IsOfRun times s.world = of_run times (SaysNoNotice lines) s.world (drives_are_runs times lines v s e is) in
+    record {
+      topology = run.topology;
+      sound = run.sound;
+      schedule = run.schedule;
+      world_is = run.world_is;
+      gapless = λ n k linked. subst (λ (x : World). IsWithoutGap run.topology (first_world run.topology times) run.schedule x n k) (sym run.world_is) (law run.topology times run.schedule n k (standard_limits, run.sound) linked);
+    }
+
+pub drives_keep_laws_of_worlds : (Holds : World → Type 0) → EveryWorld Holds → EveryDrive (λ times lines w. Holds w)
+drives_keep_laws_of_worlds Holds law times lines v s e is =
+    let run : IsOfRun times s.world = of_run times (SaysNoNotice lines) s.world (drives_are_runs times lines v s e is) in
+    subst Holds (sym run.world_is) (law run.topology times run.schedule (standard_limits, run.sound) run.ids)
