@@ -1,13 +1,15 @@
 #!/usr/bin/env bash
 # A line of four processes on the loopback (the configurations of examples/line-of-four): the time from `need 4` at node 1
-# to a next hop there, three hops from the destination, as the median of RUNS, and the processor time of a node that has
-# nothing to do. Where LINK, the folder of a yardstick in C, is given, `link_udp.sh` is run too.
-# usage: bench/node.sh [RUNS] [LINK]
+# to a next hop there, three hops from the destination, as the median of RUNS; the time from `quit` to the end of a node; and the
+# processor time of a node with two links, and of one with 32, that has nothing to do, over 30 s. Where BESIDE names another build of the program,
+# it is measured in turns with this one. Where LINK, the folder of a yardstick in C, is given, `link_udp.sh` is run too.
+# usage: [BESIDE=PROGRAM] bench/node.sh [RUNS] [LINK]
 set -eu
 top=$(cd "$(dirname "$0")/.." && pwd)
 runs=${1:-20}
 "$top/tora" build >&2
-python3 - "$top" "$runs" <<'P'
+python3 - "$top" "$runs" "${BESIDE:-}" <<'P'
+import glob
 import os
 import select
 import statistics
@@ -16,14 +18,13 @@ import sys
 import tempfile
 import time
 
-top, runs = sys.argv[1], int(sys.argv[2])
-program = top + "/crates/tora/out/tora"
-IDLE = 5.0
+top, runs, beside = sys.argv[1], int(sys.argv[2]), sys.argv[3]
+IDLE = 30.0
+MOST_LINKS = 32
 
 
 class Node:
-    def __init__(self, number, folder):
-        config = f"{top}/examples/line-of-four/n{number}.toml"
+    def __init__(self, program, config, folder):
         self.process = subprocess.Popen(
             [program, "node", config], cwd=folder, stdin=subprocess.PIPE, stdout=subprocess.PIPE,
             stderr=subprocess.DEVNULL)
@@ -51,15 +52,31 @@ class Node:
                 return lines
         return self.text.decode().splitlines()
 
-    # Seconds of processor time that it has taken.
+    # Seconds of processor time that its threads have taken.
     def seconds(self):
-        fields = open(f"/proc/{self.process.pid}/stat").read().rsplit(")", 1)[1].split()
-        return (int(fields[11]) + int(fields[12])) / os.sysconf("SC_CLK_TCK")
+        folder = f"/proc/{self.process.pid}/task"
+        return sum(int(open(f).read().split()[0]) for f in glob.glob(folder + "/*/schedstat")) / 1e9
+
+    # The share of a core that it takes while it has nothing to do.
+    def idle(self):
+        before, begin = self.seconds(), time.monotonic()
+        time.sleep(IDLE)
+        return (self.seconds() - before) / (time.monotonic() - begin)
+
+    # Seconds from `quit` to its end.
+    def quit(self):
+        begin = time.monotonic()
+        self.tell("quit")
+        self.process.wait()
+        return time.monotonic() - begin
+
+    def kill(self):
+        self.process.kill()
+        self.process.wait()
 
 
 # All links are up where each node's table lists each neighbour.
-def wait_for_links(nodes):
-    wanted = {1: 1, 2: 2, 3: 2, 4: 1}
+def wait_for_links(nodes, wanted):
     for _ in range(200):
         if all(len(nodes[n].table(wanted[n])) == 1 + wanted[n] for n in nodes):
             return
@@ -67,33 +84,63 @@ def wait_for_links(nodes):
     sys.exit("the links did not come up")
 
 
-def run(measure_idle):
+# The seconds to a route, and to an end, and the share of a core where it is asked for.
+def run(program, measure_idle):
     with tempfile.TemporaryDirectory() as folder:
-        nodes = {n: Node(n, folder) for n in (1, 2, 3, 4)}
+        nodes = {n: Node(program, f"{top}/examples/line-of-four/n{n}.toml", folder) for n in (1, 2, 3, 4)}
         try:
-            wait_for_links(nodes)
+            wait_for_links(nodes, {1: 1, 2: 2, 3: 2, 4: 1})
             begin = time.monotonic()
             nodes[1].tell("need 4")
             while " hop 2" not in (nodes[1].table(1) or [""])[0]:
                 if time.monotonic() - begin > 10:
                     sys.exit("no route was found")
             found = time.monotonic() - begin
-            idle = None
-            if measure_idle:
-                before = nodes[2].seconds()
-                time.sleep(IDLE)
-                idle = (nodes[2].seconds() - before) / IDLE
-            return found, idle
+            idle = nodes[2].idle() if measure_idle else None
+            return found, nodes[2].quit(), idle
         finally:
             for node in nodes.values():
-                node.process.kill()
-                node.process.wait()
+                node.kill()
 
 
-results = [run(i == 0) for i in range(runs)]
-median = statistics.median(found for found, _ in results)
-print(f"route over three hops: {median * 1000:.1f} ms (median of {runs}), {median * 1000 / 3:.1f} ms a hop")
-print(f"an idle node with two links: {results[0][1] * 100:.2f} % of a core")
+# Writes the configuration of a node with these links, of which each is a neighbour with a local and a remote port.
+def configuration(folder, number, links):
+    path = f"{folder}/n{number}.toml"
+    with open(path, "w") as text:
+        text.write(f'node = {number}\ndests = [40]\nlife_dir = "n{number}"\n')
+        for peer, local, remote in links:
+            text.write(f"\n[[link]]\npeer = {peer}\nlocal = {local}\nremote = {remote}\n")
+    return path
+
+
+# The share of a core of node 1, which has 32 neighbours.
+def star(program):
+    with tempfile.TemporaryDirectory() as folder:
+        peers = range(2, 2 + MOST_LINKS)
+        hub = configuration(folder, 1, [(n, 41300 + n, 41400 + n) for n in peers])
+        nodes = {n: Node(program, configuration(folder, n, [(1, 41400 + n, 41300 + n)]), folder) for n in peers}
+        nodes[1] = Node(program, hub, folder)
+        try:
+            wait_for_links({1: nodes[1]}, {1: MOST_LINKS})
+            time.sleep(2)
+            return nodes[1].idle()
+        finally:
+            for node in nodes.values():
+                node.kill()
+
+
+programs = {"this program": top + "/crates/tora/out/tora"}
+if beside:
+    programs["beside it"] = beside
+results = {name: [] for name in programs}
+for i in range(runs):
+    for name, program in programs.items():
+        results[name].append(run(program, i == 0))
+for name, program in programs.items():
+    found = statistics.median(r[0] for r in results[name]) * 1000
+    ended = statistics.median(r[1] for r in results[name]) * 1000
+    print(f"{name}: route over three hops {found:.2f} ms (median of {runs}), {found / 3:.2f} ms a hop; from `quit` to the end {ended:.0f} ms")
+    print(f"{name}: an idle node with two links {results[name][0][2] * 100:.3f} % of a core, with {MOST_LINKS} links {star(program) * 100:.3f} %")
 P
 if [ $# -ge 2 ]; then
   exec "$top/bench/link_udp.sh" "$2"

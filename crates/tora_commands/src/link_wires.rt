@@ -9,13 +9,15 @@ use log::Log;
 use std::alloc::Global;
 use std::fmt::Display;
 use std::fs::File;
+use std::io::ErrorKind;
 use std::net::Net;
 use std::rt::Files;
 use std::time::Clock;
 use tora_config::{ConfigError, LinkWay, read_ways};
-use tora_keyed::{AddressWire, Key, LinkWire, NoticedWire};
+use tora_keyed::{Key, LinkWire, NoticedWire};
 use tora_neighbour::UnixClock;
 use tora_simulate::tell_at;
+use tora_waking::{SocketWaker, WakingWire};
 
 /// How the datagrams of a link go, and its key: there is one just where it has a file with a key.
 #[derive(Drop)]
@@ -26,7 +28,7 @@ pub(crate) struct KeyedWay {
 }
 
 /// The wire of a link of the program.
-pub(crate) type ProgramWire<'a, R, L> = NoticedWire<'a, AddressWire, UnixClock<&'a R>, L>;
+pub(crate) type ProgramWire<'a, R, L> = NoticedWire<'a, WakingWire<&'a R>, UnixClock<&'a R>, L>;
 
 /// The key of a link, where it has one.
 fn key_of<R: Files<File = File> + Eprint>(rt: &R, way: &LinkWay) -> Result<Option<Key>, Fault>
@@ -74,20 +76,26 @@ fn tell_socket(rt: &impl Eprint, way: &LinkWay, error: &impl Display) {
     let _ = rt.eprintln(format_args!("tora: socket: port {port} of the link to {peer}: {error}"));
 }
 
+/// The wire of a link, and what ends its waits.
+type Woken<'a, R, L> = (ProgramWire<'a, R, L>, SocketWaker);
+
 /// Binds the socket of a link, and puts a wire over it, with its key where it has one, which logs to `log`.
 fn wire_of<'a, R: Net + Eprint + Clock, L: Log>(
     rt: &'a R,
     log: &'a L,
+    alloc: Global,
     keyed: KeyedWay,
-) -> Result<ProgramWire<'a, R, L>, Fault>
-    ensures { IfOk result (λ wire. wire ≡ over 0 (option_map block_of keyed.key)) }
+) -> Result<Woken<'a, R, L>, Fault>
+    ensures { IfOk result (λ woken. woken.0 ≡ over 0 (option_map block_of keyed.key)) }
 {
     let KeyedWay { way, key } = keyed;
-    match AddressWire::bind(rt, way.local, way.remote) {
-        Ok(wire) => {
+    match WakingWire::bind(rt, alloc, rt, way.local, way.remote) {
+        Ok((wire, waker)) => {
             let wire = LinkWire::over(wire, key);
-            Ok(NoticedWire::new(wire, way.peer, UnixClock::new(rt), log))
+            let wire = NoticedWire::new(wire, way.peer, UnixClock::new(rt), log);
+            Ok((wire, waker))
         }
+        Err(error) if error.kind() == ErrorKind::OutOfMemory => Err(say(rt, Fault::Memory)),
         Err(error) => {
             let fault = say(rt, Fault::Socket);
             tell_socket(rt, &way, &error);
@@ -96,19 +104,20 @@ fn wire_of<'a, R: Net + Eprint + Clock, L: Log>(
     }
 }
 
-/// Binds the socket of each link, in this order, and puts a wire over it.
+/// Binds the socket of each link, in this order, and puts a wire over it; and what ends the waits of each wire, likewise.
 pub(crate) fn bind<'a, R: Net + Eprint + Clock, L: Log>(
     rt: &'a R,
     log: &'a L,
     alloc: Global,
     ways: Vec<KeyedWay>,
-) -> Result<Vec<ProgramWire<'a, R, L>>, Fault> {
+) -> Result<(Vec<ProgramWire<'a, R, L>>, Vec<SocketWaker>), Fault> {
     let mut wires = Vec::new(alloc);
+    let mut wakers = Vec::new(alloc);
     for way in ways {
-        let wire = wire_of(rt, log, way)?;
-        let Ok(()) = wires.push(wire) else {
+        let (wire, waker) = wire_of(rt, log, alloc, way)?;
+        let (Ok(()), Ok(())) = (wires.push(wire), wakers.push(waker)) else {
             return Err(say(rt, Fault::Memory));
         };
     }
-    Ok(wires)
+    Ok((wires, wakers))
 }

@@ -22,7 +22,7 @@ use tora_core::CoreError;
 use tora_height::Id;
 use tora_life::{Disk, FileDisk, LifeError, Owner, Tag};
 use tora_neighbour::{NodeError, UnixClock};
-use tora_node::{Config, Ended, run_node};
+use tora_node::{Config, Ended, run_node_with_wakers};
 use tora_simulate::{tell, tell_at};
 
 /// Why a node is not started.
@@ -273,8 +273,8 @@ pub fn run<
         praise(rt, path, &config);
         return ExitCode::SUCCESS;
     }
-    let wires = match bind(rt, log, alloc, ways) {
-        Ok(wires) => wires,
+    let (wires, wakers) = match bind(rt, log, alloc, ways) {
+        Ok(bound) => bound,
         Err(fault) => return code_of(fault),
     };
     let disks = match open(rt, alloc, config.life_dir.as_str(), config.links.as_slice()) {
@@ -290,7 +290,9 @@ pub fn run<
         return code_of(say(rt, Fault::Config));
     }
     let clock = UnixClock::new(rt);
-    let ended = run_node(log, alloc, node, wires, disks, &clock, reader, writer);
+    let ended = run_node_with_wakers(
+        log, alloc, node, wires, disks, wakers, &clock, reader, writer,
+    );
     let cause = match &ended {
         Ok(_) => None,
         Err(error) => Some(*error),

@@ -6,8 +6,8 @@ use Rattle.tora_commands.proofs.node_command.run.Goals as goal
 
 pub returns : goal.returns
 returns g c =
-    let ended = c.run_node-ended.result in
-    let node = c.run_node-ended.ensures in
+    let ended = c.run_node_with_wakers-ended.result in
+    let node = c.run_node_with_wakers-ended.ensures in
     let so = ended_so c.in-Ok-node_of.node ended node.core node.links node.cause in
     inr (inr (
       c.if-is_check.false,
