@@ -11,4 +11,3 @@ pub mod PollLemmas
 pub mod RefusalLemmas
 pub mod PeerLemmas
 pub mod FloodLemmas
-pub mod StillLemmas

@@ -12,4 +12,3 @@ pub mod Polls
 pub mod Texts
 pub mod Floods
 pub mod WorkedHellos
-pub mod Still

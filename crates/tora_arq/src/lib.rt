@@ -33,7 +33,6 @@ mod receive;
 mod rings;
 mod settings;
 mod state;
-mod still;
 mod transmit;
 
 pub use facts::{

@@ -1,9 +1,8 @@
 //! A link end, as its node sees it.
-ghost use Rattle.std.specs.Prelude.{◌≡◌, ◌≢◌, ◌<◌, ◌≤◌, ◌^◌, ℕ, IfOk, IfNone, IsTrue, OnSome, false, is_some, length};
+ghost use Rattle.std.specs.Prelude.{◌≡◌, ◌≢◌, ◌<◌, ◌≤◌, ◌^◌, IfOk, IfNone, IsTrue, OnSome, is_some, length};
 ghost use Rattle.tora_arq.specs.Settings.{IsTimes, settings_of};
 ghost use Rattle.tora_arq.specs.LinkEnd.{first_end, is_closed, bound_life, after_open, verdict_of, after_frame, after_tick, submit_answer, after_submit, after_cut, first_event, after_poll_event, frame_due, after_transmit};
 ghost use Rattle.tora_arq.specs.EndRange.{IsEndState, link_end_of};
-ghost use Rattle.tora_arq.specs.Still.{still_until};
 ghost use Rattle.tora_frame.specs.declared.parts.Version.TheVariants.{One, Two};
 
 use crate::settings::Settings;
@@ -264,16 +263,6 @@ impl LinkEnd {
         ensures { result ≡ is_some (frame_due self.now.settings self.now.state now) }
     {
         self.state.is_frame_due(&self.settings, now)
-    }
-
-    /// The tick before which no frame is due and a tick changes nothing, unless something else happens at the end; 0 where a
-    /// frame is due at once, or a packet is not acknowledged yet. It is 2^64 - 1 at a closed end.
-    pub fn still_until(&self) -> u64
-        ensures value { result ≡ still_until self.now.settings self.now.state }
-        ensures frames { (tick : ℕ) → tick < result → is_some (frame_due self.now.settings self.now.state tick) ≡ false }
-        ensures ticks { (tick : ℕ) → tick < result → after_tick self.now.settings self.now.state tick ≡ self.now.state }
-    {
-        self.state.still_until(&self.settings)
     }
 
     /// Takes the first frame due, which counts as sent; `None` only where none is due.
