@@ -1,11 +1,14 @@
 //! Files with keys.
+ghost use Rattle.std.specs.Prelude.{◌≡◌};
+
 use crate::node_command::{Fault, say};
+use std::fmt::Display;
 use std::fs::File;
 use std::io;
 use std::io::Read;
 use std::os::unix::fs::PermissionsExt;
 use std::rt::Files;
-use tora_keyed::{Key, LONGEST_KEY_FILE, key_in};
+use tora_keyed::{Key, LONGEST_KEY_FILE, key_in, overwrite};
 use tora_simulate::tell_at;
 
 /// The permissions of a file that its group or others may read.
@@ -45,32 +48,41 @@ fn warn_of_readers(rt: &impl Eprint, file: &File, path: &str) {
     }
 }
 
-/// The key in the file at a path. What is wrong is said on standard error, and never what the file holds.
+/// The key in the file at a path. What is wrong is said on standard error, and never what the file holds. The room into which the file
+/// was read is overwritten at the end.
 pub(crate) fn key_at<R: Files<File = File> + Eprint>(rt: &R, path: &str) -> Result<Key, Fault> {
     let mut room = [0; LONGEST_KEY_FILE + 1];
+    let key = read_key(rt, path, &mut room);
+    overwrite(&mut room);
+    key
+}
+
+/// Reads the file at a path into a room, and makes the key that it says.
+fn read_key<R: Files<File = File> + Eprint>(
+    rt: &R,
+    path: &str,
+    room: &mut [u8],
+) -> Result<Key, Fault> {
     let mut file = match File::open(rt, path) {
         Ok(file) => file,
-        Err(error) => {
-            let fault = say(rt, Fault::Config);
-            tell_at(rt, "input: ", path, &error);
-            return Err(fault);
-        }
+        Err(error) => return Err(tell_fault(rt, path, &error)),
     };
     warn_of_readers(rt, &file, path);
-    let count = match read_front(&mut file, &mut room) {
+    let count = match read_front(&mut file, room) {
         Ok(count) => count,
-        Err(error) => {
-            let fault = say(rt, Fault::Config);
-            tell_at(rt, "input: ", path, &error);
-            return Err(fault);
-        }
+        Err(error) => return Err(tell_fault(rt, path, &error)),
     };
     match key_in(&room[..count.min(room.len())]) {
         Some(key) => Ok(key),
-        None => {
-            let fault = say(rt, Fault::Config);
-            tell_at(rt, "input: ", path, &NO_KEY);
-            Err(fault)
-        }
+        None => Err(tell_fault(rt, path, &NO_KEY)),
     }
+}
+
+/// Says on standard error what is wrong with the file at a path.
+fn tell_fault<D: Display>(rt: &impl Eprint, path: &str, cause: &D) -> Fault
+    ensures { result ≡ Fault.Config }
+{
+    let fault = say(rt, Fault::Config);
+    tell_at(rt, "input: ", path, cause);
+    fault
 }

@@ -1,7 +1,6 @@
 //! The wires of a node's links.
-ghost use Rattle.std.specs.Prelude.{◌≡◌, IfOk, option_map, is_some};
-ghost use Rattle.tora_key.specs.Hmac.{block_of};
-ghost use Rattle.tora_keyed.specs.Links.{over};
+ghost use Rattle.std.specs.Prelude.{◌≡◌, IfOk, is_some, length, map};
+ghost use Rattle.tora_keyed.specs.Links.{over, cleared};
 
 use crate::key_file::key_at;
 use crate::node_command::{Fault, say};
@@ -14,8 +13,8 @@ use std::net::Net;
 use std::rt::Files;
 use std::time::Clock;
 use tora_config::{ConfigError, LinkWay, read_ways};
-use tora_keyed::{Key, LinkWire, NoticedWire};
-use tora_neighbour::UnixClock;
+use tora_keyed::{Key, LentWire, LinkWire, NoticedWire};
+use tora_neighbour::{UnixClock, Wire};
 use tora_simulate::tell_at;
 use tora_waking::{SocketWaker, WakingWire};
 
@@ -86,7 +85,7 @@ fn wire_of<'a, R: Net + Eprint + Clock, L: Log>(
     alloc: Global,
     keyed: KeyedWay,
 ) -> Result<Woken<'a, R, L>, Fault>
-    ensures { IfOk result (λ woken. woken.0 ≡ over 0 (option_map block_of keyed.key)) }
+    ensures { IfOk result (λ woken. woken.0 ≡ over 0 keyed.key) }
 {
     let KeyedWay { way, key } = keyed;
     match WakingWire::bind(rt, alloc, rt, way.local, way.remote) {
@@ -120,4 +119,25 @@ pub(crate) fn bind<'a, R: Net + Eprint + Clock, L: Log>(
         };
     }
     Ok((wires, wakers))
+}
+
+/// Lends each wire, in this order.
+pub(crate) fn lend<W: Wire>(alloc: Global, wires: &mut [W]) -> Result<Vec<LentWire<'_, W>>, Fault> {
+    let mut lent = Vec::new(alloc);
+    let each = wires.iter_mut();
+    for wire in each {
+        let Ok(()) = lent.push(LentWire::new(wire)) else {
+            return Err(Fault::Memory);
+        };
+    }
+    Ok(lent)
+}
+
+/// Closes each wire, once the node has ended: the last counts of its links with keys are logged, and their keys are overwritten.
+pub(crate) fn close<R: Net + Clock, L: Log>(wires: &mut [ProgramWire<'_, R, L>])
+    ensures { wires.new ≡ map cleared wires.old }
+{
+    for wire in wires.iter_mut() {
+        wire.close();
+    }
 }

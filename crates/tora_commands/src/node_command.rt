@@ -1,10 +1,10 @@
 //! `tora node CONFIG`: a node over UDP and real life files.
-ghost use Rattle.std.specs.Prelude.{◌≡◌, IfOk};
+ghost use Rattle.std.specs.Prelude.{◌≡◌, IfOk, false};
 ghost use Rattle.std.specs.Process.{exit_status};
 ghost use Rattle.tora_commands.specs.Statuses.{core_of, status_of_node, status_of_fault, EndsNode};
 ghost use Rattle.tora_config.specs.NodeConfig.{IsNodeConfig};
 
-use crate::link_wires::{KeyedWay, bind, ways_in};
+use crate::link_wires::{KeyedWay, ProgramWire, bind, close, lend, ways_in};
 use crate::{INPUT, LIFE, MEMORY, SOCKET, stop};
 use log::Log;
 use std::alloc::{AllocError, Global};
@@ -24,6 +24,7 @@ use tora_life::{Disk, FileDisk, LifeError, Owner, Tag};
 use tora_neighbour::{NodeError, UnixClock};
 use tora_node::{Config, Ended, run_node_with_wakers};
 use tora_simulate::{tell, tell_at};
+use tora_waking::SocketWaker;
 
 /// Why a node is not started.
 #[derive(Clone, Copy, Debug, PartialEq, Eq)]
@@ -248,6 +249,8 @@ fn tell_ended<R: Files<File = File> + AllocGlobal + Eprint>(
 /// neighbour (3), then a life file, likewise (4), memory at any point (5). With `is_check` it reads the
 /// configuration and the keys, says that it is one, and ends. Standard error has the cause of a fault, and with `is_verbose` of a life file of
 /// another node whose it is.
+///
+/// At the end it logs how many datagrams of each link with a key were not authentic, and overwrites the keys.
 pub fn run<
     R: Files<File = File> + AllocGlobal + Eprint + Net + Clock + Sync,
     L: Threads + Wait + Log + Sync,
@@ -273,25 +276,56 @@ pub fn run<
         praise(rt, path, &config);
         return ExitCode::SUCCESS;
     }
-    let (wires, wakers) = match bind(rt, log, alloc, ways) {
+    let (mut wires, wakers) = match bind(rt, log, alloc, ways) {
         Ok(bound) => bound,
         Err(fault) => return code_of(fault),
     };
+    let code = run_over(
+        rt, log, &config, &mut wires, wakers, is_verbose, reader, writer,
+    );
+    close(&mut wires);
+    code
+}
+
+/// Opens the life files and runs the node of a configuration over its wires, which are lent to it, and wakes its links.
+fn run_over<
+    R: Files<File = File> + AllocGlobal + Eprint + Net + Clock + Sync,
+    L: Threads + Wait + Log + Sync,
+    Rd: Read,
+    W: Write + Send,
+>(
+    rt: &R,
+    log: &L,
+    config: &NodeConfig,
+    wires: &mut [ProgramWire<'_, R, L>],
+    wakers: Vec<SocketWaker>,
+    is_verbose: bool,
+    reader: &mut Rd,
+    writer: &mut W,
+) -> ExitCode
+    requires { IsNodeConfig config.now }
+    ensures { EndsNode false (exit_status result) }
+{
+    let alloc = rt.alloc();
     let disks = match open(rt, alloc, config.life_dir.as_str(), config.links.as_slice()) {
         Ok(disks) => disks,
         Err(fault) => return code_of(fault),
     };
-    let node = match node_of(alloc, &config) {
+    let node = match node_of(alloc, config) {
         Ok(node) => node,
         Err(fault) => return code_of(say(rt, fault)),
     };
+    let lent = match lend(alloc, wires) {
+        Ok(lent) => lent,
+        Err(fault) => return code_of(say(rt, fault)),
+    };
     let count = node.peers().len();
-    if wires.len() != count || disks.len() != count {
+    if lent.len() != count || disks.len() != count {
         return code_of(say(rt, Fault::Config));
     }
     let clock = UnixClock::new(rt);
     let ended = run_node_with_wakers(
-        log, alloc, node, wires, disks, wakers, &clock, reader, writer,
+        log, alloc, node, lent, disks, wakers, &clock, reader, writer,
     );
     let cause = match &ended {
         Ok(_) => None,

@@ -1,5 +1,5 @@
 -- Datagrams with tags, and what contracts see of a wire of them.
-use Rattle.std.specs.Prelude.{◌≡◌, ℕ, ◌+◌, ◌-◌, ◌^◌, min, Bool, false, MatchBool, List, length, take, Option, Some, None, Result, Ok, Err, IsErr, nat_lt, if◌then◌else◌}
+use Rattle.std.specs.Prelude.{◌≡◌, ℕ, ◌+◌, ◌-◌, ◌^◌, min, Bool, false, MatchBool, List, length, take, replicate, Option, Some, None, Result, Ok, Err, IsErr, nat_lt, if◌then◌else◌}
 use Rattle.tora_neighbour.specs.declared.wire.WireError.{WireError}
 use Rattle.tora_neighbour.specs.Datagrams.{failures_after, IsCut}
 use Rattle.tora_key.specs.Sealing.{sealed, opened}
@@ -7,6 +7,10 @@ use Rattle.tora_key.specs.Sealing.{sealed, opened}
 -- the message of an authentic datagram of at most 576 bytes, without its tag
 abbrev pub let_in : List ℕ → List ℕ → Option (List ℕ)
 let_in key datagram = if nat_lt 576 (length datagram) then None else opened key datagram
+
+-- the block of a key that was overwritten
+abbrev pub cleared_key : List ℕ
+cleared_key = replicate 64 0
 
 pub record KeyedView (W : Type 0) : Type 0 where
   pub wire : W

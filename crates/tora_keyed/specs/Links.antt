@@ -1,7 +1,7 @@
 -- What contracts see of the wire of a link, with a key or without one.
-use Rattle.std.specs.Prelude.{ℕ, ◌&&◌, Bool, true, List, filter_map, Option, Some, None, Result}
+use Rattle.std.specs.Prelude.{ℕ, ◌&&◌, Bool, true, false, List, filter_map, Option, Some, None, Result}
 use Rattle.tora_neighbour.specs.declared.wire.WireError.{WireError}
-use Rattle.tora_keyed.specs.Keyed.{KeyedView, SendsSealed, ReceivesLetIn, let_in}
+use Rattle.tora_keyed.specs.Keyed.{KeyedView, SendsSealed, ReceivesLetIn, let_in, cleared_key}
 
 pub data LinkView (W : Type 0) : Type 0 where
   plain : W → LinkView W
@@ -11,6 +11,16 @@ pub data LinkView (W : Type 0) : Type 0 where
 abbrev pub over : {W : Type 0} → W → Option (List ℕ) → LinkView W
 over wire None = plain wire
 over wire (Some key) = keyed (record { wire = wire; key = key; told = true; unauthenticated = 0; failures = 0 })
+
+-- it has a key
+abbrev pub has_key : {W : Type 0} → LinkView W → Bool
+has_key (plain w) = false
+has_key (keyed f) = true
+
+-- the key, where there is one, is the one whose block is zeros
+abbrev pub cleared : {W : Type 0} → LinkView W → LinkView W
+cleared (plain w) = plain w
+cleared (keyed f) = keyed (record f { key = cleared_key })
 
 abbrev pub tells_of : {W : Type 0} → (W → Bool) → LinkView W → Bool
 tells_of tells (plain w) = tells w

@@ -1,8 +1,7 @@
 //! Files with keys.
-ghost use Rattle.std.specs.Prelude.{◌≡◌, length, Some, None, MatchResult};
+ghost use Rattle.std.specs.Prelude.{◌≡◌, length, replicate, Some, None, MatchResult};
 ghost use Rattle.hex.specs.Hex.{decode_sized};
-ghost use Rattle.tora_key.specs.Hmac.{block_of, padded};
-ghost use Rattle.tora_key.specs.declared.key.Key.{Key};
+ghost use Rattle.tora_key.specs.Hmac.{padded};
 ghost use Rattle.tora_keyed.specs.KeyFile.{digits_in};
 
 use tora_key::Key;
@@ -25,13 +24,23 @@ fn digits_in(bytes: &[u8]) -> &[u8]
     }
 }
 
-/// The key that the bytes of a file say: 64 hexadecimal digits, and perhaps a line feed. `None` where they are no such.
+/// The key that the bytes of a file say: 64 hexadecimal digits, and perhaps a line feed. `None` where they are no such. The room in
+/// which the key's bytes stood is overwritten once the key is made; who read the file overwrites what was read.
 pub fn key_in(bytes: &[u8]) -> Option<Key>
-    ensures { MatchResult (decode_sized (digits_in bytes.now) 32) (λ key. (made : Key) × (result ≡ Some made) × (block_of made ≡ padded key)) (λ _. result ≡ None) }
+    ensures { MatchResult (decode_sized (digits_in bytes.now) 32) (λ key. result ≡ Some (padded key)) (λ _. result ≡ None) }
 {
-    let mut key = [0; KEY];
-    match hex::decode_to_slice(digits_in(bytes), &mut key) {
-        Ok(()) => Some(Key::new(&key)),
+    let mut room = [0; KEY];
+    let key = match hex::decode_to_slice(digits_in(bytes), &mut room) {
+        Ok(()) => Some(Key::new(&room)),
         Err(_) => None,
-    }
+    };
+    overwrite(&mut room);
+    key
+}
+
+/// Writes zeros over bytes that held a key or its digits.
+pub fn overwrite(bytes: &mut [u8])
+    ensures { bytes.new ≡ replicate (length bytes.old) 0 }
+{
+    bytes.fill(0);
 }

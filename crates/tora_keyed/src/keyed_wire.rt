@@ -1,7 +1,6 @@
 //! A wire whose datagrams have tags.
 ghost use Rattle.std.specs.Prelude.{◌≡◌, ◌+◌, ◌-◌, ◌^◌, min, length, true};
-ghost use Rattle.tora_key.specs.Hmac.{block_of};
-ghost use Rattle.tora_keyed.specs.Keyed.{let_in, Writes};
+ghost use Rattle.tora_keyed.specs.Keyed.{let_in, cleared_key, Writes};
 ghost use Rattle.tora_neighbour.specs.Datagrams.{IsCut};
 
 use std::marker::Model;
@@ -31,12 +30,11 @@ pub struct KeyedWire<W: Wire> {
 
 impl<W: Wire> Model for KeyedWire<W> {
     ghost use Rattle.std.specs.Prelude.{◌≡◌, length};
-    ghost use Rattle.tora_key.specs.Hmac.{block_of};
     ghost use Rattle.tora_keyed.specs.Keyed.{KeyedView};
 
     ghost Value = { KeyedView W };
 
-    ghost view = { λ f. record { wire = f.wire; key = block_of f.key; told = f.told; unauthenticated = f.unauthenticated; failures = f.failures } };
+    ghost view = { λ f. record { wire = f.wire; key = f.key; told = f.told; unauthenticated = f.unauthenticated; failures = f.failures } };
 
     ghost invariant = { λ f. length f.room ≡ 577 };
 }
@@ -44,7 +42,7 @@ impl<W: Wire> Model for KeyedWire<W> {
 impl<W: Wire> KeyedWire<W> {
     /// A wire over this one, under a key.
     pub fn new(wire: W, key: Key) -> KeyedWire<W>
-        ensures { result ≡ record { wire = wire; key = block_of key; told = true; unauthenticated = 0; failures = 0 } }
+        ensures { result ≡ record { wire = wire; key = key; told = true; unauthenticated = 0; failures = 0 } }
     {
         KeyedWire {
             wire,
@@ -61,6 +59,14 @@ impl<W: Wire> KeyedWire<W> {
         ensures { result ≡ self.now.unauthenticated }
     {
         self.unauthenticated
+    }
+
+    /// Overwrites the key, and the room in which datagrams stood. From then on the wire has the key whose block is zeros.
+    pub fn clear_key(&mut self)
+        ensures { self.new ≡ record self.old { key = cleared_key } }
+    {
+        self.key.clear();
+        self.room = [0; ROOM];
     }
 
     fn count(&mut self)
@@ -88,7 +94,7 @@ fn copy_into(datagram: &[u8], buf: &mut [u8]) -> usize
 
 // Writes the message of a datagram to the front of a buffer, where it is let in, and answers how many bytes it wrote.
 fn let_in(key: &Key, datagram: &[u8], buf: &mut [u8]) -> Option<usize>
-    ensures { Writes (let_in (block_of key.now) datagram.now) result buf.new }
+    ensures { Writes (let_in key.now datagram.now) result buf.new }
 {
     if datagram.len() >= ROOM {
         return None;

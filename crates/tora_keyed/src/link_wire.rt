@@ -1,7 +1,6 @@
 //! The wire of a link, with a key or without one.
-ghost use Rattle.std.specs.Prelude.{◌≡◌, true, option_map};
-ghost use Rattle.tora_key.specs.Hmac.{block_of};
-ghost use Rattle.tora_keyed.specs.Links.{plain, keyed, over, unauthenticated_of};
+ghost use Rattle.std.specs.Prelude.{◌≡◌, true};
+ghost use Rattle.tora_keyed.specs.Links.{plain, keyed, over, cleared, has_key, unauthenticated_of};
 
 use crate::keyed_wire::KeyedWire;
 use std::marker::Model;
@@ -41,7 +40,7 @@ impl<W: Wire> LinkWire<W> {
 
     /// The wire of a link with this key.
     pub fn keyed(wire: W, key: Key) -> LinkWire<W>
-        ensures { result ≡ keyed (record { wire = wire; key = block_of key; told = true; unauthenticated = 0; failures = 0 }) }
+        ensures { result ≡ keyed (record { wire = wire; key = key; told = true; unauthenticated = 0; failures = 0 }) }
     {
         LinkWire {
             way: Way::Keyed(KeyedWire::new(wire, key)),
@@ -50,7 +49,7 @@ impl<W: Wire> LinkWire<W> {
 
     /// The wire of a link with this key, or without one.
     pub fn over(wire: W, key: Option<Key>) -> LinkWire<W>
-        ensures { result ≡ over wire (option_map block_of key) }
+        ensures { result ≡ over wire key }
     {
         match key {
             Some(key) => LinkWire::keyed(wire, key),
@@ -65,6 +64,23 @@ impl<W: Wire> LinkWire<W> {
         match &self.way {
             Way::Plain(_) => 0,
             Way::Keyed(wire) => wire.unauthenticated(),
+        }
+    }
+
+    /// Whether the link has a key.
+    pub fn has_key(&self) -> bool
+        ensures { result ≡ has_key self.now }
+    {
+        matches!(self.way, Way::Keyed(_))
+    }
+
+    /// Overwrites the key, where there is one: from then on it is the one whose block is zeros.
+    pub fn clear_key(&mut self)
+        ensures { self.new ≡ cleared self.old }
+    {
+        match &mut self.way {
+            Way::Plain(_) => {}
+            Way::Keyed(wire) => wire.clear_key(),
         }
     }
 }

@@ -1,23 +1,21 @@
 //! A wire of a link that tells how many datagrams were not let in.
 use crate::link_wire::LinkWire;
-use log::{Log, warn};
+use crate::notices::Notices;
+use log::{Log, info, warn};
 use std::marker::Model;
 use tora_height::Id;
 use tora_neighbour::{Clock, Wire, WireError};
 
-/// The ticks of 100 ms of a minute.
-const MINUTE: u64 = 600;
-
 /// The wire of a link, whose log has a line where datagrams come that are not authentic, at most once a minute:
-/// `link 2 unauthenticated datagrams 17`, with the count since the wire was made. Own profile.
+/// `link 2 unauthenticated datagrams 17`, with the count since the wire was made. Once the link has ended, `close` logs the last
+/// count and overwrites the key. Own profile.
 #[derive(Drop)]
 pub struct NoticedWire<'a, W: Wire, C, L> {
     wire: LinkWire<W>,
     peer: Id,
     clock: C,
     log: &'a L,
-    told: u64,
-    last: Option<u64>,
+    notices: Notices,
 }
 
 impl<'a, W: Wire, C, L> Model for NoticedWire<'a, W, C, L> {
@@ -30,6 +28,7 @@ impl<'a, W: Wire, C, L> Model for NoticedWire<'a, W, C, L> {
 
 impl<'a, W: Wire, C: Clock, L: Log> NoticedWire<'a, W, C, L> {
     ghost use Rattle.std.specs.Prelude.{◌≡◌};
+    ghost use Rattle.tora_keyed.specs.Links.{cleared, unauthenticated_of};
 
     /// The wire of the link to `peer`, which logs to `log`.
     pub fn new(wire: LinkWire<W>, peer: Id, clock: C, log: &'a L) -> NoticedWire<'a, W, C, L>
@@ -40,31 +39,37 @@ impl<'a, W: Wire, C: Clock, L: Log> NoticedWire<'a, W, C, L> {
             peer,
             clock,
             log,
-            told: 0,
-            last: None,
+            notices: Notices::new(),
         }
     }
 
-    /// Whether a minute has passed since the last line, or the clock has gone back.
-    fn is_due(&self, now: u64) -> bool {
-        match self.last {
-            None => true,
-            Some(last) => now < last || now - last >= MINUTE,
-        }
+    /// How many datagrams that were not authentic have come, and 2^64 - 1 from there on. Without a key 0.
+    pub fn unauthenticated(&self) -> u64
+        ensures { result ≡ unauthenticated_of self.now }
+    {
+        self.wire.unauthenticated()
     }
 
-    /// Logs the count where it is a new one and a line is due.
+    /// Logs how many datagrams were not authentic, where the link has a key, and overwrites the key. For the end of a link.
+    pub fn close(&mut self)
+        ensures { self.new ≡ cleared self.old }
+    {
+        if self.wire.has_key() {
+            let (peer, count) = (self.peer, self.wire.unauthenticated());
+            info!(self.log; "link {peer} unauthenticated datagrams {count}");
+        }
+        self.wire.clear_key();
+    }
+
+    /// Logs the count where a line is due.
     fn notice(&mut self)
         ensures { self.new ≡ self.old }
     {
         let count = self.wire.unauthenticated();
-        if count == self.told {
+        if !self.notices.is_new(count) {
             return;
         }
-        let now = self.clock.now();
-        if self.is_due(now) {
-            self.told = count;
-            self.last = Some(now);
+        if self.notices.is_told(count, self.clock.now()) {
             let peer = self.peer;
             warn!(self.log; "link {peer} unauthenticated datagrams {count}");
         }

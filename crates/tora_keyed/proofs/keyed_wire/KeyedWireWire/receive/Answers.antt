@@ -22,8 +22,8 @@ pub returns-else-is_none-clause-came : goal.returns-else-is_none-clause-came
 returns-else-is_none-clause-came g c = λ yes.
     let told : IsTrue (g.W.Wire.tells c.receive.new.self) = grind (arith, common_steps, yes) in
     let here = rw c.in-Ok-Some.field-0-is at (c.in-Ok-Some.ensures.came told) in
-    subst (λ (f : KeyedView g.row.W.Denot). IsReceived (filter_map (let_in f.key) (g.W.Wire.coming f.wire)) (length c.args.buf.now) (Ok c.let_in-written.result) c.let_in-written.new.buf (filter_map (let_in c.self.inside.key.block) (g.W.Wire.coming c.receive.new.self))) c.self.view_is
-    (came c.self.inside.key.block (g.W.Wire.coming c.self.inside.wire) (g.W.Wire.coming c.receive.new.self) c.in-Ok-Some.count _ _ c.receive.new.buf c.let_in-written.new.buf c.let_in-written.result c.self.invariant here c.let_in-written.ensures (omega arith))
+    subst (λ (f : KeyedView g.row.W.Denot). IsReceived (filter_map (let_in f.key) (g.W.Wire.coming f.wire)) (length c.args.buf.now) (Ok c.let_in-written.result) c.let_in-written.new.buf (filter_map (let_in c.self.inside.key) (g.W.Wire.coming c.receive.new.self))) c.self.view_is
+    (came c.self.inside.key (g.W.Wire.coming c.self.inside.wire) (g.W.Wire.coming c.receive.new.self) c.in-Ok-Some.count _ _ c.receive.new.buf c.let_in-written.new.buf c.let_in-written.result c.self.invariant here c.let_in-written.ensures (omega arith))
 
 pub returns-in-Ok-None-clause-call : goal.returns-in-Ok-None-clause-call
 returns-in-Ok-None-clause-call g c =
