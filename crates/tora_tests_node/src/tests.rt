@@ -3,3 +3,4 @@ mod lanes;
 mod neighbours;
 mod nodes;
 mod sees;
+mod waking;

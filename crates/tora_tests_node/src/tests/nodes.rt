@@ -1,12 +1,13 @@
 //! Nodes of several threads, in one process.
 ghost use Rattle.std.specs.Prelude.{All, ◌<◌};
 
-use super::neighbours::{pair, total};
+use super::neighbours::total;
 use super::sees::{as_many, same, same_at, sees, sees_at, there};
+use super::waking::{Woken, woken_pair};
 use byte_disk::ByteDisk;
 use std::alloc::Global;
 use std::io::{Read, Write};
-use std::net::Net;
+use std::net::{IpAddr, Ipv4Addr};
 use std::process::Abort;
 use std::sync::Wait;
 use std::sync::atomic::{AtomicU64, Ordering};
@@ -17,7 +18,7 @@ use streams::{Asking, Course, Meeting, Page, Screen, Waiting};
 use tora_core::CoreError;
 use tora_height::Id;
 use tora_life::{Disk, LifeError};
-use tora_neighbour::{MemWire, NodeError, UdpWire, UnixClock, Wire};
+use tora_neighbour::{MemWire, NodeError, UnixClock, Wire};
 use tora_node::*;
 
 mod byte_disk;
@@ -66,13 +67,13 @@ fn run_over<
     run_node(rt, alloc, config, wires, disks, &clock, commands, screen)
 }
 
-/// Runs a node with one link over the loopback.
-fn run_one<R: Threads + Wait + Sync + Net + time::Clock + log::Log + Abort>(
+/// Runs a node with one link over the loopback, whose thread is woken.
+fn run_one<R: Threads + Wait + Sync + time::Clock + log::Log + Abort>(
     rt: &R,
     alloc: Global,
     me: u32,
     peer: u32,
-    wire: UdpWire,
+    woken: Woken<'_, R>,
     first: &[u8],
     course: &Course,
 ) -> bool
@@ -80,8 +81,14 @@ fn run_one<R: Threads + Wait + Sync + Net + time::Clock + log::Log + Abort>(
     requires peer { 0 < peer }
 {
     let config = config_of(rt, alloc, me, &[peer]);
+    let (wire, waker) = woken;
     let wires = list_of(rt, alloc, wire);
+    let wakers = list_of(rt, alloc, waker);
     let disks = list_of(rt, alloc, ByteDisk::of_zeros(0));
+    let links = config.peers().len();
+    as_many(rt, wires.len(), links);
+    as_many(rt, disks.len(), links);
+    let clock = UnixClock::new(rt);
     let mut commands = Asking {
         rt,
         first,
@@ -89,7 +96,18 @@ fn run_one<R: Threads + Wait + Sync + Net + time::Clock + log::Log + Abort>(
         asked: 0,
     };
     let mut screen = Screen { course };
-    run_over(rt, alloc, config, wires, disks, &mut commands, &mut screen).is_ok()
+    run_node_with_wakers(
+        rt,
+        alloc,
+        config,
+        wires,
+        disks,
+        wakers,
+        &clock,
+        &mut commands,
+        &mut screen,
+    )
+    .is_ok()
 }
 
 /// Waits until the other node has printed, 10 s at most.
@@ -105,7 +123,9 @@ fn wait_for_print<R: time::Clock>(rt: &R, course: &Course) {
 #[test]
 fn two_nodes_on_the_loopback(rt: HostRuntime) {
     let alloc = rt.alloc();
-    let (third, fourth) = there(&rt, pair(&rt, 44_400), "a pair of free ports");
+    let here = IpAddr::V4(Ipv4Addr::LOCALHOST);
+    let pair = woken_pair(&rt, alloc, here, 44_400);
+    let (third, fourth) = there(&rt, pair, "a pair of free ports");
     let course = Course {
         printed: AtomicU64::new(0),
         found: AtomicU64::new(0),
