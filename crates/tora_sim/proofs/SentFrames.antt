@@ -1,6 +1,6 @@
 -- Datagrams as places of frames that are kept, where more frames come behind those.
 use Rattle.std.proofs.Common.{◌≡◌, ℕ, zero, suc, ◌<◌, List, [], ◌∷◌, ◌++◌, length, slice_get, Some, None, Option, refl, sym, ap, ◌∙◌, subst, arith, length-append}
-use Rattle.std.specs.List.{AllByRecursion, filter_map, cons_option}
+use Rattle.std.specs.List.{cons_option}
 use Rattle.std.proofs.lemmas.List.Elements.{filter_map-append}
 use Rattle.tora_frame.specs.FrameParts.{FrameParts}
 use Rattle.tora_sim.specs.SentFrames.{AreWithin, sent_frames, IsMore}

@@ -1,4 +1,4 @@
-use Rattle.std.proofs.Common.{◌∷◌, [], ◌++◌, ap, ◌∙◌, List, ℕ, subst, sym}
+use Rattle.std.proofs.Common.{◌∷◌, [], ◌++◌, ap, ◌∙◌}
 use Rattle.tora_sim.specs.Datagrams.{DatagramList}
 use Rattle.tora_sim.specs.SentFrames.{sent_frames}
 use Rattle.tora_sim.proofs.SentFrames.{one_more}
