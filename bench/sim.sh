@@ -1,6 +1,7 @@
 #!/usr/bin/env bash
 # Time and peak memory of `tora sim`, beside an unverified baseline, in one run: a line of 64 nodes, a grid of 8 x 8, a star
-# of 9, and the grid with 16 destinations. Links are parted and mended; what stands behind the links comes REPEATS times.
+# of 9, and the grid with 16 destinations. Links are parted and mended; what stands behind the links comes REPEATS times. The
+# last file is the grid for 2,000 rounds in which nothing happens but HELLOs, REPEATS times too.
 # Each runs twice: with a line `old N` for every node, where the outputs have to be the same, and without them. The baseline
 # knows version 1 of frames alone, and batches bring packets in another order, so without them heights may differ.
 # usage: bench/sim.sh BASE [REPEATS] [ROUNDS]     BASE: the folder of the baseline's sources (a Cargo crate `base`)
@@ -27,13 +28,21 @@ all_old() {
     { print }' "$1"
 }
 
-for case in 'line 64' 'grid 8' 'star 9' 'grid 8 16'; do
-  # shellcheck disable=SC2086
-  "$bin" gen-sim $case >"$work/once.sim"
+# A file of the baseline, as often as it is repeated, in both programs, by its name.
+compared() {
   repeated "$work/once.sim" >"$work/case.sim"
   all_old "$work/case.sim" >"$work/old.sim"
   for nodes in old case; do
-    echo "$case: $(wc -l <"$work/case.sim") lines, $repeats times what stands behind the links$([ "$nodes" = case ] || echo ', every node old')"
+    echo "$1: $(wc -l <"$work/case.sim") lines, $repeats times what stands behind the links$([ "$nodes" = case ] || echo ', every node old')"
     python3 "$top/bench/measure.py" "$rounds" /dev/null "$work/a" "$work/b" -- "$top/crates/tora/out/tora" sim "$work/$nodes.sim" -- "$bin" sim "$work/case.sim"
   done
+}
+
+for case in 'line 64' 'grid 8' 'star 9' 'grid 8 16'; do
+  # shellcheck disable=SC2086
+  "$bin" gen-sim $case >"$work/once.sim"
+  compared "$case"
 done
+"$bin" gen-sim grid 8 | grep -E '^(dests|link) ' >"$work/once.sim"
+echo 'rounds 2000' >>"$work/once.sim"
+compared 'grid 8, HELLOs alone'
