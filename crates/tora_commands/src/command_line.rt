@@ -233,6 +233,8 @@ Lines of its own, behind the links:
                       to destination D
   far N K             the end of N towards K sends nothing in a step
   near N K            it sends again
+  notice N K          the end of N towards K cuts the life that it is bound in,
+                      as where a radio tells that K is gone
   bytes ID            prints `bytes ID HEX`, the bytes of a datagram
   take A B HEX        A receives these bytes from B; refused where B sent A no
                       datagram of these bytes

@@ -86,6 +86,21 @@ const OWN_LINES: &[Row] = &[
          sent 2 1 1 28\nsent 2 1 2 28\nok\nok\nsent 1 2 3 28\nsent 1 2 4 28\nok\n",
         Ended::Whole,
     ),
+    // A notice cuts the life that an end is bound in; the node's next hop is gone in the step behind it. It is refused where the end is
+    // not bound, and a fault where there is no such end.
+    (
+        &[
+            "dests 2\nlink 1 2\nneed 1 2\nstep\nnotice 1 2\ndeliver 1\ndeliver 2\ndeliver 3\ndeliver 4\nstep\ndeliver 5\ndeliver 6\nstep\n",
+        ],
+        &["notice 1 2\nnotice 1 2\nnotice 2 2\nnotice 2 3\nnotice 1\nnotice 2 1\nstep\n"],
+        "ok\nok\nok\nsent 1 2 1 28\nsent 1 2 2 28\nsent 2 1 3 28\nsent 2 1 4 28\nok\nrefused 4\nok\nok\nok\nok\n\
+         sent 1 2 5 28\nsent 2 1 6 28\nok\nok\nok\nsent 1 2 7 80\nhop 1 2 2\nok\n\
+         ok\nrefused 4\nfault 16 it names a node, a link or a destination that there is not\n\
+         fault 17 it names a node, a link or a destination that there is not\n\
+         fault 18 it is no line that may stand here\nok\n\
+         sent 1 2 8 28\nsent 1 2 9 28\nsent 2 1 10 28\nsent 2 1 11 28\nhop 1 2 -\nok\n",
+        Ended::Whole,
+    ),
     // What an event is refused for, and what none of these is.
     (
         &[
