@@ -4,6 +4,7 @@ mod drives;
 mod each_call;
 mod expected;
 mod failing_streams;
+mod keyed_wires;
 mod log_lines;
 mod mixed_networks;
 mod replay_rows;

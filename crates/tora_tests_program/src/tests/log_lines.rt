@@ -12,12 +12,25 @@ use tora_log::LogLines;
 
 /// A standard error that is kept, and a clock that stands or can't be read.
 #[derive(Drop)]
-struct Desk {
+pub struct Desk {
     told: RefCell<ArrayWriter>,
     now: Option<Duration>,
 }
 
 impl Desk {
+    /// Nothing was told, and the clock reads so many milliseconds since 1970.
+    pub fn new(now: Option<u64>) -> Desk {
+        Desk {
+            told: RefCell::new(ArrayWriter::new(Fails::Never)),
+            now: now.map(Duration::from_millis),
+        }
+    }
+
+    /// What was told.
+    pub fn into_told(self) -> ArrayWriter {
+        self.told.into_inner()
+    }
+
     fn tell<D: Display + Drop>(&self, value: D, end: &str) -> io::Result<()> {
         match self.told.try_borrow_mut() {
             Ok(mut told) => write!(told, "{value}{end}"),
@@ -82,13 +95,9 @@ const ROWS: &[Row] = &[
 /// A row's records are written so.
 fn expect_lines<T: Abort>(rt: &T, row: &Row) {
     let (now, has_time, level, wanted) = *row;
-    let desk = Desk {
-        told: RefCell::new(ArrayWriter::new(Fails::Never)),
-        now: now.map(Duration::from_millis),
-    };
+    let desk = Desk::new(now);
     log_three(&Logged::new(&desk, level, LogLines::new(&desk, has_time)));
-    let Desk { told, now: _ } = desk;
-    let told = told.into_inner();
+    let told = desk.into_told();
     same_at(rt, &str::from_utf8(told.text()).unwrap_or(""), &wanted, row);
 }
 

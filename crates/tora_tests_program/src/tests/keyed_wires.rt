@@ -1,0 +1,163 @@
+//! The wires of links with keys: what their log says, what their owner has back, and that their keys are overwritten.
+ghost use Rattle.std.specs.Prelude.{◌≡◌, false, [], ◌≤◌, length};
+
+use super::log_lines::Desk;
+use super::sees::{same_at, sees};
+use log::{LevelFilter, Log, Logged};
+use std::cell::Cell;
+use std::process::Abort;
+use std::str;
+use tora_keyed::{Key, LentWire, LinkWire, NoticedWire};
+use tora_log::LogLines;
+use tora_neighbour::{Clock, Wire, WireError};
+
+const MESSAGE: &[u8] = b"a datagram";
+
+/// A clock that is set.
+#[derive(Drop)]
+struct SetClock<'a> {
+    tick: &'a Cell<u64>,
+}
+
+impl Clock for SetClock<'_> {
+    ghost did_tell = { λ c tick. Unit {0} };
+
+    fn now(&self) -> u64 {
+        self.tick.get()
+    }
+}
+
+/// A wire that gives a datagram at each receive, tagged under a key, and with another tag where that is asked for.
+#[derive(Drop)]
+struct GivingWire<'a> {
+    key: Key,
+    is_forged: &'a Cell<bool>,
+}
+
+impl Wire for GivingWire<'_> {
+    ghost tells = { λ w. false };
+
+    ghost coming = { λ w. [] };
+
+    ghost tries = { λ w. [] };
+
+    ghost failures = { λ w. 0 };
+
+    ghost did_send = { λ w bytes answer after. Unit {0} };
+
+    ghost did_receive = { λ w answer buffer after. Unit {0} };
+
+    fn send(&mut self, _bytes: &[u8]) -> Result<(), WireError> {
+        Ok(())
+    }
+
+    fn receive(&mut self, buf: &mut [u8]) -> Result<Option<usize>, WireError> {
+        let mut room = [0; 26];
+        self.key.seal(MESSAGE, &mut room);
+        if self.is_forged.get() {
+            room[25] ^= 1;
+        }
+        let count = buf.len().min(26);
+        buf[..count].copy_from_slice(&room[..count]);
+        Ok(Some(count))
+    }
+}
+
+/// The tick at which a datagram comes, and whether it is forged.
+type Turn = (u64, bool);
+
+/// In the minute from 10 on one line, and so in each from then on, where there is a new count; and where the clock goes back.
+const TURNS: &[Turn] = &[
+    (9, false),
+    (10, true),
+    (11, true),
+    (609, true),
+    (610, false),
+    (611, true),
+    (1_209, false),
+    (1_210, false),
+    (1_810, false),
+    (1_100, true),
+    (1_101, true),
+];
+
+const LINES: &str = "[WARN  tora_keyed::noticed_wire] link 2 unauthenticated datagrams 1\n\
+[WARN  tora_keyed::noticed_wire] link 2 unauthenticated datagrams 3\n\
+[WARN  tora_keyed::noticed_wire] link 2 unauthenticated datagrams 4\n\
+[WARN  tora_keyed::noticed_wire] link 2 unauthenticated datagrams 5\n\
+[INFO  tora_keyed::noticed_wire] link 2 unauthenticated datagrams 6\n";
+
+/// A datagram comes at each turn over the wire, which is lent; one that is forged is not given.
+fn turn_each<L: Log>(
+    rt: &impl Abort,
+    wire: &mut NoticedWire<'_, GivingWire<'_>, SetClock<'_>, L>,
+    tick: &Cell<u64>,
+    is_forged: &Cell<bool>,
+) {
+    for turn in TURNS {
+        tick.set(turn.0);
+        is_forged.set(turn.1);
+        let mut lent = LentWire::new(&mut *wire);
+        let given = lent.receive(&mut [0; 30]);
+        let wanted = if turn.1 { None } else { Some(MESSAGE.len()) };
+        same_at(rt, &given, &Ok(wanted), turn);
+    }
+}
+
+/// Each line comes at its time, the owner has the count, and under a cleared key nothing comes through.
+fn minutes_pass(rt: &impl Abort, desk: &Desk) {
+    let (tick, is_forged) = (Cell::new(0), Cell::new(false));
+    let log = Logged::new(desk, LevelFilter::Info, LogLines::new(desk, false));
+    let giving = GivingWire {
+        key: Key::new(&[7; 32]),
+        is_forged: &is_forged,
+    };
+    let wire = LinkWire::over(giving, Some(Key::new(&[7; 32])));
+    let mut wire = NoticedWire::new(wire, 2, SetClock { tick: &tick }, &log);
+    turn_each(rt, &mut wire, &tick, &is_forged);
+    same_at(rt, &wire.unauthenticated(), &6, &"the count");
+    wire.close();
+    is_forged.set(false);
+    let given = wire.receive(&mut [0; 30]);
+    same_at(rt, &given, &Ok(None), &"a cleared key");
+}
+
+/// A link without a key gives all that comes, counts nothing, and has no line at its end.
+fn plain_link_ends(rt: &impl Abort, desk: &Desk) {
+    let (tick, is_forged) = (Cell::new(0), Cell::new(true));
+    let log = Logged::new(desk, LevelFilter::Info, LogLines::new(desk, false));
+    let giving = GivingWire {
+        key: Key::new(&[7; 32]),
+        is_forged: &is_forged,
+    };
+    let wire = LinkWire::over(giving, None);
+    let mut wire = NoticedWire::new(wire, 2, SetClock { tick: &tick }, &log);
+    let given = wire.receive(&mut [0; 30]);
+    same_at(rt, &given, &Ok(Some(26)), &"no key");
+    wire.close();
+    same_at(rt, &wire.unauthenticated(), &0, &"no key");
+}
+
+#[test]
+fn unauthenticated_datagrams_are_told_once_a_minute(rt: HostRuntime) {
+    let desk = Desk::new(None);
+    minutes_pass(&rt, &desk);
+    let told = desk.into_told();
+    sees(
+        &rt,
+        told.text() == LINES.as_bytes(),
+        str::from_utf8(told.text()).unwrap_or(""),
+    );
+}
+
+#[test]
+fn link_without_a_key_tells_nothing(rt: HostRuntime) {
+    let desk = Desk::new(None);
+    plain_link_ends(&rt, &desk);
+    let told = desk.into_told();
+    sees(
+        &rt,
+        told.text().is_empty(),
+        str::from_utf8(told.text()).unwrap_or(""),
+    );
+}
