@@ -388,14 +388,20 @@ check_keys() {
   }
   linked one one
   holds 'nodes with one key have a link' grep -q 'link 2 up' "$work/keyed1.log"
-  holds 'all that comes is authentic' test "$(grep -c unauthenticated "$work/keyed1.log" "$work/keyed2.log" | grep -c ':0$')" = 2
+  holds 'all that comes is authentic' test "$(cat "$work"/keyed?.log | grep -c unauthenticated)" = 2
+  holds 'the end says so' test "$(cat "$work"/keyed?.log | grep -c '^\[INFO .* link [12] unauthenticated datagrams 0$')" = 2
   linked one other
   holds 'nodes with two keys have no link' test "$(cat "$work"/keyed?.log | grep -c ' up ')" = 0
-  holds 'each says so once' test "$(grep -c 'link [12] unauthenticated datagrams 1$' "$work/keyed1.log" "$work/keyed2.log" | grep -c ':1$')" = 2
+  holds 'each says so once' test "$(grep -c '^\[WARN .* link [12] unauthenticated datagrams 1$' "$work/keyed1.log" "$work/keyed2.log" | grep -c ':1$')" = 2
+  holds 'and no more in a minute' test "$(cat "$work"/keyed?.log | grep -c '^\[WARN ')" = 2
+  holds 'each has the count at its end' test "$(cat "$work"/keyed?.log | grep -c '^\[INFO .* link [12] unauthenticated datagrams [1-9]')" = 2
+  linked other other
+  holds 'nodes whose keys agree again have a link' test "$(grep -c 'link [12] up' "$work/keyed1.log" "$work/keyed2.log" | grep -c ':[1-9]')" = 2
   linked one ''
   holds 'a node without the key has no link' test "$(cat "$work"/keyed?.log | grep -c ' up ')" = 0
   holds 'the one with a key says so' grep -q 'link 2 unauthenticated datagrams 1' "$work/keyed1.log"
   holds 'the one without finds no frame' grep -qE 'link 1 bad datagrams [1-9]' "$work/keyed2.log"
+  holds 'the one without a key counts none' test "$(grep -c unauthenticated "$work/keyed2.log")" = 0
   head -c 63 "$work/one.key" >"$work/short.key"
   sed -i 's/one.key/short.key/' "$work/1.toml"
   refuses 1 "tora: input: $work/short.key: is no key" "$program" node --check "$work/1.toml"
