@@ -204,7 +204,7 @@ def edits_in(folder, crates):
     return found
 
 
-def run(folder, room, cores, at_once, log, edits):
+def run(folder, room, cores, at_once, anew, log, edits):
     """Runs the gate in the folder and prints what was seen of it. Returns its status."""
     os.mkdir(f"{room}/tmp")
     # programs are run as nobody
@@ -214,7 +214,7 @@ def run(folder, room, cores, at_once, log, edits):
     before = resource.getrusage(resource.RUSAGE_CHILDREN)
     start = time.monotonic()
     gate = subprocess.Popen(
-        ["rt", "ci"],
+        ["rt", "ci", *(["--anew"] if anew else [])],
         cwd=folder,
         env={**os.environ, "TMPDIR": f"{room}/tmp", **({"RT_JOBS": str(at_once)} if at_once else {})},
         stdin=subprocess.DEVNULL,
@@ -299,6 +299,7 @@ def main():
     told.add_argument("folder", nargs="?", metavar="FOLDER", default=os.path.dirname(os.path.dirname(os.path.realpath(__file__))), help="the repository whose last commit is cloned; without it the one that this script stands in")
     told.add_argument("--cores", type=cores_in, metavar="LIST", help="the cores to run on, as 0,1 or 0-3; all without it")
     told.add_argument("--at-once", type=count_in, metavar="N", help="N checks at once with one processor each, by the variable RT_JOBS, which plans no memory; without it as rt plans them")
+    told.add_argument("--anew", action="store_true", help="does everything once more, also what an earlier run on this machine passed and rt keeps")
     told.add_argument("--log", metavar="FILE", help="where the gate's output goes, a time before each line; without it to standard error")
     told.add_argument("--keep", action="store_true", help="leaves the clone, and tells where it stands")
     given = told.parse_args()
@@ -319,7 +320,7 @@ def main():
         print(f"The gate at {commit}\n", flush=True)
         edits = edits_in(folder, crates_of(folder))
         with open(given.log, "w", encoding="utf-8") if given.log else os.fdopen(os.dup(2), "w") as log:
-            return run(folder, room, given.cores, given.at_once, log, edits)
+            return run(folder, room, given.cores, given.at_once, given.anew, log, edits)
     except KeyboardInterrupt:
         return 130
     finally:

@@ -4,14 +4,23 @@
 # last file is the grid for 2,000 rounds in which nothing happens but HELLOs, REPEATS times too.
 # Each runs twice: with a line `old N` for every node, where the outputs have to be the same, and without them. The baseline
 # knows version 1 of frames alone, and batches bring packets in another order, so without them heights may differ.
-# usage: bench/sim.sh BASE [REPEATS] [ROUNDS]     BASE: the folder of the baseline's sources (a Cargo crate `base`)
+# Large worlds come behind, once each, beside the baseline with its limits raised in a copy (bench/raised.py): a grid of 32 x 32 with
+# one need across it, 500 moving nodes for 1,200 rounds, and 1,024 nodes with 8,000 links and 16 destinations; the memory of the
+# first is to be under 150 MB, of the last under 1 GB. Then the time of a datagram at 64 and at 1,024 nodes, which is to be at most 1.5 times:
+# in a grid, where no link is parted, and with moving nodes.
+# usage: bench/sim.sh [--large] BASE [REPEATS] [ROUNDS]     BASE: the folder of the baseline's sources (a Cargo crate `base`)
+#   --large   large worlds alone
 set -eu
 top=$(cd "$(dirname "$0")/.." && pwd)
+alone=''
+if [ "${1:-}" = --large ]; then alone=1; shift; fi
 base=${1:?the folder of the baseline}
 repeats=${2:-40}
 rounds=${3:-5}
 . "$top/bench/baseline.sh" "$base"
 "$top/tora" build >&2
+program=$top/crates/tora/out/tora
+large=()
 
 # A file whose lines behind the links come so many times.
 repeated() {
@@ -34,15 +43,89 @@ compared() {
   all_old "$work/case.sim" >"$work/old.sim"
   for nodes in old case; do
     echo "$1: $(wc -l <"$work/case.sim") lines, $repeats times what stands behind the links$([ "$nodes" = case ] || echo ', every node old')"
-    python3 "$top/bench/measure.py" "$rounds" /dev/null "$work/a" "$work/b" -- "$top/crates/tora/out/tora" sim "$work/$nodes.sim" -- "$bin" sim "$work/case.sim"
+    python3 "$top/bench/measure.py" "$rounds" /dev/null "$work/a" "$work/b" -- "$program" sim ${large[@]+"${large[@]}"} "$work/$nodes.sim" -- "$bin" sim "$work/case.sim"
   done
 }
 
-for case in 'line 64' 'grid 8' 'star 9' 'grid 8 16'; do
-  # shellcheck disable=SC2086
-  "$bin" gen-sim $case >"$work/once.sim"
-  compared "$case"
-done
-"$bin" gen-sim grid 8 | grep -E '^(dests|link) ' >"$work/once.sim"
-echo 'rounds 2000' >>"$work/once.sim"
-compared 'grid 8, HELLOs alone'
+# The baseline with its limits raised to so many nodes with so many neighbours, in a copy of its own.
+raised() {
+  local copy=$work/raised-$2
+  if [ ! -e "$copy" ]; then
+    cp -r "$base" "$copy"
+    chmod -R u+w "$copy"
+    python3 "$top/bench/raised.py" "$copy/src" "$1" "$2"
+    (cd "$copy" && cargo build --release --offline >/dev/null 2>&1) || { echo "sim: the raised baseline does not build: $copy" >&2; exit 1; }
+  fi
+  bin=$copy/target/release/base
+}
+
+# A grid of so many nodes along each side, and one need across it.
+grid() {
+  local side=$1 last=$(($1 * $1))
+  echo "dests $last"
+  links "$side" '0 1,1 0'
+  echo "need 1 $last"
+}
+
+# The links of a grid of so many nodes along each side, by the steps down and right that they make.
+links() {
+  awk -v side="$1" -v steps="$2" 'BEGIN {
+    count = split(steps, step, ",")
+    for (row = 0; row < side; row++) for (column = 0; column < side; column++) for (at = 1; at <= count; at++) {
+      split(step[at], by, " ")
+      down = row + by[1]; right = column + by[2]
+      if (down < side && right >= 0 && right < side) print "link", row * side + column + 1, down * side + right + 1
+    }
+  }'
+}
+
+# Nodes of the scenario with seed 1, for 1,200 rounds, with the heights at their end.
+moving() {
+  python3 "$top/tools/scenario.py" "$work/moving-$1" --large --nodes "$1" --seed 1 --rounds 1200 --heights 1200
+}
+
+# Small worlds, as often as they are repeated.
+small_worlds() {
+  for case in 'line 64' 'grid 8' 'star 9' 'grid 8 16'; do
+    # shellcheck disable=SC2086
+    "$bin" gen-sim $case >"$work/once.sim"
+    compared "$case"
+  done
+  "$bin" gen-sim grid 8 | grep -E '^(dests|link) ' >"$work/once.sim"
+  echo 'rounds 2000' >>"$work/once.sim"
+  compared 'grid 8, HELLOs alone'
+}
+
+# Large worlds, once each, beside the baseline with limits of the file's size.
+large_worlds() {
+  local repeats=1 large=(--large)
+  raised 1024 8
+  { grid 32; echo 'rounds 100'; echo 'heights 1024'; } >"$work/once.sim"
+  compared 'grid 32, one need across it, 100 rounds'
+  raised 1024 32
+  moving 500
+  cp "$work/moving-500.sim" "$work/once.sim"
+  compared '500 moving nodes, 1,200 rounds'
+  {
+    echo "dests $(seq -s , 1009 1024)"
+    links 32 '0 1,1 0,1 1,1 -1,0 2,2 0,1 2,2 1,1 -2' | awk 'NR % 14' | head -n 8000
+    for it in $(seq 1009 1024); do echo "need $((it - 1008)) $it"; done
+    echo 'rounds 100'
+    echo 'heights 1024'
+  } >"$work/once.sim"
+  compared '1,024 nodes, 8,000 links, 16 destinations, one need of each, 100 rounds'
+}
+
+# Datagrams at 64 and at 1,024 nodes: in grids as many of both, with moving nodes in as many rounds.
+datagrams() {
+  { grid 8; for _ in 1 2 3 4; do echo 'rounds 8000'; done; } >"$work/grid-of-64"
+  { grid 32; echo 'rounds 2000'; } >"$work/grid-of-1024"
+  python3 "$top/bench/per_datagram.py" "$rounds" "$program" "$work/grid-of-64" "$work/grid-of-1024"
+  moving 64
+  moving 1024
+  python3 "$top/bench/per_datagram.py" "$rounds" "$program" "$work/moving-64.sim" "$work/moving-1024.sim"
+}
+
+[ -n "$alone" ] || small_worlds
+large_worlds
+datagrams

@@ -31,6 +31,8 @@ TOP = os.path.dirname(os.path.dirname(os.path.realpath(__file__)))
 PROGRAM = "tora"
 # The times of the last build: a line `CRATE SECONDS JOBS` for each crate, and `whole SECONDS` for a build from nothing.
 TIMES = f"{TOP}/out/build-times"
+# What each further processor of a check adds to the memory that is planned for it: with four, none was seen to take more than half of the plan.
+MORE = 0.2
 
 
 def stop(why, status=2):
@@ -177,6 +179,11 @@ def build(crate, jobs):
         return status, crate.out.read()
 
 
+def busy(jobs):
+    """How many processors a check keeps busy on the whole that may use so many: most of it is done by one."""
+    return 1 + 0.25 * (jobs - 1)
+
+
 def build_all(rtlib, crates, lanes, times):
     """Builds crates side by side, and tells each as it ends."""
     behind = longest_behind(crates, times.weights)
@@ -191,19 +198,19 @@ def build_all(rtlib, crates, lanes, times):
         while left or running:
             ready = [it for it in left if built >= {low.name for low in it.below()}]
             for at, crate in enumerate(ready):
-                idle = lanes - sum(it[2] for it in running.values())
+                idle = lanes - sum(busy(it[2]) for it in running.values())
                 room = memory - sum(it[1] for it in running.values())
                 needs = need(rtlib, crate)
                 # what the whole build waits for starts though all processors are busy, and shares them
                 is_waited_for = all(behind[crate.name] >= behind[it.name] for it in [*left, *(of[0] for of in running.values())])
-                if idle <= 0 and not is_waited_for or running and needs > room:
+                if idle < 1 and not is_waited_for or running and needs > room:
                     continue
                 # the longest chain comes first, and gets what the crates behind it can't share evenly
-                share = min(4, lanes) if is_waited_for else min(4, -(-idle // (len(ready) - at)))
-                jobs = max(1, min(share, 1 + int((room / needs - 1) / 0.6)))
+                share = min(4, lanes) if is_waited_for else min(4, -(-int(idle) // (len(ready) - at)))
+                jobs = max(1, min(share, 1 + int((room / needs - 1) / MORE)))
                 left.remove(crate)
                 has_kept = crate.has_kept()
-                needs *= 1 + 0.6 * (jobs - 1)
+                needs *= 1 + MORE * (jobs - 1)
                 running[pool.submit(build, crate, jobs)] = crate, needs, jobs, time.time(), has_kept
             for it in wait(running, return_when=FIRST_COMPLETED).done:
                 crate, _, jobs, began, had_kept = running.pop(it)

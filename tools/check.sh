@@ -2,7 +2,7 @@
 # Checks the tools: the unit tests (tools/test_*.py), and on stored scenarios a small study, whose CSV, summary, loops and pictures
 # (as .dot) are compared with stored ones, the data in pages that play the runs, the reading of movement files, and the
 # refusals of bad input. Beside them the dissector, the completion, what ./tora install puts where, and that the manual page and
-# the help have the lines of docs/formats.md.
+# the help have the lines of docs/formats.md. Where the program stands, nodes of it are tried, too: their lock, log and keys, and what they tell programs.
 # usage: tools/check.sh [--store]
 #   --store   write what comes out to tools/stored in place of comparing; for a change that is meant to change it
 # Where a simulator with --trace is there, the stored simulations are run, too, and twelve random networks (tools/rest.py). The
@@ -125,6 +125,13 @@ check_simulator() {
   "${command[@]}" --trace "$work/trace" ../../examples/loop-after-clear.sim >/dev/null
   TORA_SIM="${command[*]}" python3 ../play.py --sim ../../examples/loop-after-clear.sim -o "$work/sim.html"
   holds 'a simulation file that play.py runs' python3 ../agree.py --page "$work/sim.html" "$work/trace"
+  python3 ../scenario.py "$work/c" --nodes 8 --seed 3 --rounds 300 --channel-file "$work/c.channel" --edge-loss 0.4 2>/dev/null
+  "${command[@]}" --channel-file "$work/c.channel" --until 200 --trace "$work/trace" "$work/c.sim" >/dev/null
+  holds 'a run over a channel file, up to a last round' python3 ../measure.py "$work/c.json" "$work/trace"
+  grep -q "^[^,]*,[^,]*,200,.*,200,$(sha256sum "$work/c.channel" | cut -d ' ' -f 1)$" "$work/out" || { failed=$((failed + 1)); echo "check: the row of a run over a channel file" >&2; }
+  printf '0 1 2 loss=0\n5 1 2\n' >"$work/bad.channel"
+  refuses 1 "$work/bad.channel: line 2: " "${command[@]}" --channel-file "$work/bad.channel" "$work/c.sim"
+  refuses 2 '`--until` stands a number of rounds' "${command[@]}" --until 2x "$work/c.sim"
   printf 'dests 1\nlink 1 2\nrounds 3\nround 3\n' >"$work/s"
   TORA_SIM="${command[*]}" refuses 1 "$work/s:4: the simulator calls this line a fault" python3 ../play.py --sim "$work/s" -o "$work/refused.html"
   TORA_SIM="${command[*]}" holds 'the laws of worlds at rest in random networks' python3 ../rest.py --networks 12
@@ -148,6 +155,8 @@ check_study() {
   same intervals "$work/intervals"
   python3 ../summary.py --data "$work/study.csv" restore_median available >"$work/study.dat"
   same study.dat "$work/study.dat"
+  python3 ../growth.py "$work/study.csv" degree_mean unavailable control datagrams >"$work/growth"
+  same growth "$work/growth"
 }
 
 # The data packets of the stored runs, four of each flow a second.
@@ -232,6 +241,7 @@ check_refusals() {
   printf 'nodes,seed\n1\n' >"$work/c"
   refuses 1 "$work/c:2: 1 cells, not 2" python3 ../summary.py "$work/c"
   refuses 2 'no column colour' python3 ../summary.py study.csv colour
+  refuses 2 'the column model has words' python3 ../growth.py --by model study.csv hops_mean
   refuses 2 'argument --nodes: 65 is not 2 to 64' ../sweep.sh "$work/sweep" '10 65' 2
   refuses 2 '--vary: `seed=1,2` is not' ../sweep.sh --vary seed=1,2 "$work/sweep" 10 2
   if command -v parallel >/dev/null; then
@@ -415,8 +425,44 @@ check_keys() {
   refuses 1 'is missing, and the link leaves the loopback' "$program" node --check "$work/1.toml"
 }
 
+# What a node tells programs: `watch` tells its heights and next hops as they change, `json` its state, as docs/status.schema.json has
+# it where there is the module jsonschema (package python3-jsonschema). examples/set-routes makes routes of the lines.
+check_status() {
+  local program=$here/../crates/tora/out/tora n
+  [ -x "$program" ] || return 0
+  for n in 1 2; do
+    printf 'node = %d\ndests = [2]\nlife_dir = "%s"\n[[link]]\npeer = %d\nlocal = 4080%d\nremote = 4080%d\n' $n "$work/status$n" $((3 - n)) $n $((3 - n)) >"$work/$n.toml"
+  done
+  sleep 4 | "$program" node "$work/2.toml" >/dev/null 2>&1 &
+  (echo watch; sleep 2.5; echo json; echo need 9) | "$program" node "$work/1.toml" >"$work/told" 2>/dev/null
+  wait
+  grep -v '^{' "$work/told" >"$work/lines" || true
+  printf '%s\n' 'height 2 -' 'hop 2 -' 'hop 2 2' 'refused 5' >"$work/wanted"
+  agrees "$work/wanted" "$work/lines" 'what a watched node prints'
+  grep '^{' "$work/told" >"$work/state" || true
+  holds 'the state of a node is a line of JSON' python3 -c '
+import json, sys
+lines = open(sys.argv[1]).read().splitlines()
+state = json.loads(lines[0])
+own, peer = state["links"][0].pop("life")
+assert len(lines) == 1 and abs(state.pop("tick") / 10 - __import__("time").time()) < 60 and own > 0 and peer > 0
+via = {"node": 2, "height": [0, 0, 0, 0, 2], "direction": "down"}
+assert state == {"node": 1, "destinations": [{"to": 2, "height": None, "required": False, "hop": 2, "via": [via]}], "links": [{"peer": 2, "cut": None}]}
+' "$work/state"
+  if python3 -c 'import jsonschema' 2>/dev/null; then
+    holds 'it is as its schema has it' python3 -c '
+import json, jsonschema, sys
+jsonschema.validate(*[json.load(open(it)) for it in sys.argv[1:]])
+' "$work/state" "$here/../docs/status.schema.json"
+  fi
+  "$here/../examples/set-routes" 10.1.2 <"$work/told" >"$work/routes"
+  printf 'ip route %s\n' 'flush 10.1.2.2/32' 'replace 10.1.2.2/32 via 10.1.2.2' >"$work/wanted"
+  agrees "$work/wanted" "$work/routes" 'what examples/set-routes makes of it'
+}
+
 check_simulator
 check_lock
+check_status
 check_keys
 check_log
 check_study

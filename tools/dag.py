@@ -19,7 +19,7 @@ import shutil
 import subprocess
 import sys
 
-from record import records
+from record import records, until
 from scenario_file import load_scenario
 from study import TICKS_A_SECOND, Refused, Usage, ordered, run, writing
 from world import moments
@@ -196,7 +196,7 @@ def main():
     options = options_of(sys.argv[1:])
 
     def body():
-        scenario = load_scenario(options.scenario)
+        scenario = until(load_scenario(options.scenario), options.trace)
         if options.destination not in scenario["destinations"]:
             raise Usage(f"{options.destination} is no destination of {options.scenario}; these are: {scenario['destinations']}")
         if options.list:

@@ -14,7 +14,7 @@ import sys
 
 import parameters
 import traffic
-from record import GRAMMAR, PARTS, Ends, records
+from record import GRAMMAR, PARTS, Ends, records, until
 from routes import Routes
 from scenario_file import load_scenario
 from study import Usage, at_least, run
@@ -22,7 +22,7 @@ from world import spans
 
 COLUMNS = (
     "nodes seed rounds hello_ticks silence_ticks retry_ticks tries destinations flows links_met links_declared most_met "
-    "contact_kept left_out breaks connected available stale no_hop looping stretch_mean stretch_95 stretch_most hops_mean "
+    "contact_kept left_out breaks degree_mean connected available stale no_hop looping stretch_mean stretch_95 stretch_most hops_mean "
     "outages outages_by_break restored restore_median restore_95 restore_most healed heal_median heal_95 open_outages "
     "loops loops_without_height loop_rounds loop_longest loop_nodes query update clear query_copies update_copies "
     "clear_copies hello data acknowledgement undelivered links_up links_down"
@@ -30,6 +30,7 @@ COLUMNS = (
 
 
 CHANNEL = PARTS[4:]  # what the first record of a trace says of the channel
+MORE = ["until", "channel_file"]  # what it says behind these
 
 
 class Counts:
@@ -67,10 +68,11 @@ class Counts:
 
 def measure(scenario, path, load=None, version=""):
     """The routes and the row of a run, which a version of the simulator made; with a load the columns of its packets, too."""
-    ends = Ends(path)
+    ends, scenario = Ends(path), until(scenario, path)
     counts, routes = Counts(records(path, ends)), Routes(scenario)
-    packets = load and traffic.Traffic(scenario["flows"], load)
+    packets, linked = load and traffic.Traffic(scenario["flows"], load), 0
     for first, last, world in spans(scenario, path, counts):
+        linked += 2 * len(world.links) * (last - first + 1)
         routes.take(first, last, world)
         if packets:
             packets.run(first, last, world)
@@ -79,9 +81,11 @@ def measure(scenario, path, load=None, version=""):
     row = dict.fromkeys(COLUMNS, "") | {key: scenario[key] for key in ("nodes", "seed", "rounds", "links_met", "most_met", "breaks")}
     row |= dict(zip(("hello_ticks", "silence_ticks", "retry_ticks", "tries"), scenario["times"]))
     row.update(destinations=len(scenario["destinations"]), flows=len(scenario["flows"]), links_declared=len(scenario["links"]),
-               contact_kept=round(scenario["contact_kept"], 4), left_out=len(scenario["left_out"]))
+               contact_kept=round(scenario["contact_kept"], 4), left_out=len(scenario["left_out"]),
+               degree_mean=round(linked / scenario["nodes"] / scenario["rounds"], 3))
     row |= routes.columns() | counts.columns() | parameters.cells(scenario, version)
-    row |= dict.fromkeys(CHANNEL, "") | {name: ends.parts[name] for name in CHANNEL if ends.parts}
+    row |= dict.fromkeys(CHANNEL + MORE, "") | {name: ends.parts[name] for name in CHANNEL if ends.parts}
+    row |= {name: value for name, value in zip(MORE, (ends.until, ends.channel_file)) if value is not None}
     if packets:
         row |= packets.columns(*counts.control())
     return routes, row
@@ -120,7 +124,7 @@ def main():
 
     def body():
         load = traffic.load_of(options.traffic, options.hop, options.ttl) if options.traffic is not None else None
-        names = COLUMNS + parameters.COLUMNS + CHANNEL + (traffic.COLUMNS if load else [])
+        names = COLUMNS + parameters.COLUMNS + CHANNEL + MORE + (traffic.COLUMNS if load else [])
         if options.header:
             print(",".join(names))
             return

@@ -7,9 +7,9 @@ a movement file no speed is known, and each model has parameters of its own.
 
 COLUMNS = (
     "model speed_least speed_most pause width height range degree limit sample need_rounds settle alpha mean_speed "
-    "speed_deviation direction_deviation interval blocks acceleration safety_distance version"
+    "speed_deviation direction_deviation interval blocks acceleration safety_distance edge_loss version"
 ).split()
-TEXTS = ("model", "version")  # columns whose cells are words, not numbers
+TEXTS = ("model", "version", "channel_file")  # columns whose cells are words, not numbers
 
 
 def cells(scenario, version):

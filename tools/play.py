@@ -20,7 +20,7 @@ import tempfile
 
 from play_data import page_data, read_page, record_text
 from play_place import places_by_force, places_by_hand
-from record import records
+from record import records, until
 from resting import scenario_of_simulation, scenario_of_trace
 from scenario_file import load_scenario
 from study import Refused, Usage, nodes_of, refused, run, writing
@@ -76,7 +76,7 @@ def fitting(path, scenario, given):
 
 def moving_page(title, scenario_path, trace_path):
     """The page of a scenario and its trace."""
-    scenario = load_scenario(scenario_path)
+    scenario = until(load_scenario(scenario_path), trace_path)
     given = fitting(trace_path, scenario, records(trace_path))
     samples = [[places[node - 1] for node in nodes_of(scenario)] for places in scenario["positions"]]
     return page_text(title, scenario, samples, given)

@@ -59,6 +59,7 @@ class Ends:
     def __init__(self, path):
         """Before the first line."""
         self.path, self.parts, self.digest, self.line = path, None, None, 0
+        self.until, self.channel_file = None, None
 
     def begin(self, text):
         """Takes the first record."""
@@ -67,9 +68,16 @@ class Ends:
             raise refused(self.path, 1, "the line is cut: it does not end")
         if words[2] != "1":
             raise refused(self.path, 1, f"a trace of version {words[2]}; 1 is read here")
-        if len(words) != 3 + len(PARTS):
+        if len(words) not in (3 + len(PARTS), 5 + len(PARTS)):
             raise refused(self.path, 1, f"`trace` has {1 + len(PARTS)} fields, not {len(words) - 2}")
         self.parts = {name: field(self.path, 1, "n", word) for name, word in zip(PARTS, words[3:])}
+        self.until, self.channel_file = self.more(*words[3 + len(PARTS):])
+
+    def more(self, until="-", channel_file="-"):
+        """The last round and the digest of the channel file, None where there is none."""
+        if channel_file != "-" and not DIGEST.match(channel_file):
+            raise refused(self.path, 1, f"`{channel_file}` is no digest")
+        return None if until == "-" else field(self.path, 1, "n", until), None if channel_file == "-" else channel_file
 
     def finish(self, number, text, before):
         """Takes the last record."""
@@ -96,6 +104,26 @@ class Ends:
             raise refused(self.path, 1, f"the times are {times}, and those of the scenario are {scenario['times']}")
         if scenario.get("digest", self.digest) != self.digest:
             raise refused(self.path, self.line, "the trace is of another simulation file than that of the scenario")
+
+
+def last_round(path):
+    """The round behind which nothing is done in the run of a trace, or None."""
+    ends = Ends(path)
+    with open(path, encoding="ascii", errors="replace", newline="\n") as source:
+        text = source.readline()
+    if text.startswith(FIRST):
+        ends.begin(text)
+    return ends.until
+
+
+def until(scenario, path):
+    """The scenario as far as the run of a trace goes, which may have ended with a round before the scenario's last."""
+    last = last_round(path)
+    if last is None or last >= scenario["rounds"]:
+        return scenario
+    if last == 0:
+        raise refused(path, 1, "the run has no round")
+    return scenario | {"rounds": last}
 
 
 def records(path, ends=None):

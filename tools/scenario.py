@@ -20,6 +20,7 @@ import random
 import re
 import sys
 
+from channel_lines import channel_lines
 from contacts import Contacts, declared_links
 from motion import LIMITS, MODELS, OWN, Motion
 from movement_files import read_bonnmotion, read_ns2
@@ -31,6 +32,8 @@ MOST_NODES = 64
 GREATEST_NODES = 1024  # with --large
 MOST_NEIGHBOURS = 32
 MOST_DESTINATIONS = 64
+LOSS_STEP = 10_000  # millionths to which a loss by distance is rounded
+EDGE_LOSS = 0.5  # without --edge-loss
 
 
 def simulation_lines(scenario, changes, every, need):
@@ -124,8 +127,15 @@ def checked(options):
     """The options, once what their texts say was tried."""
     if not (options.ns2 or options.bonnmotion):
         motion_of(options)
+    if options.edge_loss is not None and not options.channel_file:
+        raise Usage("--edge-loss is of --channel-file")
     times_of(options.times)
     return options
+
+
+def edge_of(options):
+    """The loss at the range by the options."""
+    return EDGE_LOSS if options.edge_loss is None else options.edge_loss
 
 
 def choose_flows(scenario, nodes, options, source):
@@ -166,10 +176,17 @@ def make(options):
         "contact_kept": round(sum(total[link] for link in links) / sum(total.values()), 6), "links_met": len(total),
         "most_met": max(met.values()), "most_at_once": contacts.most, "breaks": 0,
         "left_out": [node for node in range(1, len(ways) + 1) if node not in degree], "positions": places,
-        "parameters": parameters | {"need_rounds": options.need},
+        "parameters": parameters | {"need_rounds": options.need} | ({"edge_loss": edge_of(options)} if options.channel_file else {}),
     } | ({"large": True} if options.large else {})
     choose_flows(scenario, sorted(degree), options, source)
     return scenario, simulation_lines(scenario, contacts.changes, options.heights, options.need)
+
+
+def write_channel(path, scenario, edge):
+    """Writes a channel file of losses that rise with the distance."""
+    lines = channel_lines(scenario["positions"], scenario["links"], scenario["sample"], scenario["range"], edge, LOSS_STEP)
+    with writing(path) as sink:
+        sink.write("\n".join(lines) + "\n")
 
 
 def write(prefix, scenario, lines):
@@ -226,6 +243,8 @@ def options_of(words):
     add("--destinations", type=at_least(1, MOST_DESTINATIONS), default=4, help="destinations, drawn by the seed (4)")
     add("--flows", type=at_least(0), default=0, help="flows, drawn by the seed; 0: as many as nodes (0)")
     add("--times", default="10,50,5,8", metavar="HELLO,SILENCE,RETRY,TRIES", help="times of a link end (10,50,5,8)")
+    add("--channel-file", metavar="PATH", help="write a channel file, too: losses that rise with the distance")
+    add("--edge-loss", type=number_in(0, 1), metavar="SHARE", help="of --channel-file: the loss at --range (0.5)")
     add_models(parser)
     options = parser.parse_args(words)
     if not (0 < options.range < math.inf and 0 < options.degree < math.inf):
@@ -238,7 +257,14 @@ def options_of(words):
 def main():
     """Makes and writes the scenario that the command line asks for."""
     options = options_of(sys.argv[1:])
-    return run("scenario", lambda: write(options.prefix, *make(options)))
+
+    def body():
+        scenario, lines = make(options)
+        write(options.prefix, scenario, lines)
+        if options.channel_file:
+            write_channel(options.channel_file, scenario, edge_of(options))
+
+    return run("scenario", body)
 
 
 if __name__ == "__main__":

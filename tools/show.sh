@@ -1,21 +1,24 @@
 #!/usr/bin/env bash
 # Shows a study that sweep.sh made: its plot and summary, and pictures of a break where runs were kept (sweep.sh --keep).
-# usage: tools/show.sh DIR [--page] [--by COLUMN[,COLUMN]] [--interval mean|median] [RUN] [OPTION OF dag.py]..
+# usage: tools/show.sh DIR [--page] [--by COLUMN[,COLUMN]] [--log-log] [--interval mean|median] [RUN] [OPTION OF dag.py]..
 #   RUN     NODES-SEED, as 20-1, or the name of a run in DIR/rows; without it the first run of the study
 #   --page  make DIR/index.html, too: the summary, the plot, and a link to a page of each run that plays it
 #   --by    draw DIR/by-COLUMN.png, too: over a column, with one line for each value of a second one, medians (or, with
 #           --interval mean, means) with their 95 % confidence intervals, and DIR/by-COLUMN.txt with all columns
+#   --log-log  draw that on logarithmic axes, over the number of nodes without --by: DIR/growth-COLUMN.png, with the power law
+#           that fits each figure, and DIR/growth-COLUMN.txt with its exponents (growth.py)
 # It writes DIR/study.dat, DIR/study.png, DIR/summary.txt and DIR/break-ROUND.png: before, during and after the first break
 # of a route to the first destination; dag.py has options for others.
 set -eu
 here=$(cd "$(dirname "$0")" && pwd)
 case ${1:---help} in -h | --help) sed -n '2,/^set -eu/{/^# /s/^# //p}' "$0"; exit 0 ;; esac
-dir=$1 page='' by='' interval=median
+dir=$1 page='' by='' growth='' interval=median
 shift
 while [ $# -gt 0 ]; do
   case $1 in
     --page) page=1; shift ;;
     --by) by=${2:?}; shift 2 ;;
+    --log-log) growth=1; shift ;;
     --interval) interval=${2:?}; shift 2 ;;
     *) break ;;
   esac
@@ -28,14 +31,26 @@ python3 "$here/summary.py" "$dir/study.csv" >"$dir/summary.txt"
 python3 "$here/summary.py" --data "$dir/study.csv" >"$dir/study.dat"
 gnuplot -e "data='$dir/study.dat'; picture='$dir/study.png'" "$here/plot.gp"
 echo "$dir/study.png: the plot; $dir/summary.txt: its figures"
+[ -z "$growth" ] || by=${by:-nodes}
 if [ -n "$by" ]; then
+  kind=by
+  [ -z "$growth" ] || kind=growth
+  name=$dir/$kind-${by//,/-} second=${by#"${by%%,*}"}
   summarize=(python3 "$here/summary.py" --interval "$interval" --by "$by")
-  name=$dir/by-${by//,/-} second=${by#"${by%%,*}"}
-  "${summarize[@]}" "$dir/study.csv" >"$name.txt"
-  "${summarize[@]}" --data "$dir/study.csv" available restore_median stretch_mean update >"$name.dat"
   words="data='$name.dat'; picture='$name.png'; by='${by%%,*}'; kind='$interval'"
-  [ -z "$second" ] || words+="; second='${second#,}'; values='$(sed 1d "$name.dat" | cut -d ' ' -f 2 | sort -u | paste -sd ' ')'"
-  gnuplot -e "$words" "$here/plot-by.gp"
+  [ -z "$second" ] || words+="; second='${second#,}'"
+  if [ -n "$growth" ]; then
+    python3 "$here/growth.py" --by "$by" "$dir/study.csv" >"$name.txt"
+    python3 "$here/growth.py" --by "$by" --fits "$dir/study.csv" >"$name.fits"
+    read -r -a figures <<<"$(sed -n "s/^figures = '\(.*\)'$/\1/p" "$name.fits")"
+    words+="; fits='$name.fits'"
+  else
+    "${summarize[@]}" "$dir/study.csv" >"$name.txt"
+    figures=(available restore_median stretch_mean update)
+  fi
+  "${summarize[@]}" --data "$dir/study.csv" "${figures[@]}" >"$name.dat"
+  [ -n "$growth" ] || [ -z "$second" ] || words+="; values='$(sed 1d "$name.dat" | cut -d ' ' -f 2 | sort -u | paste -sd ' ')'"
+  gnuplot -e "$words" "$here/plot-$kind.gp"
   echo "$name.png: the plot over ${by/,/ and }; $name.txt: its figures"
 fi
 if [ -n "$page" ]; then

@@ -2,7 +2,8 @@
 # One run of a study: makes a scenario, simulates it with a trace, and leaves its row of CSV, whole or not at all.
 # usage: tools/study-one.sh [--name NAME] DIR NODES SEED [OPTION OF scenario.py]..
 # It writes DIR/NAME.csv; NAME is NODES-SEED without --name. With KEEP=1 the simulation file, the scenario and the trace stay
-# beside it, with PAGE=1 the page that plays the run, NAME.html. VARY has further options of scenario.py, and MEASURE options of
+# beside it, with PAGE=1 the page that plays the run, NAME.html. With CHANNEL=1 scenario.py writes a channel file, over which it is
+# simulated, and which stays with the others. VARY has further options of scenario.py, and MEASURE options of
 # measure.py, as words between blanks.
 # TORA_SIM is the command that simulates, in place of the repository's `./tora sim`.
 set -eu
@@ -22,16 +23,18 @@ trap 'rm -rf "$work"' EXIT
 run=$work/$name
 read -r -a vary <<<"${VARY:-}"
 read -r -a measure <<<"${MEASURE:-}"
-python3 "$here/scenario.py" "$run" --nodes "$nodes" --seed "$seed" "$@" ${vary[@]+"${vary[@]}"}
+channel=()
+if [ -n "${CHANNEL:-}" ]; then channel=(--channel-file "$run.channel"); fi
+python3 "$here/scenario.py" "$run" --nodes "$nodes" --seed "$seed" ${channel[@]+"${channel[@]}"} "$@" ${vary[@]+"${vary[@]}"}
 times=$(sed -n 's/^ "times": \[\(.*\)\],$/\1/p' "$run.json")
 [ "$times" = 10,50,5,8 ] || simulate+=(--times "$times")
 if grep -q '^ "large": true' "$run.json"; then simulate+=(--large); fi
-"${simulate[@]}" --trace "$run.trace" "$run.sim" >"$run.out"
+"${simulate[@]}" ${channel[@]+"${channel[@]}"} --trace "$run.trace" "$run.sim" >"$run.out"
 version=$("${simulate[0]}" --version 2>/dev/null </dev/null | head -n 1) || version=''
 python3 "$here/measure.py" ${measure[@]+"${measure[@]}"} --version "$version" "$run.json" "$run.trace" >"$run.csv"
 if [ -n "${PAGE:-}" ]; then python3 "$here/play.py" "$run.json" "$run.trace" -o "$run.html"; fi
 mkdir -p "$dir" 2>/dev/null || { echo "study-one: $dir: the folder can't be made" >&2; exit 1; }
 if [ -n "${PAGE:-}" ]; then cp "$run.html" "$dir/"; fi
-if [ -n "${KEEP:-}" ]; then cp "$run.sim" "$run.json" "$run.trace" "$dir/"; fi
+if [ -n "${KEEP:-}" ]; then cp "$run.sim" "$run.json" "$run.trace" ${channel[1]+"${channel[1]}"} "$dir/"; fi
 cp "$run.csv" "$dir/.$name.part"
 mv "$dir/.$name.part" "$dir/$name.csv"

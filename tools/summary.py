@@ -7,7 +7,8 @@
                                          three numbers of each column
 
 Runs are put together by --by, a column or several, the number of nodes without it. Runs whose cell is empty (nothing of the
-kind happened) are left out of that column. Columns of words are not summarized.
+kind happened) are left out of that column. Columns of words are not summarized. Figures that are worked out from columns, as
+`unavailable` and `control` (derived.py), are told where they are asked for.
 """
 import argparse
 import csv
@@ -15,6 +16,7 @@ import math
 import statistics
 import sys
 
+from derived import with_derived
 from interval import INTERVALS
 from parameters import TEXTS
 from study import Usage, refused, run
@@ -52,8 +54,8 @@ def read(path):
     return names, rows
 
 
-def groups(path, names, rows, keys, columns):
-    """For each value of the keys, a tuple, its rows' cells by column."""
+def row_groups(path, names, rows, keys, columns):
+    """For each value of the keys, a tuple, its rows; refuses keys and columns that there are not."""
     for name in [*keys, *columns]:
         if name not in names:
             raise Usage(f"{path} has no column {name}")
@@ -63,9 +65,13 @@ def groups(path, names, rows, keys, columns):
             if row[key] is None:
                 raise refused(path, number, f"the cell of {key} is empty")
         found.setdefault(tuple(row[key] for key in keys), []).append(row)
-    return {
-        value: {name: [row[name] for row in found[value] if row[name] is not None] for name in columns} for value in sorted(found)
-    }
+    return {value: found[value] for value in sorted(found)}
+
+
+def groups(path, names, rows, keys, columns):
+    """For each value of the keys, a tuple, its rows' cells by column."""
+    found = row_groups(path, names, rows, keys, columns)
+    return {value: {name: [row[name] for row in some if row[name] is not None] for name in columns} for value, some in found.items()}
 
 
 def figure_columns(names, keys):
@@ -129,6 +135,7 @@ def main():
         names, rows = read(options.study)
         keys = options.by.split(",")
         columns = options.columns or figure_columns(names, keys)
+        names, rows = with_derived(names, rows)
         for name in set(columns).intersection(TEXTS):
             raise Usage(f"the column {name} has words, which are not summarized")
         cells = groups(options.study, names, rows, keys, columns)

@@ -1,7 +1,7 @@
 #!/usr/bin/env bash
 # The runs of a study as job arrays of Slurm; sweep.sh --slurm calls it, in the study's folder, which every node has to see.
 # usage: tools/sweep-slurm.sh DIR "OPTIONS OF sbatch" [OPTION OF scenario.py]..
-# TORA_SIM, KEEP, PAGE and MEASURE are as for study-one.sh. It writes DIR/slurm-task.sh, the script of one run, and sends the runs
+# TORA_SIM, KEEP, PAGE, CHANNEL and MEASURE are as for study-one.sh. It writes DIR/slurm-task.sh, the script of one run, and sends the runs
 # of DIR/runs.txt by slurm-arrays.sh, which tells what is in DIR then.
 # It ends with status 1 where a run has no row, and tells which, and its log.
 set -eu
@@ -14,7 +14,7 @@ cat >"$dir/slurm-task.sh" <<END
 #!/usr/bin/env bash
 IFS=\$'\t' read -r name nodes seed VARY <<<"\$(sed -n "\$((SLURM_ARRAY_TASK_ID + 1))p" "\$1")"
 shift
-export VARY TORA_SIM=${TORA_SIM@Q} KEEP=${KEEP@Q} PAGE=${PAGE@Q} MEASURE=${MEASURE@Q}
+export VARY TORA_SIM=${TORA_SIM@Q} KEEP=${KEEP@Q} PAGE=${PAGE@Q} CHANNEL=${CHANNEL@Q} MEASURE=${MEASURE@Q}
 exec bash ./bundle/study-one.sh --name "\$name" rows "\$nodes" "\$seed" "\$@"
 END
 exec bash "$here/slurm-arrays.sh" sweep "$dir" "$options" "$@"

@@ -1,13 +1,16 @@
 #!/usr/bin/env bash
 # A study: one run for each size and seed, by GNU parallel. It writes DIR/study.csv, and begins again where it was broken off.
 # usage: tools/sweep.sh [--jobs N] [--sshlogin HOSTS] [--keep] [--page] [--vary NAME=VALUE,..].. [--traffic RATE]
-#                       [--slurm[=OPTIONS]] DIR "SIZES" SEEDS [OPTION OF scenario.py]..
+#                       [--channel-file] [--until ROUNDS] [--slurm[=OPTIONS]] DIR "SIZES" SEEDS [OPTION OF scenario.py]..
 #   DIR               holds the rows, the job log (joblog) and what the study is (study.txt)
 #   SIZES             numbers of nodes, as "10 20 40"
 #   SEEDS             how many seeds: 1 to SEEDS
 #   --vary NAME=VALUE,..  runs with each value of an option of scenario.py, as speed=1-3,1-20; it may stand several times, and
 #                     then every value stands with every other. A run is named NODES-SEED-NAME=VALUE.. (sweep_runs.py)
 #   --traffic RATE, --hop TICKS, --ttl HOPS  columns of data packets (measure.py)
+#   --channel-file    each run has losses that rise with the distance, in a channel file of its own (scenario.py --channel-file);
+#                     --edge-loss SHARE behind SEEDS, or --vary edge-loss=SHARE,.., is the loss at the range
+#   --until ROUNDS    simulate, and measure, so many rounds of each scenario
 #   --jobs N          runs at a time on each machine; as many as processors without it
 #   --sshlogin HOSTS  machines as GNU parallel names them, as 4/first,8/second; `:` is this one. Each needs ssh, rsync and
 #                     python3; the tools and the program are copied there for the time of the study
@@ -29,7 +32,7 @@ need() {
   command -v "$1" >/dev/null || fail 2 "$1 is missing (package $2)"
 }
 
-jobs='' hosts='' keep='' page='' slurm='' sbatch='' vary=() measure=()
+jobs='' hosts='' keep='' page='' slurm='' sbatch='' channel='' until='' vary=() measure=()
 while [ $# -gt 0 ]; do
   case $1 in
     -h | --help) sed -n '2,/^set -eu/{/^# /s/^# //p}' "$0"; exit 0 ;;
@@ -40,6 +43,8 @@ while [ $# -gt 0 ]; do
     --slurm=*) slurm=1 sbatch=${1#*=}; shift ;;
     --vary) vary+=(--vary "${2:?}"); shift 2 ;;
     --traffic | --hop | --ttl) measure+=("$1" "${2:?}"); shift 2 ;;
+    --channel-file) channel=1; shift ;;
+    --until) until=${2:?}; shift 2 ;;
     --page) page=1; shift ;;
     -*) fail 2 "no option $1 (--help)" ;;
     *) break ;;
@@ -50,8 +55,9 @@ dir=$1 sizes=$2 seeds=$3
 shift 3
 [[ $sizes =~ ^[1-9][0-9]*(\ [1-9][0-9]*)*$ ]] || fail 2 "\"$sizes\" are no sizes, as \"10 20 40\""
 [[ $seeds =~ ^[1-9][0-9]*$ ]] || fail 2 "\"$seeds\" is no number of seeds"
+[[ $until =~ ^([1-9][0-9]*)?$ ]] || fail 2 "\"$until\" is no number of rounds"
 need python3 python3
-runs=$(python3 "$here/sweep_runs.py" "$sizes" "$seeds" ${vary[@]+"${vary[@]}"} -- "$@") || exit
+runs=$(python3 "$here/sweep_runs.py" "$sizes" "$seeds" ${vary[@]+"${vary[@]}"} ${channel:+--channel-file} -- "$@") || exit
 header=$(python3 "$here/measure.py" ${measure[@]+"${measure[@]}"} --header) || exit
 if [ -n "$slurm" ]; then
   [ -z "$jobs$hosts" ] || fail 2 "--jobs and --sshlogin are not for --slurm"
@@ -62,18 +68,18 @@ else
   parallel --version 2>/dev/null | grep -q '^GNU parallel' || fail 2 "parallel is not GNU parallel (package parallel)"
 fi
 
-# The program itself: the launcher builds it first, where it is what is asked for.
-if [ -n "${TORA_SIM:-}" ]; then
-  read -r -a simulate <<<"$TORA_SIM"
-else
-  "$here/../tora" build >&2
-  simulate=("$here/../crates/tora/out/tora" sim)
-fi
+simulate=("$here/../tora" sim)
+if [ -n "${TORA_SIM:-}" ]; then read -r -a simulate <<<"$TORA_SIM"; fi
 program=$(command -v "${simulate[0]}") || fail 2 "there is no program ${simulate[0]}"
+# The program itself goes along, not the launcher, which looks for it beside itself, and builds it first.
+if [ "$program" -ef "$here/../tora" ]; then
+  "$program" build >&2
+  program=$here/../crates/tora/out/tora
+fi
 
 { mkdir -p "$dir" && : >>"$dir/runs.txt"; } 2>/dev/null || fail 1 "$dir: the folder can't be made or written"
 dir=$(cd "$dir" && pwd)
-want="sizes $sizes seeds $seeds options $*${vary[*]+ vary ${vary[*]}}${measure[*]+ measure ${measure[*]}}"
+want="sizes $sizes seeds $seeds options $*${vary[*]+ vary ${vary[*]}}${measure[*]+ measure ${measure[*]}}${channel:+ channel file}${until:+ until $until}"
 if [ -e "$dir/study.txt" ] && [ "$(cat "$dir/study.txt")" != "$want" ]; then
   fail 1 "$dir holds another study: $(cat "$dir/study.txt")"
 fi
@@ -90,7 +96,7 @@ if [ -n "$page" ]; then
 fi
 for name in "${tools[@]}"; do cp "$here/$name" "$bundle/$name"; done
 cp "$program" "$bundle/simulator"
-words=(./bundle/simulator "${simulate[@]:1}")
+words=(./bundle/simulator "${simulate[@]:1}" ${until:+--until "$until"})
 
 # Runs what has no row yet, by GNU parallel.
 run_in_parallel() {
@@ -104,16 +110,16 @@ run_in_parallel() {
     ln -sfn ../bundle "$dir/tora-study/bundle"
     ln -sfn ../rows "$dir/tora-study/rows"
     for name in "${tools[@]}" simulator; do parallel+=(--basefile "./bundle/$name"); done
-    for end in csv ${keep:+sim json trace} ${page:+html}; do parallel+=(--return "rows/{1}.$end"); done
+    for end in csv ${keep:+sim json trace ${channel:+channel}} ${page:+html}; do parallel+=(--return "rows/{1}.$end"); done
   fi
-  command=(env "TORA_SIM=${words[*]}" "KEEP=$keep" "PAGE=$page" "VARY={4}" "MEASURE=${measure[*]-}"
+  command=(env "TORA_SIM=${words[*]}" "KEEP=$keep" "PAGE=$page" "CHANNEL=$channel" "VARY={4}" "MEASURE=${measure[*]-}"
     bash ./bundle/study-one.sh --name "{1}" rows "{2}" "{3}" "$@")
   (cd "$dir" && "${parallel[@]}" --colsep '\t' "${command[@]}" :::: runs.txt)
 }
 
 status=0
 if [ -n "$slurm" ]; then
-  TORA_SIM=${words[*]} KEEP=$keep PAGE=$page MEASURE=${measure[*]-} bash "$here/sweep-slurm.sh" "$dir" "$sbatch" "$@" || status=$?
+  TORA_SIM=${words[*]} KEEP=$keep PAGE=$page CHANNEL=$channel MEASURE=${measure[*]-} bash "$here/sweep-slurm.sh" "$dir" "$sbatch" "$@" || status=$?
   [ "$status" -le 1 ] || exit "$status"
 else
   run_in_parallel "$@" || status=1

@@ -1,11 +1,12 @@
 #!/usr/bin/env python3
 """Lists the runs of a study, one a line: its name, nodes, seed, and the options that vary, divided by tabs; sweep.sh calls it.
 
-  sweep_runs.py "SIZES" SEEDS [--vary NAME=VALUE,..].. [-- OPTION OF scenario.py..]
+  sweep_runs.py "SIZES" SEEDS [--vary NAME=VALUE,..].. [--channel-file] [-- OPTION OF scenario.py..]
 
 Every size stands with every value of each NAME, an option of scenario.py without its dashes, and with every seed. Commas
 within a value are written as colons: `times=10:50:5:8,5:20:5:8`. A run is named NODES-SEED, and behind it -NAME=VALUE for
-each NAME. What scenario.py would refuse of a run's options is refused before any run starts.
+each NAME. What scenario.py would refuse of a run's options is refused before any run starts; with --channel-file each run has a
+channel file.
 """
 import argparse
 import itertools
@@ -15,7 +16,7 @@ import sys
 from scenario import checked, options_of
 from study import Usage, run
 
-FIXED = ("nodes", "seed", "ns2", "bonnmotion", "help")  # options that --vary may not name
+FIXED = ("nodes", "seed", "ns2", "bonnmotion", "channel-file", "help")  # options that --vary may not name
 
 
 def varied(text):
@@ -26,7 +27,7 @@ def varied(text):
     return [(found[1], value) for value in dict.fromkeys(found[2].split(","))]
 
 
-def runs(sizes, seeds, vary, options):
+def runs(sizes, seeds, vary, options, has_channel=False):
     """The runs in the order of the rows: (name, nodes, seed, options that vary)."""
     grid = [varied(text) for text in vary]
     names = [values[0][0] for values in grid]
@@ -36,7 +37,10 @@ def runs(sizes, seeds, vary, options):
         name = "-".join([f"{size}-{seed}", *(f"{option}={value}" for option, value in values)])
         words = [word for option, value in values for word in (f"--{option}", value.replace(":", ","))]
         if seed == 1:
-            checked(options_of(["x", "--nodes", str(size), "--seed", "1", *options, *words]))
+            if options_of(["x", *options]).channel_file:
+                raise Usage("--channel-file stands before DIR, without a path: each run has a channel file of its own")
+            channel = ["--channel-file", "x"] if has_channel else []
+            checked(options_of(["x", "--nodes", str(size), "--seed", "1", *channel, *options, *words]))
         yield name, size, seed, " ".join(words)
 
 
@@ -46,11 +50,13 @@ def main():
     parser.add_argument("sizes", help="numbers of nodes, as \"10 20 40\"")
     parser.add_argument("seeds", type=int, help="how many seeds")
     parser.add_argument("--vary", action="append", default=[], metavar="NAME=VALUE,..", help="values of an option of scenario.py")
+    parser.add_argument("--channel-file", action="store_true", help="each run has a channel file of its own")
     at = sys.argv.index("--") if "--" in sys.argv else len(sys.argv)
     words = parser.parse_args(sys.argv[1:at])
 
     def body():
-        for found in list(runs([int(size) for size in words.sizes.split()], words.seeds, words.vary, sys.argv[at + 1 :])):
+        sizes = [int(size) for size in words.sizes.split()]
+        for found in list(runs(sizes, words.seeds, words.vary, sys.argv[at + 1 :], words.channel_file)):
             print(*found, sep="\t")
 
     return run("sweep", body)

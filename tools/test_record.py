@@ -1,7 +1,7 @@
 """How the records of a trace are read, and what is refused."""
 import unittest
 
-from record import Ends, Record, records
+from record import Ends, Record, last_round, records, until
 from study import Refused
 from testing import written
 
@@ -27,6 +27,9 @@ REFUSED = {
     FIRST + "2 end 12\n": "2: no record of a trace",
     FIRST.replace(" 1 ", " 2 ", 1): "1: a trace of version 2",
     FIRST.replace(" 8 ", " ", 1): "1: `trace` has 11 fields, not 10",
+    FIRST.replace(" 1\n", " 1 300\n"): "1: `trace` has 11 fields, not 12",
+    FIRST.replace(" 1\n", " 1 300 12\n"): "1: `12` is no digest",
+    FIRST.replace(" 1\n", f" 1 x {'0' * 64}\n"): "1: `x` is no number",
 }
 
 
@@ -51,6 +54,23 @@ class RecordTest(unittest.TestCase):
             for other in ({"times": [10, 50, 5, 7]}, {"times": [10, 50, 5, 8], "digest": "1" * 64}):
                 with self.subTest(other=other), self.assertRaises(Refused):
                     ends.refuse_other(other)
+
+    def test_more(self):
+        """The last round and the digest of a channel file, which may be missing."""
+        digest = "a" * 64
+        for more, wanted in (("", (None, None)), (" 300 -", (300, None)), (f" - {digest}", (None, digest)), (f" 0 {digest}", (0, digest))):
+            with self.subTest(more=more), written(FIRST.replace("\n", more + "\n") + "1 need 1 2\n" + LAST) as path:
+                ends = Ends(path)
+                self.assertEqual(list(records(path, ends)), [Record(2, 1, "need", (1, 2))])
+                self.assertEqual((ends.until, ends.channel_file, last_round(path)), (*wanted, wanted[0]))
+
+    def test_until(self):
+        """A run that has ended before the scenario's last round is measured as far as it goes."""
+        for last, rounds in (("300", 300), ("1200", 1200), ("5000", 1200)):
+            with self.subTest(last=last), written(FIRST.replace("\n", f" {last} -\n") + LAST) as path:
+                self.assertEqual(until({"rounds": 1200}, path), {"rounds": rounds})
+        with written(FIRST.replace("\n", " 0 -\n") + LAST) as path, self.assertRaises(Refused):
+            until({"rounds": 1200}, path)
 
     def test_refusals(self):
         """Each is told with its line."""

@@ -33,6 +33,10 @@ class RoutesTest(unittest.TestCase):
         self.assertEqual([row[name] for name in ("stretch_mean", "stretch_95", "stretch_most", "hops_mean")], [1.625, 2, 2, 1.625])
         self.assertEqual([row[name] for name in ("outages", "outages_by_break", "restored", "restore_median")], [1, 1, 1, 5])
 
+    def test_degree(self):
+        """Three links in eight rounds and two in four, each at two of three nodes."""
+        self.assertEqual(self.row(TEXT)[1]["degree_mean"], 1.778)
+
     def test_without_a_change(self):
         """A trace without a route: no hop in every round."""
         row = self.row("3 frames 1 0 0 0\n")[1]

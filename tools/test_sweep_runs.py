@@ -30,6 +30,13 @@ class RunsTest(unittest.TestCase):
             with self.subTest(sizes=sizes), self.assertRaises(SystemExit), contextlib.redirect_stderr(io.StringIO()):
                 list(runs(sizes, 1, [], options))
 
+    def test_channel_files(self):
+        """Each run has a file of its own, so no run is told its path; the loss at the range is of such a file."""
+        self.assertEqual([words for *_, words in runs([5], 1, ["edge-loss=0,0.25"], [], True)], ["--edge-loss 0", "--edge-loss 0.25"])
+        for vary, options in ((["edge-loss=0.1"], []), (["channel-file=x"], []), ([], ["--channel-file", "x"]), ([], ["--edge-loss", "0.1"])):
+            with self.subTest(vary=vary, options=options), self.assertRaises(Usage):
+                list(runs([5], 1, vary, options))
+
     def test_large(self):
         """With --large there may be 1,024 nodes."""
         self.assertEqual([size for _, size, *_ in runs([64], 1, [], [])], [64])

@@ -5,15 +5,15 @@ _tora() {
   COMPREPLY=()
   for ((at = 1; at < COMP_CWORD; at++)); do
     case ${COMP_WORDS[at]} in
-      --times | --channel | --seed | --trace | --log) at=$((at + 1)) ;;
+      --times | --channel | --channel-file | --seed | --until | --trace | --log) at=$((at + 1)) ;;
       -*) ;;
       *) command=${COMP_WORDS[at]} && break ;;
     esac
   done
   case $before in
-    --times | --channel | --seed) return ;;
+    --times | --channel | --seed | --until) return ;;
     --log) mapfile -t COMPREPLY < <(compgen -W 'off error warn info debug trace' -- "$word") && return ;;
-    --trace) mapfile -t COMPREPLY < <(compgen -f -- "$word") && return ;;
+    --trace | --channel-file) mapfile -t COMPREPLY < <(compgen -f -- "$word") && return ;;
   esac
   case $command in
     '')
@@ -21,8 +21,8 @@ _tora() {
       # the launcher at the top of the repository has words of its own
       if [ -f "$(dirname "${COMP_WORDS[0]}")/tools/build.py" ]; then words+=' build test install uninstall'; fi
       ;;
-    sim) words+=' --times --channel --seed --notice --large --trace' files='*.sim' ;;
-    drive) words+=' --times' ;;
+    sim) words+=' --times --channel --seed --channel-file --notice --large --until --progress --trace' files='*.sim' ;;
+    drive) words+=' --times --large' ;;
     node) words+=' --check --log --log-time' files='*.toml' ;;
     help) words='replay sim drive node key' ;;
     install | uninstall) words='-h --help' files='*/' ;;

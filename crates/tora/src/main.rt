@@ -7,7 +7,7 @@
 use clap::ArgMatches;
 use log::{LevelFilter, Logged};
 use std::io;
-use std::io::BufWriter;
+use std::io::{BufWriter, IsTerminal};
 use std::process::ExitCode;
 use tora_commands::{
     MEMORY, SetupWords, USAGE, command, drive_command, key_command, node_command, replay_command,
@@ -37,12 +37,12 @@ fn simulate_to_output(
     words: SetupWords<'_>,
     path: &str,
     trace: Option<&str>,
-    is_verbose: bool,
+    shown: (bool, bool),
 ) -> ExitCode {
     let Ok(mut writer) = BufWriter::new(rt.alloc(), io::writer(rt)) else {
         return stop(rt, MEMORY, "memory");
     };
-    simulate_file(rt, words, path, trace, is_verbose, &mut writer)
+    simulate_file(rt, words, path, trace, shown, &mut writer)
 }
 
 /// The runtime with the log of a node: up to which level, and whether with the time, its options say. It has no sockets.
@@ -94,12 +94,17 @@ fn main(rt: HostRuntime) -> ExitCode {
                         seed: sim.get_str("seed"),
                         has_notice: sim.get_flag("notice"),
                         is_large: sim.get_flag("large"),
+                        until: sim.get_str("until"),
+                        channel_file: sim.get_str("channel-file"),
                     };
-                    simulate_to_output(&rt, words, path, sim.get_str("trace"), is_verbose)
+                    let has_bar = sim.get_flag("progress") && rt.stderr().is_terminal();
+                    let (trace, shown) = (sim.get_str("trace"), (is_verbose, has_bar));
+                    simulate_to_output(&rt, words, path, trace, shown)
                 }
                 Some(("drive", drive)) => {
                     let mut writer = io::writer(&rt);
-                    drive_command::run(&rt, drive.get_str("times"), rt.stdin(), &mut writer)
+                    let (times, is_large) = (drive.get_str("times"), drive.get_flag("large"));
+                    drive_command::run(&rt, times, is_large, rt.stdin(), &mut writer)
                 }
                 Some(("key", _)) => key_command::run(&rt, &mut io::writer(&rt)),
                 _ => replay_input(&rt, is_verbose),

@@ -7,6 +7,7 @@ use Rattle.tora_packet.specs.declared.Packet.{Packet}
 use Rattle.tora_frame.specs.declared.parts.Body.{Body}
 use Rattle.tora_frame.specs.declared.parts.Body.TheVariants.{Hello, Data, Ack}
 use Rattle.tora_frame.specs.FrameParts.{FrameParts}
+use Rattle.tora_arq.specs.declared.TheConstants.{QUEUE_PLACES}
 use Rattle.tora_arq.specs.declared.Life.{Life}
 use Rattle.tora_arq.specs.declared.Times.{Times}
 use Rattle.tora_arq.specs.declared.Reason.TheVariants as Because
@@ -356,7 +357,7 @@ submit-appends e life packet = go e.phase refl
     go (Bound current) j =
         cond_both (not (is_same_life life current)) _ _ (Appends e life packet) (λ _ q. absurd (cc)) (λ same.
         cond_both (nat_le (2 ^ 62) (e.acknowledged + length e.queue)) _ _ (Appends e life packet) (λ _ q. absurd (cc)) (λ _.
-        cond_both (nat_le 256 (length e.queue)) _ _ (Appends e life packet) (λ _ q. absurd (cc)) (λ _ q. (j ∙ ap Bound (sym (is_same_life-true life current (not-false _ same))), refl))))
+        cond_both (nat_le QUEUE_PLACES (length e.queue)) _ _ (Appends e life packet) (λ _ q. absurd (cc)) (λ _ q. (j ∙ ap Bound (sym (is_same_life-true life current (not-false _ same))), refl))))
 
 pub submit-own : (e : EndState) (life : Life) (packet : Packet) → (after_submit e life packet).phase ≡ Bound life → submit_answer e life packet ≡ Ok tt
 unfolding on_submit
@@ -370,7 +371,7 @@ submit-own e life packet = go e.phase refl
         (λ n k. absurd (true≢false (sym (is_same_life-refl life) ∙ ap (is_same_life life) (one_life e.phase life current k j) ∙ not-true _ n)))
         (λ _. cond_both (nat_le (2 ^ 62) (e.acknowledged + length e.queue)) _ _ (λ (r : Result (Unit {0}) SubmitError × EndState). r.1.phase ≡ Bound life → r.0 ≡ Ok tt)
         (λ _ k. absurd (closed_or_bound Closed life refl k))
-        (λ _. cond_both (nat_le 256 (length e.queue)) _ _ (λ (r : Result (Unit {0}) SubmitError × EndState). r.1.phase ≡ Bound life → r.0 ≡ Ok tt)
+        (λ _. cond_both (nat_le QUEUE_PLACES (length e.queue)) _ _ (λ (r : Result (Unit {0}) SubmitError × EndState). r.1.phase ≡ Bound life → r.0 ≡ Ok tt)
         (λ _ k. absurd (closed_or_bound Closed life refl k))
         (λ _ k. refl)))
 

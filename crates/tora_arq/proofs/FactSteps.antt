@@ -10,6 +10,7 @@ use Rattle.tora_frame.specs.declared.parts.Version.TheVariants.{One}
 use Rattle.tora_frame.specs.declared.parts.Body.{Body}
 use Rattle.tora_frame.specs.declared.parts.Body.TheVariants.{Hello, Data, Ack}
 use Rattle.tora_frame.specs.FrameParts.{FrameParts, batch}
+use Rattle.tora_arq.specs.declared.TheConstants.{QUEUE_PLACES}
 use Rattle.tora_arq.specs.declared.Life.{Life}
 use Rattle.tora_arq.specs.declared.Verdict.{Verdict}
 use Rattle.tora_arq.specs.declared.Times.{Times}
@@ -506,7 +507,7 @@ submit_step Is s e life packet = go e.phase refl
         (λ _ p. stays (no_change s (Submit life packet) e refl p))
         (λ same. cond_both (nat_le (2 ^ 62) (e.acknowledged + length e.queue)) _ _ (SubmitStep Is s e life packet)
         (λ _ p. ends current Because.Spent (life_ends current Because.Spent (Submit life packet) e j refl p))
-        (λ _. cond_both (nat_le 256 (length e.queue)) _ _ (SubmitStep Is s e life packet)
+        (λ _. cond_both (nat_le QUEUE_PLACES (length e.queue)) _ _ (SubmitStep Is s e life packet)
         (λ _ p. ends current Because.Full (life_ends current Because.Full (Submit life packet) e j refl p))
         (λ _ p. submits current packet (record {
           names = ap (λ x. Submit x packet) (is_same_life-true life current (not-false _ same));

@@ -3,6 +3,7 @@ use Rattle.std.proofs.Common.{◌≡◌, ℕ, zero, suc, ◌+◌, ◌-◌, ◌^�
 use Rattle.std.proofs.lemmas.Bool.{and_right, lt-leb}
 use Rattle.tora_packet.specs.declared.Packet.{Packet}
 use Rattle.tora_frame.specs.FrameParts.{FrameParts}
+use Rattle.tora_arq.specs.declared.TheConstants.{QUEUE_PLACES}
 use Rattle.tora_arq.specs.declared.Life.{Life}
 use Rattle.tora_arq.specs.declared.Times.{Times}
 use Rattle.tora_arq.specs.declared.SubmitError.{SubmitError}
@@ -23,17 +24,17 @@ tried_once now packet = retried (untried packet) now
 abbrev with_queue : EndState → List QueuedPacket → EndState
 with_queue e queue = record e { queue = queue }
 
-submitted_on : (e : EndState) (life : Life) (packet : Packet) → e.phase ≡ Bound life → length e.queue < 256 → e.acknowledged + length e.queue < 2 ^ 62 →
+submitted_on : (e : EndState) (life : Life) (packet : Packet) → e.phase ≡ Bound life → length e.queue < QUEUE_PLACES → e.acknowledged + length e.queue < 2 ^ 62 →
     on_submit e life packet ≡ (Ok tt, with_queue e (e.queue ++ untried packet ∷ []))
 unfolding on_submit
 submitted_on e life packet bound room number =
-    rw (bound, is_same_life-refl life, lt-leb (2 ^ 62) (e.acknowledged + length e.queue) number, lt-leb 256 (length e.queue) room) refl
+    rw (bound, is_same_life-refl life, lt-leb (2 ^ 62) (e.acknowledged + length e.queue) number, lt-leb QUEUE_PLACES (length e.queue) room) refl
 
-submitted_one : (e : EndState) (life : Life) (packet : Packet) → e.phase ≡ Bound life → length e.queue < 256 → e.acknowledged + length e.queue < 2 ^ 62 →
+submitted_one : (e : EndState) (life : Life) (packet : Packet) → e.phase ≡ Bound life → length e.queue < QUEUE_PLACES → e.acknowledged + length e.queue < 2 ^ 62 →
     after_submit e life packet ≡ with_queue e (e.queue ++ untried packet ∷ [])
 submitted_one e life packet bound room number = ap (λ (x : Result (Unit {0}) SubmitError × EndState). x.1) (submitted_on e life packet bound room number)
 
-submitted : (e : EndState) (life : Life) (packets : List Packet) → e.phase ≡ Bound life → length e.queue + length packets ≤ 256 → e.acknowledged + length e.queue + length packets ≤ 2 ^ 62 →
+submitted : (e : EndState) (life : Life) (packets : List Packet) → e.phase ≡ Bound life → length e.queue + length packets ≤ QUEUE_PLACES → e.acknowledged + length e.queue + length packets ≤ 2 ^ 62 →
     after_submits e life packets ≡ with_queue e (e.queue ++ map untried packets)
 submitted e life [] bound room number = ap (with_queue e) (sym (append-nil e.queue))
 submitted e life (packet ∷ packets) bound room number =

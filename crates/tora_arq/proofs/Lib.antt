@@ -11,3 +11,5 @@ pub mod PollLemmas
 pub mod RefusalLemmas
 pub mod PeerLemmas
 pub mod FloodLemmas
+pub mod DueLemmas
+pub mod StillLemmas

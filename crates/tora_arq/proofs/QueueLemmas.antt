@@ -12,7 +12,7 @@ use Rattle.tora_arq.specs.EndRange.{AreUntried}
 
 -- ---- given up
 
-none_of_untried : (times : Times) (now : ℕ) (queue : List QueuedPacket) → 0 < times.tries → AreUntried queue → has_given_up times now queue ≡ false
+pub none_of_untried : (times : Times) (now : ℕ) (queue : List QueuedPacket) → 0 < times.tries → AreUntried queue → has_given_up times now queue ≡ false
 none_of_untried times now [] h u = refl
 none_of_untried times now (q ∷ queue) h u =
     let tries : q.tries ≡ 0 = u.0 in

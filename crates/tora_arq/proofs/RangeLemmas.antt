@@ -15,7 +15,7 @@ use Rattle.tora_arq.specs.declared.Verdict.{Verdict}
 use Rattle.tora_arq.specs.declared.LinkEvent.{LinkEvent}
 use Rattle.tora_arq.specs.declared.LinkEvent.TheVariants.{Up, Deliver, Down}
 use Rattle.tora_arq.specs.declared.SubmitError.{SubmitError}
-use Rattle.tora_arq.specs.declared.TheConstants.{WINDOW}
+use Rattle.tora_arq.specs.declared.TheConstants.{WINDOW, EVENT_PLACES, PLACES_OF_A_FRAME, QUEUE_PLACES}
 use Rattle.tora_arq.specs.declared.state.Phase.{Phase}
 use Rattle.tora_arq.specs.declared.state.Phase.TheVariants.{Closed, Unbound, Bound}
 use Rattle.tora_arq.specs.declared.queue.QueuedPacket.{QueuedPacket}
@@ -113,7 +113,11 @@ grown events event n h = omega (arith, length-append events (event ∷ []))
 grown_below : (events : List LinkEvent) (event : LinkEvent) (n : ℕ) → length events + 1 < n → length (events ++ event ∷ []) < n
 grown_below events event n h = omega (arith, length-append events (event ∷ []))
 
-with_room : (last heard : ℕ) (events more : List LinkEvent) (phase : Phase) → length more < 64 → IsPhase last heard events phase → IsPhase last heard more phase
+-- behind one event more there is room for the packets of a window
+grown_window : (events : List LinkEvent) (event : LinkEvent) → length events + PLACES_OF_A_FRAME ≤ EVENT_PLACES → length (events ++ event ∷ []) + WINDOW < EVENT_PLACES
+grown_window events event h = omega (arith, length-append events (event ∷ []))
+
+with_room : (last heard : ℕ) (events more : List LinkEvent) (phase : Phase) → length more < EVENT_PLACES → IsPhase last heard events phase → IsPhase last heard more phase
 with_room last heard events more Closed r h = tt
 with_room last heard events more (Unbound own) r h = h
 with_room last heard events more (Bound life) r h = record { own = h.own; peer = h.peer; noted = h.noted; room = r }
@@ -149,7 +153,7 @@ module _ (s : Settings) where
     room = h.room;
   }
 
-  end_kept : (e : EndState) (life : Life) (reason : Reason) → length e.events < 64 → IsEndState s e → IsEndState s (after_end e life reason)
+  end_kept : (e : EndState) (life : Life) (reason : Reason) → length e.events < EVENT_PLACES → IsEndState s e → IsEndState s (after_end e life reason)
   end_kept e life reason r h = record {
     link = h.link;
     times = h.times;
@@ -160,21 +164,21 @@ module _ (s : Settings) where
     waiting = record { submitted = omega (arith, h.waiting.submitted); untried = untried_none s.window };
     delivered = omega (arith, h.delivered);
     held_within = omega arith;
-    room = grown e.events (Down life reason) 64 r;
+    room = grown e.events (Down life reason) EVENT_PLACES r;
   }
 
-  bind_kept : (e : EndState) (life : Life) → length e.events ≤ 30 → IsOwnNumber e.last_life life.own → IsLifeNumber life.peer → IsEndState s e → IsEndState s (after_bind e life)
+  bind_kept : (e : EndState) (life : Life) → length e.events + PLACES_OF_A_FRAME ≤ EVENT_PLACES → IsOwnNumber e.last_life life.own → IsLifeNumber life.peer → IsEndState s e → IsEndState s (after_bind e life)
   bind_kept e life r own peer h = record {
     link = h.link;
     times = h.times;
     window = h.window;
-    in_phase = record { own = own; peer = peer; noted = refl; room = grown_below e.events (Up life) 64 (omega arith) };
+    in_phase = record { own = own; peer = peer; noted = refl; room = grown_below e.events (Up life) EVENT_PLACES (omega arith) };
     noted = peer.1;
     opened = h.opened;
     waiting = no_queue s.window;
     delivered = omega arith;
     held_within = omega arith;
-    room = grown e.events (Up life) 64 (omega arith);
+    room = grown e.events (Up life) EVENT_PLACES (omega arith);
   }
 
   acknowledgement_kept : (e : EndState) (count now : ℕ) → count ≤ 2 ^ 62 → IsEndState s e → IsEndState s (after_acknowledgement e count now)
@@ -193,22 +197,22 @@ module _ (s : Settings) where
 
   -- ---- packets held and delivered
 
-  delivery_kept : (e : EndState) (life : Life) (packet : Packet) (held : List (Option Packet)) → suc (length e.events) ≤ 63 → suc e.accepted + length held ≤ 2 ^ 62 → length held ≤ s.window →
+  delivery_kept : (e : EndState) (life : Life) (packet : Packet) (held : List (Option Packet)) → suc (length e.events) < EVENT_PLACES → suc e.accepted + length held ≤ 2 ^ 62 → length held ≤ s.window →
       IsEndState s e → IsEndState s (after_delivery e life packet held)
   delivery_kept e life packet held r n w h = record {
     link = h.link;
     times = h.times;
     window = h.window;
-    in_phase = with_room e.last_life e.heard e.events (e.events ++ Deliver life packet ∷ []) e.phase (grown_below e.events (Deliver life packet) 64 (omega arith)) h.in_phase;
+    in_phase = with_room e.last_life e.heard e.events (e.events ++ Deliver life packet ∷ []) e.phase (grown_below e.events (Deliver life packet) EVENT_PLACES (omega arith)) h.in_phase;
     noted = h.noted;
     opened = h.opened;
     waiting = h.waiting;
     delivered = n;
     held_within = w;
-    room = grown e.events (Deliver life packet) 64 (omega arith);
+    room = grown e.events (Deliver life packet) EVENT_PLACES (omega arith);
   }
 
-  release_kept : (held : List (Option Packet)) (e : EndState) (life : Life) → e.held ≡ held → length e.events + length held ≤ 63 → IsEndState s e → IsEndState s (after_release life e held)
+  release_kept : (held : List (Option Packet)) (e : EndState) (life : Life) → e.held ≡ held → length e.events + length held < EVENT_PLACES → IsEndState s e → IsEndState s (after_release life e held)
   unfolding after_release
   release_kept [] e life q r h = h
   release_kept (None ∷ held) e life q r h = h
@@ -276,12 +280,12 @@ module _ (s : Settings) where
       packets_kept ps (after_packet life furthest e number p) life furthest (suc number) (packet_room s.window furthest life e number p r) (omega (arith, n))
       (packet_kept e life furthest number p r (omega (arith, n)) h)
 
-  data_kept : (e : EndState) (life : Life) (number : ℕ) (ps : List Packet) → length e.events ≤ 31 → number + length ps ≤ 2 ^ 62 + 1 → IsEndState s e → IsEndState s (on_data s.window e life number ps).1
+  data_kept : (e : EndState) (life : Life) (number : ℕ) (ps : List Packet) → length e.events + WINDOW < EVENT_PLACES → number + length ps ≤ 2 ^ 62 + 1 → IsEndState s e → IsEndState s (on_data s.window e life number ps).1
   unfolding on_data
   data_kept e life number ps r n h =
       packets_kept ps e life (e.accepted + s.window) number (record { room = omega (arith, r, h.window); near = omega arith; held = omega (arith, h.held_within) }) n h
 
-  matched_kept : (e : EndState) (life : Life) (binds : Bool) (now : ℕ) (header : Header) (body : Body) → length e.events ≤ 31 → IsBody header body → IsEndState s e →
+  matched_kept : (e : EndState) (life : Life) (binds : Bool) (now : ℕ) (header : Header) (body : Body) → length e.events + WINDOW < EVENT_PLACES → IsBody header body → IsEndState s e →
       IsEndState s (on_matched s.window e life binds now body).1
   unfolding on_matched
   matched_kept e life binds now header Hello r b h = h
@@ -289,7 +293,7 @@ module _ (s : Settings) where
       data_kept (record (after_acknowledgement e count now) { owes_ack = true }) life number packets.items r b.last (acknowledgement_kept e count now b.count h)
   matched_kept e life binds now header (Ack count) r b h = acknowledgement_kept e count now b.count h
 
-  phase_kept : (e : EndState) (f : FrameParts) (now : ℕ) (phase : Phase) → e.phase ≡ phase → length e.events ≤ 30 → IsFrame f → IsEndState s e →
+  phase_kept : (e : EndState) (f : FrameParts) (now : ℕ) (phase : Phase) → e.phase ≡ phase → length e.events + PLACES_OF_A_FRAME ≤ EVENT_PLACES → IsFrame f → IsEndState s e →
       IsEndState s (on_frame_in s.window e f now phase).1
   unfolding on_frame_in
   phase_kept e f now Closed j r t h = h
@@ -299,7 +303,7 @@ module _ (s : Settings) where
       (λ _. cond_both (nat_lt 0 (count_of f.body)) _ _ (λ (r : Verdict × EndState). IsEndState s r.1) (λ _. h) (λ _.
       cond_both (nat_lt f.header.life e.heard) _ _ (λ (r : Verdict × EndState). IsEndState s r.1) (λ _. h) (λ _.
       matched_kept (passed (after_bind e (life_of own f.header.life)) f.header.version) (life_of own f.header.life) true now f.header f.body
-      (grown e.events (Up (life_of own f.header.life)) 31 (omega arith)) t.body
+      (grown_window e.events (Up (life_of own f.header.life)) r) t.body
       (bind_kept e (life_of own f.header.life) r phase t.header.life h))))
       (λ _. life_told_kept e own f.header.version f.header.life f.body j t.header.life.1 h)
   phase_kept e f now (Bound life) j r t h =
@@ -316,7 +320,7 @@ module _ (s : Settings) where
   frame_kept e f now t h =
       cond_both (is_foreign s f) _ _ (λ (r : Verdict × EndState). IsEndState s r.1) (λ _. h) (λ _.
       cond_both (is_busy e) _ _ (λ (r : Verdict × EndState). IsEndState s r.1) (λ _. h) (λ free.
-      let room : length e.events ≤ 30 = omega (arith, ltb-false (64 - length e.events) 34 free, h.room) in
+      let room : length e.events + PLACES_OF_A_FRAME ≤ EVENT_PLACES = omega (arith, ltb-false (EVENT_PLACES - length e.events) PLACES_OF_A_FRAME free, h.room) in
       phase_kept e f now e.phase refl room t h))
 
   -- ---- time, packets and events
@@ -358,7 +362,7 @@ module _ (s : Settings) where
           cond_both (not (is_same_life life current)) _ _ (λ (r : Result (Unit {0}) SubmitError × EndState). IsEndState s r.1) (λ _. h) (λ _.
           cond_both (nat_le (2 ^ 62) (e.acknowledged + length e.queue)) _ _ (λ (r : Result (Unit {0}) SubmitError × EndState). IsEndState s r.1)
           (λ _. end_kept e current Because.Spent p.room h) (λ below.
-          cond_both (nat_le 256 (length e.queue)) _ _ (λ (r : Result (Unit {0}) SubmitError × EndState). IsEndState s r.1)
+          cond_both (nat_le QUEUE_PLACES (length e.queue)) _ _ (λ (r : Result (Unit {0}) SubmitError × EndState). IsEndState s r.1)
           (λ _. end_kept e current Because.Full p.room h)
           (λ _. pushed (leb-false (2 ^ 62) (e.acknowledged + length e.queue) below))))
 

@@ -4,7 +4,7 @@ use Rattle.tora_packet.specs.declared.Packet.{Packet}
 use Rattle.tora_frame.specs.declared.parts.Body.{Body}
 use Rattle.tora_frame.specs.declared.parts.Body.TheVariants.{Hello, Data, Ack}
 use Rattle.tora_frame.specs.FrameParts.{IsLifeNumber}
-use Rattle.tora_arq.specs.declared.TheConstants.{WINDOW}
+use Rattle.tora_arq.specs.declared.TheConstants.{WINDOW, EVENT_PLACES}
 use Rattle.tora_arq.specs.declared.Life.{Life}
 use Rattle.tora_arq.specs.declared.LinkEvent.{LinkEvent}
 use Rattle.tora_arq.specs.declared.state.Phase.{Phase}
@@ -29,7 +29,7 @@ IsNumbered (Ack count) = Unit {0}
 
 -- the events have room for the packets up to the last number of the window, and none further ahead is held
 pub record HasRoom (window furthest : ℕ) (e : EndState) : Type 0 where
-  pub room : length e.events + furthest ≤ 63 + e.accepted
+  pub room : length e.events + furthest < EVENT_PLACES + e.accepted
   pub near : furthest ≤ e.accepted + window
   pub held : e.accepted + length e.held ≤ furthest
 
@@ -48,7 +48,7 @@ pub record IsBoundLife (last heard : ℕ) (events : List LinkEvent) (life : Life
   pub own : IsOwnNumber last life.own
   pub peer : IsLifeNumber life.peer
   pub noted : heard ≡ life.peer
-  pub room : length events < 64
+  pub room : length events < EVENT_PLACES
 
 abbrev pub IsPhase : ℕ → ℕ → List LinkEvent → Phase → Type 0
 IsPhase last heard events Closed = Unit {0}
@@ -70,7 +70,7 @@ pub record IsRange (s : Settings) (phase : Phase) (heard last acknowledged accep
   pub waiting : IsQueue s.window acknowledged queue
   pub delivered : accepted + length held ≤ 2 ^ 62
   pub held_within : length held ≤ s.window
-  pub room : length events ≤ 64
+  pub room : length events ≤ EVENT_PLACES
 
 abbrev pub IsEndState : Settings → EndState → Type 0
 IsEndState s e = IsRange s e.phase e.heard e.last_life e.acknowledged e.accepted e.queue e.held e.events

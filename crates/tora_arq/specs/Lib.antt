@@ -12,3 +12,5 @@ pub mod Polls
 pub mod Texts
 pub mod Floods
 pub mod WorkedHellos
+pub mod NextDue
+pub mod Still

@@ -8,6 +8,7 @@ use Rattle.tora_frame.specs.declared.parts.Version.TheVariants.{One, Two}
 use Rattle.tora_frame.specs.declared.parts.Body.{Body}
 use Rattle.tora_frame.specs.declared.parts.Body.TheVariants.{Hello, Data, Ack}
 use Rattle.tora_frame.specs.FrameParts.{FrameParts, batch, frame_of}
+use Rattle.tora_arq.specs.declared.TheConstants.{EVENT_PLACES, PLACES_OF_A_FRAME, QUEUE_PLACES}
 use Rattle.tora_arq.specs.declared.Life.{Life}
 use Rattle.tora_arq.specs.declared.Verdict.{Verdict}
 use Rattle.tora_arq.specs.declared.Verdict.TheVariants.{Accepted, Repeated, Ahead, Stale, Foreign, Busy}
@@ -179,9 +180,9 @@ is_foreign s f =
     not (f.header.sender == s.peer) || not (f.header.receiver == s.me)
     || (is_unknown s.version f.header.version || has_update_of_another f.header.sender f.body)
 
--- case 2: fewer than 34 of the 64 places for events are free
+-- case 2: fewer places for events are free than a frame may need
 abbrev pub is_busy : EndState → Bool
-is_busy e = nat_lt (64 - length e.events) 34
+is_busy e = nat_lt (EVENT_PLACES - length e.events) PLACES_OF_A_FRAME
 
 -- case 5, at an end that is not bound: only a HELLO counts, a greater life is noted, and an equal one changes no more than the
 -- mark
@@ -293,14 +294,14 @@ after_tick s e now = after_tick_in s e now e.phase
 
 -- ---- a packet is submitted, a life is cut
 
--- another life than the bound one, 2^62 packets submitted in this life, 256 that are not acknowledged, or room for it
+-- another life than the bound one, 2^62 packets submitted in this life, no place for one that is not acknowledged, or room for it
 abbrev pub on_submit_in : EndState → Life → Packet → Phase → Result (Unit {0}) SubmitError × EndState
 on_submit_in e life packet Closed = (Err (Refusal.WrongLife packet), e)
 on_submit_in e life packet (Unbound own) = (Err (Refusal.WrongLife packet), e)
 on_submit_in e life packet (Bound current) =
     if not (is_same_life life current) then (Err (Refusal.WrongLife packet), e)
     else if nat_le (2 ^ 62) (e.acknowledged + length e.queue) then (Err Refusal.Spent, after_end e current Because.Spent)
-    else if nat_le 256 (length e.queue) then (Err Refusal.Full, after_end e current Because.Full)
+    else if nat_le QUEUE_PLACES (length e.queue) then (Err Refusal.Full, after_end e current Because.Full)
     else (Ok tt, record e { queue = e.queue ++ untried packet ∷ [] })
 
 unfoldable pub on_submit : EndState → Life → Packet → Result (Unit {0}) SubmitError × EndState

@@ -1,21 +1,14 @@
 //! The events of a link end that wait to be polled.
 ghost use Rattle.std.specs.Prelude.{◌≡◌, ◌<◌, ◌≤◌, ◌-◌, [], ◌∷◌, ◌++◌, length, drop, slice_get, nat_lt, IfOk};
 
-use crate::LinkEvent;
 use crate::rings::push;
+use crate::{EVENT_PLACES, LinkEvent, PLACES_OF_A_FRAME};
 use circular_buffer::HeapCircularBuffer;
 use std::alloc::{AllocError, Global};
 use std::marker::Model;
 use tora_packet::Packet;
 
-/// How many events may wait.
-pub const EVENT_PLACES: usize = 64;
-
-/// How many places have to be free where a frame comes: for the event that a life is bound, for up to 32 packets, and
-/// for the event that the life ended.
-const PLACES_OF_A_FRAME: usize = 34;
-
-/// Events in the order in which they came, 64 at most.
+/// Events in the order in which they came, `EVENT_PLACES` at most.
 #[derive(Debug, Drop)]
 pub struct EventQueue {
     ring: HeapCircularBuffer<LinkEvent>,
@@ -24,12 +17,13 @@ pub struct EventQueue {
 impl Model for EventQueue {
     ghost use Rattle.std.specs.Prelude.{◌≡◌, List};
     ghost use Rattle.tora_arq.specs.declared.LinkEvent.{LinkEvent};
+    ghost use Rattle.tora_arq.specs.declared.TheConstants.{EVENT_PLACES};
 
     ghost Value = { List LinkEvent };
 
     ghost view = { λ q. q.ring.items };
 
-    ghost invariant = { λ q. q.ring.capacity ≡ 64 };
+    ghost invariant = { λ q. q.ring.capacity ≡ EVENT_PLACES };
 }
 
 impl EventQueue {
@@ -43,14 +37,14 @@ impl EventQueue {
 
     /// Whether there is too little room for what a frame may give.
     pub fn is_busy(&self) -> bool
-        ensures { result ≡ nat_lt (64 - length self.now) 34 }
+        ensures { result ≡ nat_lt (EVENT_PLACES - length self.now) PLACES_OF_A_FRAME }
     {
         EVENT_PLACES - self.ring.len() < PLACES_OF_A_FRAME
     }
 
     /// Appends an event.
     pub fn push(&mut self, event: LinkEvent)
-        requires { length self.old < 64 }
+        requires { length self.old < EVENT_PLACES }
         ensures { self.new ≡ self.old ++ event ∷ [] }
     {
         // The check has to meet the type of packets where an event is passed on.

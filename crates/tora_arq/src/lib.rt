@@ -33,6 +33,7 @@ mod receive;
 mod rings;
 mod settings;
 mod state;
+mod still;
 mod transmit;
 
 pub use facts::{
@@ -48,6 +49,16 @@ use tora_packet::Packet;
 
 /// How many packets of a life may be under way, transmitted and not acknowledged. Own profile.
 pub const WINDOW: u64 = 32;
+
+/// How many events of a link end may wait to be polled: twice a window. Own profile.
+pub const EVENT_PLACES: usize = 2 * WINDOW as usize;
+
+/// How many places for events have to be free where a frame comes: for the event that a life is bound, for the packets of a
+/// window, and for the event that the life ended. Own profile.
+pub const PLACES_OF_A_FRAME: usize = WINDOW as usize + 2;
+
+/// How many packets of a life may wait for their acknowledgement. Own profile.
+pub const QUEUE_PLACES: usize = 256;
 
 /// A life of a link: the numbers that its two ends drew for it, each 1 to 2^62. Own profile.
 ///

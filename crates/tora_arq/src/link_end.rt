@@ -1,13 +1,15 @@
 //! A link end, as its node sees it.
-ghost use Rattle.std.specs.Prelude.{◌≡◌, ◌≢◌, ◌<◌, ◌≤◌, ◌^◌, IfOk, IfNone, IsTrue, OnSome, is_some, length};
+ghost use Rattle.std.specs.Prelude.{◌≡◌, ◌≢◌, ◌<◌, ◌≤◌, ◌^◌, ℕ, IfOk, IfNone, IsTrue, OnSome, false, is_some, length};
 ghost use Rattle.tora_arq.specs.Settings.{IsTimes, settings_of};
 ghost use Rattle.tora_arq.specs.LinkEnd.{first_end, is_closed, bound_life, after_open, verdict_of, after_frame, after_tick, submit_answer, after_submit, after_cut, first_event, after_poll_event, frame_due, after_transmit};
 ghost use Rattle.tora_arq.specs.EndRange.{IsEndState, link_end_of};
+ghost use Rattle.tora_arq.specs.NextDue.{IsNextDue};
+ghost use Rattle.tora_arq.specs.Still.{still_until};
 ghost use Rattle.tora_frame.specs.declared.parts.Version.TheVariants.{One, Two};
 
 use crate::settings::Settings;
 use crate::state::{Phase, State};
-use crate::{ArqError, Life, LinkEvent, SubmitError, Times, Verdict};
+use crate::{ArqError, EVENT_PLACES, Life, LinkEvent, QUEUE_PLACES, SubmitError, Times, Verdict};
 use std::alloc::Global;
 use std::marker::Model;
 use tora_frame::{BorrowedFrame, Frame, Packets, Version};
@@ -51,8 +53,8 @@ impl LinkEnd {
     /// A closed end of the link between node `me` and its neighbour `peer`, two different nodes. It speaks version 2, and
     /// version 1 to a peer that isn't known to speak version 2.
     ///
-    /// Every time of `times` is at least 1. It makes room for 256 packets that wait for their acknowledgement and for
-    /// 64 events.
+    /// Every time of `times` is at least 1. It makes room for `QUEUE_PLACES` packets that wait for their acknowledgement and
+    /// for `EVENT_PLACES` events.
     ///
     /// # Errors
     /// `Memory`.
@@ -146,10 +148,10 @@ impl LinkEnd {
         self.settings.times
     }
 
-    /// How many packets wait for their acknowledgement, at most 256.
+    /// How many packets wait for their acknowledgement, at most `QUEUE_PLACES`.
     pub fn waiting(&self) -> usize
         ensures waiting { result ≡ length self.now.state.queue }
-        ensures within { result ≤ 256 }
+        ensures within { result ≤ QUEUE_PLACES }
     {
         self.state.queue.len()
     }
@@ -166,7 +168,7 @@ impl LinkEnd {
     pub fn life(&self) -> Option<Life>
         ensures life { result ≡ bound_life self.now.state }
         // The event that it ended has a place.
-        ensures room { OnSome result (length self.now.state.events < 64) }
+        ensures room { OnSome result (length self.now.state.events < EVENT_PLACES) }
     {
         match self.state.phase {
             Phase::Closed => None,
@@ -188,7 +190,7 @@ impl LinkEnd {
     /// Takes a frame that came in at the tick `now`. The first of these that applies decides:
     /// 1. It is not from the peer or not for this node, or it is of version 2 and the end of version 1, or it has an update
     ///    of another node than the peer: `Foreign`.
-    /// 2. Fewer than 34 of the 64 places for events are free: `Busy`.
+    /// 2. Fewer than `PLACES_OF_A_FRAME` of the `EVENT_PLACES` places for events are free: `Busy`.
     /// 3. The end is closed: `Stale`.
     /// 4. At a bound end, a life of the sender above the bound one ends the bound life (`NewPeer`): `Accepted`. One below
     ///    it: `Stale`.
@@ -234,8 +236,8 @@ impl LinkEnd {
     ///
     /// # Errors
     /// In this order: `WrongLife` where the life is not the bound one, which changes nothing and hands the packet back;
-    /// `Spent` where 2^62 packets were submitted in this life, which ends it; `Full` where 256 packets wait for their
-    /// acknowledgement, which ends it.
+    /// `Spent` where 2^62 packets were submitted in this life, which ends it; `Full` where `QUEUE_PLACES` packets wait for
+    /// their acknowledgement, which ends it.
     pub fn submit(&mut self, life: Life, packet: Packet) -> Result<(), SubmitError>
         ensures answer { result ≡ submit_answer self.old.state life packet }
         ensures state { self.new ≡ record self.old { state = after_submit self.old.state life packet } }
@@ -263,6 +265,24 @@ impl LinkEnd {
         ensures { result ≡ is_some (frame_due self.now.settings self.now.state now) }
     {
         self.state.is_frame_due(&self.settings, now)
+    }
+
+    /// The first tick from `now` on at which a frame is due, or the bound life ends in silence, if nothing is handed in until then: before
+    /// it neither is, and at it one is. `None` where there is none below 2^64. It looks at no more packets than the window.
+    pub fn next_due(&self, now: u64) -> Option<u64>
+        ensures { IsNextDue self.now.settings self.now.state now result }
+    {
+        self.state.next_due(&self.settings, now)
+    }
+
+    /// The tick before which no frame is due and a tick changes nothing, unless something else happens at the end; 0 where a
+    /// frame is due at once, or a packet is not acknowledged yet. It is 2^64 - 1 at a closed end.
+    pub fn still_until(&self) -> u64
+        ensures value { result ≡ still_until self.now.settings self.now.state }
+        ensures frames { (tick : ℕ) → tick < result → is_some (frame_due self.now.settings self.now.state tick) ≡ false }
+        ensures ticks { (tick : ℕ) → tick < result → after_tick self.now.settings self.now.state tick ≡ self.now.state }
+    {
+        self.state.still_until(&self.settings)
     }
 
     /// Takes the first frame due, which counts as sent; `None` only where none is due.

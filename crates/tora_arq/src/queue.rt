@@ -1,20 +1,18 @@
 //! The send queue of a link end.
-ghost use Rattle.std.specs.Prelude.{◌≡◌, ◌<◌, ◌≤◌, ◌+◌, ◌^◌, ℕ, [], ◌∷◌, ◌++◌, ◌-◌, length, take, drop, min, slice_get, Some, IfOk, IfNone, IfSome, IsTrue, MatchOption, is_some, option_map};
+ghost use Rattle.std.specs.Prelude.{◌≡◌, ◌<◌, ◌≤◌, ◌+◌, ◌^◌, ℕ, [], ◌∷◌, ◌++◌, ◌-◌, length, take, drop, min, slice_get, Some, IfOk, IfNone, IfSome, IsTrue, MatchOption, is_some, option_map, ◌||◌};
 ghost use Rattle.tora_arq.specs.Settings.{ticks_passed};
 ghost use Rattle.tora_arq.specs.SendQueue.{untried, retried, is_retry_time, is_ready, is_given_up, has_given_up, ready_run, first_due, AreLate, IsFirstReady};
 ghost use Rattle.tora_arq.specs.EndRange.{AreUntried};
+ghost use Rattle.tora_arq.specs.NextDue.{has_begun, is_packet_due};
 
 use crate::rings::{push, set};
-use crate::settings::ticks_passed;
-use crate::{Times, WINDOW};
+use crate::settings::{earlier, tick_behind, ticks_passed};
+use crate::{QUEUE_PLACES, Times, WINDOW};
 use circular_buffer::HeapCircularBuffer;
 use std::alloc::{AllocError, Global};
 use std::marker::Model;
 use tora_frame::{MOST_PACKETS, Packets};
 use tora_packet::Packet;
-
-/// How many packets of a life may wait for their acknowledgement.
-pub const QUEUE_PLACES: usize = 256;
 
 /// A packet that was submitted and is not acknowledged.
 #[derive(Clone, Copy, Debug, PartialEq, Eq, Hash)]
@@ -69,9 +67,21 @@ impl QueuedPacket {
     {
         self.tries >= times.tries && self.is_retry_time(times, now)
     }
+
+    /// The tick from which on the packet is due, or given up.
+    fn due_tick(&self, times: &Times) -> Option<u64>
+        requires retry { 0 < times.now.retry }
+        requires tries { 0 < times.now.tries }
+        ensures { (tick : ℕ) → tick < 2 ^ 64 → has_begun result tick ≡ is_packet_due times.now tick self.now }
+    {
+        if self.tries == 0 {
+            return Some(0);
+        }
+        tick_behind(self.last_try, times.retry)
+    }
 }
 
-/// The packets that were submitted and are not acknowledged, in order, 256 at most.
+/// The packets that were submitted and are not acknowledged, in order, `QUEUE_PLACES` at most.
 #[derive(Debug, Drop)]
 pub struct SendQueue {
     ring: HeapCircularBuffer<QueuedPacket>,
@@ -80,12 +90,13 @@ pub struct SendQueue {
 impl Model for SendQueue {
     ghost use Rattle.std.specs.Prelude.{◌≡◌, List};
     ghost use Rattle.tora_arq.specs.declared.queue.QueuedPacket.{QueuedPacket};
+    ghost use Rattle.tora_arq.specs.declared.TheConstants.{QUEUE_PLACES};
 
     ghost Value = { List QueuedPacket };
 
     ghost view = { λ q. q.ring.items };
 
-    ghost invariant = { λ q. q.ring.capacity ≡ 256 };
+    ghost invariant = { λ q. q.ring.capacity ≡ QUEUE_PLACES };
 }
 
 impl SendQueue {
@@ -99,14 +110,14 @@ impl SendQueue {
 
     pub fn len(&self) -> usize
         ensures len { result ≡ length self.now }
-        ensures within { result ≤ 256 }
+        ensures within { result ≤ QUEUE_PLACES }
     {
         self.ring.len()
     }
 
     /// Appends a packet that was never transmitted.
     pub fn push(&mut self, packet: Packet)
-        requires { length self.old < 256 }
+        requires { length self.old < QUEUE_PLACES }
         ensures { self.new ≡ self.old ++ untried packet ∷ [] }
     {
         push(&mut self.ring, QueuedPacket::untried(packet));
@@ -182,6 +193,20 @@ impl SendQueue {
             Some(_) => true,
             None => false,
         }
+    }
+
+    /// The tick from which on a packet is due within the window, or given up. It looks at no more than the window.
+    pub fn due_tick(&self, times: &Times) -> Option<u64>
+        requires retry { 0 < times.now.retry }
+        requires tries { 0 < times.now.tries }
+        requires untried { AreUntried (drop WINDOW self.now) }
+        ensures { (most number tick : ℕ) → tick < 2 ^ 64 → has_begun result tick ≡ is_some (first_due times.now tick most number WINDOW self.now) || has_given_up times.now tick self.now }
+    {
+        let mut first = None;
+        for place in 0..self.within_window() {
+            first = earlier(first, self.packet_at(place).due_tick(times));
+        }
+        first
     }
 
     /// Appends the packets from a place up to another, as far as each is due; they count as transmitted now.

@@ -10,7 +10,7 @@ ghost use Rattle.tora_arq.specs.StateView.{settings_in, state_in};
 use crate::settings::Settings;
 use crate::state::{Phase, State};
 use crate::transmit::is_two;
-use crate::{Life, Reason, Verdict, WINDOW};
+use crate::{EVENT_PLACES, Life, PLACES_OF_A_FRAME, Reason, Verdict, WINDOW};
 use tora_frame::{BorrowedBody, BorrowedFrame, Version};
 use tora_packet::Packet;
 
@@ -60,8 +60,8 @@ impl State {
     /// Holds a packet at a place, and delivers what is held up to the first gap.
     fn hold(&mut self, life: Life, place: usize, packet: Packet)
         requires place { place < WINDOW }
-        requires room { length self.old.events + length self.old.held < 64 }
-        requires place_room { length self.old.events + place + 1 < 64 }
+        requires room { length self.old.events + length self.old.held < EVENT_PLACES }
+        requires place_room { length self.old.events + place + 1 < EVENT_PLACES }
         requires accepted { self.old.accepted ≤ 2 ^ 63 }
         ensures { state_in self.new ≡ after_release life (record (state_in self.old) { held = hold_at place packet self.old.held }) (hold_at place packet self.old.held) }
     {
@@ -89,7 +89,7 @@ impl State {
 
     /// Packets of the bound life, numbered on from the first.
     fn on_packets(&mut self, life: Life, number: u64, packets: &[Packet])
-        requires room { length self.old.events ≤ 31 }
+        requires room { length self.old.events + WINDOW < EVENT_PLACES }
         requires accepted { self.old.accepted ≤ 2 ^ 62 }
         requires held { length self.old.held ≤ WINDOW }
         requires number { number + length packets.now ≤ 2 ^ 62 + 1 }
@@ -106,7 +106,7 @@ impl State {
     /// A DATA frame of the bound life.
     #[tactic(auto, unfolding(crate::specs::LinkEnd::on_data))]
     fn on_data(&mut self, life: Life, number: u64, packets: &[Packet]) -> Verdict
-        requires room { length self.old.events ≤ 31 }
+        requires room { length self.old.events + WINDOW < EVENT_PLACES }
         requires accepted { self.old.accepted ≤ 2 ^ 62 }
         requires held { length self.old.held ≤ WINDOW }
         requires some { 0 < length packets.now }
@@ -130,7 +130,7 @@ impl State {
     #[tactic(auto, unfolding(crate::specs::LinkEnd::on_matched))]
     fn on_matched(&mut self, life: Life, binds: bool, now: u64, body: BorrowedBody<'_>) -> Verdict
         requires numbered { IsNumbered (body_of body) }
-        requires room { length self.old.events ≤ 31 }
+        requires room { length self.old.events + WINDOW < EVENT_PLACES }
         requires accepted { self.old.accepted ≤ 2 ^ 62 }
         requires held { length self.old.held ≤ WINDOW }
         ensures verdict { result ≡ (on_matched WINDOW (state_in self.old) life binds now (body_of body.entry)).0 }
@@ -160,7 +160,7 @@ impl State {
 
     #[tactic(auto, unfolding(crate::specs::LinkEnd::on_frame_in))]
     fn on_unbound_frame(&mut self, own: u64, frame: &BorrowedFrame<'_>, now: u64) -> Verdict
-        requires room { length self.old.events ≤ 30 }
+        requires room { length self.old.events + PLACES_OF_A_FRAME ≤ EVENT_PLACES }
         ensures verdict { result ≡ (on_frame_in WINDOW (state_in self.old) frame.now now (Phase.Unbound own)).0 }
         ensures state { state_in self.new ≡ (on_frame_in WINDOW (state_in self.old) frame.now now (Phase.Unbound own)).1 }
     {
@@ -185,7 +185,7 @@ impl State {
 
     #[tactic(auto, unfolding(crate::specs::LinkEnd::on_frame_in))]
     fn on_bound_frame(&mut self, life: Life, frame: &BorrowedFrame<'_>, now: u64) -> Verdict
-        requires room { length self.old.events ≤ 30 }
+        requires room { length self.old.events + PLACES_OF_A_FRAME ≤ EVENT_PLACES }
         requires accepted { self.old.accepted ≤ 2 ^ 62 }
         requires held { length self.old.held ≤ WINDOW }
         ensures verdict { result ≡ (on_frame_in WINDOW (state_in self.old) frame.now now (Phase.Bound life)).0 }

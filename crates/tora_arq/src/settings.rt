@@ -1,10 +1,11 @@
 //! What a link end is made with, and its clock.
-ghost use Rattle.std.specs.Prelude.{◌≡◌};
+ghost use Rattle.std.specs.Prelude.{◌≡◌, ℕ, ◌^◌, ◌<◌, ◌||◌, nat_le};
 ghost use Rattle.std.specs.List.{list_any};
 ghost use Rattle.tora_frame.specs.FrameParts.{IsFrame};
 ghost use Rattle.tora_frame.specs.BorrowedFrames.{body_of};
 ghost use Rattle.tora_arq.specs.Settings.{ticks_passed};
 ghost use Rattle.tora_arq.specs.LinkEnd.{is_foreign, is_unknown, is_update_of_another, has_update_of_another};
+ghost use Rattle.tora_arq.specs.NextDue.{has_begun};
 ghost use Rattle.tora_arq.specs.StateView.{settings_in};
 
 use crate::Times;
@@ -26,6 +27,25 @@ pub fn ticks_passed(earlier: u64, now: u64) -> u64
     ensures { result ≡ ticks_passed earlier now }
 {
     now.saturating_sub(earlier)
+}
+
+/// The tick that comes so many behind an earlier one; `None` where it is no number of 64 bits.
+pub fn tick_behind(earlier: u64, ticks: u64) -> Option<u64>
+    requires { 0 < ticks }
+    ensures { (tick : ℕ) → tick < 2 ^ 64 → has_begun result tick ≡ nat_le ticks (ticks_passed earlier tick) }
+{
+    earlier.checked_add(ticks)
+}
+
+/// The earlier one of two ticks, of which each may be none.
+pub fn earlier(first: Option<u64>, second: Option<u64>) -> Option<u64>
+    ensures { (tick : ℕ) → has_begun result tick ≡ has_begun first tick || has_begun second tick }
+{
+    match (first, second) {
+        (Some(a), Some(b)) => Some(a.min(b)),
+        (Some(a), None) => Some(a),
+        (None, other) => other,
+    }
 }
 
 /// Whether the packet tells the height of another node than the sender.

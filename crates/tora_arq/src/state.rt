@@ -6,9 +6,9 @@ ghost use Rattle.tora_arq.specs.StateView.{settings_in, state_in};
 
 use crate::events::EventQueue;
 use crate::held::HeldPackets;
-use crate::queue::{QUEUE_PLACES, SendQueue};
+use crate::queue::SendQueue;
 use crate::settings::{Settings, ticks_passed};
-use crate::{Life, LinkEvent, Reason, SubmitError};
+use crate::{EVENT_PLACES, Life, LinkEvent, QUEUE_PLACES, Reason, SubmitError};
 use std::alloc::{AllocError, Global};
 use tora_frame::GREATEST_NUMBER;
 use tora_packet::Packet;
@@ -85,7 +85,7 @@ impl State {
 
     /// Ends the bound life.
     pub fn end(&mut self, life: Life, reason: Reason)
-        requires { length self.old.events < 64 }
+        requires { length self.old.events < EVENT_PLACES }
         ensures { state_in self.new ≡ after_end (state_in self.old) life reason }
     {
         self.phase = Phase::Closed;
@@ -99,7 +99,7 @@ impl State {
 
     /// Binds a life.
     pub fn bind(&mut self, life: Life)
-        requires { length self.old.events < 64 }
+        requires { length self.old.events < EVENT_PLACES }
         ensures { state_in self.new ≡ after_bind (state_in self.old) life }
     {
         let is_changed = self.heard != life.peer;
@@ -127,7 +127,7 @@ impl State {
 
     /// Delivers the next packet.
     pub fn deliver(&mut self, life: Life, packet: Packet)
-        requires room { length self.old.events < 64 }
+        requires room { length self.old.events < EVENT_PLACES }
         requires number { self.old.accepted + 1 < 2 ^ 64 }
         ensures { state_in self.new ≡ after_delivery (state_in self.old) life packet self.old.held }
     {
@@ -137,7 +137,7 @@ impl State {
 
     /// Delivers the packets that are held, up to the first gap.
     pub fn release(&mut self, life: Life)
-        requires room { length self.old.events + length self.old.held < 64 }
+        requires room { length self.old.events + length self.old.held < EVENT_PLACES }
         requires number { self.old.accepted + length self.old.held < 2 ^ 64 }
         ensures { state_in self.new ≡ after_release life (state_in self.old) self.old.held }
     {

@@ -1,14 +1,15 @@
 //! The frames that a link end has to send.
-ghost use Rattle.std.specs.Prelude.{◌≡◌, ◌<◌, ◌≤◌, ◌+◌, ◌^◌, ◌||◌, false, None, IfNone, is_some, length};
+ghost use Rattle.std.specs.Prelude.{◌≡◌, ℕ, ◌<◌, ◌≤◌, ◌+◌, ◌^◌, ◌||◌, false, None, IfNone, is_some, length};
 ghost use Rattle.tora_frame.specs.FrameParts.{IsHeader, IsLifeNumber};
 ghost use Rattle.tora_frame.specs.declared.parts.Body.{Body};
 ghost use Rattle.tora_arq.specs.Settings.{IsLink};
-ghost use Rattle.tora_arq.specs.LinkEnd.{is_two, data_version, most_packets, is_hello_due, is_old_hello_due, frame_sent, after_hello, after_old_hello, on_hello, due_of, on_transmit_due, on_transmit};
+ghost use Rattle.tora_arq.specs.LinkEnd.{is_two, data_version, most_packets, is_silent, is_hello_due, is_old_hello_due, frame_sent, after_hello, after_old_hello, on_hello, due_of, on_transmit_due, on_transmit};
 ghost use Rattle.tora_arq.specs.EndRange.{IsEndState};
+ghost use Rattle.tora_arq.specs.NextDue.{is_any_due, IsNextDue, has_begun};
 ghost use Rattle.tora_arq.specs.StateView.{settings_in, state_in};
 
 use crate::Life;
-use crate::settings::{Settings, ticks_passed};
+use crate::settings::{Settings, earlier, tick_behind, ticks_passed};
 use crate::state::{Phase, State};
 use tora_frame::{BorrowedFrame, Header, MOST_PACKETS, Packets, Version};
 
@@ -157,6 +158,55 @@ impl State {
             Phase::Bound(_) => {
                 self.is_any_hello_due(settings, now) || self.is_body_due(settings, now)
             }
+        }
+    }
+
+    /// The tick from which on a HELLO is due.
+    fn hello_tick(&self, settings: &Settings) -> Option<u64>
+        requires { 0 < settings.now.times.hello }
+        ensures { (tick : ℕ) → tick < 2 ^ 64 → has_begun result tick ≡ is_hello_due (settings_in settings.now) (state_in self.now) tick || is_old_hello_due (state_in self.now) }
+    {
+        if self.owes_hello || self.is_old_hello_due() {
+            return Some(0);
+        }
+        tick_behind(self.last_hello?, settings.times.hello)
+    }
+
+    /// The tick from which on a frame of a bound end is due, or its life ends.
+    fn bound_tick(&self, settings: &Settings) -> Option<u64>
+        requires { IsEndState (settings_in settings.now) (state_in self.now) }
+        ensures { (life : Life) (tick : ℕ) → tick < 2 ^ 64 → has_begun result tick ≡ ((is_hello_due (settings_in settings.now) (state_in self.now) tick || is_old_hello_due (state_in self.now)) || is_some (on_transmit_due (settings_in settings.now) (state_in self.now) life (due_of (settings_in settings.now) (state_in self.now) tick)).0) || is_silent (settings_in settings.now) (state_in self.now) tick }
+    {
+        if self.owes_ack {
+            return Some(0);
+        }
+        let times = &settings.times;
+        let silent = tick_behind(self.last_hearing, times.silent);
+        let packets = self.queue.due_tick(times);
+        earlier(self.hello_tick(settings), earlier(packets, silent))
+    }
+
+    /// The tick from which on a frame is due, or a life ends.
+    #[tactic(auto, unfolding(crate::specs::LinkEnd::on_transmit, crate::specs::LinkEnd::on_transmit_in, crate::specs::LinkEnd::after_tick))]
+    fn due_tick(&self, settings: &Settings) -> Option<u64>
+        requires { IsEndState (settings_in settings.now) (state_in self.now) }
+        ensures { (tick : ℕ) → tick < 2 ^ 64 → has_begun result tick ≡ is_any_due (settings_in settings.now) (state_in self.now) tick }
+    {
+        match self.phase {
+            Phase::Closed => None,
+            Phase::Unbound(_) => self.hello_tick(settings),
+            Phase::Bound(_) => self.bound_tick(settings),
+        }
+    }
+
+    /// The first tick from `now` on at which a frame is due, or a life ends.
+    pub fn next_due(&self, settings: &Settings, now: u64) -> Option<u64>
+        requires { IsEndState (settings_in settings.now) (state_in self.now) }
+        ensures { IsNextDue (settings_in settings.now) (state_in self.now) now result }
+    {
+        match self.due_tick(settings) {
+            None => None,
+            Some(first) => Some(first.max(now)),
         }
     }
 

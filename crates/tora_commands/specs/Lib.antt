@@ -1,3 +1,4 @@
+pub mod ChannelFiles
 pub mod Driving
 pub mod SetupWords
 pub mod Statuses

@@ -1,13 +1,14 @@
 -- What a simulation is made with, as words of the command line.
-use Rattle.std.specs.Prelude.{ℕ, Bool, if◌then◌else◌, List, Option, Some, None}
+use Rattle.std.specs.Prelude.{ℕ, Bool, if◌then◌else◌, is_some, option_map, List, Option, Some, None}
 use Rattle.tora_channel.specs.declared.channel.Channel.{Channel}
 use Rattle.tora_channel.specs.Channel.{clear}
-use Rattle.tora_channel.specs.Parts.{parts_of, channel_by}
+use Rattle.tora_channel.specs.Parts.{parts_of, no_parts, channel_by}
 use Rattle.tora_lines.specs.Words.{number_of}
 use Rattle.tora_lines.specs.Fronts.{◌>>=◌}
 use Rattle.tora_world.specs.declared.limits.Limits.{Limits}
 use Rattle.tora_world.specs.Topology.{greatest_limits, standard_limits}
 use Rattle.tora_script.specs.declared.setup.Setup.{Setup}
+use Rattle.tora_commands.specs.declared.setup_words.SetupWords.{SetupWords}
 use Rattle.tora_commands.specs.TimesWord.{asked_times}
 
 -- a number below 2^64, 0 where none is asked for
@@ -21,18 +22,29 @@ channel_asked text seed = do
   parts ← parts_of text
   Some (channel_by parts n)
 
--- the channel of a word and a seed; the clear one where neither is asked for, and a seed alone asks for none
-abbrev pub asked_channel : Option (List ℕ) → Option (List ℕ) → Option Channel
-asked_channel None None = Some clear
-asked_channel None (Some seed) = None
-asked_channel (Some text) seed = channel_asked text seed
+-- the channel of a word and a seed; the clear one where no word is there, and then a seed is for the lines of a channel file
+abbrev pub asked_channel : Option (List ℕ) → Option (List ℕ) → Bool → Option Channel
+asked_channel None None has_file = Some clear
+asked_channel None (Some seed) has_file = if has_file then option_map (channel_by no_parts) (number_of seed) else None
+asked_channel (Some text) seed has_file = channel_asked text seed
 
 -- the limits of a world, which are the greatest where a large one is asked for
 abbrev pub asked_limits : Bool → Limits
 asked_limits large = if large then greatest_limits else standard_limits
 
-unfoldable pub asked_setup : Option (List ℕ) → Option (List ℕ) → Option (List ℕ) → Bool → Bool → Option Setup
-asked_setup times channel seed notice large = do
+-- the last round, if there is one
+abbrev pub asked_until : Option (List ℕ) → Option (Option ℕ)
+asked_until None = Some None
+asked_until (Some text) = option_map (λ n. Some n) (number_of text)
+
+unfoldable pub asked_setup : Option (List ℕ) → Option (List ℕ) → Option (List ℕ) → Option (List ℕ) → Bool → Bool → Bool → Option Setup
+asked_setup times channel seed until has_file notice large = do
   t ← asked_times times
-  c ← asked_channel channel seed
-  Some (record { times = t; channel = c; has_notice = notice; limits = asked_limits large })
+  c ← asked_channel channel seed has_file
+  u ← asked_until until
+  Some (record { times = t; channel = c; has_notice = notice; limits = asked_limits large; until = u })
+
+-- what words ask for
+abbrev pub asked_by : SetupWords → Option Setup
+asked_by w =
+    asked_setup (option_map (λ t. t.now) w.times) (option_map (λ t. t.now) w.channel) (option_map (λ t. t.now) w.seed) (option_map (λ t. t.now) w.until) (is_some w.channel_file) w.has_notice w.is_large

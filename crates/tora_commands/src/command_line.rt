@@ -94,7 +94,7 @@ the datagrams of a round. What is printed stays the same. docs/formats.md,
 
 Exit statuses:
   0  the file ended
-  1  a line is a fault, the file can't be read, output failed, or the trace
+  1  a line is a fault, a file can't be read, output failed, or the trace
      can't be written
   2  usage
   5  memory was refused";
@@ -117,6 +117,9 @@ leaves the loopback needs a key; both of its ends have the same.
 Commands on standard input, each a line:
   need D             a route to destination D is needed
   show               prints the table
+  json               prints the state of the node as a line of JSON
+  watch              prints heights and next hops, and each change of them:
+                     height D H, hop D K
   quit               ends the node, as the end of the input does
   help               tells the commands on standard error
 Another line is told on standard error and passed over.
@@ -171,9 +174,34 @@ fn notice<'a>(alloc: Global) -> Arg<'a> {
     flag(alloc, "notice", help)
 }
 
-/// `--large` of `sim`.
+/// `--large` of `sim` and `drive`.
 fn large<'a>(alloc: Global) -> Arg<'a> {
     flag(alloc, "large", "Allows up to 1024 nodes, in place of 64")
+}
+
+/// `--channel-file` of `sim`.
+fn channel_file<'a>(alloc: Global) -> Arg<'a> {
+    Arg::new(alloc, "channel-file")
+        .long("channel-file")
+        .value_name("PATH")
+        .help(
+            "Lines `T A B PARTS`: from round T on the datagrams between A and B have these parts, as `--channel` has them",
+        )
+}
+
+/// `--until` of `sim`.
+fn until<'a>(alloc: Global) -> Arg<'a> {
+    Arg::new(alloc, "until")
+        .long("until")
+        .value_name("ROUNDS")
+        .help("Nothing more is done once so many rounds are done")
+}
+
+/// `--progress` of `sim`.
+fn progress<'a>(alloc: Global) -> Arg<'a> {
+    let help =
+        "Draws on standard error, where that is a terminal, how many rounds are done, how many a second, and how long the rest takes";
+    flag(alloc, "progress", help)
 }
 
 /// `--trace` of `sim`.
@@ -206,8 +234,11 @@ fn sim<'a>(alloc: Global) -> Result<Command<'a>, AllocError> {
         .arg(times(alloc))?
         .arg(channel(alloc))?
         .arg(seed(alloc))?
+        .arg(channel_file(alloc))?
         .arg(notice(alloc))?
         .arg(large(alloc))?
+        .arg(until(alloc))?
+        .arg(progress(alloc))?
         .arg(trace(alloc))?
         .arg(file)
 }
@@ -251,7 +282,8 @@ fn drive<'a>(alloc: Global) -> Result<Command<'a>, AllocError> {
     Command::new(alloc, "drive")
         .about("Simulates a world that another program drives, a line of standard input at a time")
         .after_help(DRIVE)
-        .arg(times(alloc))
+        .arg(times(alloc))?
+        .arg(large(alloc))
 }
 
 /// The levels of `--log`, from the one that logs nothing on.

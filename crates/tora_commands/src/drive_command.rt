@@ -1,4 +1,4 @@
-//! `tora drive [--times HELLO,SILENCE,RETRY,TRIES]`: a simulated world that another program drives, a line at a time.
+//! `tora drive [--times HELLO,SILENCE,RETRY,TRIES] [--large]`: a simulated world that another program drives, a line at a time.
 ghost use Rattle.std.specs.Prelude.{◌≡◌, ◌≢◌, Ok, None, IfOk, IfErr, IfSome, option_map};
 ghost use Rattle.std.specs.Io.KnownBytes.{IsAtEnd};
 ghost use Rattle.std.specs.Process.{exit_status};
@@ -6,8 +6,10 @@ ghost use Rattle.tora_arq.specs.Settings.{IsTimes};
 ghost use Rattle.tora_lines.specs.Flushing.{IsFlushed};
 ghost use Rattle.tora_drive.specs.DriveText.{Drives, IsDriveBegun};
 ghost use Rattle.tora_commands.specs.Driving.{EndsDrive};
+ghost use Rattle.tora_commands.specs.SetupWords.{asked_limits};
 ghost use Rattle.tora_commands.specs.TimesWord.{asked_times};
 
+use crate::setup_words::limits;
 use crate::sim_command::tell;
 use crate::{INPUT, SetupFault, USAGE, asked_times, status, stop};
 use std::alloc::Global;
@@ -16,63 +18,67 @@ use std::process::ExitCode;
 use tora_arq::Times;
 use tora_drive::{Driven, drive_in, greet};
 use tora_lines::{Ended, Output, Recent, ReplayError, flushed};
-use tora_sim::Sim;
+use tora_sim::{Limits, Sim};
 
 /// Drives a world, and flushes the writer: `Write` where that alone fails.
 fn drive_and_flush<S: Driven, R: Read, W: Output>(
     alloc: Global,
+    limits: Limits,
     times: Times,
     reader: &mut R,
     writer: &mut W,
 ) -> Result<Ended, ReplayError>
     requires { IsTimes times }
     ensures whole { IfOk result (λ ended. IfSome (R.remaining reader.old) (λ input.
-        Drives times input (W.contents writer.old) (W.contents writer.new) ended)) }
+        Drives limits times input (W.contents writer.old) (W.contents writer.new) ended)) }
     ensures at_end { result ≡ Ok Ended.Whole → IsAtEnd (R.remaining reader.new) }
     ensures begun { IfErr result (λ e. e ≢ ReplayError.Write →
-        IsDriveBegun times (R.remaining reader.old) (R.remaining reader.new) (W.contents writer.old) (W.contents writer.new)) }
+        IsDriveBegun limits times (R.remaining reader.old) (R.remaining reader.new) (W.contents writer.old) (W.contents writer.new)) }
     ensures flushed { IsFlushed W.did_flush result writer.new }
 {
-    let result = drive_in::<S, R, W>(alloc, times, reader, writer);
+    let result = drive_in::<S, R, W>(alloc, limits, times, reader, writer);
     flushed(writer, result)
 }
 
-/// Drives a world whose link ends have these times.
+/// Drives a world within the limits, whose link ends have these times.
 fn run_with<T: AllocGlobal + Eprint, R: Read + Drop, W: Output>(
     rt: &T,
+    limits: Limits,
     times: Times,
     reader: R,
     writer: &mut W,
 ) -> ExitCode
     requires { IsTimes times }
-    ensures { EndsDrive times W.contents W.did_flush (R.remaining reader) writer.old writer.new (exit_status result) }
+    ensures { EndsDrive limits times W.contents W.did_flush (R.remaining reader) writer.old writer.new (exit_status result) }
 {
     let Ok(()) = greet(writer) else {
         return stop(rt, INPUT, "input");
     };
     let alloc = rt.alloc();
     let mut reader = Recent::new(alloc, reader);
-    let result = drive_and_flush::<Sim, Recent<R>, W>(alloc, times, &mut reader, writer);
+    let result = drive_and_flush::<Sim, Recent<R>, W>(alloc, limits, times, &mut reader, writer);
     tell(rt, &reader, result);
     status(rt, result)
 }
 
-/// Drives a world by the lines that a reader gives, with the times of link ends that a word asks for, and ends with a status: 0 at the
-/// end of the input, 1 where a line is too long or reading or writing failed, 5 where memory was refused. A word that gives no times is
-/// a fault of usage, and nothing is written.
+/// Drives a world by the lines that a reader gives, with the times of link ends that a word asks for, within the greatest limits
+/// where it `is_large` and else within the standard ones, and ends with a status: 0 at the end of the input, 1 where a line is too
+/// long or reading or writing failed, 5 where memory was refused. A word that gives no times is a fault of usage, and nothing is
+/// written.
 ///
 /// The writer has to hand on at once what is written: whoever drives waits for it.
 pub fn run<T: AllocGlobal + Eprint, R: Read + Drop, W: Output>(
     rt: &T,
     times: Option<&str>,
+    is_large: bool,
     reader: R,
     writer: &mut W,
 ) -> ExitCode
     ensures usage { asked_times (option_map (λ w. w.now) times.entry) ≡ None → (exit_status result ≡ 2) × (writer.new ≡ writer.old) }
-    ensures ends { IfSome (asked_times (option_map (λ w. w.now) times.entry)) (λ t. EndsDrive t W.contents W.did_flush (R.remaining reader) writer.old writer.new (exit_status result)) }
+    ensures ends { IfSome (asked_times (option_map (λ w. w.now) times.entry)) (λ t. EndsDrive (asked_limits is_large) t W.contents W.did_flush (R.remaining reader) writer.old writer.new (exit_status result)) }
 {
     let Some(times) = asked_times(times) else {
         return stop(rt, USAGE, SetupFault::Times.cause());
     };
-    run_with(rt, times, reader, writer)
+    run_with(rt, limits(is_large), times, reader, writer)
 }

@@ -33,6 +33,13 @@ impl<R: Read> Hashing<R> {
     }
 }
 
+/// The SHA-256 of bytes, as 64 hexadecimal digits.
+pub fn digest(alloc: Global, bytes: &[u8]) -> Result<String, AllocError> {
+    let mut hash = Sha256::new();
+    hash.update(bytes);
+    hex::encode(alloc, hash.finalize())
+}
+
 impl<R: Read> Read for Hashing<R> {
     ghost remaining = { λ r. R.remaining r.reader };
 

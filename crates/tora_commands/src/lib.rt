@@ -5,13 +5,19 @@
 //! hands these on.
 #![tactic(auto)]
 
-ghost use Rattle.std.specs.Prelude.{◌≡◌, ◌≢◌, ◌⊎◌, None, IfSome, option_map};
+ghost use Rattle.std.specs.Prelude.{◌≡◌, ◌≢◌, ◌⊎◌, ℕ, List, [], true, None, is_ok, IsSome, IfSome, IfOk, IfErr};
 ghost use Rattle.std.specs.Process.{exit_status};
 ghost use Rattle.clap.specs.Words.{kind_of};
-ghost use Rattle.tora_script.specs.SimulationText.{rules_over};
-ghost use Rattle.tora_commands.specs.SetupWords.{asked_setup};
+ghost use Rattle.tora_script.specs.SimulationText.{rules_over, rules_with};
+ghost use Rattle.tora_commands.specs.SetupWords.{asked_by};
+ghost use Rattle.tora_arq.specs.Settings.{IsTimes};
+ghost use Rattle.tora_channel.specs.Table.{lines_of};
+ghost use Rattle.tora_commands.specs.ChannelFiles.{IsTableText, EndsFiled};
 ghost use Rattle.tora_simulate.specs.Endings.{EndsFile, EndsTraced};
 
+mod bar;
+mod bar_command;
+mod channel_file;
 mod command_line;
 pub mod drive_command;
 mod flushing;
@@ -20,19 +26,25 @@ pub mod key_command;
 mod key_file;
 mod link_wires;
 pub mod node_command;
+mod progress;
 pub mod replay_command;
 mod setup_words;
 mod times_word;
 pub mod traced_command;
 
+pub use bar::{Paced, Wiping};
+pub use channel_file::ChannelFile;
 use clap::error::ErrorKind;
 pub use command_line::command;
 pub use flushing::{replay_and_flush, simulate_and_flush, simulate_told_and_flush};
+pub use progress::{Progress, RoundCount};
 pub use setup_words::{SetupFault, SetupWords, asked_setup};
 use std::process::ExitCode;
 use std::rt::Files;
+use std::time::Clock;
 pub use times_word::asked_times;
 use tora_lines::Output;
+use tora_script::Setup;
 use tora_sim::Sim;
 pub use tora_simulate::{
     INPUT, LIFE, MEMORY, SOCKET, USAGE, sim_command, simulate_telling_and_flush, status, stop,
@@ -53,30 +65,86 @@ fn refuse_setup<T: Eprint>(rt: &T, fault: SetupFault<'_>) -> ExitCode
     ExitCode::from(USAGE)
 }
 
-/// Simulates the lines of the file at a path, made with what words ask for, and writes the trace where a
-/// path is given for it. Words that ask for none are a fault of usage, and nothing is written.
-pub fn simulate_file<T: Files + AllocGlobal + Eprint, W: Output>(
+/// Says that the trace would take the place of a file that is read.
+fn refuse_place<T: Eprint>(rt: &T, path: &str) -> ExitCode
+    ensures { exit_status result ≡ 1 }
+{
+    let code = stop(rt, INPUT, "input");
+    tell_at(rt, "", path, &"the trace would take the place of the file");
+    code
+}
+
+/// What the channel file of these words says, or the status where it can't be read, or would be the trace's.
+fn asked_file<T: Files + AllocGlobal + Eprint>(
+    rt: &T,
+    path: Option<&str>,
+    trace: Option<&str>,
+) -> Result<ChannelFile, ExitCode>
+    ensures none { path.entry ≡ None → IfOk result (λ file. lines_of file.table ≡ []) }
+    ensures reads { path.entry ≡ None → is_ok result ≡ true }
+    ensures some { IsSome path.entry → IfOk result (λ file. (bytes : List ℕ) × IsTableText bytes (lines_of file.table)) }
+    ensures status { IfErr result (λ code. (exit_status code ≡ 1) ⊎ (exit_status code ≡ 5)) }
+{
+    let Some(path) = path else {
+        return Ok(ChannelFile::none());
+    };
+    if trace == Some(path) {
+        return Err(refuse_place(rt, path));
+    }
+    channel_file::channel_file(rt, path)
+}
+
+/// Simulates the lines of the file at a path, made with this and over the channel of a channel file, and writes the trace where a
+/// path is given for it; with a bar or without.
+fn simulate_over<T: Files + AllocGlobal + Eprint + Clock, W: Output>(
+    rt: &T,
+    setup: Setup,
+    file: ChannelFile,
+    path: &str,
+    trace: Option<&str>,
+    shown: (bool, bool),
+    writer: &mut W,
+) -> ExitCode
+    requires { IsTimes setup.times }
+    ensures ends { EndsTraced T.File.remaining (rules_with setup (lines_of file.table)) W.contents W.did_flush writer.old writer.new (exit_status result) }
+    ensures untraced { trace.entry ≡ None → EndsFile T.File.remaining (rules_with setup (lines_of file.table)) W.contents W.did_flush writer.old writer.new (exit_status result) }
+{
+    let (is_verbose, has_bar) = shown;
+    match trace {
+        Some(trace) => {
+            let paths = (path, trace);
+            traced_command::run::<Sim, T, W>(rt, setup, file, paths, shown, writer)
+        }
+        None if has_bar => {
+            bar_command::run::<Sim, T, W>(rt, setup, file.table, path, is_verbose, writer)
+        }
+        None => sim_command::run::<Sim, T, W>(rt, setup, file.table, path, is_verbose, writer),
+    }
+}
+
+/// Simulates the lines of the file at a path, made with what words ask for, and writes the trace where a path is given for it.
+/// Words that ask for none are a fault of usage, and nothing is written; nor is it where the channel file can't be read. What is
+/// shown on standard error: why events are refused, and a bar that tells how far the simulation is.
+pub fn simulate_file<T: Files + AllocGlobal + Eprint + Clock, W: Output>(
     rt: &T,
     words: SetupWords<'_>,
     path: &str,
     trace: Option<&str>,
-    is_verbose: bool,
+    shown: (bool, bool),
     writer: &mut W,
 ) -> ExitCode
-    ensures usage { asked_setup (option_map (λ w. w.now) words.entry.times) (option_map (λ w. w.now) words.entry.channel) (option_map (λ w. w.now) words.entry.seed) words.entry.has_notice words.entry.is_large ≡ None → (exit_status result ≡ 2) × (writer.new ≡ writer.old) }
-    ensures ends { IfSome (asked_setup (option_map (λ w. w.now) words.entry.times) (option_map (λ w. w.now) words.entry.channel) (option_map (λ w. w.now) words.entry.seed) words.entry.has_notice words.entry.is_large) (λ s. EndsTraced T.File.remaining (rules_over s) W.contents W.did_flush writer.old writer.new (exit_status result)) }
-    ensures untraced { trace.entry ≡ None → IfSome (asked_setup (option_map (λ w. w.now) words.entry.times) (option_map (λ w. w.now) words.entry.channel) (option_map (λ w. w.now) words.entry.seed) words.entry.has_notice words.entry.is_large) (λ s. EndsFile T.File.remaining (rules_over s) W.contents W.did_flush writer.old writer.new (exit_status result)) }
+    ensures usage { asked_by words.entry ≡ None → (exit_status result ≡ 2) × (writer.new ≡ writer.old) }
+    ensures ends { words.entry.channel_file ≡ None → IfSome (asked_by words.entry) (λ s. EndsTraced T.File.remaining (rules_over s) W.contents W.did_flush writer.old writer.new (exit_status result)) }
+    ensures untraced { words.entry.channel_file ≡ None → trace.entry ≡ None → IfSome (asked_by words.entry) (λ s. EndsFile T.File.remaining (rules_over s) W.contents W.did_flush writer.old writer.new (exit_status result)) }
+    ensures filed { IsSome words.entry.channel_file → IfSome (asked_by words.entry) (λ s. EndsFiled T.File.remaining s W.contents W.did_flush writer.old writer.new (exit_status result)) }
 {
     let setup = match asked_setup(words) {
         Ok(setup) => setup,
         Err(fault) => return refuse_setup(rt, fault),
     };
-    match trace {
-        Some(trace) => {
-            let paths = (path, trace);
-            traced_command::run::<Sim, T, W>(rt, setup, paths, is_verbose, writer)
-        }
-        None => sim_command::run::<Sim, T, W>(rt, setup, path, is_verbose, writer),
+    match asked_file(rt, words.channel_file, trace) {
+        Ok(file) => simulate_over(rt, setup, file, path, trace, shown, writer),
+        Err(code) => code,
     }
 }
 

@@ -16,7 +16,7 @@ use tora_config::{ConfigError, LinkWay, read_ways};
 use tora_keyed::{Key, LentWire, LinkWire, NoticedWire};
 use tora_neighbour::{UnixClock, Wire};
 use tora_simulate::tell_at;
-use tora_waking::{SocketWaker, WakingWire};
+use tora_waking::{NodeClock, SocketWaker, WakingWire};
 
 /// How the datagrams of a link go, and its key: there is one just where it has a file with a key.
 #[derive(Drop)]
@@ -27,7 +27,10 @@ pub(crate) struct KeyedWay {
 }
 
 /// The wire of a link of the program.
-pub(crate) type ProgramWire<'a, R, L> = NoticedWire<'a, WakingWire<&'a R>, UnixClock<&'a R>, L>;
+pub(crate) type ProgramWire<'a, R, L> = NoticedWire<'a, WakingWire<'a, &'a R>, UnixClock<&'a R>, L>;
+
+/// What ends the waits of a link of the program.
+pub(crate) type ProgramWaker<'a, R> = SocketWaker<'a, &'a R>;
 
 /// The key of a link, where it has one.
 fn key_of<R: Files<File = File> + Eprint>(rt: &R, way: &LinkWay) -> Result<Option<Key>, Fault>
@@ -76,19 +79,20 @@ fn tell_socket(rt: &impl Eprint, way: &LinkWay, error: &impl Display) {
 }
 
 /// The wire of a link, and what ends its waits.
-type Woken<'a, R, L> = (ProgramWire<'a, R, L>, SocketWaker);
+type Woken<'a, R, L> = (ProgramWire<'a, R, L>, ProgramWaker<'a, R>);
 
 /// Binds the socket of a link, and puts a wire over it, with its key where it has one, which logs to `log`.
 fn wire_of<'a, R: Net + Eprint + Clock, L: Log>(
     rt: &'a R,
     log: &'a L,
     alloc: Global,
+    clock: &'a NodeClock<&'a R>,
     keyed: KeyedWay,
 ) -> Result<Woken<'a, R, L>, Fault>
     ensures { IfOk result (λ woken. woken.0 ≡ over 0 keyed.key) }
 {
     let KeyedWay { way, key } = keyed;
-    match WakingWire::bind(rt, alloc, rt, way.local, way.remote) {
+    match WakingWire::bind(rt, alloc, clock, way.local, way.remote) {
         Ok((wire, waker)) => {
             let wire = LinkWire::over(wire, key);
             let wire = NoticedWire::new(wire, way.peer, UnixClock::new(rt), log);
@@ -108,12 +112,13 @@ pub(crate) fn bind<'a, R: Net + Eprint + Clock, L: Log>(
     rt: &'a R,
     log: &'a L,
     alloc: Global,
+    clock: &'a NodeClock<&'a R>,
     ways: Vec<KeyedWay>,
-) -> Result<(Vec<ProgramWire<'a, R, L>>, Vec<SocketWaker>), Fault> {
+) -> Result<(Vec<ProgramWire<'a, R, L>>, Vec<ProgramWaker<'a, R>>), Fault> {
     let mut wires = Vec::new(alloc);
     let mut wakers = Vec::new(alloc);
     for way in ways {
-        let (wire, waker) = wire_of(rt, log, alloc, way)?;
+        let (wire, waker) = wire_of(rt, log, alloc, clock, way)?;
         let (Ok(()), Ok(())) = (wires.push(wire), wakers.push(waker)) else {
             return Err(say(rt, Fault::Memory));
         };

@@ -4,7 +4,7 @@ ghost use Rattle.std.specs.Process.{exit_status};
 ghost use Rattle.tora_commands.specs.Statuses.{core_of, status_of_node, status_of_fault, EndsNode};
 ghost use Rattle.tora_config.specs.NodeConfig.{IsNodeConfig};
 
-use crate::link_wires::{KeyedWay, ProgramWire, bind, close, lend, ways_in};
+use crate::link_wires::{KeyedWay, ProgramWaker, ProgramWire, bind, close, lend, ways_in};
 use crate::{INPUT, LIFE, MEMORY, SOCKET, stop};
 use log::Log;
 use std::alloc::{AllocError, Global};
@@ -21,10 +21,10 @@ use tora_config::{ConfigError, LinkConfig, NodeConfig, read_config};
 use tora_core::CoreError;
 use tora_height::Id;
 use tora_life::{Disk, FileDisk, LifeError, Owner, Tag};
-use tora_neighbour::{NodeError, UnixClock};
+use tora_neighbour::NodeError;
 use tora_node::{Config, Ended, run_node_with_wakers};
 use tora_simulate::{tell, tell_at};
-use tora_waking::SocketWaker;
+use tora_waking::NodeClock;
 
 /// Why a node is not started.
 #[derive(Clone, Copy, Debug, PartialEq, Eq)]
@@ -276,12 +276,13 @@ pub fn run<
         praise(rt, path, &config);
         return ExitCode::SUCCESS;
     }
-    let (mut wires, wakers) = match bind(rt, log, alloc, ways) {
+    let clock = NodeClock::new(rt);
+    let (mut wires, wakers) = match bind(rt, log, alloc, &clock, ways) {
         Ok(bound) => bound,
         Err(fault) => return code_of(fault),
     };
     let code = run_over(
-        rt, log, &config, &mut wires, wakers, is_verbose, reader, writer,
+        rt, log, &config, &mut wires, wakers, &clock, is_verbose, reader, writer,
     );
     close(&mut wires);
     code
@@ -298,7 +299,8 @@ fn run_over<
     log: &L,
     config: &NodeConfig,
     wires: &mut [ProgramWire<'_, R, L>],
-    wakers: Vec<SocketWaker>,
+    wakers: Vec<ProgramWaker<'_, R>>,
+    clock: &NodeClock<&R>,
     is_verbose: bool,
     reader: &mut Rd,
     writer: &mut W,
@@ -323,10 +325,7 @@ fn run_over<
     if lent.len() != count || disks.len() != count {
         return code_of(say(rt, Fault::Config));
     }
-    let clock = UnixClock::new(rt);
-    let ended = run_node_with_wakers(
-        log, alloc, node, lent, disks, wakers, &clock, reader, writer,
-    );
+    let ended = run_node_with_wakers(log, alloc, node, lent, disks, wakers, clock, reader, writer);
     let cause = match &ended {
         Ok(_) => None,
         Err(error) => Some(*error),

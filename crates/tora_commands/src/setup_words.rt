@@ -2,7 +2,9 @@
 ghost use Rattle.std.specs.Prelude.{◌≡◌, IfOk, option_map};
 ghost use Rattle.std.specs.Result.{result_ok};
 ghost use Rattle.tora_arq.specs.Settings.{IsTimes};
-ghost use Rattle.tora_commands.specs.SetupWords.{asked_seed, channel_asked, asked_channel, asked_limits, asked_setup};
+ghost use Rattle.tora_lines.specs.Words.{number_of};
+ghost use Rattle.tora_channel.specs.Parts.{no_parts, channel_by};
+ghost use Rattle.tora_commands.specs.SetupWords.{asked_seed, channel_asked, asked_channel, asked_limits, asked_until, asked_by};
 
 use crate::times_word::asked_times;
 use tora_channel::{Channel, channel_parts};
@@ -20,6 +22,10 @@ pub struct SetupWords<'a> {
     pub has_notice: bool,
     /// Whether `--large` is there.
     pub is_large: bool,
+    /// The last round.
+    pub until: Option<&'a str>,
+    /// The path of the channel file.
+    pub channel_file: Option<&'a str>,
 }
 
 /// Why words are no setup.
@@ -29,8 +35,10 @@ pub enum SetupFault<'a> {
     Times,
     /// The word behind `--seed` is no number.
     Seed,
-    /// There is a seed and no channel.
+    /// There is a seed, and no channel and no channel file.
     SeedAlone,
+    /// The word behind `--until` is no number.
+    Until,
     /// This is no part of a channel.
     Part(&'a [u8]),
 }
@@ -43,7 +51,8 @@ impl SetupFault<'_> {
                 "behind `--times` stand four numbers from 1 on between commas, as in 10,50,5,8"
             }
             SetupFault::Seed => "behind `--seed` stands a number below 2^64",
-            SetupFault::SeedAlone => "`--seed` is for a `--channel`",
+            SetupFault::SeedAlone => "`--seed` is for a `--channel` or a `--channel-file`",
+            SetupFault::Until => "behind `--until` stands a number of rounds, below 2^64",
             SetupFault::Part(_) => {
                 "no part of a channel: these are loss=SHARE and repeat=SHARE, from 0 to 1 with up to six digits behind the point, and delay=ROUNDS or delay=LEAST-MOST, up to 10000, each once"
             }
@@ -75,19 +84,37 @@ fn channel_of<'a>(channel: &'a str, seeded: Option<&str>) -> Result<Channel, Set
     }
 }
 
+/// The channel of a seed, for the lines of a channel file.
+fn seeded<'a>(seed: &str) -> Result<Channel, SetupFault<'a>>
+    ensures { result_ok result ≡ option_map (channel_by no_parts) (number_of seed.now) }
+{
+    match words::number(seed.as_bytes()) {
+        Some(seed) => Ok(Channel {
+            seed,
+            ..Channel::CLEAR
+        }),
+        None => Err(SetupFault::Seed),
+    }
+}
+
 /// The channel that words ask for.
-fn channel<'a>(channel: Option<&'a str>, seed: Option<&str>) -> Result<Channel, SetupFault<'a>>
-    ensures { result_ok result ≡ asked_channel (option_map (λ w. w.now) channel.entry) (option_map (λ w. w.now) seed.entry) }
+fn channel<'a>(
+    channel: Option<&'a str>,
+    seed: Option<&str>,
+    has_file: bool,
+) -> Result<Channel, SetupFault<'a>>
+    ensures { result_ok result ≡ asked_channel (option_map (λ w. w.now) channel.entry) (option_map (λ w. w.now) seed.entry) has_file }
 {
     match (channel, seed) {
         (None, None) => Ok(Channel::CLEAR),
+        (None, Some(seed)) if has_file => seeded(seed),
         (None, Some(_)) => Err(SetupFault::SeedAlone),
         (Some(channel), seed) => channel_of(channel, seed),
     }
 }
 
 /// The limits of a world, which are the greatest where a large one is asked for.
-fn limits(is_large: bool) -> Limits
+pub(crate) fn limits(is_large: bool) -> Limits
     ensures { result ≡ asked_limits is_large }
 {
     if is_large {
@@ -97,20 +124,35 @@ fn limits(is_large: bool) -> Limits
     }
 }
 
-/// What the words ask for, or the first fault: of the times, then of the seed and the channel.
+/// The last round that a word asks for.
+fn until<'a>(word: Option<&str>) -> Result<Option<u64>, SetupFault<'a>>
+    ensures { result_ok result ≡ asked_until (option_map (λ w. w.now) word.entry) }
+{
+    match word {
+        None => Ok(None),
+        Some(word) => match words::number(word.as_bytes()) {
+            Some(rounds) => Ok(Some(rounds)),
+            None => Err(SetupFault::Until),
+        },
+    }
+}
+
+/// What the words ask for, or the first fault: of the times, then of the seed and the channel, then of the last round.
 #[tactic(auto, unfolding(crate::specs::SetupWords::asked_setup))]
 pub fn asked_setup<'a>(words: SetupWords<'a>) -> Result<Setup, SetupFault<'a>>
-    ensures value { result_ok result ≡ asked_setup (option_map (λ w. w.now) words.entry.times) (option_map (λ w. w.now) words.entry.channel) (option_map (λ w. w.now) words.entry.seed) words.entry.has_notice words.entry.is_large }
+    ensures value { result_ok result ≡ asked_by words.entry }
     ensures times { IfOk result (λ s. IsTimes s.times) }
 {
     let Some(times) = asked_times(words.times) else {
         return Err(SetupFault::Times);
     };
-    let channel = channel(words.channel, words.seed)?;
+    let channel = channel(words.channel, words.seed, words.channel_file.is_some())?;
+    let until = until(words.until)?;
     Ok(Setup {
         times,
         channel,
         has_notice: words.has_notice,
         limits: limits(words.is_large),
+        until,
     })
 }

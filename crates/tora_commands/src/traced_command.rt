@@ -5,18 +5,24 @@ ghost use Rattle.tora_lines.specs.Flushing.{IsFlushed};
 ghost use Rattle.std.specs.Process.{exit_status};
 ghost use Rattle.tora_arq.specs.Settings.{IsTimes};
 ghost use Rattle.tora_simulate.specs.Endings.{EndsBy, EndsTraced};
-ghost use Rattle.tora_script.specs.SimulationText.{rules_over, SimulatesOver, IsBegunOver};
+ghost use Rattle.tora_channel.specs.Table.{lines_of};
+ghost use Rattle.tora_script.specs.SimulationText.{rules_with, SimulatesWith, IsBegunWith};
 ghost use Rattle.tora_simulate.specs.Statuses.{traced_status};
 ghost use Rattle.tora_traced.specs.TraceOuts.{IsHandedOn};
 
+use crate::bar::{Paced, Wiping};
+use crate::channel_file::ChannelFile;
 use crate::hashing::Hashing;
+use crate::progress::rounds_of;
 use crate::sim_command::{refuse, tell};
 use crate::{INPUT, MEMORY, status, stop};
 use std::alloc::Global;
 use std::io::{BufWriter, ErrorKind, Read};
 use std::process::ExitCode;
 use std::rt::Files;
+use std::time::Clock;
 use std::{fs, io};
+use tora_channel::ChannelTable;
 use tora_lines::{Ended, Output, Recent, ReplayError, flushed};
 use tora_script::Setup;
 use tora_simulate::tell_at;
@@ -57,11 +63,13 @@ fn traced_status<T: Eprint, V: Output>(
     code
 }
 
-/// Simulates what is made with this, writes the trace, and flushes the writer: `Write` where that alone fails.
+/// Simulates what is made with this over a channel that the lines of a table change, writes the trace, and flushes the writer:
+/// `Write` where that alone fails.
 fn simulate_and_flush<S: Watched, T: Eprint, R: Read, W: Output, V: Output>(
     rt: &T,
     alloc: Global,
     setup: Setup,
+    table: ChannelTable,
     reader: &mut R,
     writer: &mut W,
     out: &mut TraceOut<V>,
@@ -69,14 +77,14 @@ fn simulate_and_flush<S: Watched, T: Eprint, R: Read, W: Output, V: Output>(
 ) -> Result<Ended, ReplayError>
     requires { IsTimes setup.times }
     ensures whole { IfOk result (λ ended. IfSome (R.remaining reader.old) (λ input.
-        SimulatesOver setup input (W.contents writer.old) (W.contents writer.new) ended)) }
+        SimulatesWith setup (lines_of table) input (W.contents writer.old) (W.contents writer.new) ended)) }
     ensures at_end { result ≡ Ok Ended.Whole → IsAtEnd (R.remaining reader.new) }
     ensures begun { IfErr result (λ e. e ≢ ReplayError.Write →
-        IsBegunOver setup (R.remaining reader.old) (R.remaining reader.new) (W.contents writer.old) (W.contents writer.new)) }
+        IsBegunWith setup (lines_of table) (R.remaining reader.old) (R.remaining reader.new) (W.contents writer.old) (W.contents writer.new)) }
     ensures flushed { IsFlushed W.did_flush result writer.new }
 {
     let result = simulate_traced::<S, T, R, W, V>(
-        rt, alloc, setup, reader, writer, out, is_verbose,
+        rt, alloc, setup, table, reader, writer, out, is_verbose,
     );
     flushed(writer, result)
 }
@@ -97,11 +105,12 @@ fn finish<R: Read + Drop, V: Output>(
     }
 }
 
-/// Simulates the lines that a reader gives, in a world that is made with this, writes the trace to the
-/// file at a path, and hands both on.
+/// Simulates the lines that a reader gives, in a world that is made with this and over the channel of a channel file, writes the
+/// trace to the file at a path, and hands both on.
 pub fn run_over<S: Watched, T: AllocGlobal + Eprint, R: Read + Drop, W: Output, V: Output>(
     rt: &T,
     setup: Setup,
+    file: ChannelFile,
     reader: R,
     is_verbose: bool,
     writer: &mut W,
@@ -109,16 +118,21 @@ pub fn run_over<S: Watched, T: AllocGlobal + Eprint, R: Read + Drop, W: Output, 
     out: &mut TraceOut<V>,
 ) -> ExitCode
     requires { IsTimes setup.times }
-    ensures ends { EndsBy (rules_over setup) W.contents W.did_flush (R.remaining reader) writer.old writer.new (is_some out.new.failure) (exit_status result) }
+    ensures ends { EndsBy (rules_with setup (lines_of file.table)) W.contents W.did_flush (R.remaining reader) writer.old writer.new (is_some out.new.failure) (exit_status result) }
     ensures trace { (before : TraceOut V) × IsHandedOn V.did_flush before out.new }
 {
     let alloc = rt.alloc();
     let mut reader = Hashing::new(Recent::new(alloc, reader));
-    out.begin(alloc, setup);
+    let ChannelFile { table, digest } = file;
+    match &digest {
+        None => out.begin(alloc, setup, None),
+        Some(digest) => out.begin(alloc, setup, Some(digest.as_str())),
+    }
     let result = simulate_and_flush::<S, T, Hashing<Recent<R>>, W, V>(
         rt,
         alloc,
         setup,
+        table,
         &mut reader,
         writer,
         out,
@@ -130,31 +144,35 @@ pub fn run_over<S: Watched, T: AllocGlobal + Eprint, R: Read + Drop, W: Output, 
     traced_status(rt, result, out, path)
 }
 
-/// Simulates the lines of the file at a path, in a world that is made with this, and writes the trace to the file at another
-/// one, which is made anew.
+/// Simulates the lines of the file at a path, in a world that is made with this and over the channel of a channel file, and writes
+/// the trace to the file at another one, which is made anew. It is shown on standard error why events are refused, and with a bar
+/// how far the simulation is.
 ///
 /// It ends with the status of the simulation, or with 1 where that is 0 and the trace could not be written; with 1, before
 /// anything is simulated, where the file can't be opened, where that of the trace can't be made, or where both paths are
 /// one; and with 5 where memory was refused.
-pub fn run<S: Watched, T: Files + AllocGlobal + Eprint, W: Output>(
+pub fn run<S: Watched, T: Files + AllocGlobal + Eprint + Clock, W: Output>(
     rt: &T,
     setup: Setup,
+    file: ChannelFile,
     paths: (&str, &str),
-    is_verbose: bool,
+    shown: (bool, bool),
     writer: &mut W,
 ) -> ExitCode
     requires { IsTimes setup.times }
-    ensures ends { EndsTraced T.File.remaining (rules_over setup) W.contents W.did_flush writer.old writer.new (exit_status result) }
+    ensures ends { EndsTraced T.File.remaining (rules_with setup (lines_of file.table)) W.contents W.did_flush writer.old writer.new (exit_status result) }
     ensures same { paths.entry.0.now ≡ paths.entry.1.now → (exit_status result ≡ 1) × (writer.new ≡ writer.old) }
 {
     let (path, trace) = paths;
+    let (is_verbose, has_bar) = shown;
     if path == trace {
         let code = stop(rt, INPUT, "input");
         tell_at(rt, "", path, &"the trace would take the place of the file");
         return code;
     }
-    let file = match fs::open(rt, path) {
-        Ok(file) => file,
+    let total = if has_bar { rounds_of(rt, path) } else { None };
+    let reader = match fs::open(rt, path) {
+        Ok(reader) => reader,
         Err(error) => return refuse(rt, path, &error),
     };
     let made = match fs::create(rt, trace) {
@@ -165,7 +183,14 @@ pub fn run<S: Watched, T: Files + AllocGlobal + Eprint, W: Output>(
         return stop(rt, MEMORY, "memory");
     };
     let mut out = TraceOut::new(records);
+    if has_bar {
+        let reader = Paced::new(rt, total, setup.until, reader);
+        let wiping = Wiping::new(rt);
+        return run_over::<S, Wiping<'_, T>, Paced<'_, T, T::File>, W, BufWriter<T::File>>(
+            &wiping, setup, file, reader, is_verbose, writer, trace, &mut out,
+        );
+    }
     run_over::<S, T, T::File, W, BufWriter<T::File>>(
-        rt, setup, file, is_verbose, writer, trace, &mut out,
+        rt, setup, file, reader, is_verbose, writer, trace, &mut out,
     )
 }

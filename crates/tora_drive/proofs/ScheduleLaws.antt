@@ -3,7 +3,8 @@ use Rattle.std.proofs.Common.{◌≡◌, ℕ, Bool, true, false, List, [], ◌�
 use Rattle.tora_arq.specs.declared.Times.{Times}
 use Rattle.tora_core.specs.declared.errors.CoreError.{CoreError}
 use Rattle.tora_world.specs.declared.Event.TheVariants.{Tick}
-use Rattle.tora_world.specs.Topology.{Topology, is_link, is_node, topology_fault, standard_limits}
+use Rattle.tora_world.specs.declared.limits.Limits.{Limits}
+use Rattle.tora_world.specs.Topology.{Topology, IsWithinLimits, is_link, is_node, topology_fault_within}
 use Rattle.tora_world.specs.World.{World, own_choice, first_world}
 use Rattle.tora_world.specs.FreeWorld.{Schedule, free_by, after_schedule}
 use Rattle.tora_world.specs.FreeWorld.FreeEvent.{CutsBound}
@@ -45,17 +46,17 @@ begun_by : (fault : Option CoreError) (w first : World) → (if is_some fault th
 begun_by None w first e = (refl, cc)
 begun_by (Some cause) w first e = absurd cc
 
-begun : (links : List (ℕ × ℕ)) (dests olds : List ℕ) (times : Times) (first : World) → started standard_limits links dests olds times ≡ Some first → (topology_fault (topology_of links dests) ≡ None) × (first ≡ first_world (mixed_topology links dests olds) times)
+begun : (limits : Limits) (links : List (ℕ × ℕ)) (dests olds : List ℕ) (times : Times) (first : World) → started limits links dests olds times ≡ Some first → (topology_fault_within limits (topology_of links dests) ≡ None) × (first ≡ first_world (mixed_topology links dests olds) times)
 unfolding started
-begun links dests olds times first e = begun_by (topology_fault (topology_of links dests)) (first_world (mixed_topology links dests olds) times) first e
+begun limits links dests olds times first e = begun_by (topology_fault_within limits (topology_of links dests)) (first_world (mixed_topology links dests olds) times) first e
 
-one_mixed : (b : Bool) (t : Topology) (olds : List ℕ) → topology_fault t ≡ None → topology_fault (if b then with_olds t olds else t) ≡ None
-one_mixed true t olds h = h
-one_mixed false t olds h = h
+one_mixed : (limits : Limits) (b : Bool) (t : Topology) (olds : List ℕ) → topology_fault_within limits t ≡ None → topology_fault_within limits (if b then with_olds t olds else t) ≡ None
+one_mixed limits true t olds h = h
+one_mixed limits false t olds h = h
 
-mixed : (t : Topology) (olds : List ℕ) → topology_fault t ≡ None → topology_fault (fold with_old_node t olds) ≡ None
-mixed t [] h = h
-mixed t (n ∷ olds) h = mixed (with_old_node t n) olds (one_mixed (is_node t n) t (with_old n t.olds) h)
+mixed : (limits : Limits) (t : Topology) (olds : List ℕ) → topology_fault_within limits t ≡ None → topology_fault_within limits (fold with_old_node t olds) ≡ None
+mixed limits t [] h = h
+mixed limits t (n ∷ olds) h = mixed limits (with_old_node t n) olds (one_mixed limits (is_node t n) t (with_old n t.olds) h)
 
 one_mixed_ids : (b : Bool) (t : Topology) (olds : List ℕ) → AreIds t → AreIds (if b then with_olds t olds else t)
 one_mixed_ids true t olds h = record { links = h.links; destinations = h.destinations }
@@ -67,42 +68,42 @@ mixed_ids t (n ∷ olds) h = mixed_ids (with_old_node t n) olds (one_mixed_ids (
 
 -- ---- the laws
 
--- the world is the one behind a schedule, over a topology that is not refused
+-- the world is the one behind a schedule, over a topology that is not refused within some limits
 record IsOfRun (times : Times) (w : World) : Type 0 where
   topology : Topology
-  sound : topology_fault topology ≡ None
+  sound : IsWithinLimits topology
   ids : AreIds topology
   schedule : Schedule
   world_is : w ≡ after_schedule schedule (first_world topology times)
 
-of_run : (times : Times) (CutsNothing : Type 0) (w : World) → IsOfEvents times CutsNothing w → IsOfRun times w
-of_run times CutsNothing w h =
-    let first = begun h.links h.dests h.olds times h.first h.begins in
+of_run : (limits : Limits) (times : Times) (CutsNothing : Type 0) (w : World) → IsOfEvents limits times CutsNothing w → IsOfRun times w
+of_run limits times CutsNothing w h =
+    let first = begun limits h.links h.dests h.olds times h.first h.begins in
     record {
       topology = mixed_topology h.links h.dests h.olds;
-      sound = mixed (topology_of h.links h.dests) h.olds first.0;
+      sound = (limits, mixed limits (topology_of h.links h.dests) h.olds first.0);
       ids = mixed_ids (topology_of h.links h.dests) h.olds h.ids;
       schedule = schedule_of h.first h.events;
       world_is = h.world_is ∙ are_schedules h.first h.events ∙ ap (λ (x : World). after_schedule (schedule_of h.first h.events) x) first.1;
     }
 
-pub drives_keep_the_prefix_law : EveryRun (λ first es w. TakenBeginsSent w) → EveryDrive (λ times lines w. TakenBeginsSent w)
-drives_keep_the_prefix_law law times lines v s e is =
-    let run : IsOfRun times s.world = of_run times (SaysNoNotice lines) s.world (drives_are_runs times lines v s e is) in
+pub drives_keep_the_prefix_law : EveryRun (λ first es w. TakenBeginsSent w) → EveryDrive (λ limits times lines w. TakenBeginsSent w)
+drives_keep_the_prefix_law law limits times lines v s e is =
+    let run : IsOfRun times s.world = of_run limits times (SaysNoNotice lines) s.world (drives_are_runs limits times lines v s e is) in
     subst (λ (x : World). TakenBeginsSent x) (sym run.world_is) (law run.topology times run.schedule)
 
-pub drives_keep_the_no_gap_law : EveryEnd (λ t first es w n k. IsWithoutGap t first es w n k) → EveryDrive (λ times lines w. HasNoGaps times w)
-drives_keep_the_no_gap_law law times lines v s e is =
-    let run : IsOfRun times s.world = of_run times (SaysNoNotice lines) s.world (drives_are_runs times lines v s e is) in
+pub drives_keep_the_no_gap_law : EveryEnd (λ t first es w n k. IsWithoutGap t first es w n k) → EveryDrive (λ limits times lines w. HasNoGaps times w)
+drives_keep_the_no_gap_law law limits times lines v s e is =
+    let run : IsOfRun times s.world = of_run limits times (SaysNoNotice lines) s.world (drives_are_runs limits times lines v s e is) in
     record {
       topology = run.topology;
       sound = run.sound;
       schedule = run.schedule;
       world_is = run.world_is;
-      gapless = λ n k linked. subst (λ (x : World). IsWithoutGap run.topology (first_world run.topology times) run.schedule x n k) (sym run.world_is) (law run.topology times run.schedule n k (standard_limits, run.sound) linked);
+      gapless = λ n k linked. subst (λ (x : World). IsWithoutGap run.topology (first_world run.topology times) run.schedule x n k) (sym run.world_is) (law run.topology times run.schedule n k run.sound linked);
     }
 
-pub drives_keep_laws_of_worlds : (Holds : World → Type 0) → EveryWorld Holds → EveryDrive (λ times lines w. Holds w)
-drives_keep_laws_of_worlds Holds law times lines v s e is =
-    let run : IsOfRun times s.world = of_run times (SaysNoNotice lines) s.world (drives_are_runs times lines v s e is) in
-    subst Holds (sym run.world_is) (law run.topology times run.schedule (standard_limits, run.sound) run.ids)
+pub drives_keep_laws_of_worlds : (Holds : World → Type 0) → EveryWorld Holds → EveryDrive (λ limits times lines w. Holds w)
+drives_keep_laws_of_worlds Holds law limits times lines v s e is =
+    let run : IsOfRun times s.world = of_run limits times (SaysNoNotice lines) s.world (drives_are_runs limits times lines v s e is) in
+    subst Holds (sym run.world_is) (law run.topology times run.schedule run.sound run.ids)

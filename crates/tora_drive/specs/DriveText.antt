@@ -18,7 +18,7 @@ use Rattle.tora_world.specs.World.{World, datagram, refusal_of, world_after_all}
 use Rattle.tora_sim.specs.Cuts.{after_cut_at}
 use Rattle.tora_sim.specs.Readers.{flag_at}
 use Rattle.tora_script.specs.declared.script_line.SimulationLine.TheVariants.{Happens, Rounds, Part, Mend, Heights, Sent, Taken, Exact, Walk, Rest}
-use Rattle.tora_world.specs.Topology.{standard_limits}
+use Rattle.tora_world.specs.declared.limits.Limits.{Limits}
 use Rattle.tora_script.specs.Simulator.{has_topology, started}
 use Rattle.tora_script.specs.Setup.{plain}
 use Rattle.tora_script.specs.SimulationLines.{link_of, old_of}
@@ -206,21 +206,21 @@ abbrev pub acknowledged : OwnView → Progress → Placed
 acknowledged o progress = (record { progress = progress; own = o }, closing false)
 
 -- the line behind the last link and the last old node, which makes the world: at least one link is required
-abbrev pub first_answer : Times → OwnView → List ℕ → List (ℕ × ℕ) → List ℕ → List ℕ → Option DriveReply
-first_answer times o dests [] olds line = None
-first_answer times o dests (link ∷ links) olds line = option_and_then (λ w. answer_to (begun_in dests (plain times) w) o line) (started standard_limits (link ∷ links) dests olds times)
+abbrev pub first_answer : Limits → Times → OwnView → List ℕ → List (ℕ × ℕ) → List ℕ → List ℕ → Option DriveReply
+first_answer limits times o dests [] olds line = None
+first_answer limits times o dests (link ∷ links) olds line = option_and_then (λ w. answer_to (begun_in dests (plain times) w) o line) (started limits (link ∷ links) dests olds times)
 
 -- a line behind the first, which may say a link or an old node
-abbrev pub link_answer : Times → OwnView → List ℕ → List (ℕ × ℕ) → List ℕ → List ℕ → Option (ℕ × ℕ) → Option ℕ → Option Placed
-link_answer times o dests links olds line (Some link) old = option_map (acknowledged o) (with_link dests links olds link)
-link_answer times o dests links olds line None (Some n) = option_map (acknowledged o) (with_old_line standard_limits dests links olds n)
-link_answer times o dests links olds line None None = option_map running_at (first_answer times o dests links olds line)
+abbrev pub link_answer : Limits → Times → OwnView → List ℕ → List (ℕ × ℕ) → List ℕ → List ℕ → Option (ℕ × ℕ) → Option ℕ → Option Placed
+link_answer limits times o dests links olds line (Some link) old = option_map (acknowledged o) (with_link dests links olds link)
+link_answer limits times o dests links olds line None (Some n) = option_map (acknowledged o) (with_old_line limits dests links olds n)
+link_answer limits times o dests links olds line None None = option_map running_at (first_answer limits times o dests links olds line)
 
 -- what a line leaves, and what is printed for it; None for a fault
-unfoldable pub place_reply : Times → OwnView → Progress → List ℕ → Option Placed
-place_reply times o Progress.First line = option_map (acknowledged o) (first_progress line)
-place_reply times o (Progress.Links dests links olds) line = link_answer times o dests links olds line (link_of line) (old_of line)
-place_reply times o (Progress.Runs s) line = option_map running_at (answer_to s o line)
+unfoldable pub place_reply : Limits → Times → OwnView → Progress → List ℕ → Option Placed
+place_reply limits times o Progress.First line = option_map (acknowledged o) (first_progress line)
+place_reply limits times o (Progress.Links dests links olds) line = link_answer limits times o dests links olds line (link_of line) (old_of line)
+place_reply limits times o (Progress.Runs s) line = option_map running_at (answer_to s o line)
 
 -- ---- faults
 
@@ -228,14 +228,14 @@ place_reply times o (Progress.Runs s) line = option_map running_at (answer_to s 
 abbrev pub cause_of_line : List ℕ → Cause
 cause_of_line line = if is_some (drive_line_of line) then Name else Word
 
-abbrev pub cause_behind_links : List ℕ → List (ℕ × ℕ) → List ℕ → Cause
-cause_behind_links dests [] line = NoLink
-cause_behind_links dests (link ∷ links) line = if has_topology standard_limits (link ∷ links) dests then cause_of_line line else Topology
+abbrev pub cause_behind_links : Limits → List ℕ → List (ℕ × ℕ) → List ℕ → Cause
+cause_behind_links limits dests [] line = NoLink
+cause_behind_links limits dests (link ∷ links) line = if has_topology limits (link ∷ links) dests then cause_of_line line else Topology
 
-unfoldable pub cause_of : Progress → List ℕ → Cause
-cause_of Progress.First line = Dests
-cause_of (Progress.Links dests links olds) line = cause_behind_links dests links line
-cause_of (Progress.Runs s) line = cause_of_line line
+unfoldable pub cause_of : Limits → Progress → List ℕ → Cause
+cause_of limits Progress.First line = Dests
+cause_of limits (Progress.Links dests links olds) line = cause_behind_links limits dests links line
+cause_of limits (Progress.Runs s) line = cause_of_line line
 
 unfoldable pub cause_words : Cause → List ℕ
 cause_words Dests = codes "the first line is `dests LIST`, the destinations"
@@ -260,13 +260,13 @@ abbrev pub taken : ℕ → Placed → DriveView × List ℕ
 taken n r = (record { lines = n; place = r.0 }, r.1)
 
 -- a line that is a fault leaves everything as it was
-abbrev pub drive_reply : Times → DriveView → List ℕ → DriveView × List ℕ
-drive_reply times v line =
-    option_map_or (taken (v.lines + 1)) (place_reply times v.place.own v.place.progress line) (record v { lines = v.lines + 1 }, fault_line (v.lines + 1) (cause_of v.place.progress line))
+abbrev pub drive_reply : Limits → Times → DriveView → List ℕ → DriveView × List ℕ
+drive_reply limits times v line =
+    option_map_or (taken (v.lines + 1)) (place_reply limits times v.place.own v.place.progress line) (record v { lines = v.lines + 1 }, fault_line (v.lines + 1) (cause_of limits v.place.progress line))
 
--- a drive whose link ends have these times; no end of its input is a fault
-abbrev pub drive_rules : Times → Rules DriveView
-drive_rules times = record { start = record { lines = 0; place = record { progress = Progress.First; own = first_own } }; reply = λ v line. Some (drive_reply times v line); at_end = λ v n. None }
+-- a drive within these limits whose link ends have these times; no end of its input is a fault
+abbrev pub drive_rules : Limits → Times → Rules DriveView
+drive_rules limits times = record { start = record { lines = 0; place = record { progress = Progress.First; own = first_own } }; reply = λ v line. Some (drive_reply limits times v line); at_end = λ v n. None }
 
 -- `tora drive 1`
 abbrev pub greeting : List ℕ
@@ -275,9 +275,9 @@ greeting = codes "tora drive 1" ++ 10 ∷ []
 -- ---- what drive_in promises
 
 -- Known bytes grew by the answers to the lines of the input, and the input ends so.
-abbrev pub Drives : Times → List ℕ → Option (List ℕ) → Option (List ℕ) → Ended → Type 0
-Drives times input old new ended = IsWholeText (whole_text (drive_rules times)) input old new ended
+abbrev pub Drives : Limits → Times → List ℕ → Option (List ℕ) → Option (List ℕ) → Ended → Type 0
+Drives limits times input old new ended = IsWholeText (whole_text (drive_rules limits times)) input old new ended
 
 -- The reader gave some bytes, and the writer got a front of the answers to them.
-abbrev pub IsDriveBegun : Times → Option (List ℕ) → Option (List ℕ) → Option (List ℕ) → Option (List ℕ) → Type 0
-IsDriveBegun times old_reader new_reader old_writer new_writer = IsFrontOfText (whole_text (drive_rules times)) old_reader new_reader old_writer new_writer
+abbrev pub IsDriveBegun : Limits → Times → Option (List ℕ) → Option (List ℕ) → Option (List ℕ) → Option (List ℕ) → Type 0
+IsDriveBegun limits times old_reader new_reader old_writer new_writer = IsFrontOfText (whole_text (drive_rules limits times)) old_reader new_reader old_writer new_writer

@@ -16,6 +16,6 @@ view_of world d = record { lines = d.lines; place = record { progress = progress
 
 abbrev pub drive_kind : {S : Type 0} → (S → World) → Kind (Drive S)
 drive_kind world = record {
-  text = λ d. text_from (drive_rules d.times) (view_of world d);
-  long = λ d line h. long_lines_are_faults (drive_rules d.times) (view_of world d) line h;
+  text = λ d. text_from (drive_rules d.limits d.times) (view_of world d);
+  long = λ d line h. long_lines_are_faults (drive_rules d.limits d.times) (view_of world d) line h;
 }

@@ -1,11 +1,12 @@
 -- Which worlds a drive has.
-use Rattle.std.specs.Prelude.{◌≡◌, ℕ, true, false, Bool, if◌then◌else◌, List, [], ◌∷◌, ◌++◌, map, Option, Some, None}
+use Rattle.std.specs.Prelude.{◌≡◌, ℕ, true, false, Bool, if◌then◌else◌, List, [], ◌∷◌, ◌++◌, map, Option, Some}
 use Rattle.std.specs.List.{AllByRecursion}
 use Rattle.tora_arq.specs.declared.Times.{Times}
 use Rattle.tora_lines.specs.LineText.{state_behind}
 use Rattle.tora_world.specs.declared.Event.{Event}
 use Rattle.tora_world.specs.declared.Event.TheVariants.{Tick}
-use Rattle.tora_world.specs.Topology.{Topology, is_link, standard_limits, topology_fault}
+use Rattle.tora_world.specs.declared.limits.Limits.{Limits}
+use Rattle.tora_world.specs.Topology.{Topology, IsWithinLimits, is_link}
 use Rattle.tora_world.specs.World.{World, own_choice, first_world, world_after, world_after_all}
 use Rattle.tora_world.specs.FreeWorld.{Schedule, after_schedule, FreeEvent as Free}
 use Rattle.tora_world.specs.Gaps.{IsWithoutGap}
@@ -57,37 +58,37 @@ IsNotice line = (n : ℕ) × (k : ℕ) × (drive_line_of line ≡ Some (Notice n
 abbrev pub SaysNoNotice : List (List ℕ) → Type 0
 SaysNoNotice lines = AllByRecursion (λ line. IsNotice line → ⊥) lines
 
--- A world is the one behind some events, from the first world of some links, destinations and old nodes; where no line cuts a life,
+-- A world is the one behind some events, from the first world of some links, destinations and old nodes within the limits; where no line cuts a life,
 -- they are events of the simulator alone.
-pub record IsOfEvents (times : Times) (CutsNothing : Type 0) (w : World) : Type 0 where
+pub record IsOfEvents (limits : Limits) (times : Times) (CutsNothing : Type 0) (w : World) : Type 0 where
   pub links : List (ℕ × ℕ)
   pub dests : List ℕ
   pub olds : List ℕ
   pub ids : AreIds (topology_of links dests)
   pub first : World
-  pub begins : started standard_limits links dests olds times ≡ Some first
+  pub begins : started limits links dests olds times ≡ Some first
   pub events : List DriveEvent
   pub world_is : w ≡ after_all_driven first events
   pub plain : CutsNothing → (happened : List Event) × (events ≡ happening happened)
 
 -- this holds of the world behind any lines of a drive, once it has one
-abbrev pub EveryDrive : (Times → List (List ℕ) → World → Type 0) → Type 0
+abbrev pub EveryDrive : (Limits → Times → List (List ℕ) → World → Type 0) → Type 0
 EveryDrive Holds =
-    (times : Times) (lines : List (List ℕ)) (v : DriveView) (s : RunningView)
-    → state_behind (drive_rules times) (drive_rules times).start lines ≡ Some v → v.place.progress ≡ Progress.Runs s → Holds times lines s.world
+    (limits : Limits) (times : Times) (lines : List (List ℕ)) (v : DriveView) (s : RunningView)
+    → state_behind (drive_rules limits times) (drive_rules limits times).start lines ≡ Some v → v.place.progress ≡ Progress.Runs s → Holds limits times lines s.world
 
 -- the world behind any lines of a drive is of events
 abbrev pub DrivesAreRuns : Type 0
-DrivesAreRuns = EveryDrive (λ times lines w. IsOfEvents times (SaysNoNotice lines) w)
+DrivesAreRuns = EveryDrive (λ limits times lines w. IsOfEvents limits times (SaysNoNotice lines) w)
 
 -- such events are a schedule
 abbrev pub AreSchedules : Type 0
 AreSchedules = (w : World) (events : List DriveEvent) → after_all_driven w events ≡ after_schedule (schedule_of w events) w
 
--- A world is the one behind a schedule, over a topology that is not refused; and at each link end nothing is left out of a life.
+-- A world is the one behind a schedule, over a topology that is not refused within some limits; and at each link end nothing is left out of a life.
 pub record HasNoGaps (times : Times) (w : World) : Type 0 where
   pub topology : Topology
-  pub sound : topology_fault topology ≡ None
+  pub sound : IsWithinLimits topology
   pub schedule : Schedule
   pub world_is : w ≡ after_schedule schedule (first_world topology times)
   pub gapless : (n k : ℕ) → is_link topology n k ≡ true → IsWithoutGap topology (first_world topology times) schedule w n k

@@ -6,7 +6,8 @@ ghost use Rattle.tora_drive.specs.DriveText.{cause_of_line, cause_behind_links, 
 use crate::line::drive_line;
 use std::alloc::AllocError;
 use tora_script::{LinkLines, Simulator, Stage};
-use tora_sim::topology_fault;
+use tora_sim::topology_fault_within;
+use tora_world::Limits;
 
 /// Why a line is a fault.
 #[derive(Clone, Copy, Debug, PartialEq, Eq)]
@@ -47,26 +48,26 @@ fn cause_of_line(line: &[u8]) -> Cause
     }
 }
 
-fn cause_behind_links(lines: &LinkLines, line: &[u8]) -> Cause
-    ensures { result ≡ cause_behind_links lines.now.dests.items lines.now.links.items line.now }
+fn cause_behind_links(limits: Limits, lines: &LinkLines, line: &[u8]) -> Cause
+    ensures { result ≡ cause_behind_links limits lines.now.dests.items lines.now.links.items line.now }
 {
     if lines.links.is_empty() {
         return Cause::NoLink;
     }
-    match topology_fault(&lines.links, &lines.dests) {
+    match topology_fault_within(limits, &lines.links, &lines.dests) {
         None => cause_of_line(line),
         Some(_) => Cause::Topology,
     }
 }
 
-/// Why a line, that is a fault, is one.
+/// Why a line, that is a fault within the limits, is one.
 #[tactic(auto, unfolding(crate::specs::DriveText::cause_of))]
-pub fn fault_cause<S: Simulator>(stage: &Stage<S>, line: &[u8]) -> Cause
-    ensures { result ≡ cause_of (progress_of S.world stage.now) line.now }
+pub fn fault_cause<S: Simulator>(limits: Limits, stage: &Stage<S>, line: &[u8]) -> Cause
+    ensures { result ≡ cause_of limits (progress_of S.world stage.now) line.now }
 {
     match stage {
         Stage::First => Cause::Dests,
-        Stage::Links(lines) => cause_behind_links(lines, line),
+        Stage::Links(lines) => cause_behind_links(limits, lines, line),
         Stage::Runs(_) => cause_of_line(line),
     }
 }

@@ -4,12 +4,14 @@ ghost use Rattle.tora_arq.specs.Settings.{IsTimes};
 use crate::own::Own;
 use tora_arq::Times;
 use tora_script::Stage;
+use tora_world::Limits;
 
-/// A drive, by how many lines came, the times of its link ends, none of which is 0, the simulation that the lines made, and
-/// what is kept beside it.
+/// A drive, by how many lines came, how large its world may be, the times of its link ends, none of which is 0, the simulation that
+/// the lines made, and what is kept beside it.
 #[derive(Drop)]
 pub struct Drive<S> {
     pub lines: u64,
+    pub limits: Limits,
     pub times: Times,
     pub stage: Stage<S>,
     pub own: Own,

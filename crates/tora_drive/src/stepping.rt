@@ -89,6 +89,7 @@ fn make_passes<S: Simulator>(
         if !pass(sim, nodes, ends, far)? {
             return Ok(());
         }
+        sim.settle();
     }
     Ok(())
 }

@@ -23,6 +23,7 @@ use tora_world::Limits;
 /// fault changes nothing.
 fn begin<S: Driven>(
     alloc: Global,
+    limits: Limits,
     times: Times,
     lines: &LinkLines,
     own: &mut Own,
@@ -31,13 +32,16 @@ fn begin<S: Driven>(
 ) -> Result<Running<S>, LineError>
     requires times { IsTimes times }
     requires empty { string_bytes text.old ≡ [] }
-    ensures gives { Gives (λ s. (running_view S.world s, own_view own.new, string_bytes text.new)) result (first_answer times (own_view own.old) lines.now.dests.items lines.now.links.items lines.now.olds.items line.now) }
+    ensures gives { Gives (λ s. (running_view S.world s, own_view own.new, string_bytes text.new)) result (first_answer limits times (own_view own.old) lines.now.dests.items lines.now.links.items lines.now.olds.items line.now) }
     ensures own { result ≡ Err LineError.Fault → own_view own.new ≡ own_view own.old }
 {
     if lines.links.is_empty() {
         return Err(LineError::Fault);
     }
-    let setup = Setup::plain(times);
+    let setup = Setup {
+        limits,
+        ..Setup::plain(times)
+    };
     let mut running = Running::new(alloc, &lines.dests, &lines.links, &lines.olds, setup)?;
     answer(alloc, &mut running, own, line, text)?;
     Ok(running)
@@ -55,6 +59,7 @@ fn acknowledge(text: &mut String) -> Result<(), AllocError>
 fn take_line<S: Driven>(
     stage: &mut Stage<S>,
     own: &mut Own,
+    limits: Limits,
     times: Times,
     alloc: Global,
     line: &[u8],
@@ -62,7 +67,7 @@ fn take_line<S: Driven>(
 ) -> Result<(), LineError>
     requires times { IsTimes times }
     requires empty { string_bytes text.old ≡ [] }
-    ensures gives { Gives (λ _. placed (progress_of S.world stage.new) (own_view own.new) (string_bytes text.new)) result (place_reply times (own_view own.old) (progress_of S.world stage.old) line.now) }
+    ensures gives { Gives (λ _. placed (progress_of S.world stage.new) (own_view own.new) (string_bytes text.new)) result (place_reply limits times (own_view own.old) (progress_of S.world stage.old) line.now) }
     ensures kept { result ≡ Err LineError.Fault → progress_of S.world stage.new ≡ progress_of S.world stage.old }
     ensures own { result ≡ Err LineError.Fault → own_view own.new ≡ own_view own.old }
 {
@@ -79,11 +84,11 @@ fn take_line<S: Driven>(
                 return Ok(());
             }
             if let Some(n) = old(line) {
-                take_old(Limits::STANDARD, lines, n)?;
+                take_old(limits, lines, n)?;
                 acknowledge(text)?;
                 return Ok(());
             }
-            *stage = Stage::Runs(begin(alloc, times, lines, own, line, text)?);
+            *stage = Stage::Runs(begin(alloc, limits, times, lines, own, line, text)?);
             Ok(())
         }
         Stage::Runs(running) => answer(alloc, running, own, line, text),
@@ -97,8 +102,16 @@ impl<S: Driven> FileKind for Drive<S> {
         let Some(number) = self.lines.checked_add(1) else {
             return Err(LineError::Memory);
         };
-        let times = self.times;
-        let taken = take_line(&mut self.stage, &mut self.own, times, alloc, line, text);
+        let (limits, times) = (self.limits, self.times);
+        let taken = take_line(
+            &mut self.stage,
+            &mut self.own,
+            limits,
+            times,
+            alloc,
+            line,
+            text,
+        );
         self.lines = number;
         match taken {
             Ok(()) => Ok(()),
@@ -106,7 +119,7 @@ impl<S: Driven> FileKind for Drive<S> {
                 LineError::Memory => Err(LineError::Memory),
                 LineError::Fault => {
                     text.clear();
-                    write_fault(text, number, fault_cause(&self.stage, line))?;
+                    write_fault(text, number, fault_cause(limits, &self.stage, line))?;
                     Ok(())
                 }
             },

@@ -1,5 +1,5 @@
 -- The two laws: what is read is spelled so, and what is spelled so is read.
-use Rattle.std.proofs.Common.{◌≡◌, ◌⊎◌, ℕ, ◌+◌, ◌-◌, ◌^◌, ◌<◌, ◌≤◌, true, false, not, ltb, List, [], ◌∷◌, ◌++◌, length, get_or, drop, Some, None, Result, Ok, Err, refl, sym, ap, ◌∙◌, arith, inl, inr, MatchOption, IfOk, IsOk, ◌==◌, ◌||◌}
+use Rattle.std.proofs.Common.{◌≡◌, ◌⊎◌, ℕ, ◌+◌, ◌-◌, ◌*◌, ◌^◌, ◌<◌, ◌≤◌, true, false, not, ltb, List, [], ◌∷◌, ◌++◌, length, get_or, drop, Some, None, Result, Ok, Err, refl, sym, ap, ◌∙◌, arith, inl, inr, MatchOption, IfOk, IsOk, ◌==◌, ◌||◌}
 use Rattle.std.specs.Prelude.{slice_range}
 use Rattle.std.specs.List.{AllByRecursion}
 use Rattle.std.specs.Int.{w16, w64, to_be_bytes}
@@ -9,11 +9,14 @@ use Rattle.std.proofs.lemmas.List.{nil_from_length, length-drop, length-append, 
 use Rattle.std.proofs.lemmas.Nat.{from_be_bytes-to_be_bytes_2, from_be_bytes-to_be_bytes_4, from_be_bytes-to_be_bytes_8}
 use Rattle.tora_packet.specs.declared.Packet.{Packet}
 use Rattle.tora_packet.specs.declared.Packet.TheVariants.{Qry, Upd, Clr}
+use Rattle.tora_packet.specs.declared.lengths.TheConstants.{SHORTEST_PACKET, LONGEST_PACKET}
 use Rattle.tora_packet.specs.AnyPacket.{IsPacket}
 use Rattle.tora_packet.specs.PacketGrammar.{packet_spelling, u32_at, u64_at}
 use Rattle.tora_packet.proofs.Fields.{IsBytes, step, number_back, wide_back, four_at, joined}
 use Rattle.tora_frame.specs.declared.FrameError.{FrameError}
 use Rattle.tora_frame.specs.declared.FrameError.TheVariants as Fault
+use Rattle.tora_frame.specs.declared.layout.TheConstants.{PACKET_HEAD, BATCH_HEAD, PACKET_OFFSET, LONGEST_BATCH}
+use Rattle.tora_frame.specs.declared.parts.TheConstants.{MOST_PACKETS}
 use Rattle.tora_frame.specs.declared.parts.Version.{Version}
 use Rattle.tora_frame.specs.declared.parts.Version.TheVariants.{One, Two}
 use Rattle.tora_frame.specs.declared.parts.Header.{Header}
@@ -75,18 +78,18 @@ unfolding packets_inside
 batch_inside bytes v = rw v refl
 
 -- a DATA frame has room for its numbers and its packets
-data_lengths : (version n : ℕ) → is_data_length version n ≡ true → 24 ≤ n
+data_lengths : (version n : ℕ) → is_data_length version n ≡ true → PACKET_HEAD + SHORTEST_PACKET ≤ n
 data_lengths version n h = grind (arith, nat_tests)
 
-data_long : (bytes : List ℕ) → IsLaidOut bytes → kind_at bytes ≡ 2 → 52 ≤ length bytes
+data_long : (bytes : List ℕ) → IsLaidOut bytes → kind_at bytes ≡ 2 → PACKET_OFFSET + SHORTEST_PACKET ≤ length bytes
 data_long bytes s e =
     let n = data_lengths (version_at bytes) (u16_at 2 bytes) (rw e at s.payload) in omega (arith, s.len)
 
-pub head_least : (version : Version) → 16 ≤ data_head_length version
+pub head_least : (version : Version) → PACKET_HEAD ≤ data_head_length version
 head_least One = omega arith
 head_least Two = omega arith
 
-pub length_behind : (version : Version) (ps : List Packet) → length (batch_size_spelling version (length ps) ++ packets_spelling ps) ≡ data_head_length version - 16 + packets_length ps
+pub length_behind : (version : Version) (ps : List Packet) → length (batch_size_spelling version (length ps) ++ packets_spelling ps) ≡ data_head_length version - PACKET_HEAD + packets_length ps
 length_behind One ps = omega (arith, length-packets_spelling ps)
 length_behind Two ps = omega (arith, length-packets_spelling ps)
 
@@ -127,7 +130,7 @@ spelt_data bytes fits s e h =
     let ps = packets_inside bytes in
     let inside = behind bytes fits s e (no_data_fault bytes e h) in
     let long = data_long bytes s e in
-    let len : length (drop 44 bytes) ≡ data_head_length version - 16 + packets_length ps = ap length inside ∙ length_behind version ps in
+    let len : length (drop 44 bytes) ≡ data_head_length version - PACKET_HEAD + packets_length ps = ap length inside ∙ length_behind version ps in
     let n : u16_at 2 bytes ≡ data_head_length version + packets_length ps = omega (arith, s.len, head_least version, simp length-drop at len) in
     let rest = step bytes 28 8 ∙ joined (wide_back bytes 28 fits (omega arith)) (step bytes 36 8 ∙ joined (wide_back bytes 36 fits (omega arith)) inside) in
     let parted = front bytes 2 (data_head_length version + packets_length ps) _ fits s e n rest in
@@ -264,12 +267,12 @@ again_ack h c ok a =
     let f = no_fault_in_ack bytes refl (rw n a.count) in
     (again_front 3 8 h rest ok (inr a.heard) s f, rw (again_header 3 8 h rest ok, body_at_ack bytes refl, n) refl)
 
-is_one_length : (p : Packet) → is_data_length 1 (16 + packets_length (p ∷ [])) ≡ true
+is_one_length : (p : Packet) → is_data_length 1 (PACKET_HEAD + packets_length (p ∷ [])) ≡ true
 is_one_length (Qry q) = refl
 is_one_length (Upd u) = refl
 is_one_length (Clr c) = refl
 
-is_batch_length : (n : ℕ) → 8 ≤ n → n ≤ 512 → is_data_length 2 (20 + n) ≡ true
+is_batch_length : (n : ℕ) → SHORTEST_PACKET ≤ n → n ≤ MOST_PACKETS * LONGEST_PACKET → is_data_length 2 (BATCH_HEAD + n) ≡ true
 is_batch_length n a b = grind (arith, nat_tests)
 
 -- the packets of a frame have a length that its version has
@@ -279,7 +282,7 @@ is_length One (p ∷ []) many = is_one_length p
 is_length One (p ∷ q ∷ ps) many = absurd (omega (arith, many))
 is_length Two ps many = is_batch_length (packets_length ps) (omega (arith, packets_length_least ps, many.0)) (omega (arith, packets_length_most ps, many.1))
 
-pub data_length_most : (v : Version) (ps : List Packet) → IsBatchSize v (length ps) → data_head_length v + packets_length ps ≤ 532
+pub data_length_most : (v : Version) (ps : List Packet) → IsBatchSize v (length ps) → data_head_length v + packets_length ps ≤ LONGEST_BATCH
 data_length_most One ps many = omega (arith, packets_length_most ps, many)
 data_length_most Two ps many = omega (arith, packets_length_most ps, many.1)
 

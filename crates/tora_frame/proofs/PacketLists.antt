@@ -8,45 +8,30 @@ use Rattle.tora_packet.specs.declared.Packet.{Packet}
 use Rattle.tora_packet.specs.declared.Packet.TheVariants.{Qry, Upd, Clr}
 use Rattle.tora_packet.specs.declared.PacketError.{PacketError}
 use Rattle.tora_packet.specs.AnyPacket.{IsPacket}
-use Rattle.tora_packet.specs.PacketGrammar.{packet_spelling, packet_fault, packet_at, packet_or, packet_reading, length_of, kind_of}
+use Rattle.tora_packet.specs.declared.lengths.TheConstants.{SHORTEST_PACKET, LONGEST_PACKET}
+use Rattle.tora_packet.specs.PacketGrammar.{packet_spelling, packet_length, packet_fault, packet_at, packet_or, packet_reading, length_of, kind_of, begins_packet, first_packet, behind_first}
 use Rattle.tora_packet.proofs.Fields.{IsBytes, joined}
 use Rattle.tora_packet.proofs.GrammarLaws as packets
 use Rattle.tora_packet.specs.declared.PacketError.TheVariants.{Long}
 use Rattle.tora_frame.specs.declared.FrameError.{FrameError}
 use Rattle.tora_frame.specs.declared.FrameError.TheVariants as Fault
-use Rattle.tora_frame.specs.FrameGrammar.{packet_length, packets_length, packets_spelling, refused_packet, fault_or, whole_packet_fault, whole_packet_at, begins_packet, first_packet, behind_first, packets_fault, packets_at}
+use Rattle.tora_frame.specs.FrameGrammar.{packets_length, packets_spelling, refused_packet, fault_or, whole_packet_fault, whole_packet_at, packets_fault, packets_at}
 use Rattle.tora_frame.proofs.FrameFields.{neither, drop_bytes, take_bytes}
 
 -- ---- lengths
 
--- a packet has as many bytes as its kind
-pub length-packet_spelling : (p : Packet) → length (packet_spelling p) ≡ packet_length p
-length-packet_spelling (Qry q) = refl
-length-packet_spelling (Upd u) = refl
-length-packet_spelling (Clr c) = refl
-
-packet_length_least : (p : Packet) → 8 ≤ packet_length p
-packet_length_least (Qry q) = omega arith
-packet_length_least (Upd u) = omega arith
-packet_length_least (Clr c) = omega arith
-
-packet_length_most : (p : Packet) → packet_length p ≤ 32
-packet_length_most (Qry q) = omega arith
-packet_length_most (Upd u) = omega arith
-packet_length_most (Clr c) = omega arith
-
 pub length-packets_spelling : (ps : List Packet) → length (packets_spelling ps) ≡ packets_length ps
 length-packets_spelling [] = refl
 length-packets_spelling (p ∷ ps) =
-    omega (arith, length-append (packet_spelling p) (packets_spelling ps), length-packet_spelling p, length-packets_spelling ps, sum_by-cons packet_length p ps)
+    omega (arith, length-append (packet_spelling p) (packets_spelling ps), packets.length-packet_spelling p, length-packets_spelling ps, sum_by-cons packet_length p ps)
 
-pub packets_length_least : (ps : List Packet) → 8 * length ps ≤ packets_length ps
+pub packets_length_least : (ps : List Packet) → SHORTEST_PACKET * length ps ≤ packets_length ps
 packets_length_least [] = omega arith
-packets_length_least (p ∷ ps) = omega (arith, packet_length_least p, packets_length_least ps, sum_by-cons packet_length p ps)
+packets_length_least (p ∷ ps) = omega (arith, packets.packet_length_least p, packets_length_least ps, sum_by-cons packet_length p ps)
 
-pub packets_length_most : (ps : List Packet) → packets_length ps ≤ 32 * length ps
+pub packets_length_most : (ps : List Packet) → packets_length ps ≤ LONGEST_PACKET * length ps
 packets_length_most [] = omega arith
-packets_length_most (p ∷ ps) = omega (arith, packet_length_most p, packets_length_most ps, sum_by-cons packet_length p ps)
+packets_length_most (p ∷ ps) = omega (arith, packets.packet_length_most p, packets_length_most ps, sum_by-cons packet_length p ps)
 
 -- ---- the first packet
 

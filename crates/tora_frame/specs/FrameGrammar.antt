@@ -1,15 +1,15 @@
 -- The bytes of frames: the one spelling of each, and why other bytes spell none. The two versions differ in the payload of
 -- a DATA frame alone: its lengths, its spelling, its faults and its reading.
-use Rattle.std.specs.Prelude.{◌≡◌, ℕ, zero, suc, ◌+◌, ◌-◌, ◌^◌, Bool, nat_lt, nat_le, ◌==◌, ◌||◌, ◌&&◌, if◌then◌else◌, not, List, [], ◌∷◌, ◌++◌, length, take, drop, slice_index, slice_range, Option, Some, None, Result, Ok, Err}
+use Rattle.std.specs.Prelude.{◌≡◌, ℕ, zero, suc, ◌+◌, ◌-◌, ◌^◌, Bool, nat_lt, nat_le, ◌==◌, ◌||◌, ◌&&◌, if◌then◌else◌, not, List, [], ◌∷◌, ◌++◌, length, drop, slice_index, slice_range, Option, Some, None, Result, Ok, Err}
 use Rattle.std.specs.List.{sum_by, flat_map}
 use Rattle.std.specs.Int.{w16, w32, w64, to_be_bytes, from_be_bytes}
 use Rattle.tora_packet.specs.declared.PacketError.{PacketError}
 use Rattle.tora_packet.specs.declared.PacketError.TheVariants.{Long}
 use Rattle.tora_packet.specs.declared.Packet.{Packet}
-use Rattle.tora_packet.specs.declared.Packet.TheVariants.{Qry, Upd, Clr}
-use Rattle.tora_packet.specs.PacketGrammar.{packet_spelling, packet_fault, packet_at, kind_of, is_kind as is_packet_kind, length_of, is_zero_at, u32_at, u64_at}
+use Rattle.tora_packet.specs.PacketGrammar.{packet_spelling, packet_length, is_packet_length, packet_fault, packet_at, first_packet, behind_first, is_zero_at, u32_at, u64_at}
 use Rattle.tora_frame.specs.declared.FrameError.{FrameError}
 use Rattle.tora_frame.specs.declared.FrameError.TheVariants as Fault
+use Rattle.tora_frame.specs.declared.layout.TheConstants.{PACKET_HEAD, BATCH_HEAD, SHORTEST_BATCH, LONGEST_BATCH}
 use Rattle.tora_frame.specs.declared.parts.Version.{Version}
 use Rattle.tora_frame.specs.declared.parts.Version.TheVariants.{One, Two}
 use Rattle.tora_frame.specs.declared.parts.Header.{Header}
@@ -29,20 +29,14 @@ body_kind Hello = 1
 body_kind (Data number count packets) = 2
 body_kind (Ack count) = 3
 
--- how many bytes a packet has
-abbrev pub packet_length : Packet → ℕ
-packet_length (Qry q) = 8
-packet_length (Upd u) = 32
-packet_length (Clr c) = 20
-
 -- how many bytes packets have together
 abbrev pub packets_length : List Packet → ℕ
 packets_length packets = sum_by packet_length packets
 
 -- how many bytes of a DATA frame stand between its header and its packets
 abbrev pub data_head_length : Version → ℕ
-data_head_length One = 16
-data_head_length Two = 20
+data_head_length One = PACKET_HEAD
+data_head_length Two = BATCH_HEAD
 
 -- how many bytes follow the header
 abbrev pub payload_length : Version → Body → ℕ
@@ -100,12 +94,12 @@ kind_at bytes = slice_index bytes 1
 abbrev pub is_kind : ℕ → Bool
 is_kind kind = (kind == 1) || (kind == 2) || (kind == 3)
 
--- in version 1 number, count and a packet of 8, 20 or 32 bytes; in version 2 number, count, how many packets, three zeros,
--- and at least one packet of 8 bytes, at most sixteen of 32
+-- in version 1 number, count and one packet; in version 2 number, count, how many packets, three zeros, and at least the
+-- shortest packet, at most sixteen of the longest
 abbrev pub is_data_length : ℕ → ℕ → Bool
 is_data_length version n =
-    if version == 1 then (n == 24) || (n == 36) || (n == 48)
-    else nat_le 28 n && nat_le n 532
+    if version == 1 then is_packet_length (n - PACKET_HEAD)
+    else nat_le SHORTEST_BATCH n && nat_le n LONGEST_BATCH
 
 -- none for a HELLO, a count for an ACK
 abbrev pub is_payload_length : ℕ → ℕ → ℕ → Bool
@@ -169,18 +163,6 @@ whole_packet_fault bytes = refused_packet (packet_fault bytes)
 
 unfoldable pub whole_packet_at : List ℕ → Packet
 whole_packet_at bytes = packet_at bytes
-
--- bytes that begin as a packet: with version 1 and a known kind
-abbrev pub begins_packet : List ℕ → Bool
-begins_packet bytes = (slice_index bytes 0 == 1) && is_packet_kind (kind_of bytes)
-
--- the bytes of the first packet: no more than its kind has, where they begin as a packet
-unfoldable pub first_packet : List ℕ → List ℕ
-first_packet bytes = if begins_packet bytes then take (length_of (kind_of bytes)) bytes else bytes
-
--- the bytes behind the first packet
-abbrev pub behind_first : List ℕ → List ℕ
-behind_first bytes = drop (length (first_packet bytes)) bytes
 
 -- why the bytes are not so many packets one after another
 unfoldable pub packets_fault : ℕ → List ℕ → Option FrameError

@@ -6,11 +6,14 @@ ghost use Rattle.tora_packet.specs.PacketGrammar.{u32_at, u64_at};
 ghost use Rattle.tora_frame.specs.FrameParts.{FrameParts, IsHeader, IsFrame, batch, frame_of};
 ghost use Rattle.tora_frame.specs.FrameGrammar.{SpellsFrame, u16_at, version_at, version_of, kind_at, version_number, is_version, is_data_length, is_payload_length, layout_fault, header_at, header_fault, body_at, body_fault, is_bad_number, packets_inside, fault_inside, frame_at, frame_fault, frame_spelling, frame_reading};
 
-use crate::layout::{ACK, DATA, HEADER_LENGTH, HELLO};
+use crate::layout::{
+    ACK, DATA, HEADER_LENGTH, HELLO, LONGEST_BATCH, PACKET_HEAD, PACKET_OFFSET, SHORTEST_BATCH,
+};
 use crate::packets::read_packets;
 use crate::{
     BorrowedBody, BorrowedFrame, Frame, FrameError, GREATEST_NUMBER, Header, Packets, Version,
 };
+use tora_packet::{SHORTEST_PACKET, is_packet_length};
 
 #[tactic(auto, unfolding(crate::specs::FrameGrammar::u16_at))]
 fn u16_at(bytes: &[u8], at: usize) -> u16
@@ -52,16 +55,16 @@ fn version_of(number: u8) -> Option<Version>
     }
 }
 
-fn is_data_length(version: Version, len: u16) -> bool
+fn is_data_length(version: Version, len: usize) -> bool
     ensures { result ≡ is_data_length (version_number version) len }
 {
     match version {
-        Version::One => len == 24 || len == 36 || len == 48,
-        Version::Two => len >= 28 && len <= 532,
+        Version::One => is_packet_length(len.saturating_sub(PACKET_HEAD)),
+        Version::Two => len >= SHORTEST_BATCH && len <= LONGEST_BATCH,
     }
 }
 
-fn is_payload_length(version: Version, kind: u8, len: u16) -> bool
+fn is_payload_length(version: Version, kind: u8, len: usize) -> bool
     ensures { result ≡ is_payload_length (version_number version) kind len }
 {
     match kind {
@@ -77,7 +80,7 @@ fn read_layout(bytes: &[u8]) -> Result<Version, FrameError>
     ensures exact { MatchOption (layout_fault bytes.now) (result ≡ Ok (version_of (version_at bytes.now))) (λ e. result ≡ Err e) }
     ensures header { OnOk result (28 ≤ length bytes.now) }
     ensures count { OnOk result (kind_at bytes.now ≢ 1 → 36 ≤ length bytes.now) }
-    ensures packet { OnOk result (kind_at bytes.now ≡ 2 → 52 ≤ length bytes.now) }
+    ensures packet { OnOk result (kind_at bytes.now ≡ 2 → PACKET_OFFSET + SHORTEST_PACKET ≤ length bytes.now) }
 {
     if bytes.len() < HEADER_LENGTH {
         return Err(FrameError::Short);
@@ -89,11 +92,11 @@ fn read_layout(bytes: &[u8]) -> Result<Version, FrameError>
     if kind != HELLO && kind != DATA && kind != ACK {
         return Err(FrameError::Kind);
     }
-    let len = u16_at(bytes, 2);
-    if !is_payload_length(version, kind, len) {
+    let payload = usize::from(u16_at(bytes, 2));
+    if !is_payload_length(version, kind, payload) {
         return Err(FrameError::Length);
     }
-    let len = HEADER_LENGTH + usize::from(len);
+    let len = HEADER_LENGTH + payload;
     if bytes.len() < len {
         return Err(FrameError::Short);
     }
@@ -153,7 +156,7 @@ fn read_data<'a>(
     header: Header,
     packets: &'a mut Packets,
 ) -> Result<BorrowedFrame<'a>, FrameError>
-    requires len { 52 ≤ length bytes.now }
+    requires len { PACKET_OFFSET + SHORTEST_PACKET ≤ length bytes.now }
     requires kind { kind_at bytes.now ≡ 2 }
     requires version { header.version ≡ version_of (version_at bytes.now) }
     requires header { IsHeader header }
@@ -177,7 +180,7 @@ fn read_body<'a>(
 ) -> Result<BorrowedFrame<'a>, FrameError>
     requires len { 28 ≤ length bytes.now }
     requires count { kind_at bytes.now ≢ 1 → 36 ≤ length bytes.now }
-    requires packet { kind_at bytes.now ≡ 2 → 52 ≤ length bytes.now }
+    requires packet { kind_at bytes.now ≡ 2 → PACKET_OFFSET + SHORTEST_PACKET ≤ length bytes.now }
     requires version { header.version ≡ version_of (version_at bytes.now) }
     requires header { IsHeader header }
     requires heard { kind_at bytes.now ≢ 1 → 0 < header.heard }

@@ -1,20 +1,22 @@
 //! Frames to bytes.
-ghost use Rattle.std.specs.Prelude.{◌≡◌, ℕ, ◌+◌, ◌≤◌, ◌++◌, [], length, replicate};
+ghost use Rattle.std.specs.Prelude.{◌≡◌, ℕ, ◌+◌, ◌*◌, ◌≤◌, ◌++◌, [], length, replicate};
 ghost use Rattle.arrayvec.specs.ArrayVec.{ArrayVec as Items, array_vec_len};
 ghost use Rattle.tora_packet.specs.declared.Packet.{Packet as AnyPacket};
 ghost use Rattle.tora_packet.specs.PacketParts.{UpdateParts};
-ghost use Rattle.tora_frame.specs.FrameGrammar.{SpellsFrame, frame_spelling, header_spelling, packet_length, packets_length, packets_spelling, data_head_length, batch_size_spelling};
+ghost use Rattle.tora_frame.specs.FrameGrammar.{SpellsFrame, frame_spelling, header_spelling, packets_length, packets_spelling, data_head_length, batch_size_spelling};
 ghost use Rattle.tora_frame.specs.declared.parts.Header.{Header};
 ghost use Rattle.tora_frame.specs.declared.parts.Body.{Body};
 ghost use Rattle.tora_frame.specs.FrameParts.{FrameParts, IsFrame, batch, frame_of};
 
-use crate::layout::{ACK, DATA, HELLO};
+use crate::layout::{
+    ACK, BATCH_HEAD, BATCH_OFFSET, DATA, HEADER_LENGTH, HELLO, LONGEST_BATCH, PACKET_HEAD,
+};
 use crate::{BorrowedBody, BorrowedFrame, Frame, Header, MOST_PACKETS, Version};
 use arrayvec::ArrayVec;
-use tora_packet::{Packet, append};
+use tora_packet::{LONGEST_PACKET, Packet, append, encoded_length};
 
 /// The most bytes that a frame has: those of a DATA frame of version 2 with sixteen updates.
-pub const LONGEST_FRAME: usize = 560;
+pub const LONGEST_FRAME: usize = HEADER_LENGTH + LONGEST_BATCH;
 
 /// The bytes of a frame, as far as they are written.
 type Bytes = ArrayVec<u8, LONGEST_FRAME>;
@@ -28,26 +30,15 @@ fn put(out: &mut Bytes, bytes: &[u8])
     };
 }
 
-fn packet_length(packet: &Packet) -> u16
-    ensures length { result ≡ packet_length packet.now }
-    ensures most { result ≤ 32 }
-{
-    match packet {
-        Packet::Qry(_) => 8,
-        Packet::Upd(_) => 32,
-        Packet::Clr(_) => 20,
-    }
-}
-
 /// How many bytes the packets of a frame have together.
-fn packets_length(packets: &[Packet]) -> u16
+fn packets_length(packets: &[Packet]) -> usize
     requires { length packets.now ≤ MOST_PACKETS }
     ensures length { result ≡ packets_length packets.now }
-    ensures most { result ≤ 512 }
+    ensures most { result ≤ MOST_PACKETS * LONGEST_PACKET }
 {
     let mut len = 0;
     for packet in packets {
-        len += packet_length(packet);
+        len += encoded_length(packet);
     }
     len
 }
@@ -68,13 +59,13 @@ fn put_header(kind: u8, len: u16, header: &Header, out: &mut Bytes)
 }
 
 /// How many bytes of a DATA frame stand between its header and its packets.
-fn data_head_length(version: Version) -> u16
+fn data_head_length(version: Version) -> usize
     ensures length { result ≡ data_head_length version }
-    ensures most { result ≤ 20 }
+    ensures most { result ≤ BATCH_HEAD }
 {
     match version {
-        Version::One => 16,
-        Version::Two => 20,
+        Version::One => PACKET_HEAD,
+        Version::Two => BATCH_HEAD,
     }
 }
 
@@ -93,7 +84,7 @@ fn put_batch_size(version: Version, many: usize, out: &mut Bytes)
 /// Appends the bytes of packets one after another.
 fn put_packets(packets: &[Packet], out: &mut Bytes)
     requires many { length packets.now ≤ MOST_PACKETS }
-    requires room { array_vec_len out.old ≤ 48 }
+    requires room { array_vec_len out.old ≤ BATCH_OFFSET }
     ensures { out.new.items ≡ out.old.items ++ packets_spelling packets.now }
 {
     for packet in packets {
@@ -109,7 +100,7 @@ fn put_data(header: &Header, number: u64, count: u64, packets: &[Packet], out: &
 {
     let version = header.version;
     let len = data_head_length(version) + packets_length(packets);
-    put_header(DATA, len, header, out);
+    put_header(DATA, len as u16, header, out);
     put(out, &number.to_be_bytes());
     put(out, &count.to_be_bytes());
     put_batch_size(version, packets.len(), out);

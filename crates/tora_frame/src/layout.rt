@@ -1,5 +1,8 @@
 //! The layout of frames in bytes: kinds and lengths. Own profile.
 
+use crate::MOST_PACKETS;
+use tora_packet::{LONGEST_PACKET, SHORTEST_PACKET};
+
 /// The kind of a HELLO.
 pub(crate) const HELLO: u8 = 1;
 
@@ -12,8 +15,21 @@ pub(crate) const ACK: u8 = 3;
 /// The bytes of the header, before the payload.
 pub(crate) const HEADER_LENGTH: usize = 28;
 
+/// The bytes of a DATA frame of version 1 between its header and its packet: a number and a count.
+pub(crate) const PACKET_HEAD: usize = 16;
+
+/// The bytes of a DATA frame of version 2 between its header and its packets: a number, a count, how many packets there
+/// are, and three zeros.
+pub(crate) const BATCH_HEAD: usize = 20;
+
 /// The bytes of a DATA frame of version 1 before its packet.
-pub(crate) const PACKET_OFFSET: usize = 44;
+pub(crate) const PACKET_OFFSET: usize = HEADER_LENGTH + PACKET_HEAD;
 
 /// The bytes of a DATA frame of version 2 before its packets.
-pub(crate) const BATCH_OFFSET: usize = 48;
+pub(crate) const BATCH_OFFSET: usize = HEADER_LENGTH + BATCH_HEAD;
+
+/// The fewest bytes of a DATA frame of version 2 behind its header: with the shortest packet.
+pub(crate) const SHORTEST_BATCH: usize = BATCH_HEAD + SHORTEST_PACKET;
+
+/// The most bytes of a DATA frame of version 2 behind its header: with as many of the longest packet as a frame carries.
+pub(crate) const LONGEST_BATCH: usize = BATCH_HEAD + MOST_PACKETS * LONGEST_PACKET;

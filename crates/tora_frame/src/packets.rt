@@ -1,15 +1,15 @@
 //! Bytes to the packets of a DATA frame.
-ghost use Rattle.std.specs.Prelude.{◌≡◌, ◌+◌, ◌<◌, ◌≤◌, ◌^◌, [], ◌∷◌, take, drop, length, MatchOption, MatchBool, IfOk, OnOk, IsOk, Ok, Err};
+ghost use Rattle.std.specs.Prelude.{◌≡◌, ◌+◌, ◌<◌, ◌≤◌, ◌^◌, [], ◌∷◌, drop, length, MatchOption, MatchBool, IfOk, OnOk, IsOk, Ok, Err};
 ghost use Rattle.std.specs.List.{AllByRecursion};
 ghost use Rattle.arrayvec.specs.ArrayVec.{array_vec_len};
 ghost use Rattle.tora_packet.specs.AnyPacket.{IsPacket};
 ghost use Rattle.tora_packet.specs.PacketGrammar.{u64_at};
 ghost use Rattle.tora_frame.specs.FrameParts.{IsBatchSize};
-ghost use Rattle.tora_frame.specs.FrameGrammar.{version_at, version_of, whole_packet_fault, whole_packet_at, first_packet, behind_first, packets_fault, packets_at, batch_size_at, is_bad_batch_size, batch_fault, fault_inside, packets_inside};
+ghost use Rattle.tora_frame.specs.FrameGrammar.{version_at, version_of, whole_packet_fault, whole_packet_at, packets_fault, packets_at, batch_size_at, is_bad_batch_size, batch_fault, fault_inside, packets_inside};
 
 use crate::layout::{BATCH_OFFSET, PACKET_OFFSET};
 use crate::{FrameError, GREATEST_NUMBER, MOST_PACKETS, Packets, Version};
-use tora_packet::{Packet, PacketError};
+use tora_packet::{Packet, PacketError, cut_packet};
 
 /// The packet that all the bytes spell.
 #[inline(always)]
@@ -21,33 +21,6 @@ fn read_packet(bytes: &[u8]) -> Result<Packet, FrameError>
         Ok(packet) => Ok(packet),
         Err(error) => Err(FrameError::Packet(error)),
     }
-}
-
-/// How many bytes the first packet has: no more than its kind, where they begin as a packet.
-#[tactic(auto, unfolding(crate::specs::FrameGrammar::first_packet))]
-fn first_length(bytes: &[u8]) -> usize
-    ensures length { result ≡ length (first_packet bytes.now) }
-    ensures front { take result bytes.now ≡ first_packet bytes.now }
-    ensures within { result ≤ length bytes.now }
-{
-    let all = bytes.len();
-    if all < 2 || bytes[0] != 1 {
-        return all;
-    }
-    match bytes[1] {
-        1 => all.min(8),
-        2 => all.min(32),
-        3 => all.min(20),
-        _ => all,
-    }
-}
-
-/// The bytes of the first packet, and those behind it.
-fn cut_packet(bytes: &[u8]) -> (&[u8], &[u8])
-    ensures first { result.0.now ≡ first_packet bytes.now }
-    ensures behind { result.1.now ≡ behind_first bytes.now }
-{
-    bytes.split_at(first_length(bytes))
 }
 
 /// The bytes from an offset on.

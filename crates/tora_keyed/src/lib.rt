@@ -5,7 +5,6 @@
 //! of HMAC-SHA-256). A datagram that was tagged once may come any number of times and in any order, as the prefix law allows.
 #![tactic(auto)]
 
-mod address_wire;
 mod key_file;
 mod keyed_wire;
 mod lent_wire;
@@ -13,7 +12,6 @@ mod link_wire;
 mod noticed_wire;
 mod notices;
 
-pub use address_wire::AddressWire;
 pub use key_file::{KEY, LONGEST_KEY_FILE, key_in, overwrite};
 pub use keyed_wire::KeyedWire;
 pub use lent_wire::LentWire;

@@ -10,7 +10,7 @@ pub enum LaneError {
     /// There is not enough memory.
     #[error("there is not enough memory")]
     Memory,
-    /// There is no link, or there are more than 32.
+    /// There is no link, or there are more than `MOST_LINKS`, which are 32.
     #[error("there is no link, or there are more than 32")]
     TooMany,
 }

@@ -20,13 +20,14 @@ pub struct OutPut {
 impl Model for OutPut {
     ghost use Rattle.std.specs.Prelude.{◌≡◌, ◌+◌, ◌^◌, ◌≤◌, length};
     ghost use Rattle.rtrb.specs.Ring.{sent, known_free};
+    ghost use Rattle.tora_lane.specs.declared.limits.TheConstants.{OUT_LANE_ROOM};
     ghost use Rattle.tora_lane.specs.Out.{SendEnd, send_end};
 
     ghost Value = { SendEnd };
 
     ghost view = { λ o. send_end o.producer };
 
-    ghost invariant = { λ o. (256 ≤ known_free o.producer + length (sent o.producer)) × (o.count ≡ length (sent o.producer)) × (o.count ≤ 2 ^ 61) };
+    ghost invariant = { λ o. (OUT_LANE_ROOM ≤ known_free o.producer + length (sent o.producer)) × (o.count ≡ length (sent o.producer)) × (o.count ≤ 2 ^ 61) };
 }
 
 /// The neighbour's end of the lane from the core. Contracts see all that it has received, oldest first, and which of the
@@ -69,8 +70,8 @@ impl OutPut {
     ///
     /// # Errors
     ///
-    /// The cargo is handed back, and the lane is as it was, where the lane is full, which it is not before 256 cargoes
-    /// were sent, and always once 2^61 were sent.
+    /// The cargo is handed back, and the lane is as it was, where the lane is full, which it is not before `OUT_LANE_ROOM`
+    /// cargoes were sent, and always once `MOST_IN_ALL` were sent.
     pub fn send(&mut self, cargo: Cargo) -> Result<(), Cargo>
         ensures put { OnOk result (self.new ≡ with_sent self.old cargo) }
         ensures back { IfErr result (λ c. (c ≡ cargo) × (self.new ≡ self.old)) }

@@ -14,7 +14,8 @@ use Rattle.tora_neighbour.specs.declared.ending.BrokenAt.TheVariants.{Send, Rece
 use Rattle.tora_neighbour.specs.declared.intake.Intake.{Intake}
 use Rattle.tora_neighbour.specs.declared.wire.WireError.{WireError}
 use Rattle.tora_neighbour.specs.Intake.{Reading}
-use Rattle.tora_neighbour.specs.Turns.{Turn, IsTurn, IsLastTurn, IsOpening, Tells, is_beat_due, after_opening, after_cargoes, after_cut_of_bound}
+use Rattle.tora_seat.specs.Between.{after_cut_of_bound}
+use Rattle.tora_neighbour.specs.Turns.{Turn, IsTurn, IsLastTurn, IsOpening, Tells, is_beat_due, after_opening, after_cargoes}
 use Rattle.tora_neighbour.specs.declared.ending.Ending.TheVariants.{Broken, Refused}
 use Rattle.tora_neighbour.specs.Traffic.{Outside, Traffic, Came, AreDrawn, entries_of}
 use Rattle.tora_neighbour.specs.Causes.{IsExchange}

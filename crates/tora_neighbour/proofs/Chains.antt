@@ -11,7 +11,7 @@ use Rattle.tora_seat.specs.declared.What.{What}
 use Rattle.tora_lane.specs.declared.ports.Gone.{Gone}
 use Rattle.tora_neighbour.specs.declared.wire.WireError.{WireError}
 use Rattle.tora_neighbour.specs.Turns.{Turn, failed_calls, calls_failed, row_after, IsRow}
-use Rattle.tora_neighbour.specs.Traffic.{what_of}
+use Rattle.tora_seat.specs.Between.{what_of}
 use Rattle.tora_neighbour.specs.Calls.{TakesSome, SendsSome, PutsSome, TurnCalls, AreCalls}
 
 pub takes_more : {H : Type 0} (take : H → Option Cargo → H → Type 0) (h : H) (cargoes : List Cargo) (mid : H) (cargo : Cargo) (after : H) → TakesSome take h cargoes mid → take mid (Some cargo) after → TakesSome take h (cargoes ++ cargo ∷ []) after

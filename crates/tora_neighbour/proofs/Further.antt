@@ -12,7 +12,8 @@ use Rattle.tora_arq.specs.EndRange.{LinkEndView, link_end_of}
 use Rattle.tora_neighbour.specs.Datagrams.{IsReceived}
 use Rattle.tora_seat.specs.declared.Cargo.{Cargo}
 use Rattle.tora_neighbour.specs.declared.hub.Put.{Put}
-use Rattle.tora_neighbour.specs.Turns.{after_cargo, after_cargoes, after_frames, AreDue, Tells}
+use Rattle.tora_seat.specs.Between.{after_cargo}
+use Rattle.tora_neighbour.specs.Turns.{after_cargoes, after_frames, AreDue, Tells}
 use Rattle.tora_neighbour.specs.Traffic.{entry_of, Came}
 use Rattle.tora_neighbour.proofs.Readings.{reading_of_cut}
 

@@ -8,7 +8,8 @@ use Rattle.tora_arq.specs.LinkFacts.LinkCall.{Tick, Submit, Cut, Transmit, Frame
 use Rattle.tora_seat.specs.declared.Cargo.{Cargo}
 use Rattle.tora_seat.specs.declared.Cargo.TheVariants as Goods
 use Rattle.tora_neighbour.specs.Intake.{Reading, after_came}
-use Rattle.tora_neighbour.specs.Turns.{after_cargo, after_cargoes, after_frames}
+use Rattle.tora_seat.specs.Between.{after_cargo}
+use Rattle.tora_neighbour.specs.Turns.{after_cargoes, after_frames}
 
 -- what the crate of link ends says of every call
 abbrev pub NumberLaw : Type 0

@@ -13,7 +13,7 @@ use Rattle.tora_neighbour.specs.declared.ending.Ending.TheVariants.{NoNumber, Br
 use Rattle.tora_neighbour.specs.declared.ending.BrokenAt.{BrokenAt}
 use Rattle.tora_neighbour.specs.declared.ending.BrokenAt.TheVariants.{Send, Receive}
 use Rattle.tora_neighbour.specs.Turns.{Turn}
-use Rattle.tora_neighbour.specs.Traffic.{what_of}
+use Rattle.tora_seat.specs.Between.{what_of}
 
 -- these cargoes are taken, one after another
 abbrev pub TakesSome : {H : Type 0} → (H → Option Cargo → H → Type 0) → H → List Cargo → H → Type 0

@@ -4,10 +4,9 @@ use Rattle.std.specs.List.{flat_map}
 use Rattle.tora_frame.specs.FrameParts.{FrameParts}
 use Rattle.tora_frame.specs.FrameGrammar.{frame_spelling, frame_reading}
 use Rattle.tora_arq.specs.declared.LinkEvent.{LinkEvent}
-use Rattle.tora_arq.specs.declared.LinkEvent.TheVariants.{Up, Deliver, Down}
 use Rattle.tora_arq.specs.LinkFacts.{list_of}
 use Rattle.tora_seat.specs.declared.Cargo.{Cargo}
-use Rattle.tora_seat.specs.declared.What.{What}
+use Rattle.tora_seat.specs.Between.{what_of}
 use Rattle.tora_seat.specs.declared.What.TheVariants as Put
 use Rattle.tora_neighbour.specs.declared.hub.Put.{Put as Entry}
 use Rattle.tora_neighbour.specs.declared.link.Link.{Link}
@@ -29,11 +28,6 @@ outside puts takes tells coming tries link hub =
     record { drawn = link.file.numbers.drawn; puts = puts hub; takes = takes hub; tells = tells link.wire; coming = coming link.wire; tries = tries link.wire }
 
 -- an event, as it is put
-abbrev pub what_of : LinkEvent → What
-what_of (Up life) = Put.Up life
-what_of (Deliver life packet) = Put.Packet life packet
-what_of (Down life reason) = Put.Down life reason
-
 abbrev pub entry_of : ℕ → LinkEvent → Entry
 entry_of now event = put_of now (what_of event)
 

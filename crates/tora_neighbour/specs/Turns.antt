@@ -4,9 +4,8 @@ use Rattle.std.specs.List.{flat_map}
 use Rattle.tora_frame.specs.FrameParts.{FrameParts}
 use Rattle.tora_arq.specs.declared.LinkEvent.{LinkEvent}
 use Rattle.tora_arq.specs.Settings.{Settings, ticks_passed}
-use Rattle.tora_arq.specs.LinkEnd.{EndState, is_closed, bound_life, after_open, after_tick, after_submit, after_cut, frame_due, after_transmit}
+use Rattle.tora_arq.specs.LinkEnd.{EndState, is_closed, bound_life, after_open, after_tick, frame_due, after_transmit}
 use Rattle.tora_arq.specs.LinkFacts.{list_of}
-use Rattle.tora_arq.specs.declared.Life.{Life}
 use Rattle.tora_neighbour.specs.declared.intake.Intake.{Intake}
 use Rattle.tora_neighbour.specs.declared.tally.Tally.{Tally}
 use Rattle.tora_neighbour.specs.declared.wire.WireError.{WireError}
@@ -16,7 +15,7 @@ use Rattle.tora_neighbour.specs.declared.ending.Ending.{Ending}
 use Rattle.tora_neighbour.specs.declared.ending.Ending.TheVariants.{NoNumber, Broken, Refused}
 use Rattle.tora_neighbour.specs.declared.ending.BrokenAt.TheVariants.{Send, Receive}
 use Rattle.tora_seat.specs.declared.Cargo.{Cargo}
-use Rattle.tora_seat.specs.declared.Cargo.TheVariants.{Packet, Cut}
+use Rattle.tora_seat.specs.Between.{after_cargo, after_cut_of_bound}
 
 -- A turn, which has one tick: what came to the link end in it, and what the end gave.
 pub record Turn : Type 0 where
@@ -38,11 +37,6 @@ abbrev pub after_opening : EndState → Option ℕ → ℕ → EndState
 after_opening e None now = e
 after_opening e (Some life) now = after_open e life now
 
--- a packet is submitted in its life, and a life is cut
-abbrev pub after_cargo : EndState → Cargo → EndState
-after_cargo e (Packet life packet) = after_submit e life packet
-after_cargo e (Cut life) = after_cut e life
-
 abbrev pub after_cargoes : EndState → List Cargo → EndState
 after_cargoes e [] = e
 after_cargoes e (cargo ∷ cargoes) = after_cargoes (after_cargo e cargo) cargoes
@@ -51,10 +45,6 @@ after_cargoes e (cargo ∷ cargoes) = after_cargoes (after_cargo e cargo) cargoe
 abbrev pub after_frames : Settings → EndState → ℕ → List FrameParts → EndState
 after_frames s e now [] = e
 after_frames s e now (frame ∷ frames) = after_frames s (after_transmit s e now) now frames
-
-abbrev pub after_cut_of_bound : EndState → Option Life → EndState
-after_cut_of_bound e None = e
-after_cut_of_bound e (Some life) = after_cut e life
 
 -- the end once a closed one is opened, and the tick is handed to it
 abbrev pub when_ticked : Settings → EndState → Turn → EndState

@@ -3,14 +3,14 @@ ghost use Rattle.std.specs.Prelude.{◌≡◌, [], ◌∷◌, ◌++◌, ◌+◌,
 ghost use Rattle.tora_frame.specs.FrameParts.{FrameParts};
 ghost use Rattle.tora_frame.specs.FrameGrammar.{frame_spelling};
 ghost use Rattle.tora_arq.specs.declared.LinkEvent.{LinkEvent};
-ghost use Rattle.tora_arq.specs.LinkEnd.{is_closed, bound_life, frame_due, after_transmit};
+ghost use Rattle.tora_arq.specs.LinkEnd.{is_closed, frame_due, after_transmit};
 ghost use Rattle.tora_arq.specs.LinkFacts.{list_of};
 ghost use Rattle.tora_seat.specs.declared.Cargo.{Cargo};
 ghost use Rattle.tora_neighbour.specs.Datagrams.{RoseBy};
 ghost use Rattle.tora_neighbour.specs.Intake.{Reading, intake_in, after_came};
 ghost use Rattle.tora_neighbour.specs.Tally.{counted_in};
-ghost use Rattle.tora_neighbour.specs.Turns.{after_opening, after_cargo, after_cargoes, after_frames, after_cut_of_bound, IsOpening, AreDue, Tells, row_after, IsRow};
-ghost use Rattle.tora_neighbour.specs.Traffic.{AreDrawn, Came, entry_of, what_of};
+ghost use Rattle.tora_neighbour.specs.Turns.{after_opening, after_cargoes, after_frames, IsOpening, AreDue, Tells, row_after, IsRow};
+ghost use Rattle.tora_neighbour.specs.Traffic.{AreDrawn, Came, entry_of};
 ghost use Rattle.tora_neighbour.specs.declared.wire.WireError.{WireError};
 ghost use Rattle.tora_neighbour.specs.Calls.{TakesAll, SendsSome, ReceivesOnce, PutsSome, PutsUpTo};
 ghost use Rattle.tora_neighbour.specs.Causes.{IsReady, IsLifeCause};
@@ -21,10 +21,11 @@ use crate::tally::Tally;
 use crate::wire::Wire;
 use arrayvec::ArrayVec;
 use std::sync::Wait;
-use tora_arq::{LinkEnd, LinkEvent};
+use tora_arq::LinkEnd;
 use tora_frame::{LONGEST_FRAME, Packets, encode_into};
-use tora_lane::{Cargo, Gone, What};
+use tora_lane::Gone;
 use tora_life::{Disk, LifeError, LifeFile};
+use tora_seat::{hand_in, what_of};
 
 /// The most cargoes that a turn takes.
 pub const MOST_CARGOES: usize = 256;
@@ -68,18 +69,6 @@ pub fn open_closed<D: Disk>(
     }
 }
 
-/// Submits a packet, or cuts a life.
-pub fn hand_in(end: &mut LinkEnd, cargo: Cargo)
-    ensures { end.new ≡ record end.old { state = after_cargo end.old.state cargo } }
-{
-    match cargo {
-        Cargo::Packet(life, packet) => {
-            let _ = end.submit(life, packet);
-        }
-        Cargo::Cut(life) => end.cut(life),
-    }
-}
-
 /// Takes the cargoes that wait, at most 256.
 pub fn take_cargoes<R: Wait, H: Hub>(rt: &R, end: &mut LinkEnd, hub: &mut H)
     ensures taken { (cargoes : List Cargo) × (length cargoes ≤ 256) × (end.new ≡ record end.old { state = after_cargoes end.old.state cargoes }) × (H.takes hub.new ≡ H.takes hub.old ++ cargoes) × TakesAll H.did_take hub.old cargoes hub.new }
@@ -89,19 +78,8 @@ pub fn take_cargoes<R: Wait, H: Hub>(rt: &R, end: &mut LinkEnd, hub: &mut H)
     for count in 0..MOST_CARGOES {
         match hub.take(rt) {
             None => break,
-            Some(cargo) => hand_in(end, cargo),
+            Some(cargo) => hand_in(end, &cargo),
         }
-    }
-}
-
-/// What an event is put as.
-pub fn what_of(event: LinkEvent) -> What
-    ensures { result ≡ what_of event }
-{
-    match event {
-        LinkEvent::Up(life) => What::Up(life),
-        LinkEvent::Deliver(life, packet) => What::Packet(life, packet),
-        LinkEvent::Down(life, reason) => What::Down(life, reason),
     }
 }
 
@@ -122,15 +100,6 @@ pub fn put_events<R: Wait, H: Hub>(
         hub.put(rt, now, what_of(event))?;
     }
     Ok(())
-}
-
-/// Cuts the bound life, if there is one.
-pub fn cut_bound(end: &mut LinkEnd)
-    ensures { end.new ≡ record end.old { state = after_cut_of_bound end.old.state (bound_life end.old.state) } }
-{
-    if let Some(life) = end.life() {
-        end.cut(life);
-    }
 }
 
 /// Counts one more failure in a row.

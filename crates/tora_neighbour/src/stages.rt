@@ -13,20 +13,22 @@ ghost use Rattle.tora_neighbour.specs.declared.wire.WireError.{WireError};
 ghost use Rattle.tora_neighbour.specs.declared.intake.Intake.{Intake};
 ghost use Rattle.tora_neighbour.specs.Intake.{Reading};
 ghost use Rattle.tora_neighbour.specs.Tally.{counted_in};
-ghost use Rattle.tora_neighbour.specs.Turns.{after_opening, after_cargoes, after_cut_of_bound, IsOpening, Tells, is_beat_due, failed_calls, IsRow};
+ghost use Rattle.tora_seat.specs.Between.{after_cut_of_bound};
+ghost use Rattle.tora_neighbour.specs.Turns.{after_opening, after_cargoes, IsOpening, Tells, is_beat_due, failed_calls, IsRow};
 ghost use Rattle.tora_neighbour.specs.Traffic.{AreDrawn, Came, entry_of, beat_of};
 ghost use Rattle.tora_neighbour.specs.Calls.{TakesAll, SendsSome, ReceivesOnce, PutsSome, PutsBeat, PutsUpTo, PutsNoMore, ExchangesUpTo};
 ghost use Rattle.tora_neighbour.specs.Causes.{IsReady, IsLifeCause, IsExchange};
 
 use crate::ending::BrokenAt;
 use crate::hub::Hub;
-use crate::parts::{cut_bound, open_closed, put_events, receive, send_frames, take_cargoes};
+use crate::parts::{open_closed, put_events, receive, send_frames, take_cargoes};
 use crate::tally::Tally;
 use crate::wire::Wire;
 use std::sync::Wait;
 use tora_arq::{LinkEnd, lives_are_bound_once};
 use tora_lane::{Gone, What};
 use tora_life::{Disk, LifeError, LifeFile};
+use tora_seat::cut_bound;
 
 /// How many ticks of 100 ms lie between two beats, at most where turns come each tick.
 pub const BEAT_TICKS: u64 = 10;

@@ -1,7 +1,8 @@
--- What a line asks of a node: `show`, `quit`, or `need D`, with D in decimal digits.
+-- What a line asks of a node: `show`, `json`, `watch`, `quit`, or `need D`, with D in decimal digits.
 use Rattle.std.specs.Prelude.{ℕ, ◌+◌, ◌-◌, ◌*◌, ◌^◌, Bool, nat_eq, nat_lt, ◌==◌, ◌&&◌, ◌||◌, if◌then◌else◌, not, codes, is_some, List, [], ◌∷◌, length, drop, slice_index, Option, Some, None, option_and_then}
 use Rattle.std.specs.List.{list_all, starts_with}
 use Rattle.std.specs.Char.{is_ascii_digit}
+use Rattle.tora_seat.specs.declared.Status.TheVariants as Of
 use Rattle.tora_node.specs.declared.commands.Command.{Command}
 use Rattle.tora_node.specs.declared.commands.Command.TheVariants as Asks
 
@@ -46,5 +47,7 @@ need_in (Some digits) = need_of (id_of digits)
 unfoldable pub asked_by : List ℕ → Command
 asked_by line =
     if is_word (codes "show") line then Asks.Show
+    else (if is_word (codes "json") line then Asks.Status Of.Json
+    else (if is_word (codes "watch") line then Asks.Status Of.Watch
     else (if is_word (codes "quit") line then Asks.Quit
-    else need_in (after (codes "need ") line))
+    else need_in (after (codes "need ") line))))

@@ -8,11 +8,15 @@ use Rattle.tora_core.specs.CoreRun.{CoreView}
 use Rattle.tora_neighbour.specs.declared.fault.NodeError.{NodeError}
 use Rattle.tora_neighbour.specs.declared.fault.NodeError.TheVariants as Fault
 use Rattle.tora_seat.specs.declared.Item.{Item}
+use Rattle.tora_seat.specs.declared.Status.TheVariants as Asked
 use Rattle.tora_seat.specs.declared.What.{What}
 use Rattle.tora_seat.specs.declared.What.TheVariants as Tells
 use Rattle.tora_seat.specs.declared.Answer.{Answer}
 use Rattle.tora_seat.specs.declared.Answer.TheVariants as Says
 use Rattle.tora_seat.specs.Serving.{Answers, Offer, SeatState, Serving, serving_of}
+use Rattle.tora_node.specs.declared.watch.Told.{Told}
+use Rattle.tora_node.specs.StatusJson.{json_text}
+use Rattle.tora_node.specs.StatusLines.{all_told, state_text, changes_text}
 
 -- an item that was served, and the cargoes that were offered in it, with their answers
 pub record ServedItem : Type 0 where
@@ -59,47 +63,99 @@ refused_text Says.Nothing = []
 refused_text Says.Show = []
 refused_text Says.Quit = []
 
--- what an item asks to be printed, where it was answered so and left this core
-abbrev pub reply_text : What → Answer → CoreView → List ℕ
-reply_text Tells.Show answer core = show_text core
-reply_text (Tells.Need d) answer core = refused_text answer
-reply_text (Tells.Up life) answer core = []
-reply_text (Tells.Packet life packet) answer core = []
-reply_text (Tells.Down life reason) answer core = []
-reply_text Tells.Beat answer core = []
-reply_text Tells.Quit answer core = []
+-- what was told before is told anew, where a program watches: the lines of what has changed
+abbrev pub news_text : Option (List Told) → CoreView → List ℕ
+news_text None core = []
+news_text (Some told) core = changes_text told core
 
-abbrev pub text_of : Item → Serving → List ℕ
-text_of item v = reply_text item.what v.answer v.seat.core
+-- what an item of this tick asks to be printed, where it was answered so and left this seat, and this was told before
+abbrev pub reply_text : Option (List Told) → ℕ → What → Answer → SeatState → List ℕ
+reply_text told now Tells.Show answer s = show_text s.core
+reply_text told now (Tells.Status Asked.Json) answer s = json_text now s
+reply_text told now (Tells.Status Asked.Watch) answer s = state_text s.core
+reply_text told now (Tells.Need d) answer s = refused_text answer ++ news_text told s.core
+reply_text told now (Tells.Up life) answer s = news_text told s.core
+reply_text told now (Tells.Packet life packet) answer s = news_text told s.core
+reply_text told now (Tells.Down life reason) answer s = news_text told s.core
+reply_text told now Tells.Beat answer s = []
+reply_text told now Tells.Quit answer s = []
+
+abbrev pub text_of : Option (List Told) → Item → Serving → List ℕ
+text_of told item v = reply_text told item.now item.what v.answer v.seat
+
+abbrev pub told_anew : Option (List Told) → CoreView → Option (List Told)
+told_anew None core = None
+told_anew (Some told) core = Some (all_told core)
+
+-- what is told then: from `watch` on, that of the core behind each item that may have changed it
+abbrev pub told_after : Option (List Told) → What → CoreView → Option (List Told)
+told_after told (Tells.Status Asked.Watch) core = Some (all_told core)
+told_after told (Tells.Status Asked.Json) core = told
+told_after told (Tells.Need d) core = told_anew told core
+told_after told (Tells.Up life) core = told_anew told core
+told_after told (Tells.Packet life packet) core = told_anew told core
+told_after told (Tells.Down life reason) core = told_anew told core
+told_after told Tells.Beat core = told
+told_after told Tells.Show core = told
+told_after told Tells.Quit core = told
 
 -- the text of all items
-abbrev pub text_served : List ℕ → SeatState → List ServedItem → List ℕ
-text_served neighbours s [] = []
-text_served neighbours s (x ∷ xs) = text_of x.item (serving_told neighbours s x) ++ text_served neighbours (serving_told neighbours s x).seat xs
+abbrev pub text_served : List ℕ → Option (List Told) → SeatState → List ServedItem → List ℕ
+text_served neighbours told s [] = []
+text_served neighbours told s (x ∷ xs) =
+    let v : Serving = serving_told neighbours s x in
+    text_of told x.item v ++ text_served neighbours (told_after told x.item.what v.seat.core) v.seat xs
+
+-- what is told behind all items
+abbrev pub told_served : List ℕ → Option (List Told) → SeatState → List ServedItem → Option (List Told)
+told_served neighbours told s [] = told
+told_served neighbours told s (x ∷ xs) =
+    let v : Serving = serving_told neighbours s x in
+    told_served neighbours (told_after told x.item.what v.seat.core) v.seat xs
 
 -- ---- how it ends
 
 abbrev pub IsNeed : What → Type 0
 IsNeed what = (d : ℕ) × (what ≡ Tells.Need d)
 
--- memory is asked for only for Show, and only Show and Need print
-abbrev pub MayFail : NodeError → What → Type 0
-MayFail Fault.Memory what = what ≡ Tells.Show
-MayFail Fault.Output what = (what ≡ Tells.Show) ⊎ IsNeed what
-MayFail Fault.Lane what = ⊥
-MayFail (Fault.Life peer error) what = ⊥
-MayFail (Fault.Wire peer) what = ⊥
+-- one of the items is `watch`
+abbrev pub IsWatched : List ServedItem → Type 0
+IsWatched [] = ⊥
+IsWatched (x ∷ xs) = (x.item.what ≡ Tells.Status Asked.Watch) ⊎ IsWatched xs
+
+-- where the core is shown or told, and where a change may be told, which is so while it is watched
+abbrev pub MayTell : Type 0 → What → Type 0
+MayTell watched Tells.Show = Unit {0}
+MayTell watched (Tells.Status status) = Unit {0}
+MayTell watched (Tells.Need d) = watched
+MayTell watched (Tells.Up life) = watched
+MayTell watched (Tells.Packet life packet) = watched
+MayTell watched (Tells.Down life reason) = watched
+MayTell watched Tells.Beat = ⊥
+MayTell watched Tells.Quit = ⊥
+
+-- a fault of printing a text that takes memory
+abbrev pub IsTextFault : NodeError → Type 0
+IsTextFault e = (e ≡ Fault.Memory) ⊎ (e ≡ Fault.Output)
+
+-- memory is asked for only there, and there and of Need is printed
+abbrev pub MayFail : NodeError → Type 0 → What → Type 0
+MayFail Fault.Memory watched what = MayTell watched what
+MayFail Fault.Output watched what = MayTell watched what ⊎ IsNeed what
+MayFail Fault.Lane watched what = ⊥
+MayFail (Fault.Life peer error) watched what = ⊥
+MayFail (Fault.Wire peer) watched what = ⊥
 
 -- none of the items is Quit
 abbrev pub GoOn : List ServedItem → Type 0
 GoOn [] = Unit {0}
 GoOn (x ∷ xs) = (x.item.what ≢ Tells.Quit) × GoOn xs
 
--- the last of the items is so, and none before it is Quit
-abbrev pub EndsWith : (What → Type 0) → List ServedItem → Type 0
-EndsWith Is xs = (front : List ServedItem) × (x : ServedItem) × (xs ≡ front ++ x ∷ []) × GoOn front × Is x.item.what
+-- the last of the items is so behind those before it, and none of these is Quit
+abbrev pub EndsWith : (List ServedItem → What → Type 0) → List ServedItem → Type 0
+EndsWith Is xs = (front : List ServedItem) × (x : ServedItem) × (xs ≡ front ++ x ∷ []) × GoOn front × Is front x.item.what
 
 -- without a fault with the first Quit, or before any of them, where the port has answered Gone
 abbrev pub EndsSo : Option NodeError → List ServedItem → Bool → Type 0
-EndsSo None xs gone = EndsWith (λ what. what ≡ Tells.Quit) xs ⊎ (GoOn xs × (gone ≡ true))
-EndsSo (Some fault) xs gone = EndsWith (MayFail fault) xs
+EndsSo None xs gone = EndsWith (λ front what. what ≡ Tells.Quit) xs ⊎ (GoOn xs × (gone ≡ true))
+EndsSo (Some fault) xs gone = EndsWith (λ front what. MayFail fault (IsWatched front) what) xs

@@ -1,3 +1,5 @@
+pub mod StatusJson
+pub mod StatusLines
 pub mod CoreRuns
 pub mod CommandText
 pub mod CommandRuns

@@ -14,12 +14,13 @@ use std::sync::Wait;
 use tora_height::Id;
 use tora_lane::{InPort, What};
 use tora_neighbour::Clock;
+use tora_seat::Status;
 
 /// The longest line that can be a command, in bytes without its end.
 pub const LONGEST_COMMAND: usize = 4096;
 
 /// What the log says of the commands.
-const COMMANDS: &str = "commands are `need D`, `show`, `quit` and `help`";
+const COMMANDS: &str = "commands are `need D`, `show`, `json`, `watch`, `quit` and `help`";
 
 /// How many bytes one read asks for at most.
 const CHUNK: usize = 512;
@@ -31,13 +32,15 @@ pub enum Command {
     Need(Id),
     /// The lines of the core's table.
     Show,
+    /// What of the core is to be told to a program: `json` or `watch`.
+    Status(Status),
     /// The end of the node.
     Quit,
     /// Nothing: the line is no command.
     Unknown,
 }
 
-/// What a line asks: `show`, `quit`, or `need D`, where D is a number from 1 to 2^32 - 1 in decimal digits, without a sign
+/// What a line asks: `show`, `json`, `watch`, `quit`, or `need D`, where D is a number from 1 to 2^32 - 1 in decimal digits, without a sign
 /// and without leading zeros.
 #[tactic(auto, unfolding(crate::specs::CommandText::asked_by))]
 pub fn command_of(line: &[u8]) -> Command
@@ -46,6 +49,12 @@ pub fn command_of(line: &[u8]) -> Command
 {
     if is_word(b"show", line) {
         return Command::Show;
+    }
+    if is_word(b"json", line) {
+        return Command::Status(Status::Json);
+    }
+    if is_word(b"watch", line) {
+        return Command::Status(Status::Watch);
     }
     if is_word(b"quit", line) {
         return Command::Quit;
@@ -157,6 +166,7 @@ fn put<R: Wait + Log, C: Clock>(
     let what = match command {
         Command::Need(d) => What::Need(d),
         Command::Show => What::Show,
+        Command::Status(status) => What::Status(status),
         Command::Quit => What::Quit,
         Command::Unknown => return None,
     };

@@ -4,7 +4,7 @@ ghost use Rattle.tora_seat.specs.Rows.{first_seat};
 
 use crate::core_thread::run_core;
 use crate::task::Task;
-use crate::wake::{Wake, WakingLanes};
+use crate::wake::{Wake, WakingLanes, end_all};
 use log::Log;
 use std::alloc::Global;
 use std::io::Write;
@@ -55,10 +55,12 @@ impl<'a, K: Wake + Drop, Wr: Write> Task<CoreRest> for CoreStart<'a, K, Wr> {
         };
         let end = run_core(rt, alloc, seat, port, outs, writer);
         let outs = end.outs;
-        let WakingLanes { lanes, wakers: _ } = outs;
+        let WakingLanes { lanes, wakers } = outs;
+        let port = end.port.end();
+        end_all(wakers.as_slice());
         CoreRest {
             seat: end.seat,
-            port: end.port.end(),
+            port,
             outs: lanes,
             fault: end.fault,
         }

@@ -1,19 +1,23 @@
 //! The core's thread.
-ghost use Rattle.std.specs.Prelude.{◌≡◌, ◌≢◌, ◌≤◌, ◌++◌, ◌∷◌, [], List, length, true, false, Err, Option, None, Some, IfErr, IfOk, OnOk, string_bytes};
+ghost use Rattle.std.specs.Prelude.{◌≡◌, ◌≢◌, ◌≤◌, ◌++◌, ◌∷◌, ◌⊎◌, [], List, length, true, false, Err, Option, None, Some, is_some, IfErr, IfOk, OnOk, string_bytes};
 ghost use Rattle.std.specs.Io.KnownBytes.{Appends};
 ghost use Rattle.tora_core.specs.CoreRun.{core_after_all};
 ghost use Rattle.tora_core.specs.ShowText.{show_text};
 ghost use Rattle.tora_neighbour.specs.declared.fault.NodeError.{NodeError};
 ghost use Rattle.tora_seat.specs.Offers.{AreOffered};
 ghost use Rattle.tora_seat.specs.Rows.{state_of};
-ghost use Rattle.tora_node.specs.CoreRuns.{ServedItem, AreServed, items_served, offers_made, inputs_stepped, refused_text, reply_text, text_served, MayFail, EndsSo};
+ghost use Rattle.tora_node.specs.CoreRuns.{ServedItem, AreServed, items_served, offers_made, inputs_stepped, refused_text, news_text, reply_text, told_anew, told_after, text_served, IsTextFault, MayFail, EndsSo};
+ghost use Rattle.tora_node.specs.StatusJson.{json_text};
+ghost use Rattle.tora_node.specs.StatusLines.{all_told, changes_text, state_text, told_in};
 
+use crate::status::json;
+use crate::watch::{Told, all_told, changes, state};
 use std::alloc::Global;
 use std::io::Write;
 use std::sync::Wait;
 use tora_lane::CorePort;
 use tora_neighbour::NodeError;
-use tora_seat::{Answer, CoreSeat, OutLanes, What, accepted_inputs_make_the_core};
+use tora_seat::{Answer, CoreSeat, Item, OutLanes, Status, What, accepted_inputs_make_the_core};
 
 /// What is left of the core's thread.
 #[derive(Drop)]
@@ -41,12 +45,39 @@ fn write<W: Write>(writer: &mut W, text: &[u8]) -> Result<(), NodeError>
     }
 }
 
+/// Writes a text, where there is one.
+fn write_some<W: Write>(writer: &mut W, text: &[u8]) -> Result<(), NodeError>
+    ensures ok { OnOk result (Appends (W.contents writer.old) (W.contents writer.new) text.now) }
+    ensures err { IfErr result (λ e. e ≡ NodeError.Output) }
+{
+    if text.is_empty() {
+        return Ok(());
+    }
+    write(writer, text)
+}
+
 /// Prints the table of the core.
 fn print_core<W: Write>(alloc: Global, seat: &CoreSeat, writer: &mut W) -> Result<(), NodeError>
     ensures ok { OnOk result (Appends (W.contents writer.old) (W.contents writer.new) (show_text seat.now.core)) }
-    ensures err { IfErr result (λ e. MayFail e What.Show) }
+    ensures err { IfErr result IsTextFault }
 {
     let Ok(text) = seat.core().show(alloc) else {
+        return Err(NodeError::Memory);
+    };
+    write(writer, text.as_bytes())
+}
+
+/// Prints the state of the node at a tick as a line of JSON.
+fn print_json<W: Write>(
+    alloc: Global,
+    seat: &CoreSeat,
+    now: u64,
+    writer: &mut W,
+) -> Result<(), NodeError>
+    ensures ok { OnOk result (Appends (W.contents writer.old) (W.contents writer.new) (json_text now (state_of seat.now))) }
+    ensures err { IfErr result IsTextFault }
+{
+    let Ok(text) = json(alloc, seat, now) else {
         return Err(NodeError::Memory);
     };
     write(writer, text.as_bytes())
@@ -65,21 +96,105 @@ fn print_refusal<W: Write>(answer: &Answer, writer: &mut W) -> Result<(), NodeEr
     write(writer, text.as_slice())
 }
 
-/// Prints what an item asks for.
+/// Prints all that is told of a core, which is watched from then on.
+fn begin_watch<W: Write>(
+    alloc: Global,
+    seat: &CoreSeat,
+    watch: &mut Option<Vec<Told>>,
+    writer: &mut W,
+) -> Result<(), NodeError>
+    ensures ok { OnOk result (Appends (W.contents writer.old) (W.contents writer.new) (state_text seat.now.core)) }
+    ensures told { OnOk result (told_in watch.new ≡ Some (all_told seat.now.core)) }
+    ensures err { IfErr result IsTextFault }
+{
+    let Ok(told) = all_told(alloc, seat.core()) else {
+        return Err(NodeError::Memory);
+    };
+    let Ok(text) = state(alloc, told.as_slice()) else {
+        return Err(NodeError::Memory);
+    };
+    *watch = Some(told);
+    write(writer, text.as_bytes())
+}
+
+/// Prints what has changed since something was told, and keeps what is told now.
+fn print_changes<W: Write>(
+    alloc: Global,
+    seat: &CoreSeat,
+    told: &mut Vec<Told>,
+    writer: &mut W,
+) -> Result<(), NodeError>
+    ensures ok { OnOk result (Appends (W.contents writer.old) (W.contents writer.new) (changes_text told.old.items seat.now.core)) }
+    ensures told { OnOk result (told.new.items ≡ all_told seat.now.core) }
+    ensures err { IfErr result IsTextFault }
+{
+    let Ok(text) = changes(alloc, told.as_slice(), seat.core()) else {
+        return Err(NodeError::Memory);
+    };
+    let Ok(now) = all_told(alloc, seat.core()) else {
+        return Err(NodeError::Memory);
+    };
+    *told = now;
+    write_some(writer, text.as_bytes())
+}
+
+/// Prints what has changed, where the core is watched.
+fn print_news<W: Write>(
+    alloc: Global,
+    seat: &CoreSeat,
+    watch: &mut Option<Vec<Told>>,
+    writer: &mut W,
+) -> Result<(), NodeError>
+    ensures ok { OnOk result (Appends (W.contents writer.old) (W.contents writer.new) (news_text (told_in watch.old) seat.now.core)) }
+    ensures told { OnOk result (told_in watch.new ≡ told_anew (told_in watch.old) seat.now.core) }
+    ensures err { IfErr result (λ e. IsTextFault e × (is_some watch.old ≡ true)) }
+{
+    match watch {
+        None => Ok(()),
+        Some(told) => print_changes(alloc, seat, told, writer),
+    }
+}
+
+/// Prints the refusal of a need, if it is one, and what has changed, where the core is watched.
+fn answer_need<W: Write>(
+    alloc: Global,
+    seat: &CoreSeat,
+    answer: &Answer,
+    watch: &mut Option<Vec<Told>>,
+    writer: &mut W,
+) -> Result<(), NodeError>
+    ensures ok { OnOk result (Appends (W.contents writer.old) (W.contents writer.new) (refused_text answer.now ++ news_text (told_in watch.old) seat.now.core)) }
+    ensures told { OnOk result (told_in watch.new ≡ told_anew (told_in watch.old) seat.now.core) }
+    ensures err { IfErr result (λ e. (e ≡ NodeError.Output) ⊎ (IsTextFault e × (is_some watch.old ≡ true))) }
+{
+    print_refusal(answer, writer)?;
+    print_news(alloc, seat, watch, writer)
+}
+
+/// Prints what an item asks for, and what it has changed, where the core is watched.
 fn reply<W: Write>(
     alloc: Global,
     seat: &CoreSeat,
-    what: &What,
+    item: &Item,
     answer: &Answer,
+    watch: &mut Option<Vec<Told>>,
     writer: &mut W,
 ) -> Result<(), NodeError>
-    ensures ok { OnOk result (Appends (W.contents writer.old) (W.contents writer.new) (reply_text what.now answer.now seat.now.core)) }
-    ensures err { IfErr result (λ e. MayFail e what.now) }
+    ensures ok { OnOk result (Appends (W.contents writer.old) (W.contents writer.new)
+        (reply_text (told_in watch.old) item.entry.now.now item.entry.now.what answer.now (state_of seat.now))) }
+    ensures told { OnOk result (told_in watch.new ≡ told_after (told_in watch.old) item.entry.now.what seat.now.core) }
+    ensures err { IfErr result (λ e. MayFail e (is_some watch.old ≡ true) item.entry.now.what) }
 {
-    match what {
+    match &item.what {
         What::Show => print_core(alloc, seat, writer),
-        What::Need(_) => print_refusal(answer, writer),
-        _ => Ok(()),
+        What::Status(Status::Json) => print_json(alloc, seat, item.now, writer),
+        What::Status(Status::Watch) => begin_watch(alloc, seat, watch, writer),
+        What::Need(_) => answer_need(alloc, seat, answer, watch, writer),
+        What::Up(_) => print_news(alloc, seat, watch, writer),
+        What::Packet(_, _) => print_news(alloc, seat, watch, writer),
+        What::Down(_, _) => print_news(alloc, seat, watch, writer),
+        What::Beat => Ok(()),
+        What::Quit => Ok(()),
     }
 }
 
@@ -94,10 +209,12 @@ fn is_quit(what: &What) -> bool
 }
 
 /// Takes items and serves them one after another, until `Quit`, `Gone` or a fault, and prints what they ask for: the
-/// table of the core for `Show`, and `refused N` for a `Need` that the core refuses with the number N. What is printed
-/// is flushed at once.
+/// table of the core for `Show`, a line of JSON for `Status(Json)`, all heights and next hops for `Status(Watch)` and each
+/// change of them from then on, and `refused N` for a `Need` that the core refuses with the number N. What is printed is
+/// flushed at once.
 ///
-/// Memory is asked for only where the table is printed.
+/// Memory is asked for only where the table, a line of JSON, or heights and next hops are printed, and behind each item that
+/// may have changed these while they are watched.
 pub fn run_core<R: Wait, O: OutLanes, W: Write>(
     rt: &R,
     alloc: Global,
@@ -112,7 +229,7 @@ pub fn run_core<R: Wait, O: OutLanes, W: Write>(
         × AreServed seat.core.neighbours (state_of seat) xs (state_of result.seat)
         × AreOffered O.did_offer seat.core.neighbours outs (offers_made xs) result.outs
         × (result.seat.core ≡ core_after_all seat.core (inputs_stepped seat.core.neighbours (state_of seat) xs))
-        × (result.fault ≡ None → Appends (W.contents writer.old) (W.contents writer.new) (text_served seat.core.neighbours (state_of seat) xs))
+        × (result.fault ≡ None → Appends (W.contents writer.old) (W.contents writer.new) (text_served seat.core.neighbours None (state_of seat) xs))
         × EndsSo result.fault xs result.port.gone }
     ensures neighbours { result.seat.core.neighbours ≡ seat.core.neighbours }
     ensures lane { result.port.lane ≡ port.lane }
@@ -120,6 +237,7 @@ pub fn run_core<R: Wait, O: OutLanes, W: Write>(
     let mut seat = seat;
     let mut port = port;
     let mut outs = outs;
+    let mut watch = None;
     accepted_inputs_make_the_core();
     for _ in rt.forever() {
         match port.take(rt) {
@@ -141,7 +259,7 @@ pub fn run_core<R: Wait, O: OutLanes, W: Write>(
                         fault: None,
                     };
                 }
-                match reply(alloc, &seat, &item.what, &answer, writer) {
+                match reply(alloc, &seat, &item, &answer, &mut watch, writer) {
                     Ok(()) => {}
                     Err(fault) => {
                         return CoreEnd {

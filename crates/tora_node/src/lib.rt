@@ -20,9 +20,11 @@ mod node;
 mod settle;
 mod start;
 mod starting;
+mod status;
 mod task;
 mod threads;
 mod wake;
+mod watch;
 mod words;
 
 pub use commands::{

@@ -7,6 +7,18 @@ use tora_seat::{Cargo, OutLanes};
 pub trait Wake {
     /// Ends the wait that is under way, or else the next one. It waits for nobody.
     fn wake(&self);
+
+    /// The core has ended, and nothing is taken any more that is put into its lane. It wakes, and waits for nobody.
+    fn end(&self) {
+        self.wake();
+    }
+}
+
+/// Tells each of them that the core has ended.
+pub(crate) fn end_all<K: Wake>(wakers: &[K]) {
+    for waker in wakers {
+        waker.end();
+    }
 }
 
 /// Wakes nobody, as for a wire that waits for its socket alone.

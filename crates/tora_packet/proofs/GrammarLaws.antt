@@ -10,13 +10,30 @@ use Rattle.std.proofs.lemmas.Nat.{from_be_bytes-to_be_bytes_4, from_be_bytes-to_
 use Rattle.tora_height.proofs.Ranges.{height_has_no_fault}
 use Rattle.tora_packet.specs.PacketParts.{UpdateParts, ClearParts, IsId, IsUpdate, IsClear, is_bad_update, is_bad_clear}
 use Rattle.tora_packet.specs.AnyPacket.{IsPacket}
-use Rattle.tora_packet.specs.PacketGrammar.{packet_spelling, SpellsPacket}
+use Rattle.tora_packet.specs.PacketGrammar.{packet_spelling, packet_length, SpellsPacket}
 use Rattle.tora_packet.specs.PacketGrammar.{u32_at, u64_at, kind_of, is_kind, length_of, is_zero_at, height_at, packet_fault}
 use Rattle.tora_packet.specs.PacketGrammar.{packet_at, packet_or, packet_reading}
 use Rattle.tora_packet.specs.declared.Packet.{Packet}
 use Rattle.tora_packet.specs.declared.Packet.TheVariants.{Qry, Upd, Clr}
 use Rattle.tora_packet.specs.declared.PacketError.{PacketError}
+use Rattle.tora_packet.specs.declared.lengths.TheConstants.{SHORTEST_PACKET, LONGEST_PACKET}
 use Rattle.tora_packet.proofs.Fields.{IsBytes, IsSound, sound, no_fault, step, number_back, wide_back, number_fits, four_at, joined}
+
+-- a packet has as many bytes as its kind
+pub length-packet_spelling : (p : Packet) → length (packet_spelling p) ≡ packet_length p
+length-packet_spelling (Qry q) = refl
+length-packet_spelling (Upd u) = refl
+length-packet_spelling (Clr c) = refl
+
+pub packet_length_least : (p : Packet) → SHORTEST_PACKET ≤ packet_length p
+packet_length_least (Qry q) = omega arith
+packet_length_least (Upd u) = omega arith
+packet_length_least (Clr c) = omega arith
+
+pub packet_length_most : (p : Packet) → packet_length p ≤ LONGEST_PACKET
+packet_length_most (Qry q) = omega arith
+packet_length_most (Upd u) = omega arith
+packet_length_most (Clr c) = omega arith
 
 kinds : (k : ℕ) → is_kind k ≡ true → (k ≡ 1) ⊎ (k ≡ 2) ⊎ (k ≡ 3)
 kinds k h = grind (arith, nat_tests)

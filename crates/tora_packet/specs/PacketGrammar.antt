@@ -1,11 +1,12 @@
 -- The bytes of packets: the one spelling of each, and why other bytes spell none.
-use Rattle.std.specs.Prelude.{◌≡◌, ℕ, ◌+◌, Bool, true, false, nat_lt, ◌==◌, ◌||◌, ◌&&◌, if◌then◌else◌, not, List, [], ◌∷◌, ◌++◌, length, slice_index, slice_range, Option, Some, None, Result, Ok, Err}
+use Rattle.std.specs.Prelude.{◌≡◌, ℕ, ◌+◌, Bool, true, false, nat_lt, ◌==◌, ◌||◌, ◌&&◌, if◌then◌else◌, not, List, [], ◌∷◌, ◌++◌, length, take, drop, slice_index, slice_range, Option, Some, None, Result, Ok, Err}
 use Rattle.std.specs.Int.{w32, w64, to_be_bytes, from_be_bytes, cast_unsigned, cast_signed}
 use Rattle.tora_height.specs.Height.{Quintuple, quintuple}
 use Rattle.tora_packet.specs.declared.PacketError.{PacketError}
 use Rattle.tora_packet.specs.declared.PacketError.TheVariants.{Short, Long, Version, Kind, Reserved, Height}
 use Rattle.tora_packet.specs.declared.Packet.{Packet}
 use Rattle.tora_packet.specs.declared.Packet.TheVariants.{Qry, Upd, Clr}
+use Rattle.tora_packet.specs.declared.lengths.TheConstants.{QUERY_LENGTH, UPDATE_LENGTH, CLEAR_LENGTH}
 use Rattle.tora_packet.specs.PacketParts.{update_of, clear_of, is_bad_update, is_bad_clear}
 use Rattle.tora_packet.specs.AnyPacket.{IsPacket}
 
@@ -23,6 +24,16 @@ packet_spelling (Upd u) = 1 ∷ 2 ∷ 0 ∷ 0 ∷ to_be_bytes w32 u.destination
 packet_spelling (Clr c) = 1 ∷ 3 ∷ 0 ∷ 0 ∷ to_be_bytes w32 c.destination
     ++ to_be_bytes w64 c.tau
     ++ to_be_bytes w32 c.oid
+
+-- how many bytes a packet has
+abbrev pub packet_length : Packet → ℕ
+packet_length (Qry q) = QUERY_LENGTH
+packet_length (Upd u) = UPDATE_LENGTH
+packet_length (Clr c) = CLEAR_LENGTH
+
+-- the packets of some kind have so many bytes
+abbrev pub is_packet_length : ℕ → Bool
+is_packet_length n = (n == QUERY_LENGTH) || (n == UPDATE_LENGTH) || (n == CLEAR_LENGTH)
 
 -- the bytes spell the packet, all of the bytes
 pub record SpellsPacket (bytes : List ℕ) (packet : Packet) : Type 0 where
@@ -49,7 +60,7 @@ abbrev pub is_kind : ℕ → Bool
 is_kind kind = (kind == 1) || (kind == 2) || (kind == 3)
 
 abbrev pub length_of : ℕ → ℕ
-length_of kind = if kind == 1 then 8 else if kind == 2 then 32 else 20
+length_of kind = if kind == 1 then QUERY_LENGTH else if kind == 2 then UPDATE_LENGTH else CLEAR_LENGTH
 
 -- the bytes that are stated zero are zero
 abbrev pub is_reserved_zero : List ℕ → Bool
@@ -93,6 +104,20 @@ packet_or (Some e) packet = Err e
 -- the packet that the bytes spell, or why they spell none
 unfoldable pub packet_reading : List ℕ → Result Packet PacketError
 packet_reading bytes = packet_or (packet_fault bytes) (packet_at bytes)
+
+-- ---- the first of several packets
+
+-- bytes that begin as a packet: with version 1 and a known kind
+abbrev pub begins_packet : List ℕ → Bool
+begins_packet bytes = (slice_index bytes 0 == 1) && is_kind (kind_of bytes)
+
+-- the bytes of the first packet: no more than its kind has, where they begin as a packet
+unfoldable pub first_packet : List ℕ → List ℕ
+first_packet bytes = if begins_packet bytes then take (length_of (kind_of bytes)) bytes else bytes
+
+-- the bytes behind the first packet
+abbrev pub behind_first : List ℕ → List ℕ
+behind_first bytes = drop (length (first_packet bytes)) bytes
 
 -- the number of an error, as texts print it
 abbrev pub packet_error_number : PacketError → ℕ

@@ -2,11 +2,11 @@
 ghost use Rattle.std.specs.Prelude.{◌≡◌, ℕ, List, [], ◌++◌, ◌+◌, ◌≤◌, length, MatchOption, MatchBool, IfOk, IsOk, ◌||◌, ◌==◌};
 ghost use Rattle.tora_packet.specs.PacketParts.{update_of, is_bad_update};
 ghost use Rattle.tora_packet.specs.AnyPacket.{IsPacket};
-ghost use Rattle.tora_packet.specs.PacketGrammar.{SpellsPacket, u32_at, u64_at, height_at, is_reserved_zero, kind_of, packet_fault, packet_at, packet_reading};
+ghost use Rattle.tora_packet.specs.PacketGrammar.{SpellsPacket, u32_at, u64_at, height_at, is_reserved_zero, kind_of, packet_spelling, packet_length, packet_fault, packet_at, packet_reading};
 ghost use Rattle.tora_packet.specs.declared.Packet.{Packet as AnyPacket};
 ghost use Rattle.tora_packet.specs.declared.Packet.TheVariants.{Upd};
 
-use crate::{Clear, Packet, PacketError, Query, Update};
+use crate::{CLEAR_LENGTH, Clear, Packet, PacketError, QUERY_LENGTH, Query, UPDATE_LENGTH, Update};
 use tora_height::Height;
 
 #[tactic(auto, unfolding(crate::specs::PacketGrammar::u32_at))]
@@ -31,7 +31,7 @@ fn u64_at(bytes: &[u8], at: usize) -> u64
 
 fn is_reserved_zero(bytes: &[u8]) -> bool
     requires short { 4 ≤ length bytes.now }
-    requires update { kind_of bytes.now ≡ 2 → 32 ≤ length bytes.now }
+    requires update { kind_of bytes.now ≡ 2 → UPDATE_LENGTH ≤ length bytes.now }
     ensures { result ≡ is_reserved_zero bytes.now }
 {
     if bytes[2] != 0 || bytes[3] != 0 {
@@ -43,7 +43,7 @@ fn is_reserved_zero(bytes: &[u8]) -> bool
 #[inline(always)]
 #[tactic(auto, unfolding(crate::specs::PacketParts::is_bad_update))]
 fn update_at(bytes: &[u8]) -> Result<Packet, PacketError>
-    requires { length bytes.now ≡ 32 }
+    requires { length bytes.now ≡ UPDATE_LENGTH }
     ensures exact { MatchBool ((u32_at 4 bytes.now == 0) || is_bad_update (u32_at 4 bytes.now) (height_at bytes.now))
         (result ≡ Err PacketError.Height) (result ≡ Ok (Upd (update_of (u32_at 4 bytes.now) (height_at bytes.now)))) }
     ensures valid { IfOk result IsPacket }
@@ -71,9 +71,9 @@ fn packet_at(bytes: &[u8]) -> Result<Packet, PacketError>
         return Err(PacketError::Version);
     }
     let len = match bytes[1] {
-        1 => 8,
-        2 => 32,
-        3 => 20,
+        1 => QUERY_LENGTH,
+        2 => UPDATE_LENGTH,
+        3 => CLEAR_LENGTH,
         _ => return Err(PacketError::Kind),
     };
     if bytes.len() < len {
@@ -111,8 +111,10 @@ pub fn decode(bytes: &[u8]) -> Result<Packet, PacketError>
     packet_at(bytes)
 }
 
-/// Each packet has one spelling, and no spelling begins another.
+/// Each packet has one spelling, of the length of its kind, and no spelling begins another.
 pub fn one_packet_spelling()
+    // It has as many bytes as its kind.
+    ensures length { (p : AnyPacket) → length (packet_spelling p) ≡ packet_length p }
     ensures one { (a b : List ℕ) (p : AnyPacket) → SpellsPacket a p → SpellsPacket b p → a ≡ b }
     ensures prefix_free { (a b rest : List ℕ) (p q : AnyPacket) → SpellsPacket a p → SpellsPacket b q → a ++ rest ≡ b →
         (rest ≡ []) × (a ≡ b) × (p ≡ q) }

@@ -5,12 +5,9 @@ ghost use Rattle.arrayvec.specs.ArrayVec.{array_vec_len};
 ghost use Rattle.tora_packet.specs.declared.Packet.TheVariants.{Upd, Clr};
 ghost use Rattle.tora_packet.specs.PacketGrammar.{SpellsPacket, packet_spelling};
 
-use crate::{Clear, Packet, Update};
+use crate::{CLEAR_LENGTH, Clear, LONGEST_PACKET, Packet, UPDATE_LENGTH, Update};
 use arrayvec::ArrayVec;
 use tora_height::{Height, Id};
-
-/// The most bytes that a packet has: those of an update.
-pub const LONGEST_PACKET: usize = 32;
 
 fn put<const N: usize>(out: &mut ArrayVec<u8, N>, bytes: &[u8])
     requires { array_vec_len out.old + length bytes.now ≤ N }
@@ -41,7 +38,7 @@ fn put_delta<const N: usize>(height: &Height, out: &mut ArrayVec<u8, N>)
 }
 
 fn append_update<const N: usize>(update: &Update, out: &mut ArrayVec<u8, N>)
-    requires { array_vec_len out.old + 32 ≤ N }
+    requires { array_vec_len out.old + UPDATE_LENGTH ≤ N }
     ensures { out.new.items ≡ out.old.items ++ packet_spelling (Upd update.now) }
 {
     let height = update.height();
@@ -54,7 +51,7 @@ fn append_update<const N: usize>(update: &Update, out: &mut ArrayVec<u8, N>)
 }
 
 fn append_clear<const N: usize>(clear: &Clear, out: &mut ArrayVec<u8, N>)
-    requires { array_vec_len out.old + 20 ≤ N }
+    requires { array_vec_len out.old + CLEAR_LENGTH ≤ N }
     ensures { out.new.items ≡ out.old.items ++ packet_spelling (Clr clear.now) }
 {
     begin(3, clear.destination(), out);
@@ -62,7 +59,7 @@ fn append_clear<const N: usize>(clear: &Clear, out: &mut ArrayVec<u8, N>)
     put(out, &clear.oid().to_be_bytes());
 }
 
-/// Appends the bytes of a packet: 8 for a query, 32 for an update, 20 for a clear. There must be room for the longest.
+/// Appends the bytes of a packet, as many as `encoded_length` says. There must be room for the longest.
 pub fn append<const N: usize>(packet: &Packet, out: &mut ArrayVec<u8, N>)
     requires { array_vec_len out.old + LONGEST_PACKET ≤ N }
     ensures { out.new.items ≡ out.old.items ++ packet_spelling packet.now }
@@ -74,7 +71,7 @@ pub fn append<const N: usize>(packet: &Packet, out: &mut ArrayVec<u8, N>)
     }
 }
 
-/// The bytes of a packet: 8 for a query, 32 for an update, 20 for a clear.
+/// The bytes of a packet, as many as `encoded_length` says.
 pub fn encode(packet: &Packet) -> ArrayVec<u8, LONGEST_PACKET>
     ensures spells { SpellsPacket result.items packet.now }
     ensures exact { result.items ≡ packet_spelling packet.now }

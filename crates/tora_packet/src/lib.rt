@@ -19,10 +19,15 @@ ghost use Rattle.tora_packet.specs.PacketGrammar.{packet_error_number};
 mod decoding;
 mod encoding;
 mod kinds;
+mod lengths;
 
 pub use decoding::{decode, one_packet_spelling};
-pub use encoding::{LONGEST_PACKET, append, encode};
+pub use encoding::{append, encode};
 pub use kinds::{Clear, Query, Update};
+pub use lengths::{
+    CLEAR_LENGTH, LONGEST_PACKET, QUERY_LENGTH, SHORTEST_PACKET, UPDATE_LENGTH, cut_packet,
+    encoded_length, is_packet_length,
+};
 use std::fmt;
 use thiserror::Error;
 use tora_height::Id;

@@ -24,9 +24,11 @@ use Rattle.tora_world.specs.declared.SimError.TheVariants as Refused
 use Rattle.tora_world.specs.Topology.{is_link}
 use Rattle.tora_world.specs.Lists.{IsIn}
 use Rattle.tora_world.specs.LinkMachine.{put_at}
-use Rattle.tora_world.specs.World.{World, Choice, Sending, settings, neighbours, place_of, datagram, is_empty, effect_by, with_end, with_item, open_with, after_cargo, after_pull, with_datagram, after_sending, after_receiving, after_pump}
+use Rattle.tora_seat.specs.Between.{after_cargo}
+use Rattle.tora_world.specs.World.{World, Choice, Sending, settings, neighbours, place_of, datagram, is_empty, effect_by, with_end, with_item, open_with, after_pull, with_datagram, after_sending, after_receiving, after_pump}
 use Rattle.tora_world.specs.World.Sending.{Goes, IsLost, IsGone}
-use Rattle.tora_world.specs.FreeWorld.{MayBecome, after_cut_of_bound, after_schedule}
+use Rattle.tora_seat.specs.Between.{after_cut_of_bound}
+use Rattle.tora_world.specs.FreeWorld.{MayBecome, after_schedule}
 use Rattle.tora_world.specs.FreeWorld.FreeEvent.{Happens, TicksEnd, PumpsOver, Puts, CutsBound, ChangesFile}
 use Rattle.tora_world.proofs.PacketLists.{by_pair, put_cases, put_here, put_there}
 use Rattle.tora_running.specs.Parts as parts

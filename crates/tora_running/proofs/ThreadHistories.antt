@@ -23,17 +23,13 @@ use Rattle.tora_seat.specs.declared.Item.{Item}
 use Rattle.tora_seat.specs.Serving.{SeatState}
 use Rattle.tora_node.specs.CoreRuns.{ServedItem, serving_told, AreServed, items_served}
 use Rattle.tora_world.specs.Topology.{is_node}
-use Rattle.tora_world.specs.FreeWorld.{after_cut_of_bound}
+use Rattle.tora_seat.specs.Between.{after_cut_of_bound}
 use Rattle.tora_world.proofs.Events.{put_one_here}
 use Rattle.tora_running.specs.Network.{Network, neighbours_at, IsFront, after_part, after_parts, IsRun}
 use Rattle.tora_running.specs.Network.Part.{Serves}
 use Rattle.tora_running.specs.Parts.{LinkPart, end_after, AreLinkParts}
 use Rattle.tora_running.specs.Parts.LinkPart.{Ticks, Takes, Breaks}
 use Rattle.tora_running.specs.Histories.{parts_opened, parts_taken, parts_sent, parts_heard, parts_told, parts_of_beat, parts_begun, parts_of, parts_of_turns, parts_of_last, IsAfterRefused, parts_served}
-
-same_cut : (e : EndState) (o : Option Life) → turns.after_cut_of_bound e o ≡ after_cut_of_bound e o
-same_cut e None = refl
-same_cut e (Some life) = refl
 
 module _ (s : Settings) where
   -- parts, and then others
@@ -129,7 +125,7 @@ module _ (s : Settings) where
   broken : (e before : EndState) (t : Turn) (after : EndState) → AreLinkParts s e (parts_begun t) before → turns.EndsBroken before t after →
       (between : EndState) × AreLinkParts s e (parts_begun t ++ Breaks ∷ parts_told t.now t.told) between × IsAfterRefused between t.refused after
   broken e before t after begins h =
-      let x = events_told (end_after s before Breaks) t.now t.told t.refused after (subst (λ y. turns.Tells y t.told t.refused after) (same_cut before (bound_life before)) h.tells) in
+      let x = events_told (end_after s before Breaks) t.now t.told t.refused after h.tells in
       (x.0, both (parts_begun t) (Breaks ∷ parts_told t.now t.told) e before x.0 begins (tt, x.1), x.2)
 
   pub last_is : (last_beat : Option ℕ) (e : EndState) (t : Turn) (ending : Ending) (after : EndState) → IsLastTurn s last_beat e t ending after → (between : EndState) × AreLinkParts s e (parts_of_last ending t) between × IsAfterRefused between t.refused after

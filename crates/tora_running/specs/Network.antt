@@ -17,7 +17,8 @@ use Rattle.tora_seat.specs.Serving.{SeatState, Parcel, Offer, Serving, put_one, 
 use Rattle.tora_world.specs.Topology.{Topology, version_at, neighbours_of, is_node, is_link}
 use Rattle.tora_world.specs.Lists.{packets_of, parcels_in, IsIn}
 use Rattle.tora_world.specs.LinkMachine.{put_at}
-use Rattle.tora_world.specs.World.{first_seat, place_of, with_datagram, what_of}
+use Rattle.tora_seat.specs.Between.{what_of}
+use Rattle.tora_world.specs.World.{first_seat, place_of, with_datagram}
 use Rattle.tora_world.specs.FreeWorld.{TellsNoLife}
 use Rattle.tora_node.specs.CoreRuns.{serving_told}
 use Rattle.tora_running.specs.Parts.{LinkPart, end_after, IsPossible}

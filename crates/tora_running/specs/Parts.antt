@@ -5,8 +5,9 @@ use Rattle.tora_arq.specs.declared.LinkEvent.{LinkEvent}
 use Rattle.tora_arq.specs.Settings.{Settings}
 use Rattle.tora_arq.specs.LinkEnd.{EndState, is_closed, bound_life, after_open, after_tick, after_frame, frame_due, after_transmit, first_event, after_poll_event}
 use Rattle.tora_seat.specs.declared.Cargo.{Cargo}
-use Rattle.tora_world.specs.World.{Sending, after_cargo}
-use Rattle.tora_world.specs.FreeWorld.{after_cut_of_bound}
+use Rattle.tora_seat.specs.Between.{after_cargo}
+use Rattle.tora_world.specs.World.{Sending}
+use Rattle.tora_seat.specs.Between.{after_cut_of_bound}
 
 -- each part is handed the tick that its thread has read
 pub data LinkPart : Type 0 where

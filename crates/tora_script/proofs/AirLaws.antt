@@ -1,10 +1,9 @@
 -- What is put off, datagram by datagram.
 use Rattle.std.proofs.Common.{◌≡◌, ℕ, suc, ◌+◌, ◌-◌, ◌≤◌, List, ◌++◌, sym, ap, ◌∙◌, arith, append_assoc}
 use Rattle.tora_world.specs.World.{World, datagram}
-use Rattle.tora_script.specs.declared.air.Moment.{Moment}
-use Rattle.tora_script.specs.Air.{put_off_of, put_off}
+use Rattle.tora_script.specs.Air.{MomentView, put_off_of, put_off}
 
-put_off_next : (parted : List (ℕ × ℕ)) (m : Moment) (i : ℕ) (w : World) → m.start ≤ i → put_off parted m (i + 1 - m.start) w ≡ put_off parted m (i - m.start) w ++ put_off_of parted m (i + 1) w (datagram w (i + 1))
+put_off_next : (parted : List (ℕ × ℕ)) (m : MomentView) (i : ℕ) (w : World) → m.start ≤ i → put_off parted m (i + 1 - m.start) w ≡ put_off parted m (i - m.start) w ++ put_off_of parted m (i + 1) w (datagram w (i + 1))
 unfolding put_off
 put_off_next parted m i w above =
     let k : i + 1 - m.start ≡ suc (i - m.start) = omega arith in
@@ -12,7 +11,7 @@ put_off_next parted m i w above =
     ap (λ (n : ℕ). put_off parted m n w) k ∙ ap (λ (n : ℕ). put_off parted m (i - m.start) w ++ put_off_of parted m n w (datagram w n)) j
 
 -- one datagram more
-pub put_off_on : (old now next : List (ℕ × ℕ)) (parted : List (ℕ × ℕ)) (m : Moment) (i : ℕ) (w : World) → m.start ≤ i → now ≡ old ++ put_off parted m (i - m.start) w → next ≡ now ++ put_off_of parted m (i + 1) w (datagram w (i + 1))
+pub put_off_on : (old now next : List (ℕ × ℕ)) (parted : List (ℕ × ℕ)) (m : MomentView) (i : ℕ) (w : World) → m.start ≤ i → now ≡ old ++ put_off parted m (i - m.start) w → next ≡ now ++ put_off_of parted m (i + 1) w (datagram w (i + 1))
     → next ≡ old ++ put_off parted m (i + 1 - m.start) w
 put_off_on old now next parted m i w above so_far one =
     let more : List (ℕ × ℕ) = put_off_of parted m (i + 1) w (datagram w (i + 1)) in

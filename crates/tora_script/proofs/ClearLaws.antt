@@ -1,22 +1,28 @@
 -- What rounds are over the clear channel.
-use Rattle.std.proofs.Common.{◌≡◌, ℕ, zero, suc, ◌+◌, Bool, true, false, if◌then◌else◌, List, [], ◌++◌, Option, Some, None, refl, ap, ap₂}
+use Rattle.std.proofs.Common.{◌≡◌, ℕ, zero, suc, ◌+◌, Bool, true, false, if◌then◌else◌, List, [], ◌++◌, Option, Some, None, refl, ap, ap₂, ◌∙◌}
 use Rattle.tora_frame.specs.FrameParts.{FrameParts}
 use Rattle.tora_channel.specs.declared.channel.Copies.{Copies}
 use Rattle.tora_channel.specs.declared.channel.Place.{Place}
-use Rattle.tora_channel.specs.Channel.{clear, copies_of}
+use Rattle.tora_channel.specs.Channel as Base
+use Rattle.tora_channel.specs.Channel.{copies_of}
+use Rattle.tora_channel.specs.Table.{clear, channel_on, copies_on}
 use Rattle.tora_world.specs.declared.Event.TheVariants.{Deliver}
 use Rattle.tora_world.specs.World.{World, datagram}
-use Rattle.tora_script.specs.declared.air.Moment.{Moment}
-use Rattle.tora_script.specs.Air.{copies_in, at_once, later_copies, put_off_of, put_off}
+use Rattle.tora_script.specs.Air.{MomentView, copies_in, at_once, later_copies, put_off_of, put_off}
 use Rattle.tora_script.specs.Rounds.{is_parted, repeats, arrival_of, delivery_of, delivery}
 
 -- it comes at once, and once
 abbrev pub one_now : Copies
 one_now = record { first = Some 0; second = None }
 
-module _ (copies : (p : Place) → copies_of clear p ≡ one_now) (parted : List (ℕ × ℕ)) (m : Moment) (e : m.channel ≡ clear) (w : World) where
+-- no line changes it
+on_clear : (p : Place) → copies_on clear p ≡ copies_of Base.clear p
+unfolding channel_on
+on_clear p = refl
+
+module _ (copies : (p : Place) → copies_of Base.clear p ≡ one_now) (parted : List (ℕ × ℕ)) (m : MomentView) (e : m.channel ≡ clear) (w : World) where
   copies_are : (i : ℕ) (way : ℕ × ℕ) → copies_in m i way w ≡ one_now
-  copies_are i way = rw e (copies _)
+  copies_are i way = rw e (on_clear _ ∙ copies _)
 
   delivers_of : (i : ℕ) (o : Option FrameParts) → delivery_of parted m i o w ≡ arrival_of parted i o w
   delivers_of i None = refl

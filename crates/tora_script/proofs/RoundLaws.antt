@@ -1,12 +1,15 @@
 -- How a plan of events is carried out, step by step.
-use Rattle.std.proofs.Common.{◌≡◌, ℕ, zero, suc, ◌+◌, ◌-◌, ◌<◌, ◌≤◌, Bool, true, false, not, ◌||◌, List, [], ◌∷◌, ◌++◌, length, drop, get_or, is_some, None, Some, refl, sym, ap, ◌∙◌, arith}
+use Rattle.std.proofs.Common.{◌≡◌, ℕ, zero, suc, ◌+◌, ◌-◌, ◌<◌, ◌≤◌, Bool, true, false, not, ◌||◌, List, [], ◌∷◌, ◌++◌, length, drop, get_or, is_some, None, Some, refl, sym, ap, ◌∙◌, subst, arith}
 use Rattle.std.proofs.lemmas.List.{drop_more, drop_all}
 use Rattle.tora_world.specs.declared.Event.{Event}
 use Rattle.tora_world.specs.declared.SimError.{SimError}
 use Rattle.tora_world.specs.World.{World, is_empty, refusal_of, world_by, world_after, world_after_all}
-use Rattle.tora_channel.specs.declared.channel.Channel.{Channel}
-use Rattle.tora_script.specs.declared.air.Moment.{Moment}
-use Rattle.tora_script.specs.Rounds.{Plan, repeats, plan_then, each, delivery, deliveries, pass, passes, after_round, rounds, Sky, Happened}
+use Rattle.tora_channel.specs.Table.{Channels}
+use Rattle.tora_script.specs.Air.{MomentView}
+use Rattle.tora_sim.specs.Quiet.{IsQuiet}
+use Rattle.tora_script.specs.declared.rounds.EndTurn.{EndTurn}
+use Rattle.tora_script.specs.declared.rounds.EndTurn.TheVariants as turn
+use Rattle.tora_script.specs.Rounds.{Plan, end_event, repeats, plan_then, each, delivery, deliveries, pass, passes, after_round, rounds, Sky, Happened}
 
 pub after_append : (w : World) (xs ys : List Event) → world_after_all w (xs ++ ys) ≡ world_after_all (world_after_all w xs) ys
 after_append w [] ys = refl
@@ -104,7 +107,7 @@ after_then w mid next plan rest p q =
 
 -- ---- passes and rounds
 
-pub passes_on : (now next : World) (j : ℕ) (nodes : List ℕ) (ends parted : List (ℕ × ℕ)) (m : Moment) (left : World) → world_after_all now (passes (suc j) nodes ends parted m now) ≡ left → Happened now (pass nodes ends parted m now) next true
+pub passes_on : (now next : World) (j : ℕ) (nodes : List ℕ) (ends parted : List (ℕ × ℕ)) (m : MomentView) (left : World) → world_after_all now (passes (suc j) nodes ends parted m now) ≡ left → Happened now (pass nodes ends parted m now) next true
     → world_after_all next (passes j nodes ends parted m next) ≡ left
 unfolding passes
 passes_on now next j nodes ends parted m left e h =
@@ -116,7 +119,7 @@ passes_on now next j nodes ends parted m left e h =
     not_not true h = absurd cc
     not_not false h = refl
 
-pub passes_stop : (now next : World) (j : ℕ) (nodes : List ℕ) (ends parted : List (ℕ × ℕ)) (m : Moment) (left : World) → world_after_all now (passes (suc j) nodes ends parted m now) ≡ left → Happened now (pass nodes ends parted m now) next false → next ≡ left
+pub passes_stop : (now next : World) (j : ℕ) (nodes : List ℕ) (ends parted : List (ℕ × ℕ)) (m : MomentView) (left : World) → world_after_all now (passes (suc j) nodes ends parted m now) ≡ left → Happened now (pass nodes ends parted m now) next false → next ≡ left
 unfolding passes
 passes_stop now next j nodes ends parted m left e h =
     let none = empty_is (pass nodes ends parted m now) (not_not (is_empty (pass nodes ends parted m now)) (sym h.some_is)) in
@@ -131,16 +134,16 @@ passes_stop now next j nodes ends parted m left e h =
     empty_is [] h = (refl, refl)
     empty_is (x ∷ xs) h = absurd cc
 
-pub no_passes : (w : World) (nodes : List ℕ) (ends parted : List (ℕ × ℕ)) (m : Moment) → world_after_all w (passes zero nodes ends parted m w) ≡ w
+pub no_passes : (w : World) (nodes : List ℕ) (ends parted : List (ℕ × ℕ)) (m : MomentView) → world_after_all w (passes zero nodes ends parted m w) ≡ w
 unfolding passes
 no_passes w nodes ends parted m = refl
 
-pub rounds_on : (now next : Sky) (r : ℕ) (nodes : List ℕ) (ends parted : List (ℕ × ℕ)) (channel : Channel) (left : Sky) → rounds (suc r) nodes ends parted channel now ≡ left → next ≡ after_round nodes ends parted channel now
+pub rounds_on : (now next : Sky) (r : ℕ) (nodes : List ℕ) (ends parted : List (ℕ × ℕ)) (channel : Channels) (left : Sky) → rounds (suc r) nodes ends parted channel now ≡ left → next ≡ after_round nodes ends parted channel now
     → rounds r nodes ends parted channel next ≡ left
 unfolding rounds
 rounds_on now next r nodes ends parted channel left e h = ap (rounds r nodes ends parted channel) h ∙ e
 
-pub no_rounds : (s : Sky) (nodes : List ℕ) (ends parted : List (ℕ × ℕ)) (channel : Channel) → rounds zero nodes ends parted channel s ≡ s
+pub no_rounds : (s : Sky) (nodes : List ℕ) (ends parted : List (ℕ × ℕ)) (channel : Channels) → rounds zero nodes ends parted channel s ≡ s
 unfolding rounds
 no_rounds s nodes ends parted channel = refl
 
@@ -159,15 +162,37 @@ each_ends {A} plan xs i w events now some above o =
 
 -- ---- datagrams
 
-pub delivered : (parted : List (ℕ × ℕ)) (m : Moment) (i end : ℕ) (w : World) (events : List Event) (now next : World) (some any : Bool) → i < end → Onward w events now some (deliveries parted m i (end - i) now) → Happened now (delivery parted m (i + 1) now) next any
+pub delivered : (parted : List (ℕ × ℕ)) (m : MomentView) (i end : ℕ) (w : World) (events : List Event) (now next : World) (some any : Bool) → i < end → Onward w events now some (deliveries parted m i (end - i) now) → Happened now (delivery parted m (i + 1) now) next any
     → Onward w events next (some || any) (deliveries parted m (i + 1) (end - (i + 1)) next)
 unfolding deliveries
 delivered parted m i end w events now next some any below o h =
     let k : end - i ≡ suc (end - (i + 1)) = omega arith in
     part w events now next some any (delivery parted m (i + 1)) (deliveries parted m (i + 1) (end - (i + 1))) (rw k at o) h
 
-pub all_delivered : (parted : List (ℕ × ℕ)) (m : Moment) (i end : ℕ) (w : World) (events : List Event) (now : World) (some : Bool) → end ≤ i → Onward w events now some (deliveries parted m i (end - i) now) → Happened w events now some
+pub all_delivered : (parted : List (ℕ × ℕ)) (m : MomentView) (i end : ℕ) (w : World) (events : List Event) (now : World) (some : Bool) → end ≤ i → Onward w events now some (deliveries parted m i (end - i) now) → Happened w events now some
 unfolding deliveries
 all_delivered parted m i end w events now some above o =
     let k : end - i ≡ zero = omega arith in
     ends w events now some (rw k at o)
+
+-- no plan of the list has an event
+each_none : {A : Type 0} (plan : A → Plan) (xs : List A) (w : World) → ((x : A) → plan x w ≡ []) → each plan xs w ≡ []
+each_none plan [] w h = refl
+each_none {A} plan (x ∷ xs) w h = ap (λ (events : List Event). events ++ each plan xs (world_after_all w events)) (h x) ∙ each_none plan xs w h
+
+no_event : (w : World) (k : ℕ) (event : Event) → is_some (refusal_of w event) ≡ true → repeats k event w ≡ []
+unfolding repeats
+no_event w zero event stop = refl
+no_event w (suc k) event stop = rw stop refl
+
+pub all_idle : {A : Type 0} (event : A → Event) (most : ℕ) (xs : List A) (w : World) → ((x : A) → is_some (refusal_of w (event x)) ≡ true) → Happened w (each (λ x. repeats most (event x)) xs w) w false
+all_idle {A} event most xs w h =
+    let none : each (λ x. repeats most (event x)) xs w ≡ [] = each_none (λ x. repeats most (event x)) xs w (λ x. no_event w most (event x) (h x)) in
+    subst (λ (events : List Event). Happened w events w false) (sym none) (record { after_is = refl; some_is = refl })
+
+-- no link end has anything to do
+pub quiet_ends : (kind : EndTurn) (w : World) → IsQuiet w → (e : ℕ × ℕ) → is_some (refusal_of w (end_event kind e)) ≡ true
+quiet_ends turn.Open w q e = q.opens e.0 e.1
+quiet_ends turn.Pull w q e = q.pulls e.0 e.1
+quiet_ends turn.Transmit w q e = q.sends e.0 e.1
+quiet_ends turn.Pump w q e = q.pumps e.0 e.1

@@ -2,11 +2,22 @@
 use Rattle.std.specs.Prelude.{ℕ, zero, suc, ◌+◌, ◌-◌, ◌%◌, ◌^◌, ◌==◌, ◌&&◌, nat_lt, if◌then◌else◌, List, [], ◌∷◌, ◌++◌, length, map, filter, Option, Some, None}
 use Rattle.tora_frame.specs.FrameParts.{FrameParts}
 use Rattle.tora_channel.specs.declared.channel.Copies.{Copies}
-use Rattle.tora_channel.specs.Channel.{copies_of}
+use Rattle.tora_channel.specs.declared.table.ChannelTable.{ChannelTable}
+use Rattle.tora_channel.specs.Table.{Channels, over, copies_on}
 use Rattle.tora_world.specs.World.{World, datagram}
 use Rattle.tora_script.specs.Parted.{is_parted}
 use Rattle.tora_script.specs.declared.air.Air.{Air}
 use Rattle.tora_script.specs.declared.air.Moment.{Moment}
+
+-- a round: its channel with the lines that change it, how many rounds were before it, and how many datagrams
+pub record MomentView : Type 0 where
+  pub channel : Channels
+  pub round : ℕ
+  pub start : ℕ
+
+-- a round over a table
+abbrev pub moment_on : ChannelTable → Moment → MomentView
+moment_on table m = record { channel = over table m.channel; round = m.round; start = m.start }
 
 -- how many rounds there were, and the datagrams that come in later ones: in how many rounds, and which one
 pub record AirView : Type 0 where
@@ -30,8 +41,8 @@ gone w way first zero = 0
 gone w way first (suc count) = gone w way first count + goes way (datagram w (first + count + 1))
 
 -- what becomes of datagram i, which goes this way: its round is that of the moment, and those before it went since the round began
-abbrev pub copies_in : Moment → ℕ → ℕ × ℕ → World → Copies
-copies_in m i way w = copies_of m.channel (record { round = m.round; sender = way.0; receiver = way.1; before = gone w way m.start (i - 1 - m.start) })
+abbrev pub copies_in : MomentView → ℕ → ℕ × ℕ → World → Copies
+copies_in m i way w = copies_on m.channel (record { round = m.round; sender = way.0; receiver = way.1; before = gone w way m.start (i - 1 - m.start) })
 
 -- ---- at once
 
@@ -54,12 +65,12 @@ later_copy i (Some (suc d)) = (suc d, i) ∷ []
 abbrev pub later_copies : ℕ → Copies → List (ℕ × ℕ)
 later_copies i c = later_copy i c.first ++ later_copy i c.second
 
-abbrev pub put_off_of : List (ℕ × ℕ) → Moment → ℕ → World → Option FrameParts → List (ℕ × ℕ)
+abbrev pub put_off_of : List (ℕ × ℕ) → MomentView → ℕ → World → Option FrameParts → List (ℕ × ℕ)
 put_off_of parted m i w None = []
 put_off_of parted m i w (Some f) = if is_parted parted f.header.sender f.header.receiver then [] else later_copies i (copies_in m i (f.header.sender, f.header.receiver) w)
 
 -- what is put off, of so many datagrams since the round began
-unfoldable pub put_off : List (ℕ × ℕ) → Moment → ℕ → World → List (ℕ × ℕ)
+unfoldable pub put_off : List (ℕ × ℕ) → MomentView → ℕ → World → List (ℕ × ℕ)
 put_off parted m zero w = []
 put_off parted m (suc count) w = put_off parted m count w ++ put_off_of parted m (m.start + count + 1) w (datagram w (m.start + count + 1))
 
@@ -68,5 +79,5 @@ abbrev pub still_later : List (ℕ × ℕ) → List (ℕ × ℕ)
 still_later later = map (λ p. (p.0 - 1, p.1)) (filter (λ p. nat_lt 1 p.0) later)
 
 -- the air behind a round that led to a world
-abbrev pub after_air : List (ℕ × ℕ) → Moment → AirView → World → AirView
+abbrev pub after_air : List (ℕ × ℕ) → MomentView → AirView → World → AirView
 after_air parted m air w = record { round = (air.round + 1) % 2 ^ 64; later = still_later air.later ++ put_off parted m (length w.datagrams - m.start) w }

@@ -1,4 +1,5 @@
 pub mod Air
+pub mod Done
 pub mod Parted
 pub mod Rounds
 pub mod RunningView

@@ -5,10 +5,9 @@ use Rattle.tora_frame.specs.FrameParts.{FrameParts}
 use Rattle.tora_world.specs.declared.Event.{Event}
 use Rattle.tora_world.specs.declared.Event.TheVariants.{Tick, Open, Pull, Transmit, Deliver, Pump, CoreTurn}
 use Rattle.tora_world.specs.World.{World, datagram, is_empty, refusal_of, world_after, world_after_all}
-use Rattle.tora_channel.specs.declared.channel.Channel.{Channel}
-use Rattle.tora_script.specs.Air.{AirView, air_view, copies_in, at_once, after_air}
+use Rattle.tora_channel.specs.Table.{Channels}
+use Rattle.tora_script.specs.Air.{MomentView, AirView, air_view, copies_in, at_once, after_air}
 use Rattle.tora_script.specs.declared.air.Air.{Air}
-use Rattle.tora_script.specs.declared.air.Moment.{Moment}
 use Rattle.tora_script.specs.declared.rounds.EndTurn.{EndTurn}
 use Rattle.tora_script.specs.declared.rounds.EndTurn.TheVariants as turn
 
@@ -72,23 +71,23 @@ abbrev pub arrivals : List (ℕ × ℕ) → List (ℕ × ℕ) → Plan
 arrivals parted later = each (arrival parted) later
 
 -- a datagram is delivered as often as the channel says, unless its nodes are parted
-abbrev pub delivery_of : List (ℕ × ℕ) → Moment → ℕ → Option FrameParts → Plan
+abbrev pub delivery_of : List (ℕ × ℕ) → MomentView → ℕ → Option FrameParts → Plan
 delivery_of parted m i None w = []
 delivery_of parted m i (Some f) w = if is_parted parted f.header.sender f.header.receiver then [] else repeats (at_once (copies_in m i (f.header.sender, f.header.receiver) w)) (Deliver i) w
 
-abbrev pub delivery : List (ℕ × ℕ) → Moment → ℕ → Plan
+abbrev pub delivery : List (ℕ × ℕ) → MomentView → ℕ → Plan
 delivery parted m i w = delivery_of parted m i (datagram w i) w
 
 -- so many datagrams behind the first ones, in order
-unfoldable pub deliveries : List (ℕ × ℕ) → Moment → ℕ → ℕ → Plan
+unfoldable pub deliveries : List (ℕ × ℕ) → MomentView → ℕ → ℕ → Plan
 deliveries parted m first zero w = []
 deliveries parted m first (suc count) w = plan_then (delivery parted m (first + 1)) (deliveries parted m (first + 1) count) w
 
 -- each datagram that was sent since there were so many
-abbrev pub new_deliveries : List (ℕ × ℕ) → Moment → ℕ → Plan
+abbrev pub new_deliveries : List (ℕ × ℕ) → MomentView → ℕ → Plan
 new_deliveries parted m first w = deliveries parted m first (length w.datagrams - first) w
 
-unfoldable pub pass : List ℕ → List (ℕ × ℕ) → List (ℕ × ℕ) → Moment → Plan
+unfoldable pub pass : List ℕ → List (ℕ × ℕ) → List (ℕ × ℕ) → MomentView → Plan
 pass nodes ends parted m w =
     plan_then (each_core nodes)
     (plan_then (each_end turn.Pull ends)
@@ -97,11 +96,11 @@ pass nodes ends parted m w =
     (each_end turn.Pump ends)))) w
 
 -- passes until one has no event, and so many at most
-unfoldable pub passes : ℕ → List ℕ → List (ℕ × ℕ) → List (ℕ × ℕ) → Moment → Plan
+unfoldable pub passes : ℕ → List ℕ → List (ℕ × ℕ) → List (ℕ × ℕ) → MomentView → Plan
 passes zero nodes ends parted m w = []
 passes (suc k) nodes ends parted m w = if is_empty (pass nodes ends parted m w) then [] else plan_then (pass nodes ends parted m) (passes k nodes ends parted m) w
 
-unfoldable pub round : List ℕ → List (ℕ × ℕ) → List (ℕ × ℕ) → Moment → List (ℕ × ℕ) → Plan
+unfoldable pub round : List ℕ → List (ℕ × ℕ) → List (ℕ × ℕ) → MomentView → List (ℕ × ℕ) → Plan
 round nodes ends parted m later = plan_then (once Tick) (plan_then (each_end_once turn.Open ends) (plan_then (arrivals parted later) (passes 1000 nodes ends parted m)))
 
 -- ---- rounds
@@ -116,19 +115,19 @@ abbrev pub sky_of : {S : Type 0} → (S → World) → S → Air → Sky
 sky_of world sim air = record { world = world sim; air = air_view air }
 
 -- a round begins: these are its number and the datagrams that were sent before it
-abbrev pub moment_of : Channel → Sky → Moment
+abbrev pub moment_of : Channels → Sky → MomentView
 moment_of channel s = record { channel = channel; round = s.air.round; start = length s.world.datagrams }
 
 -- a round led to a world
-abbrev pub sky_behind : List (ℕ × ℕ) → Moment → AirView → World → Sky
+abbrev pub sky_behind : List (ℕ × ℕ) → MomentView → AirView → World → Sky
 sky_behind parted m air w = record { world = w; air = after_air parted m air w }
 
 -- one round: the world is the world behind its events
-unfoldable pub after_round : List ℕ → List (ℕ × ℕ) → List (ℕ × ℕ) → Channel → Sky → Sky
+unfoldable pub after_round : List ℕ → List (ℕ × ℕ) → List (ℕ × ℕ) → Channels → Sky → Sky
 after_round nodes ends parted channel s =
     sky_behind parted (moment_of channel s) s.air (world_after_all s.world (round nodes ends parted (moment_of channel s) s.air.later s.world))
 
-unfoldable pub rounds : ℕ → List ℕ → List (ℕ × ℕ) → List (ℕ × ℕ) → Channel → Sky → Sky
+unfoldable pub rounds : ℕ → List ℕ → List (ℕ × ℕ) → List (ℕ × ℕ) → Channels → Sky → Sky
 rounds zero nodes ends parted channel s = s
 rounds (suc r) nodes ends parted channel s = rounds r nodes ends parted channel (after_round nodes ends parted channel s)
 

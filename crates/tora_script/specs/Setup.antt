@@ -1,10 +1,10 @@
 -- What a simulation is made with.
-use Rattle.std.specs.Prelude.{false}
+use Rattle.std.specs.Prelude.{false, None}
 use Rattle.tora_arq.specs.declared.Times.{Times}
 use Rattle.tora_channel.specs.Channel.{clear}
 use Rattle.tora_world.specs.Topology.{standard_limits}
 use Rattle.tora_script.specs.declared.setup.Setup.{Setup}
 
--- these times of each link end, a channel over which every datagram comes at once, and once, and the standard limits; parted links are not noticed
+-- these times of each link end, a channel over which every datagram comes at once, and once, and the standard limits; parted links are not noticed, and no round is the last
 abbrev pub plain : Times → Setup
-plain times = record { times = times; channel = clear; has_notice = false; limits = standard_limits }
+plain times = record { times = times; channel = clear; has_notice = false; limits = standard_limits; until = None }

@@ -1,5 +1,5 @@
 -- What a simulation of an input prints, and how it ends.
-use Rattle.std.specs.Prelude.{ℕ, ◌-◌, ◌==◌, ◌&&◌, ◌||◌, Bool, not, if◌then◌else◌, codes, List, [], ◌∷◌, ◌++◌, length, filter, Option, Some, None, option_map, unwrap_or}
+use Rattle.std.specs.Prelude.{ℕ, ◌-◌, min, nat_le, false, ◌==◌, ◌&&◌, ◌||◌, Bool, not, if◌then◌else◌, codes, List, [], ◌∷◌, ◌++◌, length, filter, Option, Some, None, option_map, unwrap_or}
 use Rattle.std.specs.List.{flat_map, list_any}
 use Rattle.std.specs.Option.{option_and_then}
 use Rattle.std.specs.Fmt.{decimal}
@@ -17,6 +17,8 @@ use Rattle.tora_script.specs.SimulationLines.{dests_of, link_of, old_of, simulat
 use Rattle.tora_script.specs.Rounds.{Sky, is_same_pair, is_parted, rounds}
 use Rattle.tora_script.specs.Air.{AirView, first_air}
 use Rattle.tora_channel.specs.declared.channel.Channel.{Channel}
+use Rattle.tora_channel.specs.declared.line.ChannelLine.{ChannelLine}
+use Rattle.tora_channel.specs.Table.{Channels, alone}
 use Rattle.tora_world.specs.declared.limits.Limits.{Limits}
 use Rattle.tora_script.specs.declared.setup.Setup.{Setup}
 use Rattle.tora_script.specs.Setup.{plain}
@@ -68,8 +70,12 @@ event_reply s event = (record s { world = world_after s.world event }, refusal_t
 abbrev pub with_sky : RunningView → Sky → RunningView
 with_sky s sky = record s { world = sky.world; air = sky.air }
 
+-- so many rounds over a channel
+abbrev pub after_rounds_on : Channels → ℕ → RunningView → RunningView
+after_rounds_on channel r s = with_sky s (rounds r s.nodes s.ends s.parted channel (record { world = s.world; air = s.air }))
+
 abbrev pub after_rounds : ℕ → RunningView → RunningView
-after_rounds r s = with_sky s (rounds r s.nodes s.ends s.parted s.channel (record { world = s.world; air = s.air }))
+after_rounds r s = after_rounds_on (alone s.channel) r s
 
 -- there is a link between the nodes
 abbrev pub has_end : ℕ → ℕ → List (ℕ × ℕ) → Bool
@@ -160,8 +166,34 @@ running_reply s (Exact d) = exact_reply s d
 running_reply s (Walk n d) = walk_reply s n d
 running_reply s Rest = Some (at_rest_reply s)
 
-abbrev pub line_reply : RunningView → List ℕ → Option Reply
-line_reply s line = option_and_then (running_reply s) (simulation_line_of line)
+-- ---- a line of a simulation that ends with a round, and over a channel that the lines of a table change
+
+-- nothing is done any more once so many rounds are done
+abbrev pub is_done : Option ℕ → ℕ → Bool
+is_done None round = false
+is_done (Some until) round = nat_le until round
+
+-- how many of some rounds are still made
+abbrev pub rounds_left : Option ℕ → ℕ → ℕ → ℕ
+rounds_left None round r = r
+rounds_left (Some until) round r = min r (until - round)
+
+-- rounds are over the channel with the table's lines, and not more than are left; all else is as without a table
+unfoldable pub script_reply : Option ℕ → List ChannelLine → RunningView → SimulationLine → Option Reply
+script_reply until table s (Rounds r) = Some (after_rounds_on (record { base = s.channel; lines = table }) (rounds_left until s.air.round r) s, [])
+script_reply until table s (Happens event) = running_reply s (Happens event)
+script_reply until table s (Part a b) = running_reply s (Part a b)
+script_reply until table s (Mend a b) = running_reply s (Mend a b)
+script_reply until table s (Heights d) = running_reply s (Heights d)
+script_reply until table s (Sent a b life) = running_reply s (Sent a b life)
+script_reply until table s (Taken b a life) = running_reply s (Taken b a life)
+script_reply until table s (Exact d) = running_reply s (Exact d)
+script_reply until table s (Walk n d) = running_reply s (Walk n d)
+script_reply until table s Rest = running_reply s Rest
+
+-- a line that is not done prints nothing, and may say anything
+abbrev pub script_line_reply : Option ℕ → List ChannelLine → RunningView → List ℕ → Option Reply
+script_line_reply until table s line = if is_done until s.air.round then Some (s, []) else option_and_then (script_reply until table s) (simulation_line_of line)
 
 -- ---- a line of the links
 
@@ -188,28 +220,28 @@ abbrev pub silent : Progress → Progress × List ℕ
 silent progress = (progress, [])
 
 -- behind the links: the world is made, and the line is one of its simulation
-abbrev pub first_run : Setup → List ℕ → List (ℕ × ℕ) → List ℕ → List ℕ → Option Reply
-first_run setup dests links olds line = option_and_then (λ w. line_reply (begun_in dests setup w) line) (started setup.limits links dests olds setup.times)
+abbrev pub first_run : Setup → List ChannelLine → List ℕ → List (ℕ × ℕ) → List ℕ → List ℕ → Option Reply
+first_run setup table dests links olds line = option_and_then (λ w. script_line_reply setup.until table (begun_in dests setup w) line) (started setup.limits links dests olds setup.times)
 
 -- the line behind the last link and the last old node: at least one link is required
-abbrev pub behind_links : Setup → List ℕ → List (ℕ × ℕ) → List ℕ → List ℕ → Option (Progress × List ℕ)
-behind_links setup dests [] olds line = None
-behind_links setup dests (link ∷ links) olds line = option_map left_by (first_run setup dests (link ∷ links) olds line)
+abbrev pub behind_links : Setup → List ChannelLine → List ℕ → List (ℕ × ℕ) → List ℕ → List ℕ → Option (Progress × List ℕ)
+behind_links setup table dests [] olds line = None
+behind_links setup table dests (link ∷ links) olds line = option_map left_by (first_run setup table dests (link ∷ links) olds line)
 
 -- a line behind the first, which may say a link or an old node
-abbrev pub link_reply : Setup → List ℕ → List (ℕ × ℕ) → List ℕ → List ℕ → Option (ℕ × ℕ) → Option ℕ → Option (Progress × List ℕ)
-link_reply setup dests links olds line (Some link) old = option_map silent (with_link dests links olds link)
-link_reply setup dests links olds line None (Some n) = option_map silent (with_old_line setup.limits dests links olds n)
-link_reply setup dests links olds line None None = behind_links setup dests links olds line
+abbrev pub link_reply : Setup → List ChannelLine → List ℕ → List (ℕ × ℕ) → List ℕ → List ℕ → Option (ℕ × ℕ) → Option ℕ → Option (Progress × List ℕ)
+link_reply setup table dests links olds line (Some link) old = option_map silent (with_link dests links olds link)
+link_reply setup table dests links olds line None (Some n) = option_map silent (with_old_line setup.limits dests links olds n)
+link_reply setup table dests links olds line None None = behind_links setup table dests links olds line
 
 -- behind the first line
 abbrev pub first_progress : List ℕ → Option Progress
 first_progress line = option_map (λ dests. Links dests [] []) (dests_of line)
 
-unfoldable pub simulation_reply : Setup → Progress → List ℕ → Option (Progress × List ℕ)
-simulation_reply setup First line = option_map silent (first_progress line)
-simulation_reply setup (Links dests links olds) line = link_reply setup dests links olds line (link_of line) (old_of line)
-simulation_reply setup (Runs s) line = option_map left_by (line_reply s line)
+unfoldable pub simulation_reply : Setup → List ChannelLine → Progress → List ℕ → Option (Progress × List ℕ)
+simulation_reply setup table First line = option_map silent (first_progress line)
+simulation_reply setup table (Links dests links olds) line = link_reply setup table dests links olds line (link_of line) (old_of line)
+simulation_reply setup table (Runs s) line = option_map left_by (script_line_reply setup.until table s line)
 
 -- ---- the end
 
@@ -223,9 +255,13 @@ simulation_at_end setup First n = Some n
 simulation_at_end setup (Links dests links olds) n = end_of_links setup.limits n dests links
 simulation_at_end setup (Runs s) n = None
 
--- the rules of a simulation that is made with this
+-- the rules of a simulation that is made with this, and over whose channel a table has lines
+abbrev pub rules_with : Setup → List ChannelLine → Rules Progress
+rules_with setup table = record { start = First; reply = simulation_reply setup table; at_end = simulation_at_end setup }
+
+-- the same without a table
 abbrev pub rules_over : Setup → Rules Progress
-rules_over setup = record { start = First; reply = simulation_reply setup; at_end = simulation_at_end setup }
+rules_over setup = rules_with setup []
 
 -- ---- all lines
 
@@ -254,6 +290,32 @@ SimulatesOver setup input old new ended = IsWholeText (whole_text (rules_over se
 -- The reader gave some bytes, and the writer got a front of what is printed for them.
 abbrev pub IsBegunOver : Setup → Option (List ℕ) → Option (List ℕ) → Option (List ℕ) → Option (List ℕ) → Type 0
 IsBegunOver setup old_reader new_reader old_writer new_writer = IsFrontOfText (whole_text (rules_over setup)) old_reader new_reader old_writer new_writer
+
+-- ---- the same over a channel of which a table has lines
+
+-- what is printed for an input
+abbrev pub text_with : Setup → List ChannelLine → List ℕ → List ℕ
+text_with setup table bytes = (whole_text (rules_with setup table) bytes).0
+
+-- how an input ends
+abbrev pub end_with : Setup → List ChannelLine → List ℕ → Ended
+end_with setup table bytes = (whole_text (rules_with setup table) bytes).1
+
+-- the number of the first line that is a fault, if one is
+abbrev pub first_fault_with : Setup → List ChannelLine → List ℕ → Option ℕ
+first_fault_with setup table bytes = fault_of (end_with setup table bytes)
+
+-- of lines from line n on, line m is a fault, and all before it are taken
+abbrev pub IsFirstFaultWith : Setup → List ChannelLine → Progress → ℕ → List (List ℕ) → ℕ → Type 0
+IsFirstFaultWith setup table progress n lines m = IsFirstFaultBy (rules_with setup table) progress n lines m
+
+-- Known bytes grew by what is printed for the input, and the input ends so.
+abbrev pub SimulatesWith : Setup → List ChannelLine → List ℕ → Option (List ℕ) → Option (List ℕ) → Ended → Type 0
+SimulatesWith setup table input old new ended = IsWholeText (whole_text (rules_with setup table)) input old new ended
+
+-- The reader gave some bytes, and the writer got a front of what is printed for them.
+abbrev pub IsBegunWith : Setup → List ChannelLine → Option (List ℕ) → Option (List ℕ) → Option (List ℕ) → Option (List ℕ) → Type 0
+IsBegunWith setup table old_reader new_reader old_writer new_writer = IsFrontOfText (whole_text (rules_with setup table)) old_reader new_reader old_writer new_writer
 
 -- ---- the same of a simulation whose link ends have these times, and over whose channel every datagram comes at once, and once
 

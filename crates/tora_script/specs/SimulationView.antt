@@ -7,7 +7,8 @@ use Rattle.tora_lines.specs.LineText.{text_from}
 use Rattle.tora_lines.specs.Engine.{Kind}
 use Rattle.tora_lines.specs.Kinds.{long_lines_are_faults}
 use Rattle.tora_script.specs.RunningView.{running_view}
-use Rattle.tora_script.specs.SimulationText.{Progress, rules_over}
+use Rattle.tora_channel.specs.Table.{lines_of}
+use Rattle.tora_script.specs.SimulationText.{Progress, rules_with}
 
 abbrev pub progress_of : {S : Type 0} → (S → World) → Stage S → Progress
 progress_of world At.First = Progress.First
@@ -16,6 +17,6 @@ progress_of world (At.Runs s) = Progress.Runs (running_view world s)
 
 abbrev pub simulation_kind : {S : Type 0} → (S → World) → Kind (Simulation S)
 simulation_kind world = record {
-  text = λ s. text_from (rules_over s.setup) (progress_of world s.stage);
-  long = λ s line h. long_lines_are_faults (rules_over s.setup) (progress_of world s.stage) line h;
+  text = λ s. text_from (rules_with s.setup (lines_of s.table)) (progress_of world s.stage);
+  long = λ s line h. long_lines_are_faults (rules_with s.setup (lines_of s.table)) (progress_of world s.stage) line h;
 }

@@ -2,12 +2,12 @@
 ghost use Rattle.std.specs.Prelude.{◌≡◌, ◌+◌, ◌-◌, ◌++◌, ◌<◌, Option, length, option_map, IfOk, OnOk};
 ghost use Rattle.tora_frame.specs.FrameParts.{FrameParts};
 ghost use Rattle.tora_world.specs.World.{datagram};
-ghost use Rattle.tora_script.specs.Air.{goes, gone, copies_in, at_once, is_now, later_copy, later_copies, put_off_of, put_off, still_later, first_air, after_air, air_view};
+ghost use Rattle.tora_script.specs.Air.{moment_on, goes, gone, copies_in, at_once, is_now, later_copy, later_copies, put_off_of, put_off, still_later, first_air, after_air, air_view};
 
 use crate::parted::is_parted;
 use crate::simulator::Simulator;
 use std::alloc::{AllocError, Global};
-use tora_channel::{Channel, Copies, Place};
+use tora_channel::{Channel, ChannelTable, Copies, Place};
 use tora_height::Id;
 
 /// How many rounds there were, and the datagrams that come in later ones.
@@ -67,10 +67,16 @@ fn gone<S: Simulator>(sim: &S, way: (Id, Id), first: u64, end: u64) -> u64
 }
 
 /// What becomes of a datagram that goes this way.
-pub fn copies<S: Simulator>(sim: &S, moment: Moment, i: u64, way: (Id, Id)) -> Copies
-    ensures { result ≡ copies_in moment i way (S.world sim.now) }
+pub fn copies<S: Simulator>(
+    sim: &S,
+    table: &ChannelTable,
+    moment: Moment,
+    i: u64,
+    way: (Id, Id),
+) -> Copies
+    ensures { result ≡ copies_in (moment_on table.now moment) i way (S.world sim.now) }
 {
-    if moment.channel.is_clear() {
+    if table.is_clear(moment.channel) {
         return Copies {
             first: Some(0),
             second: None,
@@ -83,7 +89,7 @@ pub fn copies<S: Simulator>(sim: &S, moment: Moment, i: u64, way: (Id, Id)) -> C
         receiver: way.1,
         before,
     };
-    moment.channel.copies(place)
+    table.copies(moment.channel, place)
 }
 
 fn is_now(delay: Option<u64>) -> u64
@@ -120,15 +126,25 @@ impl Air {
         }
     }
 
+    /// Notes both copies of a datagram, where they come in later rounds.
+    fn note_both(&mut self, i: u64, copies: Copies) -> Result<(), AllocError>
+        ensures later { OnOk result (self.new.later.items ≡ self.old.later.items ++ later_copies i copies) }
+        ensures round { self.new.round ≡ self.old.round }
+    {
+        self.note(i, copies.first)?;
+        self.note(i, copies.second)
+    }
+
     /// Notes the copies of a datagram that come in later rounds, unless its nodes are parted.
     fn put_off_one<S: Simulator>(
         &mut self,
         sim: &S,
         parted: &[(Id, Id)],
+        table: &ChannelTable,
         moment: Moment,
         i: u64,
     ) -> Result<(), AllocError>
-        ensures later { OnOk result (self.new.later.items ≡ self.old.later.items ++ put_off_of parted.now moment i (S.world sim.now) (datagram (S.world sim.now) i)) }
+        ensures later { OnOk result (self.new.later.items ≡ self.old.later.items ++ put_off_of parted.now (moment_on table.now moment) i (S.world sim.now) (datagram (S.world sim.now) i)) }
         ensures round { self.new.round ≡ self.old.round }
     {
         let Some(way) = sim.datagram(i) else {
@@ -137,9 +153,8 @@ impl Air {
         if is_parted(parted, way.0, way.1) {
             return Ok(());
         }
-        let copies = copies(sim, moment, i, way);
-        self.note(i, copies.first)?;
-        self.note(i, copies.second)
+        let copies = copies(sim, table, moment, i, way);
+        self.note_both(i, copies)
     }
 
     /// Notes what comes in later rounds, of all datagrams since the round began.
@@ -148,13 +163,14 @@ impl Air {
         &mut self,
         sim: &S,
         parted: &[(Id, Id)],
+        table: &ChannelTable,
         moment: Moment,
     ) -> Result<(), AllocError>
-        ensures later { OnOk result (self.new.later.items ≡ self.old.later.items ++ put_off parted.now moment (length (S.world sim.now).datagrams - moment.start) (S.world sim.now)) }
+        ensures later { OnOk result (self.new.later.items ≡ self.old.later.items ++ put_off parted.now (moment_on table.now moment) (length (S.world sim.now).datagrams - moment.start) (S.world sim.now)) }
         ensures round { self.new.round ≡ self.old.round }
     {
         for i in moment.start..sim.datagrams() {
-            self.put_off_one(sim, parted, moment, i + 1)?;
+            self.put_off_one(sim, parted, table, moment, i + 1)?;
         }
         Ok(())
     }
@@ -177,12 +193,13 @@ impl Air {
         &mut self,
         sim: &S,
         parted: &[(Id, Id)],
+        table: &ChannelTable,
         moment: Moment,
     ) -> Result<(), AllocError>
-        ensures { OnOk result (air_view self.new ≡ after_air parted.now moment (air_view self.old) (S.world sim.now)) }
+        ensures { OnOk result (air_view self.new ≡ after_air parted.now (moment_on table.now moment) (air_view self.old) (S.world sim.now)) }
     {
         self.pass_on()?;
-        self.put_off(sim, parted, moment)?;
+        self.put_off(sim, parted, table, moment)?;
         self.round = self.round.wrapping_add(1);
         Ok(())
     }

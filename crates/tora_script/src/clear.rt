@@ -1,10 +1,9 @@
 //! What rounds are over the clear channel.
 ghost use Rattle.std.specs.Prelude.{◌≡◌, ℕ, List, []};
-ghost use Rattle.tora_channel.specs.Channel.{clear};
+ghost use Rattle.tora_channel.specs.Table.{clear};
 ghost use Rattle.tora_world.specs.World.{World, datagram};
-ghost use Rattle.tora_script.specs.Air.{put_off};
+ghost use Rattle.tora_script.specs.Air.{put_off, MomentView as AnyMoment};
 ghost use Rattle.tora_script.specs.Rounds.{arrival_of, delivery};
-ghost use Rattle.tora_script.specs.declared.air.Moment.{Moment as AnyMoment};
 
 use tora_channel::Channel;
 

@@ -11,6 +11,7 @@
 mod air;
 mod causes;
 mod clear;
+mod done;
 mod link_lines;
 mod parse;
 mod parted;
@@ -21,6 +22,7 @@ mod setup;
 mod simulating;
 mod simulation;
 mod simulator;
+mod taking;
 mod told;
 mod world_simulator;
 
@@ -30,7 +32,7 @@ pub use clear::clear_channel_delivers_at_once;
 pub use link_lines::LinkLines;
 pub use parse::{is_word, link, old, pair, simulation_line, simulation_lines_are_read_as_written};
 pub use parted::is_parted;
-pub use rounds::{EndTurn, make_rounds, repeat, turn_cores, turn_end, turn_ends};
+pub use rounds::{EndTurn, make_rounds, make_rounds_over, repeat, turn_cores, turn_end, turn_ends};
 pub use running::{Running, has_end, mend, part};
 pub use script_line::SimulationLine;
 pub use setup::Setup;

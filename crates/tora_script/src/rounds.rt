@@ -2,13 +2,15 @@
 ghost use Rattle.std.specs.Prelude.{◌≡◌, ◌||◌, IfOk};
 ghost use Rattle.tora_world.specs.World.{World, datagram, world_after_all};
 ghost use Rattle.tora_world.specs.declared.Event.TheVariants.{CoreTurn};
+ghost use Rattle.tora_channel.specs.Table.{over, alone};
+ghost use Rattle.tora_script.specs.Air.{moment_on};
 ghost use Rattle.tora_script.specs.Rounds.{repeats, while_possible, each, each_core, each_end, end_event, arrival_of, arrival, arrivals, delivery, deliveries, new_deliveries, pass, passes, round, after_round, rounds, sky_of, Happened};
 
 use crate::air::{Air, Moment, at_once, copies};
 use crate::parted::is_parted;
 use crate::simulator::Simulator;
 use std::alloc::AllocError;
-use tora_channel::Channel;
+use tora_channel::{Channel, ChannelTable};
 use tora_height::Id;
 use tora_world::Event;
 
@@ -90,6 +92,9 @@ fn turn_core<S: Simulator>(sim: &mut S, place: usize, n: Id) -> Result<bool, All
 pub fn turn_cores<S: Simulator>(sim: &mut S, nodes: &[Id]) -> Result<bool, AllocError>
     ensures { IfOk result (λ some. Happened (S.world sim.old) (each_core nodes.now (S.world sim.old)) (S.world sim.new) some) }
 {
+    if sim.is_quiet() {
+        return Ok(false);
+    }
     let mut some = false;
     for (place, n) in nodes.iter().enumerate() {
         let any = turn_core(sim, place, *n)?;
@@ -125,6 +130,9 @@ pub fn turn_ends<S: Simulator>(
 ) -> Result<bool, AllocError>
     ensures { IfOk result (λ some. Happened (S.world sim.old) (each (λ e. repeats most (end_event kind e)) ends.now (S.world sim.old)) (S.world sim.new) some) }
 {
+    if sim.is_quiet() {
+        return Ok(false);
+    }
     let mut some = false;
     for (place, end) in ends.iter().enumerate() {
         let any = turn_end(sim, kind, place, *end, most)?;
@@ -180,10 +188,11 @@ fn arrive_all<S: Simulator>(
 fn deliver<S: Simulator>(
     sim: &mut S,
     parted: &[(Id, Id)],
+    table: &ChannelTable,
     moment: Moment,
     i: u64,
 ) -> Result<bool, AllocError>
-    ensures { IfOk result (λ some. Happened (S.world sim.old) (delivery parted.now moment i (S.world sim.old)) (S.world sim.new) some) }
+    ensures { IfOk result (λ some. Happened (S.world sim.old) (delivery parted.now (moment_on table.now moment) i (S.world sim.old)) (S.world sim.new) some) }
 {
     let Some((sender, receiver)) = sim.datagram(i) else {
         return Ok(false);
@@ -191,7 +200,7 @@ fn deliver<S: Simulator>(
     if is_parted(parted, sender, receiver) {
         return Ok(false);
     }
-    let copies = copies(sim, moment, i, (sender, receiver));
+    let copies = copies(sim, table, moment, i, (sender, receiver));
     repeat(sim, 0, &Event::Deliver(i), at_once(copies))
 }
 
@@ -199,14 +208,15 @@ fn deliver<S: Simulator>(
 fn deliver_new<S: Simulator>(
     sim: &mut S,
     parted: &[(Id, Id)],
+    table: &ChannelTable,
     moment: Moment,
     first: u64,
 ) -> Result<bool, AllocError>
-    ensures { IfOk result (λ some. Happened (S.world sim.old) (new_deliveries parted.now moment first (S.world sim.old)) (S.world sim.new) some) }
+    ensures { IfOk result (λ some. Happened (S.world sim.old) (new_deliveries parted.now (moment_on table.now moment) first (S.world sim.old)) (S.world sim.new) some) }
 {
     let mut some = false;
     for i in first..sim.datagrams() {
-        let any = deliver(sim, parted, moment, i + 1)?;
+        let any = deliver(sim, parted, table, moment, i + 1)?;
         some = either(some, any);
     }
     Ok(some)
@@ -219,15 +229,16 @@ fn pass<S: Simulator>(
     nodes: &[Id],
     ends: &[(Id, Id)],
     parted: &[(Id, Id)],
+    table: &ChannelTable,
     moment: Moment,
 ) -> Result<bool, AllocError>
-    ensures { IfOk result (λ some. Happened (S.world sim.old) (pass nodes.now ends.now parted.now moment (S.world sim.old)) (S.world sim.new) some) }
+    ensures { IfOk result (λ some. Happened (S.world sim.old) (pass nodes.now ends.now parted.now (moment_on table.now moment) (S.world sim.old)) (S.world sim.new) some) }
 {
     let first = sim.datagrams();
     let turned = turn_cores(sim, nodes)?;
     let pulled = turn_ends(sim, ends, EndTurn::Pull, MOST_TIMES)?;
     let sent = turn_ends(sim, ends, EndTurn::Transmit, MOST_TIMES)?;
-    let delivered = deliver_new(sim, parted, moment, first)?;
+    let delivered = deliver_new(sim, parted, table, moment, first)?;
     let pumped = turn_ends(sim, ends, EndTurn::Pump, MOST_TIMES)?;
     Ok(either(
         turned,
@@ -241,14 +252,16 @@ fn make_passes<S: Simulator>(
     nodes: &[Id],
     ends: &[(Id, Id)],
     parted: &[(Id, Id)],
+    table: &ChannelTable,
     moment: Moment,
 ) -> Result<(), AllocError>
-    ensures { IfOk result (λ _. S.world sim.new ≡ world_after_all (S.world sim.old) (passes 1000 nodes.now ends.now parted.now moment (S.world sim.old))) }
+    ensures { IfOk result (λ _. S.world sim.new ≡ world_after_all (S.world sim.old) (passes 1000 nodes.now ends.now parted.now (moment_on table.now moment) (S.world sim.old))) }
 {
     for _ in 0..MOST_PASSES {
-        if !pass(sim, nodes, ends, parted, moment)? {
+        if !pass(sim, nodes, ends, parted, table, moment)? {
             return Ok(());
         }
+        sim.settle();
     }
     Ok(())
 }
@@ -260,15 +273,16 @@ fn round<S: Simulator>(
     nodes: &[Id],
     ends: &[(Id, Id)],
     parted: &[(Id, Id)],
+    table: &ChannelTable,
     moment: Moment,
     later: &[(u64, u64)],
 ) -> Result<(), AllocError>
-    ensures { IfOk result (λ _. S.world sim.new ≡ world_after_all (S.world sim.old) (round nodes.now ends.now parted.now moment later.now (S.world sim.old))) }
+    ensures { IfOk result (λ _. S.world sim.new ≡ world_after_all (S.world sim.old) (round nodes.now ends.now parted.now (moment_on table.now moment) later.now (S.world sim.old))) }
 {
     repeat(sim, 0, &Event::Tick, 1)?;
     turn_ends(sim, ends, EndTurn::Open, 1)?;
     arrive_all(sim, parted, later)?;
-    make_passes(sim, nodes, ends, parted, moment)?;
+    make_passes(sim, nodes, ends, parted, table, moment)?;
     Ok(())
 }
 
@@ -279,18 +293,38 @@ fn make_round<S: Simulator>(
     nodes: &[Id],
     ends: &[(Id, Id)],
     parted: &[(Id, Id)],
+    table: &ChannelTable,
     channel: Channel,
     air: &mut Air,
 ) -> Result<(), AllocError>
-    ensures { IfOk result (λ _. sky_of S.world sim.new air.new ≡ after_round nodes.now ends.now parted.now channel (sky_of S.world sim.old air.old)) }
+    ensures { IfOk result (λ _. sky_of S.world sim.new air.new ≡ after_round nodes.now ends.now parted.now (over table.now channel) (sky_of S.world sim.old air.old)) }
 {
     let moment = Moment {
         channel,
         round: air.round,
         start: sim.datagrams(),
     };
-    round(sim, nodes, ends, parted, moment, &air.later)?;
-    air.go_on(sim, parted, moment)
+    round(sim, nodes, ends, parted, table, moment, &air.later)?;
+    air.go_on(sim, parted, table, moment)
+}
+
+/// So many rounds over a channel that the lines of a table change.
+pub fn make_rounds_over<S: Simulator>(
+    sim: &mut S,
+    count: u64,
+    nodes: &[Id],
+    ends: &[(Id, Id)],
+    parted: &[(Id, Id)],
+    table: &ChannelTable,
+    channel: Channel,
+    air: &mut Air,
+) -> Result<(), AllocError>
+    ensures { IfOk result (λ _. sky_of S.world sim.new air.new ≡ rounds count nodes.now ends.now parted.now (over table.now channel) (sky_of S.world sim.old air.old)) }
+{
+    for _ in 0..count {
+        make_round(sim, nodes, ends, parted, table, channel, air)?;
+    }
+    Ok(())
 }
 
 /// So many rounds over a channel.
@@ -303,10 +337,8 @@ pub fn make_rounds<S: Simulator>(
     channel: Channel,
     air: &mut Air,
 ) -> Result<(), AllocError>
-    ensures { IfOk result (λ _. sky_of S.world sim.new air.new ≡ rounds count nodes.now ends.now parted.now channel (sky_of S.world sim.old air.old)) }
+    ensures { IfOk result (λ _. sky_of S.world sim.new air.new ≡ rounds count nodes.now ends.now parted.now (alone channel) (sky_of S.world sim.old air.old)) }
 {
-    for _ in 0..count {
-        make_round(sim, nodes, ends, parted, channel, air)?;
-    }
-    Ok(())
+    let table = ChannelTable::none();
+    make_rounds_over(sim, count, nodes, ends, parted, &table, channel, air)
 }

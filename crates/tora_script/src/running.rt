@@ -7,10 +7,9 @@ ghost use Rattle.tora_lines.specs.LineText.{numbered, TakesReply};
 ghost use Rattle.tora_world.specs.World.{sent_packets, taken_packets};
 ghost use Rattle.tora_script.specs.Simulator.{ArePairs, AreIds, started};
 ghost use Rattle.tora_script.specs.RunningView.{running_view};
-ghost use Rattle.tora_script.specs.SimulationText.{begun_in, has_end, with_parted, without_parted, node_line, heights_text, heights_reply, count_text, exact_reply, rest_text, nodes_text, walk_text, walk_reply, at_rest_text, at_rest_reply, running_reply, line_reply, event_reply, after_rounds, part_of, where_linked, known_height};
+ghost use Rattle.tora_script.specs.SimulationText.{begun_in, has_end, with_parted, without_parted, node_line, heights_text, heights_reply, count_text, exact_reply, rest_text, nodes_text, walk_text, walk_reply, at_rest_text, at_rest_reply, running_reply, event_reply, after_rounds, part_of, where_linked, known_height};
 
 use crate::air::Air;
-use crate::parse::simulation_line;
 use crate::parted::{is_parted, is_same_pair};
 use crate::rounds::make_rounds;
 use crate::script_line::SimulationLine;
@@ -351,17 +350,5 @@ impl<S: Simulator> Running<S> {
                 Ok(())
             }
         }
-    }
-
-    /// Takes a line, and puts what is printed for it behind an empty text.
-    pub fn take(&mut self, line: &[u8], out: &mut String) -> Result<(), LineError>
-        requires { string_bytes out.old ≡ [] }
-        ensures { Gives (λ _. ((running_view S.world self.new), string_bytes out.new)) result (line_reply (running_view S.world self.old) line.now) }
-    {
-        self.refused = None;
-        let Some(line) = simulation_line(line) else {
-            return Err(LineError::Fault);
-        };
-        self.answer(line, out)
     }
 }

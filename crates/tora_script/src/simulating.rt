@@ -6,9 +6,11 @@ ghost use Rattle.tora_arq.specs.Settings.{IsTimes};
 ghost use Rattle.tora_lines.specs.Gives.{Gives};
 ghost use Rattle.tora_lines.specs.LineText.{fault_of};
 ghost use Rattle.tora_lines.specs.Pieces.{pieces_of};
+ghost use Rattle.tora_channel.specs.declared.line.ChannelLine.{ChannelLine as AnyLine};
+ghost use Rattle.tora_channel.specs.Table.{lines_of};
 ghost use Rattle.tora_script.specs.RunningView.{running_view};
 ghost use Rattle.tora_script.specs.SimulationView.{progress_of, simulation_kind};
-ghost use Rattle.tora_script.specs.SimulationText.{Progress, first_progress, with_link, is_linked, with_old_line, first_run, behind_links, end_of_links, simulation_reply, first_simulation_fault, first_fault_over, IsFirstFaultOver, Simulates, IsSimulationBegun};
+ghost use Rattle.tora_script.specs.SimulationText.{Progress, first_progress, with_link, is_linked, with_old_line, first_run, behind_links, end_of_links, simulation_reply, first_simulation_fault, first_fault_with, IsFirstFaultWith, Simulates, IsSimulationBegun};
 
 use crate::link_lines::LinkLines;
 use crate::parse;
@@ -19,6 +21,7 @@ use crate::simulator::Simulator;
 use std::alloc::{AllocError, Global};
 use std::io::{Read, Write};
 use tora_arq::Times;
+use tora_channel::ChannelTable;
 use tora_height::Id;
 use tora_lines::words::LineError;
 use tora_lines::{Ended, FileKind, ReplayError, read_lines};
@@ -78,16 +81,17 @@ pub fn take_old(limits: Limits, lines: &mut LinkLines, n: Id) -> Result<(), Line
 fn first_run<S: Simulator>(
     alloc: Global,
     setup: Setup,
+    table: &ChannelTable,
     lines: &LinkLines,
     line: &[u8],
     text: &mut String,
 ) -> Result<Running<S>, LineError>
     requires times { IsTimes setup.times }
     requires empty { string_bytes text.old ≡ [] }
-    ensures { Gives (λ s. (running_view S.world s, string_bytes text.new)) result (first_run setup lines.now.dests.items lines.now.links.items lines.now.olds.items line.now) }
+    ensures { Gives (λ s. (running_view S.world s, string_bytes text.new)) result (first_run setup (lines_of table.now) lines.now.dests.items lines.now.links.items lines.now.olds.items line.now) }
 {
     let mut running = Running::new(alloc, &lines.dests, &lines.links, &lines.olds, setup)?;
-    running.take(line, text)?;
+    running.take(setup.until, table, line, text)?;
     Ok(running)
 }
 
@@ -95,18 +99,19 @@ fn first_run<S: Simulator>(
 fn behind_links<S: Simulator>(
     alloc: Global,
     setup: Setup,
+    table: &ChannelTable,
     lines: &LinkLines,
     line: &[u8],
     text: &mut String,
 ) -> Result<Running<S>, LineError>
     requires times { IsTimes setup.times }
     requires empty { string_bytes text.old ≡ [] }
-    ensures { Gives (λ s. (Progress.Runs (running_view S.world s), string_bytes text.new)) result (behind_links setup lines.now.dests.items lines.now.links.items lines.now.olds.items line.now) }
+    ensures { Gives (λ s. (Progress.Runs (running_view S.world s), string_bytes text.new)) result (behind_links setup (lines_of table.now) lines.now.dests.items lines.now.links.items lines.now.olds.items line.now) }
 {
     if lines.links.is_empty() {
         return Err(LineError::Fault);
     }
-    first_run(alloc, setup, lines, line, text)
+    first_run(alloc, setup, table, lines, line, text)
 }
 
 /// The number of the line that is a fault where the input ends behind links, if one is.
@@ -127,13 +132,14 @@ fn end_of_links(limits: Limits, lines: &LinkLines, number: u64) -> Option<u64>
 fn take_line<S: Simulator>(
     stage: &mut Stage<S>,
     setup: Setup,
+    table: &ChannelTable,
     alloc: Global,
     line: &[u8],
     text: &mut String,
 ) -> Result<(), LineError>
     requires times { IsTimes setup.times }
     requires empty { string_bytes text.old ≡ [] }
-    ensures { Gives (λ _. (progress_of S.world stage.new, string_bytes text.new)) result (simulation_reply setup (progress_of S.world stage.old) line.now) }
+    ensures { Gives (λ _. (progress_of S.world stage.new, string_bytes text.new)) result (simulation_reply setup (lines_of table.now) (progress_of S.world stage.old) line.now) }
 {
     match stage {
         Stage::First => {
@@ -147,10 +153,10 @@ fn take_line<S: Simulator>(
             if let Some(n) = parse::old(line) {
                 return take_old(setup.limits, lines, n);
             }
-            *stage = Stage::Runs(behind_links(alloc, setup, lines, line, text)?);
+            *stage = Stage::Runs(behind_links(alloc, setup, table, lines, line, text)?);
             Ok(())
         }
-        Stage::Runs(running) => running.take(line, text),
+        Stage::Runs(running) => running.take(setup.until, table, line, text),
     }
 }
 
@@ -160,7 +166,7 @@ impl<S: Simulator> FileKind for Simulation<S> {
     #[tactic(auto, using(crate::proofs::SimulationLaws::takes))]
     fn take(&mut self, alloc: Global, line: &[u8], text: &mut String) -> Result<(), LineError> {
         let setup = self.setup;
-        take_line(&mut self.stage, setup, alloc, line, text)
+        take_line(&mut self.stage, setup, &self.table, alloc, line, text)
     }
 
     #[tactic(auto, unfolding(tora_lines::specs::LineText::text_from, crate::specs::SimulationText::simulation_at_end))]
@@ -200,6 +206,6 @@ pub fn simulate_in<S: Simulator, R: Read, W: Write>(
 /// The line whose number a fault of a simulation gives is the first that is none: all lines before it are taken, and it
 /// is not.
 pub fn simulation_fault_is_the_first()
-    ensures found { (setup : AnySetup) (bytes : List ℕ) (n : ℕ) → first_fault_over setup bytes ≡ Some n → IsFirstFaultOver setup Progress.First 1 (pieces_of bytes) n }
-    ensures only { (setup : AnySetup) (bytes : List ℕ) (n : ℕ) → IsFirstFaultOver setup Progress.First 1 (pieces_of bytes) n → first_fault_over setup bytes ≡ Some n }
+    ensures found { (setup : AnySetup) (table : List AnyLine) (bytes : List ℕ) (n : ℕ) → first_fault_with setup table bytes ≡ Some n → IsFirstFaultWith setup table Progress.First 1 (pieces_of bytes) n }
+    ensures only { (setup : AnySetup) (table : List AnyLine) (bytes : List ℕ) (n : ℕ) → IsFirstFaultWith setup table Progress.First 1 (pieces_of bytes) n → first_fault_with setup table bytes ≡ Some n }
 {}

@@ -1,10 +1,12 @@
 //! What is kept of a simulation file.
-ghost use Rattle.std.specs.Prelude.{◌≡◌};
+ghost use Rattle.std.specs.Prelude.{◌≡◌, []};
+ghost use Rattle.tora_channel.specs.Table.{lines_of};
 ghost use Rattle.tora_arq.specs.Settings.{IsTimes};
 
 use crate::link_lines::LinkLines;
 use crate::running::Running;
 use crate::setup::Setup;
+use tora_channel::ChannelTable;
 
 /// What is kept between two lines of a simulation file.
 #[derive(Drop)]
@@ -17,23 +19,37 @@ pub enum Stage<S> {
     Runs(Running<S>),
 }
 
-/// A simulation file, by what it is made with, where no time of a link end is 0, and by what is kept between two of its lines.
+/// A simulation file, by what it is made with, where no time of a link end is 0, by the table whose lines change its channel, and
+/// by what is kept between two of its lines.
 #[derive(Drop)]
 pub struct Simulation<S> {
     pub setup: Setup,
+    pub table: ChannelTable,
     pub stage: Stage<S>,
     ghost are_times: { ∥ IsTimes setup.times ∥₁ },
 }
 
 impl<S> Simulation<S> {
-    /// Before the first line.
+    /// Before the first line, with a channel that no line of a table changes.
     pub fn new(setup: Setup) -> Simulation<S>
         requires { IsTimes setup.times }
         ensures setup { result.setup ≡ setup }
+        ensures table { lines_of result.table ≡ [] }
+        ensures stage { result.stage ≡ Stage.First }
+    {
+        Simulation::with_table(setup, ChannelTable::none())
+    }
+
+    /// Before the first line, with a channel that the lines of a table change.
+    pub fn with_table(setup: Setup, table: ChannelTable) -> Simulation<S>
+        requires { IsTimes setup.times }
+        ensures setup { result.setup ≡ setup }
+        ensures table { result.table ≡ table }
         ensures stage { result.stage ≡ Stage.First }
     {
         Simulation {
             setup,
+            table,
             stage: Stage::First,
         }
     }

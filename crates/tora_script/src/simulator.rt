@@ -4,6 +4,7 @@ ghost use Rattle.tora_world.specs.World.{World, refusal_of, world_after, datagra
 ghost use Rattle.tora_arq.specs.Settings.{IsTimes};
 ghost use Rattle.tora_script.specs.Simulator.{ArePairs, AreIds, Starts, nodes_of};
 ghost use Rattle.tora_sim.specs.Cuts.{after_cut_at};
+ghost use Rattle.tora_sim.specs.Quiet.{IsQuiet};
 ghost use Rattle.tora_sim.specs.Readers.{ends_in};
 ghost use Rattle.tora_world.specs.Walks.{height_at, hop_at, exact_in, walk_of};
 ghost use Rattle.tora_world.specs.Rest.{rests};
@@ -42,6 +43,16 @@ pub trait Simulator: Drop {
     /// neither, the answer may be `true` of any event.
     fn may_happen(&self, place: usize, event: &Event) -> bool
         ensures { result ≡ false → is_some (refusal_of (world self.now) event.now) ≡ true };
+
+    /// Whether it is known that nothing is to be done: `happen` refuses every `CoreTurn`, `Open`, `Pull`, `Transmit` and `Pump`.
+    ///
+    /// It costs no more than the look at one number, and is asked before each part of a round. `settle` may make it known.
+    fn is_quiet(&self) -> bool
+        ensures { result ≡ true → IsQuiet (world self.now) };
+
+    /// Looks whether nothing is to be done, and until which tick, for `is_quiet` and the ticks that come; the world stays as it is.
+    fn settle(&mut self)
+        ensures { world self.new ≡ world self.old };
 
     /// Makes an event happen, and says why it is refused, if it is: it then changes nothing.
     fn happen(&mut self, event: &Event) -> Result<Option<SimError>, AllocError>

@@ -3,8 +3,9 @@ ghost use Rattle.std.specs.Prelude.{◌≡◌, ◌≢◌, Ok, IfOk, IfErr, IfSom
 ghost use Rattle.std.specs.Io.KnownBytes.{IsAtEnd};
 ghost use Rattle.tora_arq.specs.Settings.{IsTimes};
 ghost use Rattle.tora_lines.specs.LineText.{fault_of};
+ghost use Rattle.tora_channel.specs.Table.{lines_of};
 ghost use Rattle.tora_script.specs.ToldView.{told_kind};
-ghost use Rattle.tora_script.specs.SimulationText.{first_simulation_fault, Simulates, IsSimulationBegun, first_fault_over, SimulatesOver, IsBegunOver};
+ghost use Rattle.tora_script.specs.SimulationText.{first_simulation_fault, Simulates, IsSimulationBegun, first_fault_with, SimulatesWith, IsBegunWith};
 
 use crate::causes::{SimulationCause, end_cause, simulation_cause_within};
 use crate::parse::simulation_line;
@@ -16,6 +17,7 @@ use crate::simulator::Simulator;
 use std::alloc::{AllocError, Global};
 use std::io::{Read, Write};
 use tora_arq::Times;
+use tora_channel::ChannelTable;
 use tora_height::Id;
 use tora_lines::words::LineError;
 use tora_lines::{Ended, FileKind, ReplayError, read_lines};
@@ -64,9 +66,10 @@ impl<S: Simulator, T: Eprint> FileKind for Told<'_, S, T> {
 
     fn take(&mut self, alloc: Global, line: &[u8], text: &mut String) -> Result<(), LineError> {
         self.number = self.number.saturating_add(1);
+        let tells = self.is_verbose && !self.state.is_done();
         let taken = self.state.take(alloc, line, text);
         match taken {
-            Ok(()) if self.is_verbose => {
+            Ok(()) if tells => {
                 tell_refusal(self.rt, self.number, &self.state.stage, line);
             }
             Ok(()) => {}
@@ -93,30 +96,31 @@ impl<S: Simulator, T: Eprint> FileKind for Told<'_, S, T> {
     }
 }
 
-/// Simulates what is made with this, and tells on standard error why a line is a fault, unless it is too long, and
-/// where it is verbose, why an event is refused.
+/// Simulates what is made with this over a channel that the lines of a table change, and tells on standard error why a line is a
+/// fault, unless it is too long, and where it is verbose, why an event is refused.
 #[tactic(auto, unfolding(tora_lines::specs::Engine::text_of))]
 pub fn simulate_telling<S: Simulator, T: Eprint, R: Read, W: Write>(
     rt: &T,
     alloc: Global,
     setup: Setup,
+    table: ChannelTable,
     reader: &mut R,
     writer: &mut W,
     is_verbose: bool,
 ) -> Result<Ended, ReplayError>
     requires { IsTimes setup.times }
     ensures whole { IfOk result (λ ended. IfSome (R.remaining reader.old) (λ input.
-        SimulatesOver setup input (W.contents writer.old) (W.contents writer.new) ended)) }
+        SimulatesWith setup (lines_of table) input (W.contents writer.old) (W.contents writer.new) ended)) }
     ensures at_end { result ≡ Ok Ended.Whole → IsAtEnd (R.remaining reader.new) }
-    ensures fault { IfOk result (λ ended. IfSome (R.remaining reader.old) (λ input. fault_of ended ≡ first_fault_over setup input)) }
+    ensures fault { IfOk result (λ ended. IfSome (R.remaining reader.old) (λ input. fault_of ended ≡ first_fault_with setup (lines_of table) input)) }
     ensures begun { IfErr result (λ e. e ≢ ReplayError.Write →
-        IsBegunOver setup (R.remaining reader.old) (R.remaining reader.new) (W.contents writer.old) (W.contents writer.new)) }
+        IsBegunWith setup (lines_of table) (R.remaining reader.old) (R.remaining reader.new) (W.contents writer.old) (W.contents writer.new)) }
 {
     let state: Told<'_, S, T> = Told {
         rt,
         is_verbose,
         number: 0,
-        state: Simulation::new(setup),
+        state: Simulation::with_table(setup, table),
     };
     read_lines(alloc, state, reader, writer)
 }
@@ -137,5 +141,6 @@ pub fn simulate_told<S: Simulator, T: Eprint, R: Read, W: Write>(
     ensures begun { IfErr result (λ e. e ≢ ReplayError.Write →
         IsSimulationBegun times (R.remaining reader.old) (R.remaining reader.new) (W.contents writer.old) (W.contents writer.new)) }
 {
-    simulate_telling::<S, T, R, W>(rt, alloc, Setup::plain(times), reader, writer, true)
+    let (setup, table) = (Setup::plain(times), ChannelTable::none());
+    simulate_telling::<S, T, R, W>(rt, alloc, setup, table, reader, writer, true)
 }

@@ -52,6 +52,15 @@ impl Simulator for Sim {
         Sim::may_happen(self, place, event)
     }
 
+    #[inline(always)]
+    fn is_quiet(&self) -> bool {
+        Sim::is_quiet(self)
+    }
+
+    fn settle(&mut self) {
+        Sim::settle(self);
+    }
+
     fn happen(&mut self, event: &Event) -> Result<Option<SimError>, AllocError> {
         match self.step(event) {
             Ok(()) => Ok(None),

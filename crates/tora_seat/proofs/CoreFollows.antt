@@ -1,10 +1,10 @@
 -- The core after an item is what the inputs that it accepted make of it.
-use Rattle.std.proofs.Common.{◌≡◌, ℕ, List, [], ◌∷◌, ◌++◌, refl, sym, ap, ◌∙◌, append_assoc}
+use Rattle.std.proofs.Common.{◌≡◌, ℕ, List, [], ◌∷◌, ◌++◌, refl, sym, ap, ◌∙◌}
 use Rattle.tora_core.specs.declared.Input.{Input}
 use Rattle.tora_core.specs.CoreRun.{CoreView, core_after, core_after_all}
 use Rattle.tora_seat.specs.declared.Item.{Item}
 use Rattle.tora_seat.specs.Serving.{SeatState, Offer, Answers, serving_of}
-use Rattle.tora_seat.proofs.ServedBy.{Offering, Stepping, serving_follows}
+use Rattle.tora_seat.proofs.ServedBy.{Stepping, serving_follows}
 
 pub core_after-push : (c : CoreView) (is : List (Input × ℕ)) (input : Input) (now : ℕ) → core_after_all c (is ++ (input, now) ∷ []) ≡ core_after (core_after_all c is) input now
 core_after-push c [] input now = refl

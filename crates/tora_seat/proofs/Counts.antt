@@ -1,7 +1,6 @@
 -- How many inputs an item steps.
 use Rattle.std.proofs.Common.{◌≡◌, ℕ, zero, suc, ◌+◌, ◌≤◌, Bool, true, false, not, ◌||◌, ◌⊎◌, inl, inr, List, [], ◌∷◌, ◌++◌, length, Option, Some, None, nat_eq, slice_get, if◌then◌else◌, refl, sym, ap, ◌∙◌, subst, eqb-true, arith, length-append}
-use Rattle.std.proofs.lemmas.Bool.{cond_both, cases_Bool}
-use Rattle.tora_packet.specs.declared.Packet.{Packet}
+use Rattle.std.proofs.lemmas.Bool.{cond_both, cases_Bool, or_parts}
 use Rattle.tora_arq.specs.declared.Life.{Life}
 use Rattle.tora_core.specs.declared.Input.{Input}
 use Rattle.tora_core.specs.declared.Input.TheVariants as In
@@ -12,21 +11,23 @@ use Rattle.tora_core.specs.CoreRun.{CoreView, refusal_of, up_after, sends_of}
 use Rattle.tora_seat.specs.declared.What.{What}
 use Rattle.tora_seat.specs.declared.What.TheVariants as Tells
 use Rattle.tora_seat.specs.declared.Item.{Item}
-use Rattle.tora_seat.specs.Serving.{SeatState, Serving, Answers, with_current, after_cut_tried, after_cuts_tried, after_sent, after_broadcast, after_broadcasts, accepting, after_answer, after_step, first_cut, after_settling, after_input, after_down, after_old_down, after_up, after_link_item, after_other_item, after_item_of, begin_serving, serving_of, is_current}
-use Rattle.tora_seat.proofs.Places.{or_none, turned}
-use Rattle.tora_seat.proofs.Ups.{has-with, core_accepted, same_neighbours, one_if, count_up, count_most, count_drops}
+use Rattle.tora_seat.specs.Serving.{SeatState, Serving, Answers, with_current, after_cuts_tried, after_broadcasts, accepting, after_answer, after_step, first_cut, after_settling, after_input, after_down, after_old_down, after_up, after_link_item, after_other_item, after_item_of, begin_serving, serving_of, is_current}
+use Rattle.tora_seat.proofs.Places.{turned}
+use Rattle.tora_core.proofs.AfterInputs.{has-with, same-neighbours}
+use Rattle.tora_seat.proofs.Ups.{core_accepted, one_if, count_up, count_most, count_drops}
+use Rattle.tora_seat.proofs.Calm.{calm_broadcasts, calm_cuts}
 
 -- one that comes is counted once
 count_same : (ks up : List ℕ) (j : ℕ) → has_number j ks ≡ false → count_up ks (with_number j up) ≡ count_up ks up
 count_same [] up j off = refl
 count_same (k ∷ ks) up j off =
-    let e = or_none (nat_eq k j) (has_number j ks) off in
+    let e = or_parts (nat_eq k j) (has_number j ks) off in
     let q : one_if (has_number k (with_number j up)) ≡ one_if (has_number k up) = ap one_if (has-with k j up ∙ ap (λ b. b || has_number k up) (turned k j e.0)) in
     let h = count_same ks up j e.1 in omega (arith, q, h)
 
 count_adds : (ks up : List ℕ) (j : ℕ) → has_repeat ks ≡ false → count_up ks (with_number j up) ≤ suc (count_up ks up)
 count_adds [] up j apart = omega arith
-count_adds (k ∷ ks) up j apart = go (cases_Bool (nat_eq k j)) (or_none (has_number k ks) (has_repeat ks) apart) (count_adds ks up j (or_none (has_number k ks) (has_repeat ks) apart).1)
+count_adds (k ∷ ks) up j apart = go (cases_Bool (nat_eq k j)) (or_parts (has_number k ks) (has_repeat ks) apart) (count_adds ks up j (or_parts (has_number k ks) (has_repeat ks) apart).1)
   where
     one_most : (b : Bool) → one_if b ≤ 1
     one_most true = omega arith
@@ -52,36 +53,6 @@ weight (In.Packet k packet) = 1
 weight (In.Need d) = 1
 
 module _ (answers : Answers) (ks : List ℕ) (apart : has_repeat ks ≡ false) where
-  record Calm (v v' : Serving) : Type 0 where
-    core : v'.seat.core ≡ v.seat.core
-    inputs : v'.inputs ≡ v.inputs
-
-  calm_by : (v v' v'' : Serving) → Calm v v' → Calm v' v'' → Calm v v''
-  calm_by v v' v'' a b = record { core = b.core ∙ a.core; inputs = b.inputs ∙ a.inputs }
-
-  calm_sent : (p : Packet) (v : Serving) (j : ℕ) (cur : Option Life) → Calm v (after_sent answers p v j cur)
-  calm_sent p v j None = record { core = refl; inputs = refl }
-  calm_sent p v j (Some l) = cond_both (answers v.offers j) _ _ (Calm v) (λ _. record { core = refl; inputs = refl }) (λ _. record { core = refl; inputs = refl })
-
-  calm_broadcast : (p : Packet) (js : List ℕ) (v : Serving) → Calm v (after_broadcast answers p js v)
-  unfolding after_broadcast
-  calm_broadcast p [] v = record { core = refl; inputs = refl }
-  calm_broadcast p (j ∷ js) v = calm_by v (after_sent answers p v j (v.seat.current j)) (after_broadcast answers p js (after_sent answers p v j (v.seat.current j))) (calm_sent p v j (v.seat.current j)) (calm_broadcast p js (after_sent answers p v j (v.seat.current j)))
-
-  calm_broadcasts : (ps : List Packet) (v : Serving) → Calm v (after_broadcasts answers ks ps v)
-  unfolding after_broadcasts
-  calm_broadcasts [] v = record { core = refl; inputs = refl }
-  calm_broadcasts (p ∷ ps) v = calm_by v (after_broadcast answers p ks v) (after_broadcasts answers ks ps (after_broadcast answers p ks v)) (calm_broadcast p ks v) (calm_broadcasts ps (after_broadcast answers p ks v))
-
-  calm_cut : (v : Serving) (j : ℕ) (o : Option Life) → Calm v (after_cut_tried answers v j o)
-  calm_cut v j None = record { core = refl; inputs = refl }
-  calm_cut v j (Some l) = cond_both (answers v.offers j) _ _ (Calm v) (λ _. record { core = refl; inputs = refl }) (λ _. record { core = refl; inputs = refl })
-
-  calm_cuts : (js : List ℕ) (v : Serving) → Calm v (after_cuts_tried answers js v)
-  unfolding after_cuts_tried
-  calm_cuts [] v = record { core = refl; inputs = refl }
-  calm_cuts (j ∷ js) v = calm_by v (after_cut_tried answers v j (v.seat.pending j)) (after_cuts_tried answers js (after_cut_tried answers v j (v.seat.pending j))) (calm_cut v j (v.seat.pending j)) (calm_cuts js (after_cut_tried answers v j (v.seat.pending j)))
-
   -- the inputs and the links that are up are this many at most
   record Few (m : ℕ) (v : Serving) : Type 0 where
     near : v.seat.core.neighbours ≡ ks
@@ -106,13 +77,13 @@ module _ (answers : Answers) (ks : List ℕ) (apart : has_repeat ks ≡ false) w
       go (Some error) e = record { near = h.near; few = let f = h.few in omega (arith, f) }
       go None e =
           let w : Serving = accepting v input now in
-          let c = calm_broadcasts (sends_of v.seat.core input now) w in
+          let c = calm_broadcasts answers ks (sends_of v.seat.core input now) w in
           let new : Serving = after_broadcasts answers ks (sends_of v.seat.core input now) w in
           let ups : count_up ks new.seat.core.up ≡ count_up ks (up_after v.seat.core.up input) = ap (λ (x : CoreView). count_up ks x.up) (c.core ∙ core_accepted v.seat.core input now e) in
           let more : length new.inputs ≡ length v.inputs + 1 = ap length c.inputs ∙ length-append v.inputs ((input, now) ∷ []) in
           let adds = up_adds v.seat.core input h.near e in
           let f = h.few in
-          record { near = ap (λ (x : CoreView). x.neighbours) c.core ∙ same_neighbours v.seat.core input now ∙ h.near; few = omega (arith, ups, more, adds, f) }
+          record { near = ap (λ (x : CoreView). x.neighbours) c.core ∙ same-neighbours v.seat.core input now ∙ h.near; few = omega (arith, ups, more, adds, f) }
 
   settling_few : (most m now : ℕ) (v : Serving) → Few m v → Few m (after_settling most answers ks now v)
   unfolding after_settling
@@ -160,6 +131,7 @@ module _ (answers : Answers) (ks : List ℕ) (apart : has_repeat ks ≡ false) w
   link_few m v k now (Tells.Need d) h = few_more (m + 1) (m + 2) (after_input answers ks (In.Need d) now v) (omega arith) (input_few m v (In.Need d) now h)
   link_few m v k now Tells.Beat h = few_more m (m + 2) v (omega arith) h
   link_few m v k now Tells.Show h = few_more m (m + 2) _ (omega arith) (record { near = h.near; few = h.few })
+  link_few m v k now (Tells.Status status) h = few_more m (m + 2) _ (omega arith) (record { near = h.near; few = h.few })
   link_few m v k now Tells.Quit h = few_more m (m + 2) _ (omega arith) (record { near = h.near; few = h.few })
 
   other_few : (m : ℕ) (v : Serving) (now : ℕ) (what : What) → Few m v → Few (m + 2) (after_other_item answers ks now what v)
@@ -170,6 +142,7 @@ module _ (answers : Answers) (ks : List ℕ) (apart : has_repeat ks ≡ false) w
   other_few m v now (Tells.Need d) h = few_more (m + 1) (m + 2) (after_input answers ks (In.Need d) now v) (omega arith) (input_few m v (In.Need d) now h)
   other_few m v now Tells.Beat h = few_more m (m + 2) v (omega arith) h
   other_few m v now Tells.Show h = few_more m (m + 2) _ (omega arith) (record { near = h.near; few = h.few })
+  other_few m v now (Tells.Status status) h = few_more m (m + 2) _ (omega arith) (record { near = h.near; few = h.few })
   other_few m v now Tells.Quit h = few_more m (m + 2) _ (omega arith) (record { near = h.near; few = h.few })
 
   item_few : (m : ℕ) (v : Serving) (o : Option ℕ) (now : ℕ) (what : What) → Few m v → Few (m + 2) (after_item_of answers ks o now what v)
@@ -180,7 +153,7 @@ module _ (answers : Answers) (ks : List ℕ) (apart : has_repeat ks ≡ false) w
   unfolding serving_of
   few_inputs s item near =
       let v = after_cuts_tried answers ks (begin_serving s) in
-      let c = calm_cuts ks (begin_serving s) in
+      let c = calm_cuts answers ks (begin_serving s) in
       let most = count_most ks s.core.up in
       let first : Few (length ks) v = same_few (length ks) (begin_serving s) v c.core c.inputs (record { near = sym near; few = omega (arith, most) }) in
       let h = (item_few (length ks) v (slice_get ks item.seat) item.now item.what first).few in

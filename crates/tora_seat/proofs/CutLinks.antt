@@ -1,6 +1,6 @@
 -- What the tests of serving mean: which life is current, and which link is to go down next.
 use Rattle.std.proofs.Common.{◌≡◌, ◌≢◌, ℕ, ◌<◌, ◌≤◌, true, false, true≢false, ◌&&◌, ◌⊎◌, inl, inr, ⊎_elim, List, [], ◌∷◌, Option, Some, None, nat_eq, if◌then◌else◌, refl, sym, ap, ◌∙◌, subst, arith, eqb-true, eq-eqb}
-use Rattle.std.proofs.lemmas.Bool.{cases_Bool, and_parts, and_from, false≢true}
+use Rattle.std.proofs.lemmas.Bool.{cases_Bool, and_parts, and_from, false≢true, or_cases}
 use Rattle.std.specs.Prelude.{is_none}
 use Rattle.std.specs.List.{AllByRecursion}
 use Rattle.tora_arq.specs.declared.Life.{Life}
@@ -8,7 +8,7 @@ use Rattle.tora_arq.specs.Lives.{is_same_life}
 use Rattle.tora_core.specs.Numbers.{has_number, IsAscending}
 use Rattle.tora_seat.specs.Serving.{SeatState, first_cut, is_current}
 use Rattle.tora_seat.specs.Serves.{IsCut, IsLeastCut}
-use Rattle.tora_seat.proofs.Ups.{or_left, first_cut_is, settled_at}
+use Rattle.tora_seat.proofs.Ups.{first_cut_is, settled_at}
 
 -- ---- lives
 
@@ -48,7 +48,7 @@ after_first i (m ∷ ks) j all e =
     ⊎_elim
     (λ (q : nat_eq m j ≡ true). subst (λ x. i < x) (eqb-true m j q) all.0)
     (λ (r : has_number j ks ≡ true). after_first i ks j all.1 r)
-    (or_left (nat_eq m j) (has_number j ks) e)
+    (or_cases (nat_eq m j) (has_number j ks) e)
 
 first_least : (s : SeatState) (ks : List ℕ) (k : ℕ) → IsAscending ks → first_cut s ks ≡ Some k → (j : ℕ) → has_number j ks ≡ true → has_number j s.core.up ≡ true → s.current j ≡ None → k ≤ j
 first_least s [] k up e j i u n = absurd (cc)
@@ -61,14 +61,14 @@ first_least s (m ∷ ks) k up e j i u n = go (cases_Bool (has_number m s.core.up
         ⊎_elim
         (λ (w : nat_eq m j ≡ true). let y = eqb-true m j w in omega (arith, z, y))
         (λ (w : has_number j ks ≡ true). let y = after_first m ks j up.0 w in omega (arith, z, y))
-        (or_left (nat_eq m j) (has_number j ks) i)
+        (or_cases (nat_eq m j) (has_number j ks) i)
     go (inr f) again =
         ⊎_elim
         (λ (w : nat_eq m j ≡ true).
         let c : (has_number j s.core.up && is_none (s.current j)) ≡ true = ap (λ b. b && is_none (s.current j)) u ∙ ap is_none n in
         absurd (true≢false (sym (subst (λ x. (has_number x s.core.up && is_none (s.current x)) ≡ true) (sym (eqb-true m j w)) c) ∙ f)))
         (λ (w : has_number j ks ≡ true). again (sym (ap (λ b. if b then Some m else first_cut s ks) f) ∙ e) w)
-        (or_left (nat_eq m j) (has_number j ks) i)
+        (or_cases (nat_eq m j) (has_number j ks) i)
 
 pub first-is : (ks : List ℕ) (s : SeatState) (k : ℕ) → IsAscending ks → first_cut s ks ≡ Some k → IsLeastCut ks s k
 first-is ks s k up e =

@@ -1,5 +1,6 @@
 -- Offers and inputs that grow by one.
 use Rattle.std.proofs.Common.{◌≡◌, ℕ, Bool, true, false, true≢false, ◌&&◌, ◌||◌, List, [], ◌∷◌, ◌++◌, Option, nat_eq, if◌then◌else◌, refl, sym, ap, ◌∙◌, append_assoc, append-nil}
+use Rattle.std.proofs.lemmas.Bool.{or_parts}
 use Rattle.tora_packet.specs.declared.Packet.{Packet}
 use Rattle.tora_arq.specs.declared.Life.{Life}
 use Rattle.tora_core.specs.declared.Input.{Input}
@@ -7,15 +8,14 @@ use Rattle.tora_core.specs.Numbers.{has_number}
 use Rattle.tora_core.specs.CoreRun.{CoreView, core_after, core_after_all, sends_of}
 use Rattle.tora_seat.specs.Serving.{Offer}
 use Rattle.tora_seat.specs.SeatLaws.{is_back, has_back, has_offer, NothingAfterBack, packet_in, packets_put, IsOfLife, AreOfLife, broadcast_to, is_link_down, has_link_down, Begins}
-use Rattle.tora_seat.proofs.Places.{or_none}
+
+pub or_false : (a : Bool) → (a || false) ≡ a
+or_false true = refl
+or_false false = refl
 
 or_assoc : (a b c : Bool) → (a || (b || c)) ≡ ((a || b) || c)
 or_assoc true b c = refl
 or_assoc false b c = refl
-
-or_false : (a : Bool) → (a || false) ≡ a
-or_false true = refl
-or_false false = refl
 
 pub back-push : (k : ℕ) (os : List Offer) (o : Offer) → has_back k (os ++ o ∷ []) ≡ (has_back k os || is_back k o)
 back-push k [] o = or_false (is_back k o)
@@ -31,7 +31,7 @@ nothing_other k (x ∷ os) o off h = ((λ b. offer-push k os o ∙ ap (λ t. t |
 
 pub nothing_first : (k : ℕ) (os : List Offer) (o : Offer) → has_back k os ≡ false → NothingAfterBack k os → NothingAfterBack k (os ++ o ∷ [])
 nothing_first k [] o none h = ((λ _. refl), tt)
-nothing_first k (x ∷ os) o none h = let q = or_none (is_back k x) (has_back k os) none in ((λ b. absurd (true≢false (sym b ∙ q.0))), nothing_first k os o q.1 h.1)
+nothing_first k (x ∷ os) o none h = let q = or_parts (is_back k x) (has_back k os) none in ((λ b. absurd (true≢false (sym b ∙ q.0))), nothing_first k os o q.1 h.1)
 
 pub put-push : (k : ℕ) (os : List Offer) (o : Offer) → packets_put k (os ++ o ∷ []) ≡ packets_put k os ++ (if nat_eq o.to k && o.put then packet_in o.cargo else [])
 put-push k [] o = append-nil (if nat_eq o.to k && o.put then packet_in o.cargo else [])

@@ -1,6 +1,6 @@
 -- What serving an item keeps at one neighbour.
 use Rattle.std.proofs.Common.{◌≡◌, ℕ, zero, suc, ◌<◌, ◌≤◌, Bool, true, false, true≢false, not, ◌&&◌, ◌||◌, ◌⊎◌, inl, inr, ⊎_elim, List, [], ◌∷◌, ◌++◌, length, Option, Some, None, nat_eq, if◌then◌else◌, refl, sym, ap, ap₂, ◌∙◌, subst, append_assoc, append-nil, eqb-true, eq-eqb, arith}
-use Rattle.std.proofs.lemmas.Bool.{cond_both, cases_Bool}
+use Rattle.std.proofs.lemmas.Bool.{cond_both, cases_Bool, or_right, or_parts}
 use Rattle.std.specs.Prelude.{is_none, is_some}
 use Rattle.tora_packet.specs.declared.Packet.{Packet}
 use Rattle.tora_arq.specs.declared.Life.{Life}
@@ -13,9 +13,11 @@ use Rattle.tora_seat.specs.declared.Cargo.{Cargo}
 use Rattle.tora_seat.specs.declared.Cargo.TheVariants as Gives
 use Rattle.tora_seat.specs.Serving.{SeatState, Offer, Serving, Answers, put_one, offered, with_current, with_pending, after_cut_tried, after_cuts_tried, after_sent, after_broadcast, after_broadcasts, accepting, after_answer, after_step, first_cut, after_settling, after_input, after_down, after_old_down, after_up, begin_serving}
 use Rattle.tora_seat.specs.SeatLaws.{is_packet, packet_in, has_back, NothingAfterBack, packets_put, IsOfLife, AreOfLife, broadcast_to, is_link_down, has_link_down, Begins}
-use Rattle.tora_seat.proofs.Places.{or_none, turned}
-use Rattle.tora_seat.proofs.Ups.{is_link_up, up_same, up_come, up_gone, core_accepted, same_neighbours, up_accepted, down_accepted, count_up, count_most, count_drops, first_cut_is, first_cut_none, settled_at}
-use Rattle.tora_seat.proofs.Histories.{back-push, nothing_other, nothing_first, put-push, life-push, core-push, broadcast-push, down-push, begins_more}
+use Rattle.tora_seat.proofs.Places.{turned}
+use Rattle.tora_core.proofs.AfterInputs.{same-neighbours}
+use Rattle.tora_seat.proofs.Ups.{is_link_up, up_same, up_come, up_gone, core_accepted, up_accepted, down_accepted, count_up, count_most, count_drops, first_cut_is, first_cut_none, settled_at}
+use Rattle.tora_seat.proofs.Histories.{back-push, nothing_other, nothing_first, put-push, life-push, core-push, broadcast-push, down-push, begins_more, or_false}
+use Rattle.tora_seat.proofs.Calm.{calm_broadcasts, accepted_step, accepted_core}
 
 pub put_at : {A : Type 0} (f : ℕ → A) (k : ℕ) (a : A) → put_one f k a k ≡ a
 put_at f k a = ap (λ b. if b then a else f k) (eq-eqb k k refl)
@@ -68,10 +70,6 @@ module _ (answers : Answers) (ks : List ℕ) (k : ℕ) (first : SeatState) (serv
             (ap (has_back k) e ∙ back-push k v.offers o ∙ ap (λ t. has_back k v.offers || (t && (is_packet o.cargo && not o.put))) off ∙ or_false (has_back k v.offers))
             (ap (has_link_down k) d) h.stands;
       }
-    where
-      or_false : (a : Bool) → (a || false) ≡ a
-      or_false true = refl
-      or_false false = refl
 
   sent_off : (ps all : List Packet) (p : Packet) (v : Serving) (j : ℕ) (cur : Option Life) → nat_eq j k ≡ false → Sends ps all v → Sends ps all (after_sent answers p v j cur)
   sent_off ps all p v j None off h = h
@@ -122,13 +120,13 @@ module _ (answers : Answers) (ks : List ℕ) (k : ℕ) (first : SeatState) (serv
   unfolding after_broadcast
   broadcast_off ps all p [] v i h = h
   broadcast_off ps all p (j ∷ js) v i h =
-      let e = or_none (nat_eq j k) (has_number k js) i in
+      let e = or_parts (nat_eq j k) (has_number k js) i in
       broadcast_off ps all p js (after_sent answers p v j (v.seat.current j)) e.1 (sent_off ps all p v j (v.seat.current j) e.0 h)
 
   broadcast_on : (ps all : List Packet) (p : Packet) (js : List ℕ) (v : Serving) → has_number k js ≡ true → has_repeat js ≡ false → Sends (p ∷ ps) all v → Sends ps all (after_broadcast answers p js v)
   unfolding after_broadcast
   broadcast_on ps all p [] v i a h = absurd (true≢false (sym i))
-  broadcast_on ps all p (j ∷ js) v i a h = go (cases_Bool (nat_eq j k)) (or_none (has_number j js) (has_repeat js) a) (λ x y z. broadcast_on ps all p js x y (or_none (has_number j js) (has_repeat js) a).1 z)
+  broadcast_on ps all p (j ∷ js) v i a h = go (cases_Bool (nat_eq j k)) (or_parts (has_number j js) (has_repeat js) a) (λ x y z. broadcast_on ps all p js x y (or_parts (has_number j js) (has_repeat js) a).1 z)
     where
       go : (nat_eq j k ≡ true) ⊎ (nat_eq j k ≡ false) → (has_number j js ≡ false) × (has_repeat js ≡ false) → ((x : Serving) → has_number k js ≡ true → Sends (p ∷ ps) all x → Sends ps all (after_broadcast answers p js x)) →
           Sends ps all (after_broadcast answers p js (after_sent answers p v j (v.seat.current j)))
@@ -142,29 +140,6 @@ module _ (answers : Answers) (ks : List ℕ) (k : ℕ) (first : SeatState) (serv
   unfolding after_broadcasts
   broadcasts_on [] all v h = h
   broadcasts_on (p ∷ ps) all v h = broadcasts_on ps all (after_broadcast answers p ks v) (broadcast_on ps all p ks v inside apart h)
-
-  -- ---- broadcasts leave the core and its inputs
-
-  record Calm (v v' : Serving) : Type 0 where
-    core : v'.seat.core ≡ v.seat.core
-    inputs : v'.inputs ≡ v.inputs
-
-  calm_by : (v v' v'' : Serving) → Calm v v' → Calm v' v'' → Calm v v''
-  calm_by v v' v'' a b = record { core = b.core ∙ a.core; inputs = b.inputs ∙ a.inputs }
-
-  calm_sent : (p : Packet) (v : Serving) (j : ℕ) (cur : Option Life) → Calm v (after_sent answers p v j cur)
-  calm_sent p v j None = record { core = refl; inputs = refl }
-  calm_sent p v j (Some l) = cond_both (answers v.offers j) _ _ (Calm v) (λ _. record { core = refl; inputs = refl }) (λ _. record { core = refl; inputs = refl })
-
-  calm_broadcast : (p : Packet) (js : List ℕ) (v : Serving) → Calm v (after_broadcast answers p js v)
-  unfolding after_broadcast
-  calm_broadcast p [] v = record { core = refl; inputs = refl }
-  calm_broadcast p (j ∷ js) v = calm_by v (after_sent answers p v j (v.seat.current j)) (after_broadcast answers p js (after_sent answers p v j (v.seat.current j))) (calm_sent p v j (v.seat.current j)) (calm_broadcast p js (after_sent answers p v j (v.seat.current j)))
-
-  calm_broadcasts : (ps : List Packet) (v : Serving) → Calm v (after_broadcasts answers ks ps v)
-  unfolding after_broadcasts
-  calm_broadcasts [] v = record { core = refl; inputs = refl }
-  calm_broadcasts (p ∷ ps) v = calm_by v (after_broadcast answers p ks v) (after_broadcasts answers ks ps (after_broadcast answers p ks v)) (calm_broadcast p ks v) (calm_broadcasts ps (after_broadcast answers p ks v))
 
   -- ---- inputs
 
@@ -190,19 +165,11 @@ module _ (answers : Answers) (ks : List ℕ) (k : ℕ) (first : SeatState) (serv
   accepts v input now f near h =
       let v' : Serving = accepting v input now in
       let v'' : Serving = after_broadcasts answers ks (sends_of v.seat.core input now) v' in
-      let c = calm_broadcasts (sends_of v.seat.core input now) v' in record {
+      let c = calm_broadcasts answers ks (sends_of v.seat.core input now) v' in record {
         sends = subst (λ a. Sends [] a v'') (ap (broadcast_to k first.core) (sym c.inputs)) (broadcasts_on (sends_of v.seat.core input now) (all_of v') v' h);
         core_is = c.core ∙ ap (λ x. core_after x input now) f ∙ sym (core-push first.core v.inputs input now) ∙ ap (core_after_all first.core) (sym c.inputs);
-        near = ap (λ (x : CoreView). x.neighbours) c.core ∙ same_neighbours v.seat.core input now ∙ near;
+        near = ap (λ (x : CoreView). x.neighbours) c.core ∙ same-neighbours v.seat.core input now ∙ near;
       }
-
-  or_false : (a : Bool) → (a || false) ≡ a
-  or_false true = refl
-  or_false false = refl
-
-  or_true : (a b : Bool) → b ≡ true → (a || b) ≡ true
-  or_true true b e = refl
-  or_true false b e = e
 
   -- whoever was told, this life is current after an accepted input: its packets are still to be sent
   enters_up : (v : Serving) (input : Input) (now : ℕ) (l : Life) → AreOfLife k served v.offers → NothingAfterBack k v.offers → has_back k v.offers ≡ false → v.seat.core ≡ core_after_all first.core v.inputs → served ≡ Some l → v.seat.current k ≡ Some l →
@@ -244,7 +211,7 @@ module _ (answers : Answers) (ks : List ℕ) (k : ℕ) (first : SeatState) (serv
       gone : is_link_down k input ≡ true → Sends (sends_of v.seat.core input now) (all_of (accepting v input now)) (accepting v input now)
       gone d =
           enters_none v input now (sends_of v.seat.core input now) false h.sends.life h.sends.quiet h.core_is (down d) (taken ∙ up_gone k v.seat.core.up input d)
-          (⊎_elim (λ a. inl (a.0, refl, a.2)) (λ a. inr (a.0, a.1, a.2, λ _. or_true (has_link_down k v.inputs) (is_link_down k input) d)) (was None (down d)))
+          (⊎_elim (λ a. inl (a.0, refl, a.2)) (λ a. inr (a.0, a.1, a.2, λ _. or_right (has_link_down k v.inputs) (is_link_down k input) d)) (was None (down d)))
 
       other : is_link_down k input ≡ false → (cur : Option Life) → v.seat.current k ≡ cur → Sends (sends_of v.seat.core input now) (all_of (accepting v input now)) (accepting v input now)
       other d None e =
@@ -266,11 +233,6 @@ module _ (answers : Answers) (ks : List ℕ) (k : ℕ) (first : SeatState) (serv
       go None e = accepts v input now h.core_is h.near (enters v input now e not_up down h)
       go (Some error) e = record { sends = record { life = h.sends.life; quiet = h.sends.quiet; stands = h.sends.stands }; core_is = h.core_is; near = h.near }
 
-  -- an input that is accepted
-  step_is : (v : Serving) (input : Input) (now : ℕ) → refusal_of v.seat.core input ≡ None → after_step answers ks input now v ≡ after_broadcasts answers ks (sends_of v.seat.core input now) (accepting v input now)
-  unfolding after_step
-  step_is v input now e = ap (after_answer answers ks input now v) e
-
   near_k : (c : CoreView) → c.neighbours ≡ ks → (j : ℕ) → has_number j ks ≡ true → has_number j c.neighbours ≡ true
   near_k c e j i = ap (has_number j) e ∙ i
 
@@ -289,9 +251,6 @@ module _ (answers : Answers) (ks : List ℕ) (k : ℕ) (first : SeatState) (serv
           again (after_step answers ks (In.LinkDown j) now v)
           (step_keeps v (In.LinkDown j) now refl (λ d. subst (λ x. v.seat.current x ≡ None) (eqb-true j k d) (none_is (v.seat.current j) f.2)) h)
 
-  step_core : (v : Serving) (input : Input) (now : ℕ) → refusal_of v.seat.core input ≡ None → (after_step answers ks input now v).seat.core ≡ core_after v.seat.core input now
-  step_core v input now e = ap (λ (x : Serving). x.seat.core) (step_is v input now e) ∙ (calm_broadcasts (sends_of v.seat.core input now) (accepting v input now)).core
-
   -- none is left
   settles : (most now : ℕ) (v : Serving) → v.seat.core.neighbours ≡ ks → count_up ks v.seat.core.up ≤ most → first_cut (after_settling most answers ks now v).seat ks ≡ None
   unfolding after_settling
@@ -305,9 +264,9 @@ module _ (answers : Answers) (ks : List ℕ) (k : ℕ) (first : SeatState) (serv
           let f = first_cut_is v.seat ks j e in
           let fewer : count_up ks (without_number j v.seat.core.up) < count_up ks v.seat.core.up = count_drops ks v.seat.core.up j f.0 f.1 in
           let ok = down_accepted v.seat.core j (near_k v.seat.core near j f.0) f.1 in
-          let c = step_core v (In.LinkDown j) now ok in
+          let c = accepted_core answers ks v (In.LinkDown j) now ok in
           let ups : (after_step answers ks (In.LinkDown j) now v).seat.core.up ≡ without_number j v.seat.core.up = ap (λ (x : CoreView). x.up) (c ∙ core_accepted v.seat.core (In.LinkDown j) now ok) in
-          again (after_step answers ks (In.LinkDown j) now v) (ap (λ (x : CoreView). x.neighbours) c ∙ same_neighbours v.seat.core (In.LinkDown j) now ∙ near)
+          again (after_step answers ks (In.LinkDown j) now v) (ap (λ (x : CoreView). x.neighbours) c ∙ same-neighbours v.seat.core (In.LinkDown j) now ∙ near)
           (subst (λ up. count_up ks up ≤ most) (sym ups) (omega (arith, fewer, le)))
 
   -- ---- an input with all that follows
@@ -422,7 +381,7 @@ module _ (answers : Answers) (ks : List ℕ) (k : ℕ) (first : SeatState) (serv
       let near' : v.seat.core.neighbours ≡ ks = ap (λ (c : CoreView). c.neighbours) s.core ∙ near in
       let ok : refusal_of v.seat.core (In.LinkDown k) ≡ None = down_accepted v.seat.core k (near_k v.seat.core near' k inside) (ap (λ (c : CoreView). has_number k c.up) s.core ∙ up) in
       let gone : has_number k (core_after v.seat.core (In.LinkDown k) now).up ≡ false = ap (λ (c : CoreView). has_number k c.up) (core_accepted v.seat.core (In.LinkDown k) now ok) ∙ up_gone k v.seat.core.up (In.LinkDown k) (eq-eqb k k refl) in
-      subst Keeps (sym (step_is w (In.LinkDown k) now ok))
+      subst Keeps (sym (accepted_step answers ks w (In.LinkDown k) now ok))
       (accepts w (In.LinkDown k) now (core_start v s) near'
       (enters_none w (In.LinkDown k) now (sends_of w.seat.core (In.LinkDown k) now) false s.life s.quiet (core_start v s) (put_at v.seat.current k None) gone (inl (s.none, refl, s.put ∙ sym (all_start v s.inputs)))))
 
@@ -520,7 +479,7 @@ module _ (answers : Answers) (ks : List ℕ) (k : ℕ) (first : SeatState) (insi
       let ok : refusal_of w.seat.core (In.LinkUp k) ≡ None = up_accepted w.seat.core k (ap (has_number k) h.near ∙ inside) q.0 in
       let come : has_number k (core_after w.seat.core (In.LinkUp k) now).up ≡ true = ap (λ (c : CoreView). has_number k c.up) (core_accepted w.seat.core (In.LinkUp k) now ok) ∙ up_come k w.seat.core.up in
       settle answers ks k first (Some l) inside apart now (after_step answers ks (In.LinkUp k) now v)
-      (subst (Keeps answers ks k first (Some l) inside apart) (sym (step_is answers ks k first (Some l) inside apart v (In.LinkUp k) now ok))
+      (subst (Keeps answers ks k first (Some l) inside apart) (sym (accepted_step answers ks v (In.LinkUp k) now ok))
       (accepts answers ks k first (Some l) inside apart v (In.LinkUp k) now h.core_is h.near
       (enters_up answers ks k first (Some l) inside apart v (In.LinkUp k) now l (any_life k (Some l) w.offers h.sends.life) h.sends.quiet (none_back k w.offers h.sends.life) h.core_is refl (put_at w.seat.current k (Some l)) come q.1)))
 

@@ -65,6 +65,7 @@ module _ (answers : Answers) (ks : List ℕ) (k : ℕ) (first : SeatState) (insi
     link_on (Tells.Need d) now = input_ends answers ks k first (first.current k) inside apart v (In.Need d) now refl (λ e. absurd (false≢true e)) keeps
     link_on Tells.Beat now = still
     link_on Tells.Show now = answered (first.current k) v Says.Show still
+    link_on (Tells.Status status) now = answered (first.current k) v Says.Show still
     link_on Tells.Quit now = answered (first.current k) v Says.Quit still
 
     link_off : (j : ℕ) (what : What) (now : ℕ) → nat_eq j k ≡ false → Fine (life_brought k (Some j) what (first.current k)) (after_link_item answers ks j now what v)
@@ -86,6 +87,7 @@ module _ (answers : Answers) (ks : List ℕ) (k : ℕ) (first : SeatState) (insi
     link_off j (Tells.Need d) now off = input_ends answers ks k first (first.current k) inside apart v (In.Need d) now refl (λ e. absurd (false≢true e)) keeps
     link_off j Tells.Beat now off = still
     link_off j Tells.Show now off = answered (first.current k) v Says.Show still
+    link_off j (Tells.Status status) now off = answered (first.current k) v Says.Show still
     link_off j Tells.Quit now off = answered (first.current k) v Says.Quit still
 
     other : (what : What) (now : ℕ) → Fine (first.current k) (after_other_item answers ks now what v)
@@ -96,6 +98,7 @@ module _ (answers : Answers) (ks : List ℕ) (k : ℕ) (first : SeatState) (insi
     other (Tells.Need d) now = input_ends answers ks k first (first.current k) inside apart v (In.Need d) now refl (λ e. absurd (false≢true e)) keeps
     other Tells.Beat now = still
     other Tells.Show now = answered (first.current k) v Says.Show still
+    other (Tells.Status status) now = answered (first.current k) v Says.Show still
     other Tells.Quit now = answered (first.current k) v Says.Quit still
 
     item_of : (o : Option ℕ) (what : What) (now : ℕ) → Fine (life_brought k o what (first.current k)) (after_item_of answers ks o now what v)

@@ -91,6 +91,7 @@ module _ (answers : Answers) (tick : ℕ) where
   link_item_follows js k (Tells.Need d) v h = input_follows js (In.Need d) v h
   link_item_follows js k Tells.Beat v h = h
   link_item_follows js k Tells.Show v h = h
+  link_item_follows js k (Tells.Status status) v h = h
   link_item_follows js k Tells.Quit v h = h
 
   other_item_follows : (js : List ℕ) (what : What) (v : Serving) → Follows v → Follows (after_other_item answers js tick what v)
@@ -101,6 +102,7 @@ module _ (answers : Answers) (tick : ℕ) where
   other_item_follows js (Tells.Down l r) v h = h
   other_item_follows js Tells.Beat v h = h
   other_item_follows js Tells.Show v h = h
+  other_item_follows js (Tells.Status status) v h = h
   other_item_follows js Tells.Quit v h = h
 
 pub inputs_have_the_tick : (answers : Answers) (js : List ℕ) (seat : SeatState) (item : Item) → AllByRecursion (HasTick item.now) (serving_of answers js seat item).inputs

@@ -1,4 +1,5 @@
 pub mod Chains
+pub mod Calm
 pub mod Places
 pub mod Goings
 pub mod ServedBy

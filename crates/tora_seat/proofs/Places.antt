@@ -1,6 +1,6 @@
 -- Rows of different neighbours.
-use Rattle.std.proofs.Common.{◌≡◌, ℕ, suc, Bool, true, false, true≢false, ◌||◌, ◌⊎◌, inl, inr, List, [], ◌∷◌, ◌++◌, length, None, nat_eq, if◌then◌else◌, refl, sym, ap, ap₂, ◌∙◌, eqb-true, eq-eqb, ne_eqb}
-use Rattle.std.proofs.lemmas.Bool.{cases_Bool, eqb-false}
+use Rattle.std.proofs.Common.{◌≡◌, ℕ, suc, Bool, true, false, ◌||◌, ◌⊎◌, inl, inr, List, [], ◌∷◌, ◌++◌, length, None, nat_eq, if◌then◌else◌, refl, sym, ap, ap₂, ◌∙◌, eqb-true, eq-eqb, ne_eqb}
+use Rattle.std.proofs.lemmas.Bool.{cases_Bool, eqb-false, or_parts}
 use mathlib.Core.Path.{fun_ext}
 use Rattle.tora_core.specs.Numbers.{has_number, has_repeat}
 use Rattle.tora_seat.specs.declared.rows.LinkRow.{LinkRow}
@@ -8,28 +8,24 @@ use Rattle.tora_seat.specs.Serving.{put_one}
 use Rattle.tora_seat.specs.Offers.{place_of}
 use Rattle.tora_seat.specs.Rows.{neighbours_of, current_of, pending_of}
 
-pub or_none : (a b : Bool) → (a || b) ≡ false → (a ≡ false) × (b ≡ false)
-or_none true b e = absurd (true≢false e)
-or_none false b e = (refl, e)
-
 pub turned : (a b : ℕ) → nat_eq a b ≡ false → nat_eq b a ≡ false
 turned a b e = ne_eqb b a (λ q. eqb-false a b e (sym q))
 
 -- a number that stands behind others is none of them
 has_none : (n k : ℕ) (xs ys : List ℕ) → has_number n (xs ++ k ∷ ys) ≡ false → nat_eq k n ≡ false
-has_none n k [] ys h = (or_none (nat_eq k n) (has_number n ys) h).0
-has_none n k (x ∷ xs) ys h = has_none n k xs ys (or_none (nat_eq x n) (has_number n (xs ++ k ∷ ys)) h).1
+has_none n k [] ys h = (or_parts (nat_eq k n) (has_number n ys) h).0
+has_none n k (x ∷ xs) ys h = has_none n k xs ys (or_parts (nat_eq x n) (has_number n (xs ++ k ∷ ys)) h).1
 
 pub not_before : (xs : List ℕ) (k : ℕ) (ys : List ℕ) → has_repeat (xs ++ k ∷ ys) ≡ false → has_number k xs ≡ false
 not_before [] k ys h = refl
 not_before (x ∷ xs) k ys h =
-    let q = or_none (has_number x (xs ++ k ∷ ys)) (has_repeat (xs ++ k ∷ ys)) h in
+    let q = or_parts (has_number x (xs ++ k ∷ ys)) (has_repeat (xs ++ k ∷ ys)) h in
     ap (λ b. b || has_number k xs) (turned k x (has_none x k xs ys q.0)) ∙ not_before xs k ys q.1
 
 pub place_there : (xs : List ℕ) (k : ℕ) (ys : List ℕ) → has_number k xs ≡ false → place_of k (xs ++ k ∷ ys) ≡ length xs
 place_there [] k ys h = ap (λ (b : Bool). if b then 0 else suc (place_of k ys)) (eq-eqb k k refl)
 place_there (x ∷ xs) k ys h =
-    let q = or_none (nat_eq x k) (has_number k xs) h in
+    let q = or_parts (nat_eq x k) (has_number k xs) h in
     ap (λ (b : Bool). if b then 0 else suc (place_of k (xs ++ k ∷ ys))) q.0 ∙ ap suc (place_there xs k ys q.1)
 
 pub neighbours-append : (xs ys : List LinkRow) → neighbours_of (xs ++ ys) ≡ neighbours_of xs ++ neighbours_of ys
@@ -50,7 +46,7 @@ module _ {V : Type 0} (value : LinkRow → V) (none : V) where
   pub value_there : (before : List LinkRow) (row : LinkRow) (rows : List LinkRow) → has_number row.neighbour (neighbours_of before) ≡ false → value_of (before ++ row ∷ rows) row.neighbour ≡ value row
   value_there [] row rows h = ap (λ (b : Bool). if b then value row else value_of rows row.neighbour) (eq-eqb row.neighbour row.neighbour refl)
   value_there (x ∷ before) row rows h =
-      let q = or_none (nat_eq x.neighbour row.neighbour) (has_number row.neighbour (neighbours_of before)) h in
+      let q = or_parts (nat_eq x.neighbour row.neighbour) (has_number row.neighbour (neighbours_of before)) h in
       ap (λ (b : Bool). if b then value x else value_of (before ++ row ∷ rows) row.neighbour) (turned x.neighbour row.neighbour q.0) ∙ value_there before row rows q.1
 
   -- another row in its place
@@ -62,7 +58,7 @@ module _ {V : Type 0} (value : LinkRow → V) (none : V) where
       go true = refl
       go false = refl
   value_set (x ∷ before) row new rows e h k =
-      let q = or_none (nat_eq x.neighbour row.neighbour) (has_number row.neighbour (neighbours_of before)) h in
+      let q = or_parts (nat_eq x.neighbour row.neighbour) (has_number row.neighbour (neighbours_of before)) h in
       go q.0 (cases_Bool (nat_eq k row.neighbour)) ∙ ap (λ r. if nat_eq k x.neighbour then value x else r) (value_set before row new rows e q.1 k)
     where
       go : nat_eq x.neighbour row.neighbour ≡ false → (nat_eq k row.neighbour ≡ true) ⊎ (nat_eq k row.neighbour ≡ false) →

@@ -16,7 +16,7 @@ use Rattle.tora_seat.specs.Offers.{AreOffered, Follows, answers_in}
 use Rattle.tora_seat.specs.Rows.{SeatView, state_of, serving_at}
 use Rattle.tora_seat.proofs.Chains.{follows_back}
 use Rattle.tora_seat.specs.Serving.{SeatState, Serving, Offer, Answers, with_current, after_cut_tried, after_cuts_tried, after_sent, after_broadcast, after_broadcasts, accepting, after_answer, after_step, first_cut, after_settling, after_input, is_current, after_down, after_old_down, after_up, after_link_item, after_other_item, after_item_of, begin_serving, serving_of}
-use Rattle.tora_seat.specs.Serves.{ForEach, TriesCut, no_cut, cut_put, cut_back, Sends, no_life, packet_put, packet_back, SendsToEach, Steps, refused, accepted, IsCut, GoDown, Settles, noting, Does, first_life, next_life, packet_stepped, packet_passed_over, life_ended, cut_forgotten, end_passed_over, no_link_up, no_link_packet, no_link_down, need, beat, show, quit, Serves}
+use Rattle.tora_seat.specs.Serves.{ForEach, TriesCut, no_cut, cut_put, cut_back, Sends, no_life, packet_put, packet_back, SendsToEach, Steps, refused, accepted, IsCut, GoDown, Settles, noting, Does, first_life, next_life, packet_stepped, packet_passed_over, life_ended, cut_forgotten, end_passed_over, no_link_up, no_link_packet, no_link_down, need, beat, show, status, quit, Serves}
 use Rattle.tora_seat.proofs.Ups.{count_up, count_most, first_cut_none}
 use Rattle.tora_seat.proofs.CutLinks.{current-is, current-not, first-is, first-none}
 use Rattle.tora_seat.proofs.RelationLeads.{step_near, step_drops, settles_near, cuts_core}
@@ -117,6 +117,7 @@ module _ (answers : Answers) where
         link_holds k (Tells.Need d) = need (input_holds v (In.Need d) near)
         link_holds k Tells.Beat = beat
         link_holds k Tells.Show = show
+        link_holds k (Tells.Status asked) = status
         link_holds k Tells.Quit = quit
 
         other_holds : (what : What) → Does ks now v None what (after_other_item answers ks now what v)
@@ -127,6 +128,7 @@ module _ (answers : Answers) where
         other_holds (Tells.Need d) = need (input_holds v (In.Need d) near)
         other_holds Tells.Beat = beat
         other_holds Tells.Show = show
+        other_holds (Tells.Status asked) = status
         other_holds Tells.Quit = quit
 
         item_holds : (seat : Option ℕ) (what : What) → Does ks now v seat what (after_item_of answers ks seat now what v)

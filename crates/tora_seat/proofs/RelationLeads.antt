@@ -11,11 +11,12 @@ use Rattle.tora_seat.specs.declared.Cargo.TheVariants as Gives
 use Rattle.tora_seat.specs.declared.Answer.TheVariants as Says
 use Rattle.tora_seat.specs.Serving.{SeatState, Serving, Offer, Answers, offered, with_current, with_pending, after_cut_tried, after_cuts_tried, after_sent, after_broadcast, after_broadcasts, accepting, after_answer, after_step, first_cut, after_settling, after_input, is_current, after_down, after_old_down, after_up, after_packet, after_link_item, after_other_item, after_item_of, begin_serving, serving_of}
 use Rattle.tora_seat.specs.Offers.{Follows, answers_in}
-use Rattle.tora_seat.specs.Serves.{ForEach, TriesCut, no_cut, cut_put, cut_back, Sends, no_life, packet_put, packet_back, SendsToEach, Steps, refused, accepted, IsCut, GoDown, Settles, noting, Does, first_life, next_life, packet_stepped, packet_passed_over, life_ended, cut_forgotten, end_passed_over, no_link_up, no_link_packet, no_link_down, need, beat, show, quit, Serves}
+use Rattle.tora_seat.specs.Serves.{ForEach, TriesCut, no_cut, cut_put, cut_back, Sends, no_life, packet_put, packet_back, SendsToEach, Steps, refused, accepted, IsCut, GoDown, Settles, noting, Does, first_life, next_life, packet_stepped, packet_passed_over, life_ended, cut_forgotten, end_passed_over, no_link_up, no_link_packet, no_link_down, need, beat, show, status, quit, Serves}
 use Rattle.tora_seat.proofs.Chains.{follows_split, follows_back}
 use Rattle.tora_seat.proofs.Goings.{cuts_cons, cuts_nil, sents_cons, sents_nil, packets_cons, packets_nil}
 use Rattle.tora_seat.proofs.Steps.{step_is, settling_done, settling_more}
-use Rattle.tora_seat.proofs.Ups.{core_accepted, same_neighbours, down_accepted, count_up, count_most, count_drops}
+use Rattle.tora_core.proofs.AfterInputs.{same-neighbours}
+use Rattle.tora_seat.proofs.Ups.{core_accepted, down_accepted, count_up, count_most, count_drops}
 use Rattle.tora_seat.proofs.CutLinks.{is-current, not-current, least-first, none-first}
 
 -- ---- what is done leads from one serving to another
@@ -124,7 +125,7 @@ broadcasts_core ks (packet ∷ packets) v w h = broadcasts_core ks packets h.0 w
 pub step_near : (ks : List ℕ) (now : ℕ) (v : Serving) (input : Input) {w : Serving} → Steps ks now v input w → w.seat.core.neighbours ≡ v.seat.core.neighbours
 step_near ks now v input (refused error e) = refl
 step_near ks now v input (accepted {w} e h) =
-    ap (λ (c : CoreView). c.neighbours) (broadcasts_core ks (sends_of v.seat.core input now) (accepting v input now) w h) ∙ same_neighbours v.seat.core input now
+    ap (λ (c : CoreView). c.neighbours) (broadcasts_core ks (sends_of v.seat.core input now) (accepting v input now) w h) ∙ same-neighbours v.seat.core input now
 
 -- a link that is cut goes down, so one link less is up
 pub cut_drops : (ks : List ℕ) (now : ℕ) (v : Serving) (k : ℕ) {w : Serving} → has_number k v.seat.core.neighbours ≡ true → IsCut ks v.seat k → Steps ks now v (In.LinkDown k) w → count_up ks w.seat.core.up < count_up ks v.seat.core.up
@@ -237,6 +238,8 @@ module _ (ks : List ℕ) (up : IsAscending ks) (now : ℕ) (v : Serving) (near :
   does_lead (beat {seat = Some k}) = quiet (λ answers. v) v v refl (λ answers. refl)
   does_lead (show {seat = None}) = quiet (λ answers. record v { answer = Says.Show }) v (record v { answer = Says.Show }) refl (λ answers. refl)
   does_lead (show {seat = Some k}) = quiet (λ answers. record v { answer = Says.Show }) v (record v { answer = Says.Show }) refl (λ answers. refl)
+  does_lead (status {seat = None}) = quiet (λ answers. record v { answer = Says.Show }) v (record v { answer = Says.Show }) refl (λ answers. refl)
+  does_lead (status {seat = Some k}) = quiet (λ answers. record v { answer = Says.Show }) v (record v { answer = Says.Show }) refl (λ answers. refl)
   does_lead (quit {seat = None}) = quiet (λ answers. record v { answer = Says.Quit }) v (record v { answer = Says.Quit }) refl (λ answers. refl)
   does_lead (quit {seat = Some k}) = quiet (λ answers. record v { answer = Says.Quit }) v (record v { answer = Says.Quit }) refl (λ answers. refl)
 

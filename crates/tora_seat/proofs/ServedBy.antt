@@ -98,6 +98,7 @@ module _ (answers : Answers) (Holds : List Offer → CoreView → List (Input ×
   link_item_follows js k now (Tells.Need d) v h = input_follows js (In.Need d) now v h
   link_item_follows js k now Tells.Beat v h = h
   link_item_follows js k now Tells.Show v h = h
+  link_item_follows js k now (Tells.Status status) v h = h
   link_item_follows js k now Tells.Quit v h = h
 
   other_item_follows : (js : List ℕ) (now : ℕ) (what : What) (v : Serving) → Follows v → Follows (after_other_item answers js now what v)
@@ -108,6 +109,7 @@ module _ (answers : Answers) (Holds : List Offer → CoreView → List (Input ×
   other_item_follows js now (Tells.Down l r) v h = h
   other_item_follows js now Tells.Beat v h = h
   other_item_follows js now Tells.Show v h = h
+  other_item_follows js now (Tells.Status status) v h = h
   other_item_follows js now Tells.Quit v h = h
 
   pub serving_follows : (js : List ℕ) (seat : SeatState) (item : Item) → Follows (begin_serving seat) → Follows (serving_of answers js seat item)

@@ -11,6 +11,7 @@ use Rattle.tora_core.specs.CoreRun.{CoreView, refusal_of, core_after, sends_of}
 use Rattle.tora_arq.specs.declared.Reason.{Reason}
 use Rattle.tora_seat.specs.declared.Cargo.{Cargo}
 use Rattle.tora_seat.specs.declared.Item.{Item}
+use Rattle.tora_seat.specs.declared.Status.{Status}
 use Rattle.tora_seat.specs.declared.What.{What}
 use Rattle.tora_seat.specs.declared.What.TheVariants as Tells
 use Rattle.tora_seat.specs.declared.Answer.TheVariants as Says
@@ -240,6 +241,10 @@ link_show_is : (answers : Answers) (ks : List ℕ) (k now : ℕ) (v : Serving) �
 unfolding after_link_item
 link_show_is answers ks k now v = refl
 
+link_status_is : (answers : Answers) (ks : List ℕ) (k now : ℕ) (status : Status) (v : Serving) → after_link_item answers ks k now (Tells.Status status) v ≡ record v { answer = Says.Show }
+unfolding after_link_item
+link_status_is answers ks k now status v = refl
+
 link_quit_is : (answers : Answers) (ks : List ℕ) (k now : ℕ) (v : Serving) → after_link_item answers ks k now Tells.Quit v ≡ record v { answer = Says.Quit }
 unfolding after_link_item
 link_quit_is answers ks k now v = refl
@@ -252,6 +257,7 @@ is_idle (Tells.Down life reason) = true
 is_idle (Tells.Need d) = false
 is_idle Tells.Beat = true
 is_idle Tells.Show = false
+is_idle (Tells.Status status) = false
 is_idle Tells.Quit = false
 
 other_idle_is : (answers : Answers) (ks : List ℕ) (now : ℕ) (what : What) (v : Serving) → is_idle what ≡ true → after_other_item answers ks now what v ≡ v
@@ -262,6 +268,7 @@ other_idle_is answers ks now (Tells.Down life reason) v e = refl
 other_idle_is answers ks now (Tells.Need d) v e = absurd (false≢true e)
 other_idle_is answers ks now Tells.Beat v e = refl
 other_idle_is answers ks now Tells.Show v e = absurd (false≢true e)
+other_idle_is answers ks now (Tells.Status status) v e = absurd (false≢true e)
 other_idle_is answers ks now Tells.Quit v e = absurd (false≢true e)
 
 other_need_is : (answers : Answers) (ks : List ℕ) (now : ℕ) (d : ℕ) (v : Serving) → after_other_item answers ks now (Tells.Need d) v ≡ after_input answers ks (In.Need d) now v
@@ -271,6 +278,10 @@ other_need_is answers ks now d v = refl
 other_show_is : (answers : Answers) (ks : List ℕ) (now : ℕ) (v : Serving) → after_other_item answers ks now Tells.Show v ≡ record v { answer = Says.Show }
 unfolding after_other_item
 other_show_is answers ks now v = refl
+
+other_status_is : (answers : Answers) (ks : List ℕ) (now : ℕ) (status : Status) (v : Serving) → after_other_item answers ks now (Tells.Status status) v ≡ record v { answer = Says.Show }
+unfolding after_other_item
+other_status_is answers ks now status v = refl
 
 other_quit_is : (answers : Answers) (ks : List ℕ) (now : ℕ) (v : Serving) → after_other_item answers ks now Tells.Quit v ≡ record v { answer = Says.Quit }
 unfolding after_other_item
@@ -325,6 +336,12 @@ module _ {O : Type 0} (did_offer : O → ℕ → Cargo → Bool → O → Type 0
       (seat_still did_offer (λ answers ks v. record v { answer = Says.Show }) now s outs (record same { answer = Says.Show }) (ap (λ (x : SeatView). x.core.neighbours) q)
       (λ answers before. ap (λ (x : SeatView). serving_at now (record x { answer = Says.Show }) before) (sym q)))
 
+  pub link_status_goes : (k : ℕ) (what : What) (status : Status) (same : SeatView) → same ≡ s → what ≡ Tells.Status status → SeatGoes did_offer (λ answers ks. after_link_item answers ks k now what) now s outs (record same { answer = Says.Show }) outs
+  link_status_goes k what status same q e =
+      link_goes did_offer now s outs (record same { answer = Says.Show }) outs k what (Tells.Status status) (λ answers ks v. record v { answer = Says.Show }) e (λ answers ks v. link_status_is answers ks k now status v)
+      (seat_still did_offer (λ answers ks v. record v { answer = Says.Show }) now s outs (record same { answer = Says.Show }) (ap (λ (x : SeatView). x.core.neighbours) q)
+      (λ answers before. ap (λ (x : SeatView). serving_at now (record x { answer = Says.Show }) before) (sym q)))
+
   pub link_quit_goes : (k : ℕ) (what : What) (same : SeatView) → same ≡ s → what ≡ Tells.Quit → SeatGoes did_offer (λ answers ks. after_link_item answers ks k now what) now s outs (record same { answer = Says.Quit }) outs
   link_quit_goes k what same q e =
       link_goes did_offer now s outs (record same { answer = Says.Quit }) outs k what Tells.Quit (λ answers ks v. record v { answer = Says.Quit }) e (λ answers ks v. link_quit_is answers ks k now v)
@@ -338,6 +355,12 @@ module _ {O : Type 0} (did_offer : O → ℕ → Cargo → Bool → O → Type 0
   pub other_show_goes : (what : What) (same : SeatView) → same ≡ s → what ≡ Tells.Show → SeatGoes did_offer (λ answers ks. after_other_item answers ks now what) now s outs (record same { answer = Says.Show }) outs
   other_show_goes what same q e =
       other_goes did_offer now s outs (record same { answer = Says.Show }) outs what Tells.Show (λ answers ks v. record v { answer = Says.Show }) e (λ answers ks v. other_show_is answers ks now v)
+      (seat_still did_offer (λ answers ks v. record v { answer = Says.Show }) now s outs (record same { answer = Says.Show }) (ap (λ (x : SeatView). x.core.neighbours) q)
+      (λ answers before. ap (λ (x : SeatView). serving_at now (record x { answer = Says.Show }) before) (sym q)))
+
+  pub other_status_goes : (what : What) (status : Status) (same : SeatView) → same ≡ s → what ≡ Tells.Status status → SeatGoes did_offer (λ answers ks. after_other_item answers ks now what) now s outs (record same { answer = Says.Show }) outs
+  other_status_goes what status same q e =
+      other_goes did_offer now s outs (record same { answer = Says.Show }) outs what (Tells.Status status) (λ answers ks v. record v { answer = Says.Show }) e (λ answers ks v. other_status_is answers ks now status v)
       (seat_still did_offer (λ answers ks v. record v { answer = Says.Show }) now s outs (record same { answer = Says.Show }) (ap (λ (x : SeatView). x.core.neighbours) q)
       (λ answers before. ap (λ (x : SeatView). serving_at now (record x { answer = Says.Show }) before) (sym q)))
 

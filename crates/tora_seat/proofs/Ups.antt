@@ -1,74 +1,23 @@
 -- Which neighbours are up.
-use Rattle.std.proofs.Common.{◌≡◌, ℕ, suc, ◌+◌, ◌<◌, ◌≤◌, Bool, true, false, true≢false, not, ◌&&◌, ◌||◌, ◌⊎◌, inl, inr, ⊎_elim, List, [], ◌∷◌, length, Some, None, nat_eq, nat_lt, if◌then◌else◌, refl, sym, ap, ◌∙◌, subst, arith, eqb-true, eq-eqb}
-use Rattle.std.proofs.lemmas.Bool.{cond_both, cases_Bool, and_parts}
-use Rattle.std.specs.Prelude.{is_none, is_some, cond, fold}
+use Rattle.std.proofs.Common.{◌≡◌, ℕ, suc, ◌+◌, ◌<◌, ◌≤◌, Bool, true, false, true≢false, not, ◌&&◌, ◌||◌, ◌⊎◌, inl, inr, ⊎_elim, List, [], ◌∷◌, length, Some, None, nat_eq, if◌then◌else◌, refl, sym, ap, ◌∙◌, subst, arith, eqb-true, eq-eqb}
+use Rattle.std.proofs.lemmas.Bool.{cond_both, cases_Bool, and_parts, or_cases, or_right}
+use Rattle.std.specs.Prelude.{is_none, is_some}
 use Rattle.tora_core.specs.declared.Input.{Input}
 use Rattle.tora_core.specs.declared.Input.TheVariants as In
 use Rattle.tora_core.specs.declared.errors.StepError.TheVariants as Fault
-use Rattle.tora_core.specs.Numbers.{has_number, with_number, without_number, ascending}
+use Rattle.tora_core.specs.Numbers.{has_number, without_number}
 use Rattle.tora_core.specs.CoreRun.{CoreView, refusal_of, up_after, core_after, core_taking}
+use Rattle.tora_core.proofs.AfterInputs.{has-with, has-without}
 use Rattle.tora_seat.specs.Serving.{SeatState, first_cut}
 use Rattle.tora_seat.specs.SeatLaws.{is_link_down}
 use Rattle.tora_seat.proofs.Places.{turned}
 
-or_swap : (a b c : Bool) → (a || (b || c)) ≡ (b || (a || c))
-or_swap true true c = refl
-or_swap true false c = refl
-or_swap false true c = refl
-or_swap false false c = refl
-
-or_turn : (a b c : Bool) → ((a || b) || c) ≡ (b || (a || c))
-or_turn true true c = refl
-or_turn true false c = refl
-or_turn false true c = refl
-or_turn false false c = refl
-
-or_false : (a : Bool) → (a || false) ≡ a
-or_false true = refl
-or_false false = refl
-
-or_true : (a : Bool) → (a || true) ≡ true
-or_true true = refl
-or_true false = refl
-
-pub or_left : (a b : Bool) → (a || b) ≡ true → (a ≡ true) ⊎ (b ≡ true)
-or_left true b e = inl refl
-or_left false b e = inr e
-
-pub has-with : (k m : ℕ) (ns : List ℕ) → has_number k (with_number m ns) ≡ (nat_eq m k || has_number k ns)
-has-with k m [] = refl
-has-with k m (n ∷ ns) =
-    cond_both (nat_lt m n) (m ∷ n ∷ ns) (n ∷ with_number m ns) (λ (xs : List ℕ). has_number k xs ≡ (nat_eq m k || has_number k (n ∷ ns)))
-    (λ _. refl) (λ _. ap (λ b. nat_eq n k || b) (has-with k m ns) ∙ or_swap (nat_eq n k) (nat_eq m k) (has_number k ns))
-
-abbrev sorted_on : List ℕ → List ℕ → List ℕ
-sorted_on acc ns = fold (λ sorted n. with_number n sorted) acc ns
-
-has-sorted : (k : ℕ) (acc ns : List ℕ) → has_number k (sorted_on acc ns) ≡ (has_number k acc || has_number k ns)
-has-sorted k acc [] = sym (or_false (has_number k acc))
-has-sorted k acc (n ∷ ns) = has-sorted k (with_number n acc) ns ∙ ap (λ b. b || has_number k ns) (has-with k n acc) ∙ or_turn (nat_eq n k) (has_number k acc) (has_number k ns)
-
-pub has-ascending : (k : ℕ) (ns : List ℕ) → has_number k (ascending ns) ≡ has_number k ns
-has-ascending k ns = has-sorted k [] ns
-
 pub has-gone : (k : ℕ) (ns : List ℕ) → has_number k (without_number k ns) ≡ false
-has-gone k [] = refl
-has-gone k (n ∷ ns) = go (has-gone k ns) (nat_eq n k) refl
-  where
-    go : has_number k (without_number k ns) ≡ false → (b : Bool) → nat_eq n k ≡ b → has_number k (cond (not (nat_eq n k)) (n ∷ without_number k ns) (without_number k ns)) ≡ false
-    go h true e = ap (λ b. has_number k (cond (not b) (n ∷ without_number k ns) (without_number k ns))) e ∙ h
-    go h false e = ap (λ b. has_number k (cond (not b) (n ∷ without_number k ns) (without_number k ns))) e ∙ ap (λ b. b || has_number k (without_number k ns)) e ∙ h
+has-gone k ns = has-without k k ns ∙ ap (λ b. not b && has_number k ns) (eq-eqb k k refl)
 
 -- a number that is not this one stays
 pub has-other : (k m : ℕ) (ns : List ℕ) → nat_eq m k ≡ false → has_number k (without_number m ns) ≡ has_number k ns
-has-other k m [] off = refl
-has-other k m (n ∷ ns) off = go (has-other k m ns off) (nat_eq n m) refl
-  where
-    go : has_number k (without_number m ns) ≡ has_number k ns → (b : Bool) → nat_eq n m ≡ b → has_number k (cond (not (nat_eq n m)) (n ∷ without_number m ns) (without_number m ns)) ≡ (nat_eq n k || has_number k ns)
-    go h true e =
-        ap (λ b. has_number k (cond (not b) (n ∷ without_number m ns) (without_number m ns))) e ∙ h
-        ∙ sym (ap (λ x. nat_eq x k || has_number k ns) (eqb-true n m e) ∙ ap (λ b. b || has_number k ns) off)
-    go h false e = ap (λ b. has_number k (cond (not b) (n ∷ without_number m ns) (without_number m ns))) e ∙ ap (λ b. nat_eq n k || b) h
+has-other k m ns off = has-without k m ns ∙ ap (λ b. not b && has_number k ns) off
 
 -- ---- the links that are up after an input
 
@@ -102,9 +51,6 @@ not_both k (In.Need d) e = refl
 -- an accepted input
 pub core_accepted : (c : CoreView) (input : Input) (now : ℕ) → refusal_of c input ≡ None → core_after c input now ≡ core_taking c input now
 core_accepted c input now e = ap (λ o. if is_some o then c else core_taking c input now) e
-
-pub same_neighbours : (c : CoreView) (input : Input) (now : ℕ) → (core_after c input now).neighbours ≡ c.neighbours
-same_neighbours c input now = cond_both (is_some (refusal_of c input)) c (core_taking c input now) (λ (x : CoreView). x.neighbours ≡ c.neighbours) (λ _. refl) (λ _. refl)
 
 pub up_accepted : (c : CoreView) (k : ℕ) → has_number k c.neighbours ≡ true → has_number k c.up ≡ false → refusal_of c (In.LinkUp k) ≡ None
 up_accepted c k a b =
@@ -170,7 +116,7 @@ first_cut_is s (k ∷ ks) j e = go (cases_Bool (has_number k s.core.up && is_non
         (ap (λ b. b || has_number j ks) (eq-eqb k j z), subst (λ x. has_number x s.core.up ≡ true) z h.0, subst (λ x. is_none (s.current x) ≡ true) z h.1)
     go (inr t) again =
         let h = again (sym (ap (λ b. if b then Some k else first_cut s ks) t) ∙ e) in
-        (ap (λ b. nat_eq k j || b) h.0 ∙ or_true (nat_eq k j), h.1, h.2)
+        (ap (λ b. nat_eq k j || b) h.0 ∙ or_right (nat_eq k j) true refl, h.1, h.2)
 
 pub first_cut_none : (s : SeatState) (ks : List ℕ) → count_up ks s.core.up ≤ 0 → first_cut s ks ≡ None
 first_cut_none s [] h = refl
@@ -194,4 +140,4 @@ settled_at s (j ∷ js) k e i n = go (cases_Bool (has_number j s.core.up && is_n
         (λ (u : has_number k s.core.up ≡ false). u)
         (cases_Bool (has_number k s.core.up)))
         (λ (m : has_number k js ≡ true). again (sym (ap (λ b. if b then Some j else first_cut s js) t) ∙ e) m)
-        (or_left (nat_eq j k) (has_number k js) i)
+        (or_cases (nat_eq j k) (has_number k js) i)

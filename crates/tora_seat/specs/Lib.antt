@@ -1,3 +1,4 @@
+pub mod Between
 pub mod Serving
 pub mod Offers
 pub mod Rows

@@ -8,6 +8,7 @@ use Rattle.tora_core.specs.declared.Input.TheVariants as In
 use Rattle.tora_core.specs.declared.errors.StepError.{StepError}
 use Rattle.tora_core.specs.Numbers.{has_number}
 use Rattle.tora_core.specs.CoreRun.{refusal_of, sends_of}
+use Rattle.tora_seat.specs.declared.Status.{Status}
 use Rattle.tora_seat.specs.declared.What.{What}
 use Rattle.tora_seat.specs.declared.What.TheVariants as Tells
 use Rattle.tora_seat.specs.declared.Item.{Item}
@@ -104,6 +105,7 @@ pub data Does (ks : List ℕ) (now : ℕ) (v : Serving) : Option ℕ → What �
   need : {seat : Option ℕ} {d : ℕ} {w : Serving} → Settles ks now v (In.Need d) w → Does ks now v seat (Tells.Need d) w
   beat : {seat : Option ℕ} → Does ks now v seat Tells.Beat v
   show : {seat : Option ℕ} → Does ks now v seat Tells.Show (record v { answer = Says.Show })
+  status : {seat : Option ℕ} {asked : Status} → Does ks now v seat (Tells.Status asked) (record v { answer = Says.Show })
   quit : {seat : Option ℕ} → Does ks now v seat Tells.Quit (record v { answer = Says.Quit })
 
 -- an item is served at this seat: each pending cut is tried once, in ascending order, and then what it tells is done

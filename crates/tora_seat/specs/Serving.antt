@@ -159,6 +159,7 @@ after_link_item answers ks k now (Tells.Down life reason) v =
 after_link_item answers ks k now (Tells.Need d) v = after_input answers ks (In.Need d) now v
 after_link_item answers ks k now Tells.Beat v = v
 after_link_item answers ks k now Tells.Show v = record v { answer = Says.Show }
+after_link_item answers ks k now (Tells.Status status) v = record v { answer = Says.Show }
 after_link_item answers ks k now Tells.Quit v = record v { answer = Says.Quit }
 
 -- an item of a seat that is no link
@@ -169,6 +170,7 @@ after_other_item answers ks now (Tells.Down life reason) v = v
 after_other_item answers ks now (Tells.Need d) v = after_input answers ks (In.Need d) now v
 after_other_item answers ks now Tells.Beat v = v
 after_other_item answers ks now Tells.Show v = record v { answer = Says.Show }
+after_other_item answers ks now (Tells.Status status) v = record v { answer = Says.Show }
 after_other_item answers ks now Tells.Quit v = record v { answer = Says.Quit }
 
 abbrev pub after_item_of : Answers → List ℕ → Option ℕ → ℕ → What → Serving → Serving

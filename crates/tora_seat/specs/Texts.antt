@@ -4,6 +4,7 @@ use Rattle.std.specs.Fmt.{decimal}
 use Rattle.tora_packet.specs.PacketText.{written_packet}
 use Rattle.tora_arq.specs.Texts.{written_life, written_reason}
 use Rattle.tora_core.specs.Errors.{written_step_error}
+use Rattle.tora_seat.specs.declared.Status.TheVariants as Asked
 use Rattle.tora_seat.specs.declared.What.{What}
 use Rattle.tora_seat.specs.declared.What.TheVariants as Tells
 use Rattle.tora_seat.specs.declared.Item.{Item}
@@ -20,6 +21,8 @@ written_what (Tells.Down life reason) = codes "down " ++ written_life life ++ co
 written_what (Tells.Need d) = codes "need " ++ decimal d
 written_what Tells.Beat = codes "beat"
 written_what Tells.Show = codes "show"
+written_what (Tells.Status Asked.Json) = codes "json"
+written_what (Tells.Status Asked.Watch) = codes "watch"
 written_what Tells.Quit = codes "quit"
 
 -- the seat, the number, the tick, and what is told

@@ -1,8 +1,8 @@
 //! Items, cargoes and answers as a log line shows them.
-use crate::{Answer, Cargo, Item, What};
+use crate::{Answer, Cargo, Item, Status, What};
 use std::fmt;
 
-/// A word, and behind it the life, the packet, the reason or the destination.
+/// A word, and behind it the life, the packet, the reason or the destination; of a status its own word.
 impl fmt::Display for What {
     ghost use Rattle.std.specs.Prelude.{Some};
     ghost use Rattle.tora_seat.specs.Texts.{written_what};
@@ -20,6 +20,10 @@ impl fmt::Display for What {
                 write!(f, "need {d}")
             }
             What::Show => f.write_str("show"),
+            What::Status(status) => match status {
+                Status::Json => f.write_str("json"),
+                Status::Watch => f.write_str("watch"),
+            },
             What::Quit => f.write_str("quit"),
         }
     }

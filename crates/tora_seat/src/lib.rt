@@ -15,6 +15,7 @@
 //! ```
 #![tactic(auto)]
 
+mod between;
 mod display;
 mod inputs;
 mod lanes;
@@ -24,6 +25,7 @@ mod rows;
 mod seat;
 mod worked;
 
+pub use between::{cut_bound, hand_in, what_of};
 pub use inputs::accepted_inputs_make_the_core;
 pub use lanes::OutLanes;
 pub use laws::{
@@ -45,6 +47,15 @@ pub const MOST_ITEMS: usize = 1024;
 /// How many cargoes the lane to a neighbour holds. Own profile.
 pub const MOST_CARGOES: usize = 256;
 
+/// What of the core is to be told to a program.
+#[derive(Clone, Copy, Debug, PartialEq, Eq, Hash)]
+pub enum Status {
+    /// All of it, once, as a line of JSON.
+    Json,
+    /// From now on each change of a height and of a next hop.
+    Watch,
+}
+
 /// What an item tells the core.
 #[derive(Clone, Copy, Debug, PartialEq, Eq, Hash)]
 pub enum What {
@@ -60,6 +71,8 @@ pub enum What {
     Need(Id),
     /// The core is to be shown.
     Show,
+    /// The core is to be told to a program.
+    Status(Status),
     /// The core is to end.
     Quit,
 }

@@ -1,12 +1,13 @@
 //! The rows of the core's seat, one for each neighbour.
-ghost use Rattle.std.specs.Prelude.{◌≡◌, ◌<◌, ◌≤◌, ℕ, List, length, false, Option};
+ghost use Rattle.std.specs.Prelude.{◌≡◌, ◌<◌, ◌≤◌, ℕ, List, length, false, Option, IfOk, slice_get, map};
 ghost use Rattle.tora_core.specs.Numbers.{has_number, has_repeat};
 ghost use Rattle.tora_core.specs.CoreRun.{CoreView};
-ghost use Rattle.tora_seat.specs.Serving.{after_cuts_tried, after_broadcast, after_broadcasts, first_cut};
-ghost use Rattle.tora_seat.specs.Rows.{neighbours_of, current_of, pending_of};
+ghost use Rattle.tora_seat.specs.Serving.{after_cuts_tried, after_broadcast, after_broadcasts, first_cut, is_current};
+ghost use Rattle.tora_seat.specs.Rows.{neighbours_of, current_of, pending_of, new_row, first_cut_of};
 ghost use Rattle.tora_seat.specs.Bodies.{TriesCut, SendsTo, RowsGo};
 
 use crate::{Cargo, OutLanes};
+use std::alloc::{AllocError, Global};
 use tora_arq::Life;
 use tora_core::Core;
 use tora_height::Id;
@@ -86,4 +87,48 @@ pub fn broadcast_all<O: OutLanes>(rows: &mut [LinkRow], packets: &[Packet], outs
     for packet in packets {
         broadcast(rows, packet, outs);
     }
+}
+
+/// The row at a place.
+pub fn row_at(rows: &[LinkRow], place: usize) -> Option<LinkRow>
+    ensures { result ≡ slice_get rows.now place }
+{
+    rows.get(place).copied()
+}
+
+/// The neighbour of the first row whose link is up at the core without a current life.
+pub fn first_cut(core: &Core, rows: &[LinkRow]) -> Option<Id>
+    ensures { result ≡ first_cut_of core.now rows.now }
+{
+    rows.iter()
+        .find(|row| core.is_up(row.neighbour) && row.current.is_none())
+        .map(|row| row.neighbour)
+}
+
+/// Whether it is the current life.
+pub fn is_current(life: &Life, current: &Option<Life>) -> bool
+    ensures { result ≡ is_current life.now current.now }
+{
+    match current {
+        Some(other) => life.own == other.own && life.peer == other.peer,
+        None => false,
+    }
+}
+
+/// The row of a neighbour without a life.
+fn new_row(neighbour: Id) -> LinkRow
+    ensures { result ≡ new_row neighbour }
+{
+    LinkRow {
+        neighbour,
+        current: None,
+        pending: None,
+    }
+}
+
+/// The rows of these neighbours, without a life.
+pub fn new_rows(alloc: Global, neighbours: &[Id]) -> Result<Vec<LinkRow>, AllocError>
+    ensures { IfOk result (λ rows. rows.items ≡ map new_row neighbours.now) }
+{
+    neighbours.iter().map(|k| new_row(*k)).collect(alloc)
 }

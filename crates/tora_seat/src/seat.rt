@@ -5,10 +5,10 @@ ghost use Rattle.tora_core.specs.declared.Input.TheVariants as In;
 ghost use Rattle.tora_seat.specs.Serving.{Answers, Offer, first_cut, with_current, with_pending, after_cuts_tried, after_step, after_settling, after_input, after_down, after_old_down, after_up, after_packet, after_link_item, after_other_item, after_item_of, serving_of, is_current};
 ghost use Rattle.tora_seat.specs.Serves.{Serves};
 ghost use Rattle.tora_seat.specs.Offers.{AreOffered, Follows};
-ghost use Rattle.tora_seat.specs.Rows.{SeatView, neighbours_of, current_of, pending_of, state_of, serving_at, new_row, first_seat, first_cut_of};
+ghost use Rattle.tora_seat.specs.Rows.{SeatView, neighbours_of, current_of, pending_of, state_of, serving_at, first_seat};
 ghost use Rattle.tora_seat.specs.Bodies.{SeatGoes};
 
-use crate::rows::{broadcast_all, try_cuts};
+use crate::rows::{broadcast_all, first_cut, is_current, new_rows, row_at, try_cuts};
 use crate::{Answer, Item, LinkRow, OutLanes, Stepped, What};
 use std::alloc::{AllocError, Global};
 use std::marker::Model;
@@ -256,6 +256,7 @@ impl CoreSeat {
             What::Need(d) => self.take_in(&Input::Need(*d), now, outs),
             What::Beat => {}
             What::Show => self.answer = Answer::Show,
+            What::Status(_) => self.answer = Answer::Show,
             What::Quit => self.answer = Answer::Quit,
         }
     }
@@ -271,6 +272,7 @@ impl CoreSeat {
         match what {
             What::Need(d) => self.take_in(&Input::Need(*d), now, outs),
             What::Show => self.answer = Answer::Show,
+            What::Status(_) => self.answer = Answer::Show,
             What::Quit => self.answer = Answer::Quit,
             What::Up(_) => {}
             What::Packet(_, _) => {}
@@ -393,48 +395,4 @@ impl CoreSeat {
         self.on_item(item, outs);
         self.answer
     }
-}
-
-/// The row at a place.
-fn row_at(rows: &[LinkRow], place: usize) -> Option<LinkRow>
-    ensures { result ≡ slice_get rows.now place }
-{
-    rows.get(place).copied()
-}
-
-/// The neighbour of the first row whose link is up at the core without a current life.
-fn first_cut(core: &Core, rows: &[LinkRow]) -> Option<Id>
-    ensures { result ≡ first_cut_of core.now rows.now }
-{
-    rows.iter()
-        .find(|row| core.is_up(row.neighbour) && row.current.is_none())
-        .map(|row| row.neighbour)
-}
-
-/// Whether it is the current life.
-fn is_current(life: &Life, current: &Option<Life>) -> bool
-    ensures { result ≡ is_current life.now current.now }
-{
-    match current {
-        Some(other) => life.own == other.own && life.peer == other.peer,
-        None => false,
-    }
-}
-
-/// The row of a neighbour without a life.
-fn new_row(neighbour: Id) -> LinkRow
-    ensures { result ≡ new_row neighbour }
-{
-    LinkRow {
-        neighbour,
-        current: None,
-        pending: None,
-    }
-}
-
-/// The rows of these neighbours, without a life.
-fn new_rows(alloc: Global, neighbours: &[Id]) -> Result<Vec<LinkRow>, AllocError>
-    ensures { IfOk result (λ rows. rows.items ≡ map new_row neighbours.now) }
-{
-    neighbours.iter().map(|k| new_row(*k)).collect(alloc)
 }

@@ -1,5 +1,6 @@
 -- What is stored at the start is kept as it must be, and is the first world.
 use Rattle.std.proofs.Common.{◌≡◌, refl, sym, ap, ap₂, ◌∙◌, subst, ℕ, zero, suc, ◌+◌, ◌==◌, ◌&&◌, Bool, true, false, List, [], ◌∷◌, map, drop, length, replicate, slice_get, slice_index, Option, Some, None, is_some, arith, if◌then◌else◌, eqb-true}
+use Rattle.tora_core.proofs.AfterInputs.{has-ascending}
 use Rattle.std.specs.Prelude.{option_map}
 use Rattle.std.proofs.lemmas.Bool.{and_parts}
 use Rattle.std.proofs.lemmas.List.{length-map}
@@ -24,7 +25,7 @@ use Rattle.tora_sim.specs.Links.{LinkView, is_at}
 use Rattle.tora_sim.specs.Nodes.{NodeView, is_of, sending_of}
 use Rattle.tora_sim.specs.Store.{SimState, IsStore, IsNodeOf, IsLinkOf, AreEndsOf, state_of, world_of, node_at, link_at, seat_in, items_in, inputs_in, counts_in, arms_in, end_in, file_in, lane_in, put_in, steps_in}
 use Rattle.tora_sim.specs.Firsts.{IsFirstLink, IsFirstNode, AreMade, key_of}
-use Rattle.tora_sim.proofs.Peers.{PutInOrder, StaysInOrder, neighbours-ascend, few-neighbours, nodes-ascend, stay-ascending, place-within, has-ascending}
+use Rattle.tora_sim.proofs.Peers.{PutInOrder, StaysInOrder, neighbours-ascend, few-neighbours, nodes-ascend, stay-ascending, place-within}
 use Rattle.tora_sim.proofs.KeyLists.{has_key, AreOrdered, found-name, found-key, found-there, key-in, of-node, key-there, other-way, ends-ordered, links-rise, nodes-rise}
 
 -- ---- a seat at its start

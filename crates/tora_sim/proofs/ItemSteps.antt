@@ -93,6 +93,7 @@ module _ (answers : Answers) (ks : List ℕ) where
   link_one v k now (Tells.Need d) e = inl (input_same v (In.Need d) now ∙ e)
   link_one v k now Tells.Beat e = inl e
   link_one v k now Tells.Show e = inl e
+  link_one v k now (Tells.Status status) e = inl e
   link_one v k now Tells.Quit e = inl e
 
   other_none : (v : Serving) (now : ℕ) (what : What) → v.steps ≡ [] → (after_other_item answers ks now what v).steps ≡ []
@@ -103,6 +104,7 @@ module _ (answers : Answers) (ks : List ℕ) where
   other_none v now (Tells.Need d) e = input_same v (In.Need d) now ∙ e
   other_none v now Tells.Beat e = e
   other_none v now Tells.Show e = e
+  other_none v now (Tells.Status status) e = e
   other_none v now Tells.Quit e = e
 
   pub steps_at : (s : SeatState) (item : Item) → AreStepsAt ks item.seat (serving_of answers ks s item).steps

@@ -1,5 +1,7 @@
 -- Nodes and link ends that are found by their numbers, and the order of these.
 use Rattle.std.proofs.Common.{◌≡◌, refl, sym, ap, ap₂, ◌∙◌, subst, ℕ, zero, suc, ◌<◌, ◌==◌, ◌&&◌, ◌||◌, ◌⊎◌, inl, inr, Bool, true, false, List, [], ◌∷◌, ◌++◌, map, length, get_or, slice_get, find, cond, is_some, Some, None, arith, if◌then◌else◌, eq-eqb, eqb-true}
+use Rattle.tora_core.proofs.AfterInputs.{has-ascending}
+use Rattle.std.proofs.lemmas.Bool.{or_left, or_right}
 use Rattle.std.specs.List.{AllByRecursion, flat_map, list_any}
 use Rattle.tora_core.specs.Numbers.{has_number, IsAscending}
 use Rattle.tora_world.specs.Topology.{Topology, Link, nodes_in, neighbours_of, other_ends, is_link}
@@ -10,7 +12,6 @@ use Rattle.tora_sim.specs.Nodes.{NodeView, is_of}
 use Rattle.tora_sim.specs.Readers.{ends_at}
 use Rattle.tora_sim.specs.Firsts.{key_of}
 use Rattle.tora_world.proofs.SoundTopology.{unnamed}
-use Rattle.tora_sim.proofs.Peers.{has-ascending}
 
 abbrev pub has_key : ℕ → ℕ → List (ℕ × ℕ) → Bool
 has_key n k keys = list_any (λ (e : ℕ × ℕ). (e.0 == n) && (e.1 == k)) keys
@@ -45,9 +46,6 @@ found-there {A} p (y ∷ ys) x e = go (λ h. found-there p ys x h) (p y) refl e
     go rest false is e = later (rest e)
 
 -- ---- the keys of all link ends
-
-or-left : (a b : Bool) → a ≡ true → (a || b) ≡ true
-or-left a b e = ap (λ c. c || b) e
 
 joined : (n k : ℕ) (xs ys : List (ℕ × ℕ)) → has_key n k (xs ++ ys) ≡ (has_key n k xs || has_key n k ys)
 joined n k [] ys = refl
@@ -98,12 +96,8 @@ key-there [] i x e = absurd (let z : None ≡ Some x = e in cc)
 key-there (y ∷ links) zero x e =
     let same : y ≡ x = cc in
     subst (λ (z : LinkView). has_key z.node z.peer (key_of y ∷ map key_of links) ≡ true) same
-    (or-left ((y.node == y.node) && (y.peer == y.peer)) (has_key y.node y.peer (map key_of links)) (ap₂ (λ a b. a && b) (eq-eqb y.node y.node refl) (eq-eqb y.peer y.peer refl)))
-key-there (y ∷ links) (suc i) x e = or-right ((y.node == x.node) && (y.peer == x.peer)) (has_key x.node x.peer (map key_of links)) (key-there links i x e)
-  where
-    or-right : (a b : Bool) → b ≡ true → (a || b) ≡ true
-    or-right true b e = refl
-    or-right false b e = e
+    (or_left ((y.node == y.node) && (y.peer == y.peer)) (has_key y.node y.peer (map key_of links)) (ap₂ (λ a b. a && b) (eq-eqb y.node y.node refl) (eq-eqb y.peer y.peer refl)))
+key-there (y ∷ links) (suc i) x e = or_right ((y.node == x.node) && (y.peer == x.peer)) (has_key x.node x.peer (map key_of links)) (key-there links i x e)
 
 -- the link between two nodes is a link of each
 pub other-way : (n k : ℕ) (links : List Link) → has_number k (other_ends n links) ≡ has_number n (other_ends k links)

@@ -63,7 +63,7 @@ before_index : (n k a b c d : ℕ) → (a < c) ⊎ ((a ≡ c) × (b < d)) → or
 before_index n k a b c d (inl h) = grind (arith, nat_tests)
 before_index n k a b c d (inr h) = grind (arith, nat_tests)
 
-le_cases : (i j : ℕ) → i ≤ j → (i ≡ j) ⊎ (i < j)
+pub le_cases : (i j : ℕ) → i ≤ j → (i ≡ j) ⊎ (i < j)
 le_cases i j le = elim (cases_Bool (ltb i j)) [ inl e ↦ inr (ltb-true i j e) | inr e ↦ inl (let more = ltb-false i j e in omega arith) ]
 
 lt_cases : (j i : ℕ) → (j < i) ⊎ (i ≤ j)

@@ -1,5 +1,5 @@
 -- No call but an opening changes the number of an end's last life.
-use Rattle.std.proofs.Common.{◌≡◌, ℕ, ◌<◌, ◌⊎◌, inl, inr, sym, subst}
+use Rattle.std.proofs.Common.{◌≡◌, ℕ, ◌<◌, ◌⊎◌, inl, inr, Option, Some, None, refl, sym, subst}
 use Rattle.tora_packet.specs.declared.Packet.{Packet}
 use Rattle.tora_frame.specs.FrameParts.{FrameParts}
 use Rattle.tora_arq.specs.declared.Life.{Life}
@@ -10,7 +10,7 @@ use Rattle.tora_arq.specs.LinkFacts.LinkCall.{Frame, Tick, Submit, Transmit, Cut
 use Rattle.tora_life.specs.LifeRun.{LifeDisk}
 use Rattle.tora_seat.specs.declared.Cargo.{Cargo}
 use Rattle.tora_seat.specs.declared.Cargo.TheVariants as Gives
-use Rattle.tora_world.specs.World.{after_cargo}
+use Rattle.tora_seat.specs.Between.{after_cargo, after_cut_of_bound}
 use Rattle.tora_sim.specs.Files.{IsDrawn}
 
 abbrev pub LastsRise : Type 0
@@ -42,3 +42,7 @@ stays_drawn e after new file is same h =
 pub cargo_stays : LastsRise → (s : Settings) (e : EndState) (cargo : Cargo) → Stays e (after_cargo e cargo)
 cargo_stays law s e (Gives.Packet life packet) = submit_stays law s e life packet
 cargo_stays law s e (Gives.Cut life) = cut_stays law s e life
+
+pub bound_stays : LastsRise → (s : Settings) (e : EndState) (bound : Option Life) → Stays e (after_cut_of_bound e bound)
+bound_stays law s e None = refl
+bound_stays law s e (Some life) = cut_stays law s e life

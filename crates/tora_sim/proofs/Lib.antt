@@ -34,3 +34,4 @@ pub mod SentFrames
 pub mod Walking
 pub mod NodeReads
 pub mod Resting
+pub mod Quiets

@@ -17,8 +17,10 @@ use Rattle.tora_world.specs.declared.SimError.{SimError}
 use Rattle.tora_world.specs.declared.SimError.TheVariants as Refused
 use Rattle.tora_world.specs.LinkMachine.{put_at}
 use Rattle.tora_world.specs.Topology.{Topology, is_link}
-use Rattle.tora_world.specs.World.{World, refusal_of, effect_by, world_by, world_after, own_choice, unless_possible, open_with, after_cargo, after_pull, is_empty}
-use Rattle.tora_world.specs.FreeWorld.{free_by, after_cut_of_bound}
+use Rattle.tora_seat.specs.Between.{after_cargo}
+use Rattle.tora_world.specs.World.{World, refusal_of, effect_by, world_by, world_after, own_choice, unless_possible, open_with, after_pull, is_empty}
+use Rattle.tora_seat.specs.Between.{after_cut_of_bound}
+use Rattle.tora_world.specs.FreeWorld.{free_by}
 use Rattle.tora_world.specs.FreeWorld.FreeEvent.{CutsBound}
 use Rattle.tora_sim.specs.Cuts.{after_cut_at}
 use Rattle.tora_sim.specs.Keyed.{IsFirst}

@@ -1,5 +1,6 @@
 -- The neighbours of a node in a topology: in ascending order, each once, none of them 0 or the node.
 use Rattle.std.proofs.Common.{◌≡◌, ◌≢◌, refl, sym, ap, ◌∙◌, subst, ℕ, zero, suc, ◌+◌, ◌<◌, ◌≤◌, ◌==◌, Bool, true, false, ◌||◌, nat_lt, List, [], ◌∷◌, ◌++◌, length, get_or, arith, if◌then◌else◌, eq-eqb, eqb-true, true≢false}
+use Rattle.tora_core.proofs.AfterInputs.{has-ascending}
 use Rattle.std.specs.List.{All, AllByRecursion}
 use Rattle.std.proofs.lemmas.Bool.{cond_both}
 use Rattle.std.proofs.lemmas.Bool.Decides.{nat_tests}
@@ -7,7 +8,7 @@ use Rattle.tora_core.specs.Numbers.{has_number, has_repeat, with_number, ascendi
 use Rattle.tora_world.specs.Topology.{Topology, Link, nodes_in, with_node, other_ends, neighbours_of, greatest_limits}
 use Rattle.tora_world.specs.World.{place_of}
 use Rattle.tora_sim.specs.Topologies.{IsTopology}
-use Rattle.tora_world.proofs.SoundTopology.{has-with_number, length-with_number}
+use Rattle.tora_world.proofs.SoundTopology.{length-with_number}
 use Rattle.tora_sim.proofs.Sound.{sorted_on}
 use Rattle.tora_world.proofs.SoundTopology.{sound, others-apart, others-once, few-ends, has-with_node}
 
@@ -19,24 +20,7 @@ PutInOrder = (numbers : List ℕ) → has_repeat numbers ≡ false → IsAscendi
 abbrev pub StaysInOrder : Type 0
 StaysInOrder = (n : ℕ) (numbers : List ℕ) → has_number n numbers ≡ false → IsAscending numbers → IsAscending (with_number n numbers)
 
--- ---- which numbers there are
-
-or-none : (a : Bool) → (a || false) ≡ a
-or-none true = refl
-or-none false = refl
-
-moved : (a b c : Bool) → ((a || b) || c) ≡ (b || (a || c))
-moved true true c = refl
-moved true false c = refl
-moved false true c = refl
-moved false false c = refl
-
-has-sorted_on : (n : ℕ) (acc ns : List ℕ) → has_number n (sorted_on acc ns) ≡ (has_number n acc || has_number n ns)
-has-sorted_on n acc [] = sym (or-none (has_number n acc))
-has-sorted_on n acc (k ∷ ns) = has-sorted_on n (with_number k acc) ns ∙ ap (λ b. b || has_number n ns) (has-with_number n k acc) ∙ moved (k == n) (has_number n acc) (has_number n ns)
-
-pub has-ascending : (n : ℕ) (ns : List ℕ) → has_number n (ascending ns) ≡ has_number n ns
-has-ascending n ns = has-sorted_on n [] ns
+-- ---- how many numbers there are
 
 length-sorted_on : (acc ns : List ℕ) (all : ℕ) → all ≡ length acc + length ns → length (sorted_on acc ns) ≡ all
 length-sorted_on acc [] all e = omega arith

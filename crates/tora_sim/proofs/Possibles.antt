@@ -27,14 +27,14 @@ use Rattle.tora_sim.proofs.Turning.{turn_refused}
 abbrev pub IsImpossible : World → Event → Type 0
 IsImpossible w event = is_some (refusal_of w event) ≡ true
 
-is_impossible : (w : World) (event : Event) → IsRefused w event Refused.NotPossible w → IsImpossible w event
+pub is_impossible : (w : World) (event : Event) → IsRefused w event Refused.NotPossible w → IsImpossible w event
 is_impossible w event r = elim r.cause [ inl e ↦ absurd (let z : Refused.NotPossible ≡ Refused.Memory = e.0 in cc) | inr e ↦ ap is_some e ]
 
-no_event : {A : Type 0} (o : Option A) → is_some o ≡ false → o ≡ None
+pub no_event : {A : Type 0} (o : Option A) → is_some o ≡ false → o ≡ None
 no_event None e = refl
 no_event (Some x) e = absurd cc
 
-read_of : {A : Type 0} (xs : List A) (i : ℕ) (x : A) → slice_get xs i ≡ Some x → x ≡ slice_index_or xs i x
+pub read_of : {A : Type 0} (xs : List A) (i : ℕ) (x : A) → slice_get xs i ≡ Some x → x ≡ slice_index_or xs i x
 read_of xs i x e = some_is (sym e ∙ slice_get-get_or xs i x (slice_get_within xs i x e))
   where
     some_is : {y : _} → Some x ≡ Some y → x ≡ y

@@ -10,7 +10,8 @@ use Rattle.tora_world.specs.declared.Event.TheVariants as Happens
 use Rattle.tora_world.specs.declared.SimError.TheVariants as Refused
 use Rattle.tora_world.specs.LinkMachine.{put_at}
 use Rattle.tora_world.specs.Topology.{Topology, neighbours_of}
-use Rattle.tora_world.specs.World.{World, refusal_of, effect_by, world_after, own_choice, unless_possible, is_empty, has_room, with_item, with_end, after_pump, what_of, place_of}
+use Rattle.tora_seat.specs.Between.{what_of}
+use Rattle.tora_world.specs.World.{World, refusal_of, effect_by, world_after, own_choice, unless_possible, is_empty, has_room, with_item, with_end, after_pump, place_of}
 use Rattle.tora_sim.specs.Keyed.{IsFirst}
 use Rattle.tora_sim.specs.Links.{LinkView, is_at, with_state}
 use Rattle.tora_sim.specs.Nodes.{NodeView, is_of, after_item}

@@ -1,21 +1,18 @@
 -- Tests of a list that go from each item to those behind it, and tests of links by their two numbers.
 use Rattle.std.proofs.Common.{◌≡◌, refl, sym, ap, ◌∙◌, ℕ, zero, suc, ◌+◌, ◌-◌, ◌<◌, ◌≤◌, ◌==◌, Bool, true, false, ◌||◌, List, [], ◌∷◌, length, take, drop, get_or, arith}
+use Rattle.std.proofs.lemmas.Bool.{or_right}
 use Rattle.std.specs.List.{list_any}
 use Rattle.std.proofs.lemmas.List.{drop_more, take_rest}
 use Rattle.tora_core.specs.Numbers.{has_number, has_repeat}
 use Rattle.tora_world.specs.Topology.{is_same_link, has_link, has_repeated_link, has_own_link}
 use Rattle.tora_sim.specs.Topologies.{link_in, links_in}
 
-pub or-right : (a b : Bool) → b ≡ true → (a || b) ≡ true
-or-right true b e = refl
-or-right false b e = e
-
 -- ---- links
 
 links-behind : (links : List (ℕ × ℕ)) (i : ℕ) → has_repeated_link (links_in (drop i links)) ≡ true → has_repeated_link (links_in links) ≡ true
 links-behind links zero e = e
 links-behind [] (suc i) e = e
-links-behind (x ∷ links) (suc i) e = or-right (has_link (link_in x) (links_in links)) (has_repeated_link (links_in links)) (links-behind links i e)
+links-behind (x ∷ links) (suc i) e = or_right (has_link (link_in x) (links_in links)) (has_repeated_link (links_in links)) (links-behind links i e)
 
 -- a link that stands again behind it
 pub link-again : (links : List (ℕ × ℕ)) (left : ℕ) (d : ℕ × ℕ) → 0 < left → left ≤ length links
@@ -42,7 +39,7 @@ own-any (y ∷ links) = ap (λ b. (y.0 == y.1) || b) (own-any links)
 numbers-behind : (ns : List ℕ) (i : ℕ) → has_repeat (drop i ns) ≡ true → has_repeat ns ≡ true
 numbers-behind ns zero e = e
 numbers-behind [] (suc i) e = e
-numbers-behind (x ∷ ns) (suc i) e = or-right (has_number x ns) (has_repeat ns) (numbers-behind ns i e)
+numbers-behind (x ∷ ns) (suc i) e = or_right (has_number x ns) (has_repeat ns) (numbers-behind ns i e)
 
 -- a number that stands again behind it
 pub number-again : (ns : List ℕ) (left d : ℕ) → 0 < left → left ≤ length ns

@@ -16,3 +16,4 @@ pub mod Lanes
 pub mod Turns
 pub mod Restarts
 pub mod Resting
+pub mod Quiet

@@ -13,7 +13,8 @@ use Rattle.tora_packet.specs.declared.Packet.{Packet}
 use Rattle.tora_arq.specs.declared.Life.{Life}
 use Rattle.tora_seat.specs.declared.Cargo.{Cargo}
 use Rattle.tora_seat.specs.Serving.{Parcel}
-use Rattle.tora_world.specs.World.{open_with, after_cargo}
+use Rattle.tora_seat.specs.Between.{after_cargo}
+use Rattle.tora_world.specs.World.{open_with}
 
 pub record LinkView : Type 0 where
   pub node : ℕ

@@ -1,7 +1,7 @@
 //! A cut of the life of a link end, as where its link is broken.
 ghost use Rattle.std.specs.Prelude.{◌≡◌};
 ghost use Rattle.tora_arq.specs.LinkEnd.{bound_life};
-ghost use Rattle.tora_world.specs.FreeWorld.{after_cut_of_bound};
+ghost use Rattle.tora_seat.specs.Between.{after_cut_of_bound};
 ghost use Rattle.tora_sim.specs.Links.{with_state};
 ghost use Rattle.tora_sim.specs.Cuts.{after_cut_at};
 ghost use Rattle.tora_sim.specs.Store.{world_of};
@@ -10,6 +10,7 @@ use crate::links::{LinkSlot, place};
 use crate::sim::Sim;
 use tora_arq::lives_are_bound_once;
 use tora_height::Id;
+use tora_seat::cut_bound;
 
 impl LinkSlot {
     /// Cuts the bound life, if there is one.
@@ -17,9 +18,7 @@ impl LinkSlot {
         ensures { self.new ≡ with_state self.old (after_cut_of_bound self.old.state (bound_life self.old.state)) }
     {
         lives_are_bound_once();
-        if let Some(life) = self.end.life() {
-            self.end.cut(life);
-        }
+        cut_bound(&mut self.end);
     }
 }
 
@@ -30,6 +29,7 @@ impl Sim {
         ensures { world_of self.new ≡ after_cut_at (world_of self.old) n k }
     {
         if let Some(at) = place(&self.links, &self.hints, n, k) {
+            self.quiet = 0;
             self.links[at].cut_bound();
         }
     }

@@ -72,6 +72,7 @@ impl Sim {
             links,
             datagrams: Datagrams::new(alloc),
             hints,
+            quiet: 0,
         })
     }
 }

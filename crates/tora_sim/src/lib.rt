@@ -24,6 +24,7 @@ mod lanes;
 mod links;
 mod nodes;
 mod possible;
+mod quiet;
 mod readers;
 mod rest;
 mod restarts;

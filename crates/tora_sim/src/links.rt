@@ -1,8 +1,7 @@
 //! The link ends of all nodes, one behind the other.
 ghost use Rattle.tora_arq.specs.Settings.{IsTimes, settings_of};
-ghost use Rattle.std.specs.Prelude.{◌≡◌, ◌≢◌, ◌<◌, ◌≤◌, ◌+◌, ◌++◌, ◌∷◌, [], ℕ, ⊤, IsTrue, IfSome, IfNone, OnOk, IfOk, IfErr, None, MatchOption, find, length, map, is_some, nat_lt, slice_get};
+ghost use Rattle.std.specs.Prelude.{◌≡◌, ◌≢◌, ◌<◌, ◌≤◌, ◌+◌, ◌++◌, ◌∷◌, [], ℕ, ⊤, false, IsTrue, IfSome, IfNone, OnOk, IfOk, IfErr, None, MatchOption, find, length, map, is_some, nat_lt, slice_get};
 ghost use Rattle.tora_arq.specs.LinkEnd.{is_closed, after_frame, after_tick, frame_due, after_transmit, first_event, after_poll_event};
-ghost use Rattle.tora_world.specs.World.{after_cargo};
 ghost use Rattle.tora_sim.specs.Links.{with_state, after_open_at, after_arm, after_pull_at, is_at, AreRising, ticked, AreChanged};
 ghost use Rattle.tora_arq.specs.LinkEnd.{first_end};
 ghost use Rattle.tora_arq.specs.EndRange.{link_end_of};
@@ -22,7 +21,7 @@ use tora_frame::{BorrowedFrame, Packets, Version};
 use tora_height::Id;
 use tora_life::{DiskCall, MemDisk, Owner};
 use tora_packet::Packet;
-use tora_seat::{Cargo, MOST_CARGOES};
+use tora_seat::{Cargo, MOST_CARGOES, hand_in};
 
 /// The end of a link at one node, with its life file and the lane from the node's core to it.
 #[derive(Drop)]
@@ -98,6 +97,14 @@ impl LinkSlot {
         self.end.has_frame_due(now)
     }
 
+    /// Before which tick no frame is due, and no tick ends the life.
+    pub fn quiet_end_until(&self) -> u64
+        ensures frames { (tick : ℕ) → tick < result → is_some (frame_due self.now.settings self.now.state tick) ≡ false }
+        ensures ticks { (tick : ℕ) → tick < result → after_tick self.now.settings self.now.state tick ≡ self.now.state }
+    {
+        self.end.still_until()
+    }
+
     /// Ticks the end.
     pub fn tick(&mut self, now: u64)
         ensures { self.new ≡ with_state self.old (after_tick self.old.settings self.old.state now) }
@@ -164,7 +171,7 @@ impl LinkSlot {
         lives_are_bound_once();
         let cargo = self.put[self.pulled];
         self.pulled += 1;
-        give(&mut self.end, &cargo);
+        hand_in(&mut self.end, &cargo);
     }
 
     /// Takes the memory for all that one item of the node can put here: cargoes up to 256 that wait, and a packet that is
@@ -262,18 +269,6 @@ pub fn end_of(
     match version {
         Version::One => LinkEnd::new_v1(alloc, me, peer, times),
         Version::Two => LinkEnd::new(alloc, me, peer, times),
-    }
-}
-
-/// Submits the packet of a cargo, or cuts its life.
-fn give(end: &mut LinkEnd, cargo: &Cargo)
-    ensures { end.new ≡ record end.old { state = after_cargo end.old.state cargo.now } }
-{
-    match cargo {
-        Cargo::Packet(life, packet) => {
-            let _ = end.submit(*life, *packet);
-        }
-        Cargo::Cut(life) => end.cut(*life),
     }
 }
 

@@ -1,7 +1,7 @@
 //! The simulator.
 ghost use Rattle.std.specs.Prelude.{◌≡◌, ◌<◌, true};
 ghost use Rattle.tora_world.specs.declared.Event.TheVariants.{Tick, Open, Pull, Need, Transmit, Deliver, Pump, CoreTurn, Arm, Restart};
-ghost use Rattle.tora_world.specs.World.{with_datagram, what_of};
+ghost use Rattle.tora_world.specs.World.{with_datagram};
 ghost use Rattle.tora_sim.specs.Nodes.{is_of, sending_of};
 ghost use Rattle.tora_sim.specs.Store.{numbered, call_of};
 ghost use Rattle.tora_sim.specs.Keyed.{IsFirst};
@@ -18,11 +18,11 @@ use crate::topology::Topology;
 use crate::turns::turn;
 use crate::{Call, Event, SimError};
 use std::marker::Model;
-use tora_arq::{LinkEvent, Times, data_frames_are_what_was_submitted};
+use tora_arq::{Times, data_frames_are_what_was_submitted};
 use tora_frame::{BorrowedFrame, Packets};
 use tora_height::Id;
 use tora_life::DiskCall;
-use tora_seat::{MOST_ITEMS, What};
+use tora_seat::{MOST_ITEMS, What, what_of};
 
 /// A simulated world.
 #[derive(Drop)]
@@ -35,16 +35,19 @@ pub struct Sim {
     pub(crate) datagrams: Datagrams,
     /// Where the nodes and the link ends may stand.
     pub(crate) hints: Hints,
+    /// Before this tick nothing is to be done at any node or link end, and no tick changes one; 0 where that isn't known.
+    pub(crate) quiet: u64,
 }
 
 impl Model for Sim {
     ghost use Rattle.tora_sim.specs.Store.{SimState, IsStore, state_of};
+    ghost use Rattle.tora_sim.specs.Quiet.{AreStill};
 
     ghost Value = { SimState };
 
     ghost view = { λ s. state_of s.topology s.times s.clock s.nodes.items s.links.items s.datagrams.items };
 
-    ghost invariant = { λ s. IsStore (state_of s.topology s.times s.clock s.nodes.items s.links.items s.datagrams.items) };
+    ghost invariant = { λ s. IsStore (state_of s.topology s.times s.clock s.nodes.items s.links.items s.datagrams.items) × AreStill s.quiet s.nodes.items s.links.items };
 }
 
 impl Sim {
@@ -55,6 +58,11 @@ impl Sim {
         let Some(now) = self.clock.checked_add(1) else {
             return Err(SimError::Memory);
         };
+        if now < self.quiet {
+            self.clock = now;
+            return Ok(());
+        }
+        self.quiet = 0;
         tick(&mut self.links, now);
         self.clock = now;
         Ok(())
@@ -70,6 +78,7 @@ impl Sim {
         if !self.links[at].is_closed() {
             return Err(SimError::NotPossible);
         }
+        self.quiet = 0;
         self.links[at].open(self.clock);
         Ok(())
     }
@@ -84,6 +93,7 @@ impl Sim {
         if !self.links[at].has_cargo() {
             return Err(SimError::NotPossible);
         }
+        self.quiet = 0;
         self.links[at].pull();
         Ok(())
     }
@@ -99,6 +109,7 @@ impl Sim {
             return Err(SimError::NotPossible);
         }
         let seat = self.nodes[home].count();
+        self.quiet = 0;
         self.nodes[home].put_item(seat, self.clock, What::Need(d))
     }
 
@@ -120,6 +131,7 @@ impl Sim {
         }
         data_frames_are_what_was_submitted();
         let mut packets = Packets::new();
+        self.quiet = 0;
         let Some(frame) = self.links[at].send(self.clock, &mut packets) else {
             return Err(SimError::NotPossible);
         };
@@ -144,6 +156,7 @@ impl Sim {
             return Err(SimError::NotPossible);
         }
         let seat = self.links[at].seat();
+        self.quiet = 0;
         match self.nodes[home].put_item(seat, self.clock, what_of(event)) {
             Ok(()) => {
                 self.links[at].take_event();
@@ -165,12 +178,14 @@ impl Sim {
             return Err(SimError::NoDatagram);
         };
         if self.nodes[home].receive() {
+            self.quiet = 0;
             self.nodes[home].arm_receive(false);
             return Ok(());
         }
         let Some(at) = place(&self.links, &self.hints, header.receiver, header.sender) else {
             return Err(SimError::NoDatagram);
         };
+        self.quiet = 0;
         self.links[at].receive(&frame, self.clock);
         Ok(())
     }
@@ -187,6 +202,7 @@ impl Sim {
         }
         let first = self.nodes[home].first();
         let count = self.nodes[home].count();
+        self.quiet = 0;
         if make_room(&mut self.links, first, count).is_err() {
             return Err(SimError::Memory);
         }
@@ -209,6 +225,7 @@ impl Sim {
         let Ok(mut ends) = new_ends(alloc, &self.links, first, count) else {
             return Err(SimError::Memory);
         };
+        self.quiet = 0;
         restart_ends(&mut self.links, first, &mut ends, torn);
         self.nodes[home].restart(seat);
         Ok(())
@@ -223,14 +240,17 @@ impl Sim {
         };
         match call {
             Call::SendLost => {
+                self.quiet = 0;
                 self.nodes[home].arm_sending(Sending::IsLost);
                 Ok(())
             }
             Call::SendGone => {
+                self.quiet = 0;
                 self.nodes[home].arm_sending(Sending::IsGone);
                 Ok(())
             }
             Call::Receive => {
+                self.quiet = 0;
                 self.nodes[home].arm_receive(true);
                 Ok(())
             }
@@ -247,6 +267,7 @@ impl Sim {
     {
         let first = self.nodes[home].first();
         let count = self.nodes[home].count();
+        self.quiet = 0;
         arm(&mut self.links, first, count, call);
         Ok(())
     }
@@ -284,17 +305,6 @@ impl Sim {
             self.step(event)?;
         }
         Ok(())
-    }
-}
-
-/// What a link event tells the core.
-fn what_of(event: LinkEvent) -> What
-    ensures { result ≡ what_of event }
-{
-    match event {
-        LinkEvent::Up(life) => What::Up(life),
-        LinkEvent::Deliver(life, packet) => What::Packet(life, packet),
-        LinkEvent::Down(life, reason) => What::Down(life, reason),
     }
 }
 

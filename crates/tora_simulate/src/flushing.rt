@@ -2,34 +2,37 @@
 ghost use Rattle.std.specs.Prelude.{◌≡◌, ◌≢◌, Ok, IfOk, IfErr, IfSome};
 ghost use Rattle.std.specs.Io.KnownBytes.{IsAtEnd};
 ghost use Rattle.tora_arq.specs.Settings.{IsTimes};
+ghost use Rattle.tora_channel.specs.Table.{lines_of};
 ghost use Rattle.tora_lines.specs.Flushing.{IsFlushed};
 ghost use Rattle.tora_lines.specs.LineText.{fault_of};
-ghost use Rattle.tora_script.specs.SimulationText.{first_fault_over, SimulatesOver, IsBegunOver};
+ghost use Rattle.tora_script.specs.SimulationText.{first_fault_with, SimulatesWith, IsBegunWith};
 
 use std::alloc::Global;
 use std::io::Read;
+use tora_channel::ChannelTable;
 use tora_lines::{Ended, Output, ReplayError, flushed};
 use tora_script::{Setup, Simulator, simulate_telling};
 
-/// Simulates what is made with this, tells on standard error why a line is a fault and, where it is verbose, what is
-/// refused, and flushes the writer: `Write` where that alone fails.
+/// Simulates what is made with this over a channel that the lines of a table change, tells on standard error why a line is a fault
+/// and, where it is verbose, what is refused, and flushes the writer: `Write` where that alone fails.
 pub fn simulate_telling_and_flush<S: Simulator, T: Eprint, R: Read, W: Output>(
     rt: &T,
     alloc: Global,
     setup: Setup,
+    table: ChannelTable,
     reader: &mut R,
     writer: &mut W,
     is_verbose: bool,
 ) -> Result<Ended, ReplayError>
     requires { IsTimes setup.times }
     ensures whole { IfOk result (λ ended. IfSome (R.remaining reader.old) (λ input.
-        SimulatesOver setup input (W.contents writer.old) (W.contents writer.new) ended)) }
+        SimulatesWith setup (lines_of table) input (W.contents writer.old) (W.contents writer.new) ended)) }
     ensures at_end { result ≡ Ok Ended.Whole → IsAtEnd (R.remaining reader.new) }
-    ensures fault { IfOk result (λ ended. IfSome (R.remaining reader.old) (λ input. fault_of ended ≡ first_fault_over setup input)) }
+    ensures fault { IfOk result (λ ended. IfSome (R.remaining reader.old) (λ input. fault_of ended ≡ first_fault_with setup (lines_of table) input)) }
     ensures begun { IfErr result (λ e. e ≢ ReplayError.Write →
-        IsBegunOver setup (R.remaining reader.old) (R.remaining reader.new) (W.contents writer.old) (W.contents writer.new)) }
+        IsBegunWith setup (lines_of table) (R.remaining reader.old) (R.remaining reader.new) (W.contents writer.old) (W.contents writer.new)) }
     ensures flushed { IsFlushed W.did_flush result writer.new }
 {
-    let result = simulate_telling::<S, T, R, W>(rt, alloc, setup, reader, writer, is_verbose);
-    flushed(writer, result)
+    let ended = simulate_telling::<S, T, R, W>(rt, alloc, setup, table, reader, writer, is_verbose);
+    flushed(writer, ended)
 }

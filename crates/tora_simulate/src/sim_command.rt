@@ -3,7 +3,8 @@ ghost use Rattle.std.specs.Prelude.{◌≡◌, ◌⊎◌, false};
 ghost use Rattle.std.specs.Process.{exit_status};
 ghost use Rattle.tora_simulate.specs.Endings.{EndsBy, EndsFile};
 ghost use Rattle.tora_arq.specs.Settings.{IsTimes};
-ghost use Rattle.tora_script.specs.SimulationText.{rules_over};
+ghost use Rattle.tora_channel.specs.Table.{lines_of};
+ghost use Rattle.tora_script.specs.SimulationText.{rules_with};
 
 use crate::flushing::simulate_telling_and_flush;
 use crate::statuses::{INPUT, MEMORY, status, stop};
@@ -12,6 +13,7 @@ use std::io::{ErrorKind, Read};
 use std::process::ExitCode;
 use std::rt::Files;
 use std::{fs, io};
+use tora_channel::ChannelTable;
 use tora_lines::{Ended, LONGEST_LINE, Output, Recent, ReplayError};
 use tora_script::{Setup, SimulationCause, Simulator, tell_cause};
 
@@ -41,18 +43,19 @@ pub fn tell<T: Eprint, R: Read>(rt: &T, reader: &Recent<R>, ended: Result<Ended,
     }
 }
 
-/// Simulates the lines that a reader gives, in a world that is made with this, and ends with a status: 0 at its end, 1 where a line
-/// is a fault or reading or writing failed, 5 where memory was refused. It says why a line is a fault and what failed, and with
-/// `is_verbose` why events are refused.
+/// Simulates the lines that a reader gives, in a world that is made with this and over a channel that the lines of a table
+/// change, and ends with a status: 0 at its end, 1 where a line is a fault or reading or writing failed, 5 where memory was
+/// refused. It says why a line is a fault and what failed, and with `is_verbose` why events are refused.
 pub fn run_over<S: Simulator, T: AllocGlobal + Eprint, R: Read + Drop, W: Output>(
     rt: &T,
     setup: Setup,
+    table: ChannelTable,
     reader: R,
     is_verbose: bool,
     writer: &mut W,
 ) -> ExitCode
     requires { IsTimes setup.times }
-    ensures { EndsBy (rules_over setup) W.contents W.did_flush (R.remaining reader) writer.old writer.new false (exit_status result) }
+    ensures { EndsBy (rules_with setup (lines_of table)) W.contents W.did_flush (R.remaining reader) writer.old writer.new false (exit_status result) }
 {
     let alloc = rt.alloc();
     let mut reader = Recent::new(alloc, reader);
@@ -60,6 +63,7 @@ pub fn run_over<S: Simulator, T: AllocGlobal + Eprint, R: Read + Drop, W: Output
         rt,
         alloc,
         setup,
+        table,
         &mut reader,
         writer,
         is_verbose,
@@ -68,20 +72,22 @@ pub fn run_over<S: Simulator, T: AllocGlobal + Eprint, R: Read + Drop, W: Output
     status(rt, result)
 }
 
-/// Simulates the lines of the file at a path, in a world that is made with this, and ends with a status: that of `run_over` over the file, 1 where it can't be
-/// opened, and 5 where memory was refused for that. Nothing is written where it is not opened.
+/// Simulates the lines of the file at a path, in a world that is made with this and over a channel that the lines of a table
+/// change, and ends with a status: that of `run_over` over the file, 1 where it can't be opened, and 5 where memory was refused
+/// for that. Nothing is written where it is not opened.
 pub fn run<S: Simulator, T: Files + AllocGlobal + Eprint, W: Output>(
     rt: &T,
     setup: Setup,
+    table: ChannelTable,
     path: &str,
     is_verbose: bool,
     writer: &mut W,
 ) -> ExitCode
     requires { IsTimes setup.times }
-    ensures { EndsFile T.File.remaining (rules_over setup) W.contents W.did_flush writer.old writer.new (exit_status result) }
+    ensures { EndsFile T.File.remaining (rules_with setup (lines_of table)) W.contents W.did_flush writer.old writer.new (exit_status result) }
 {
     match fs::open(rt, path) {
-        Ok(file) => run_over::<S, T, T::File, W>(rt, setup, file, is_verbose, writer),
+        Ok(file) => run_over::<S, T, T::File, W>(rt, setup, table, file, is_verbose, writer),
         Err(error) => refuse(rt, path, &error),
     }
 }

@@ -1,4 +1,6 @@
 //! The tests, a module for each subject, and what they share.
+mod channel_files;
+mod channel_tables;
 mod commands;
 mod drives;
 mod each_call;
@@ -7,6 +9,7 @@ mod failing_streams;
 mod keyed_wires;
 mod log_lines;
 mod mixed_networks;
+mod progress;
 mod replay_rows;
 mod replays;
 mod route_rows;

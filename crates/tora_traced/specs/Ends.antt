@@ -1,5 +1,5 @@
 -- The first and the last record of a trace.
-use Rattle.std.specs.Prelude.{ℕ, Bool, if◌then◌else◌, codes, List, ◌++◌}
+use Rattle.std.specs.Prelude.{ℕ, Bool, if◌then◌else◌, codes, List, [], ◌++◌, Option, Some, None}
 use Rattle.std.specs.Fmt.{decimal}
 use Rattle.tora_script.specs.declared.setup.Setup.{Setup}
 use Rattle.tora_trace.specs.Records.{line_end}
@@ -12,12 +12,22 @@ field n = codes " " ++ decimal n
 abbrev pub flag : Bool → ℕ
 flag is = if is then 1 else 0
 
--- `0 trace 1 HELLO SILENCE RETRY TRIES LOSS LEAST MOST REPEAT SEED NOTICE`
-unfoldable pub first_record : Setup → List ℕ
-first_record s =
+abbrev pub word_text : Option (List ℕ) → List ℕ
+word_text None = codes "-"
+word_text (Some text) = text
+
+-- ` UNTIL FILE`, where one of them is there
+abbrev pub more_fields : Option ℕ → Option (List ℕ) → List ℕ
+more_fields None None = []
+more_fields (Some until) file = codes " " ++ decimal until ++ codes " " ++ word_text file
+more_fields None (Some file) = codes " - " ++ file
+
+-- `0 trace 1 HELLO SILENCE RETRY TRIES LOSS LEAST MOST REPEAT SEED NOTICE`, and ` UNTIL FILE` where there is a last round or a channel file
+unfoldable pub first_record : Setup → Option (List ℕ) → List ℕ
+first_record s file =
     codes "0 trace 1" ++ field s.times.hello ++ field s.times.silent ++ field s.times.retry ++ field s.times.tries
     ++ field s.channel.loss ++ field s.channel.least ++ field s.channel.most ++ field s.channel.repeat ++ field s.channel.seed
-    ++ field (flag s.has_notice) ++ line_end
+    ++ field (flag s.has_notice) ++ more_fields s.until file ++ line_end
 
 -- `T end DIGEST`
 unfoldable pub last_record : ℕ → List ℕ → List ℕ

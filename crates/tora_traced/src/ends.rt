@@ -1,7 +1,7 @@
 //! The first and the last record of a trace.
-ghost use Rattle.std.specs.Prelude.{◌≡◌, ◌++◌, false, is_some, IfOk, OnOk, string_bytes};
+ghost use Rattle.std.specs.Prelude.{◌≡◌, ◌++◌, false, is_some, option_map, IfOk, OnOk, string_bytes};
 ghost use Rattle.std.specs.Io.KnownBytes.{Appends};
-ghost use Rattle.tora_traced.specs.Ends.{field, flag, first_record, last_record};
+ghost use Rattle.tora_traced.specs.Ends.{field, flag, more_fields, first_record, last_record};
 
 use crate::trace_out::TraceOut;
 use std::alloc::{AllocError, Global};
@@ -22,10 +22,23 @@ fn flag(is: bool) -> u64
     if is { 1 } else { 0 }
 }
 
-/// `0 trace 1 HELLO SILENCE RETRY TRIES LOSS LEAST MOST REPEAT SEED NOTICE`, a line.
+/// Puts ` UNTIL FILE` behind a text, where there is a last round or a channel file, with `-` for the other.
+fn more_fields(out: &mut String, until: Option<u64>, file: Option<&str>) -> Result<(), AllocError>
+    ensures { OnOk result (string_bytes out.new ≡ string_bytes out.old ++ more_fields until (option_map (λ w. w.now) file.entry)) }
+{
+    match (until, file) {
+        (None, None) => Ok(()),
+        (Some(until), None) => write!(out, " {until} -"),
+        (Some(until), Some(file)) => write!(out, " {until} {file}"),
+        (None, Some(file)) => write!(out, " - {file}"),
+    }
+}
+
+/// `0 trace 1 HELLO SILENCE RETRY TRIES LOSS LEAST MOST REPEAT SEED NOTICE`, and ` UNTIL FILE` where there is a last round or a
+/// channel file, a line.
 #[tactic(auto, unfolding(crate::specs::Ends::first_record))]
-fn first_line(alloc: Global, setup: Setup) -> Result<String, AllocError>
-    ensures { IfOk result (λ text. string_bytes text ≡ first_record setup) }
+fn first_line(alloc: Global, setup: Setup, file: Option<&str>) -> Result<String, AllocError>
+    ensures { IfOk result (λ text. string_bytes text ≡ first_record setup (option_map (λ w. w.now) file.entry)) }
 {
     let (t, c) = (setup.times, setup.channel);
     let mut text = String::new(alloc);
@@ -40,6 +53,7 @@ fn first_line(alloc: Global, setup: Setup) -> Result<String, AllocError>
     field(&mut text, u64::from(c.repeat))?;
     field(&mut text, c.seed)?;
     field(&mut text, flag(setup.has_notice))?;
+    more_fields(&mut text, setup.until, file)?;
     writeln!(&mut text, "")?;
     Ok(text)
 }
@@ -55,12 +69,12 @@ fn last_line(alloc: Global, now: u64, digest: &str) -> Result<String, AllocError
 }
 
 impl<W: Output> TraceOut<W> {
-    /// Writes the first record: the version of the format, and what the simulation is made with. Want of memory is a failure
-    /// of the writer.
-    pub fn begin(&mut self, alloc: Global, setup: Setup)
-        ensures { is_some self.new.failure ≡ false → Appends (W.contents self.old.writer) (W.contents self.new.writer) (first_record setup) }
+    /// Writes the first record: the version of the format, what the simulation is made with, and the digest of the channel
+    /// file, if there is one. Want of memory is a failure of the writer.
+    pub fn begin(&mut self, alloc: Global, setup: Setup, file: Option<&str>)
+        ensures { is_some self.new.failure ≡ false → Appends (W.contents self.old.writer) (W.contents self.new.writer) (first_record setup (option_map (λ w. w.now) file.entry)) }
     {
-        match first_line(alloc, setup) {
+        match first_line(alloc, setup, file) {
             Ok(text) => self.put(0, text.as_bytes()),
             Err(_) => self.fail(),
         }

@@ -45,6 +45,7 @@ fn life_of_what(what: &What) -> Option<Life>
         What::Beat => None,
         What::Need(_) => None,
         What::Show => None,
+        What::Status(_) => None,
         What::Quit => None,
     }
 }
@@ -183,6 +184,15 @@ impl<S: Watched> Simulator for Traced<S> {
     #[inline(always)]
     fn may_happen(&self, place: usize, event: &Event) -> bool {
         self.sim.may_happen(place, event)
+    }
+
+    #[inline(always)]
+    fn is_quiet(&self) -> bool {
+        self.sim.is_quiet()
+    }
+
+    fn settle(&mut self) {
+        self.sim.settle();
     }
 
     fn happen(&mut self, event: &Event) -> Result<Option<SimError>, AllocError> {

@@ -9,14 +9,16 @@ ghost use Rattle.tora_script.specs.SimulationLines.{simulation_line_of};
 ghost use Rattle.tora_traced.specs.Tracing.{after_line, parted_after};
 ghost use Rattle.tora_script.specs.RunningView.{running_view};
 ghost use Rattle.tora_traced.specs.TracingView.{traced_world, tracing_kind};
+ghost use Rattle.tora_channel.specs.Table.{lines_of};
 ghost use Rattle.tora_traced.specs.TraceOuts.{waiting, waiting_behind, emptied, ArePut};
-ghost use Rattle.tora_script.specs.SimulationText.{first_fault_over, SimulatesOver, IsBegunOver};
+ghost use Rattle.tora_script.specs.SimulationText.{first_fault_with, SimulatesWith, IsBegunWith};
 
 use crate::trace_out::TraceOut;
 use crate::traced::Traced;
 use crate::watched::Watched;
 use std::alloc::{AllocError, Global};
 use std::io::{Read, Write};
+use tora_channel::ChannelTable;
 use tora_lines::words::LineError;
 use tora_lines::{Ended, FileKind, Output, ReplayError, read_lines};
 use tora_script::{
@@ -89,7 +91,13 @@ impl<S: Watched, T: Eprint, W: Output> FileKind for Tracing<'_, S, T, W> {
     ghost kind = { tracing_kind S.world };
 
     fn take(&mut self, alloc: Global, line: &[u8], text: &mut String) -> Result<(), LineError> {
+        let is_done = self.told.state.is_done();
         match self.told.take(alloc, line, text) {
+            Ok(()) if is_done => {
+                let state = &mut self.told.state;
+                hand_on(&mut state.stage, self.out);
+                Ok(())
+            }
             Ok(()) => {
                 let state = &mut self.told.state;
                 tell(&mut state.stage, line, self.out)?;
@@ -108,8 +116,9 @@ impl<S: Watched, T: Eprint, W: Output> FileKind for Tracing<'_, S, T, W> {
     }
 }
 
-/// Simulates what is made with this, and writes the trace: of each line, what happened in it. It tells on standard error
-/// why a line is a fault, unless it is too long, and where it is verbose, why an event is refused.
+/// Simulates what is made with this over a channel that the lines of a table change, and writes the trace: of each line, what
+/// happened in it. It tells on standard error why a line is a fault, unless it is too long, and where it is verbose, why an event
+/// is refused.
 ///
 /// A trace that can't be written stops nothing; `out` says so then.
 #[tactic(auto, unfolding(tora_lines::specs::Engine::text_of))]
@@ -117,6 +126,7 @@ pub fn simulate_traced<S: Watched, T: Eprint, R: Read, W: Write, V: Output>(
     rt: &T,
     alloc: Global,
     setup: Setup,
+    table: ChannelTable,
     reader: &mut R,
     writer: &mut W,
     out: &mut TraceOut<V>,
@@ -124,18 +134,18 @@ pub fn simulate_traced<S: Watched, T: Eprint, R: Read, W: Write, V: Output>(
 ) -> Result<Ended, ReplayError>
     requires { IsTimes setup.times }
     ensures whole { IfOk result (λ ended. IfSome (R.remaining reader.old) (λ input.
-        SimulatesOver setup input (W.contents writer.old) (W.contents writer.new) ended)) }
+        SimulatesWith setup (lines_of table) input (W.contents writer.old) (W.contents writer.new) ended)) }
     ensures at_end { result ≡ Ok Ended.Whole → IsAtEnd (R.remaining reader.new) }
-    ensures fault { IfOk result (λ ended. IfSome (R.remaining reader.old) (λ input. fault_of ended ≡ first_fault_over setup input)) }
+    ensures fault { IfOk result (λ ended. IfSome (R.remaining reader.old) (λ input. fault_of ended ≡ first_fault_with setup (lines_of table) input)) }
     ensures begun { IfErr result (λ e. e ≢ ReplayError.Write →
-        IsBegunOver setup (R.remaining reader.old) (R.remaining reader.new) (W.contents writer.old) (W.contents writer.new)) }
+        IsBegunWith setup (lines_of table) (R.remaining reader.old) (R.remaining reader.new) (W.contents writer.old) (W.contents writer.new)) }
 {
     let state: Tracing<'_, S, T, V> = Tracing {
         told: Told {
             rt,
             is_verbose,
             number: 0,
-            state: Simulation::new(setup),
+            state: Simulation::with_table(setup, table),
         },
         out,
     };

@@ -2,6 +2,7 @@
 ghost use Rattle.std.specs.Prelude.{◌≡◌, ◌≤◌, ◌+◌, ◌-◌, ◌^◌, min, false, [], length, IfOk, IfSome};
 ghost use Rattle.tora_neighbour.specs.Datagrams.{failures_after};
 
+use crate::node_clock::NodeClock;
 use mio::net::UdpSocket;
 use mio::{Events, Interest, Poll, Token, Waker};
 use std::alloc::Global;
@@ -9,12 +10,9 @@ use std::io;
 use std::io::ErrorKind;
 use std::marker::Model;
 use std::net::{Net, SocketAddr};
-use std::time::{Clock, Duration, SystemTime, UNIX_EPOCH};
+use std::time::Clock;
 use tora_neighbour::{Wire, WireError};
 use tora_node::Wake;
-
-/// The milliseconds of a tick.
-const TICK: u64 = 100;
 
 /// What the socket is registered under.
 const SOCKET: Token = Token(0);
@@ -25,51 +23,50 @@ const WAKE_UP: Token = Token(1);
 /// How many events a wait gives at most: that of the socket, and that of the wake-up.
 const MOST_EVENTS: usize = 2;
 
-/// Ends the wait of the wire that it was made with. A wake-up that fails is passed over.
+/// Ends the wait of the wire that it was made with, and the clock of the node with its core. A wake-up that fails is passed over.
 #[derive(Drop)]
-pub struct SocketWaker {
+pub struct SocketWaker<'a, R> {
     waker: Waker,
+    clock: &'a NodeClock<R>,
 }
 
-impl Wake for SocketWaker {
+impl<'a, R: Clock> Wake for SocketWaker<'a, R> {
     fn wake(&self) {
         let _ = self.waker.wake();
+    }
+
+    fn end(&self) {
+        self.clock.end();
+        self.wake();
     }
 }
 
 /// A wire over a UDP socket between two addresses. It tells contracts no datagrams. It doesn't look at who sent one.
 ///
 /// A receive gives a datagram that has come, and waits for none. Where there is none, it waits for one or for a wake-up, at most
-/// until the clock's next tick of 100 ms begins. A wait that a wake-up or a signal has ended or that was in vain gives no datagram;
-/// one of no bytes is a datagram too.
+/// until the clock's next tick of 100 ms begins, and no time at all once the core of the node has ended. A wait that a wake-up or a
+/// signal has ended or that was in vain gives no datagram; one of no bytes is a datagram too.
 ///
 /// A send waits for nothing, and one that takes fewer bytes than it is given has failed. Where the system has no room for the
 /// datagram, or no way leads to the other end, as long as an interface is down, the datagram is lost, and the call has not failed.
 #[derive(Drop)]
-pub struct WakingWire<R> {
+pub struct WakingWire<'a, R> {
     poll: Poll,
     events: Events,
     socket: UdpSocket,
     remote: SocketAddr,
-    rt: R,
+    clock: &'a NodeClock<R>,
     /// Whether a datagram may have come of which no further event tells.
     has_more: bool,
     failures: u64,
 }
 
-impl<R> Model for WakingWire<R> {
+impl<'a, R> Model for WakingWire<'a, R> {
     ghost use Rattle.std.specs.Prelude.{ℕ};
 
     ghost Value = { ℕ };
 
     ghost view = { λ w. w.failures };
-}
-
-/// How many milliseconds of a tick are left at a moment, which is told in milliseconds: from 1 to 100.
-fn rest_of_tick(moment: u128) -> u64
-    ensures { result ≤ TICK }
-{
-    TICK - (moment % 100) as u64
 }
 
 /// Whether a datagram that could not be sent for this reason is lost as the network loses datagrams: the system has no room for it
@@ -84,16 +81,16 @@ fn is_lost(kind: ErrorKind) -> bool {
     )
 }
 
-impl<R: Clock + Drop> WakingWire<R> {
-    /// Binds the local address, and sends to the remote one. The socket is not connected. `clock` tells when a tick begins. It
-    /// takes memory once.
+impl<'a, R: Clock> WakingWire<'a, R> {
+    /// Binds the local address, and sends to the remote one. The socket is not connected. `clock` is that of the node, and tells when a
+    /// tick begins; the waker ends it. It takes memory once.
     pub fn bind<N: Net>(
         net: &N,
         alloc: Global,
-        clock: R,
+        clock: &'a NodeClock<R>,
         local: SocketAddr,
         remote: SocketAddr,
-    ) -> io::Result<(WakingWire<R>, SocketWaker)>
+    ) -> io::Result<(WakingWire<'a, R>, SocketWaker<'a, R>)>
         ensures { IfOk result (λ made. made.0 ≡ 0) }
     {
         let mut socket = UdpSocket::bind(net, local)?;
@@ -107,27 +104,16 @@ impl<R: Clock + Drop> WakingWire<R> {
             events,
             socket,
             remote,
-            rt: clock,
+            clock,
             has_more: true,
             failures: 0,
         };
-        Ok((wire, SocketWaker { waker }))
+        Ok((wire, SocketWaker { waker, clock }))
     }
 
     /// The address at which datagrams come, with the port that the system gave where none was asked for.
     pub fn local_addr(&self) -> io::Result<SocketAddr> {
         self.socket.local_addr()
-    }
-
-    /// How long a receive waits at most: until the next tick begins.
-    fn longest_wait(&self) -> Duration {
-        let Ok(time) = SystemTime::now(&self.rt) else {
-            return Duration::from_millis(TICK);
-        };
-        match time.duration_since(UNIX_EPOCH) {
-            Ok(since) => Duration::from_millis(rest_of_tick(since.as_millis())),
-            Err(_) => Duration::from_millis(TICK),
-        }
     }
 
     /// Counts a call that has failed.
@@ -162,7 +148,7 @@ impl<R: Clock + Drop> WakingWire<R> {
     fn wait(&mut self) -> Result<bool, WireError>
         ensures failures { self.new ≡ failures_after result self.old }
     {
-        let longest = self.longest_wait();
+        let longest = self.clock.until_next_tick();
         match self.poll.poll(&mut self.events, Some(longest)) {
             Ok(()) => Ok(self.events.iter().any(|event| event.token() == SOCKET)),
             Err(_) => {
@@ -173,7 +159,7 @@ impl<R: Clock + Drop> WakingWire<R> {
     }
 }
 
-impl<R: Clock + Drop> Wire for WakingWire<R> {
+impl<'a, R: Clock> Wire for WakingWire<'a, R> {
     ghost tells = { λ w. false };
 
     ghost coming = { λ w. [] };

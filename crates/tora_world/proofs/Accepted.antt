@@ -1,6 +1,6 @@
 -- Serving an item is refused nothing but a need.
 use Rattle.std.proofs.Common.{◌≡◌, ◌≢◌, ℕ, zero, suc, Bool, true, false, true≢false, ◌&&◌, ◌||◌, ◌⊎◌, inl, inr, List, [], ◌∷◌, ◌++◌, length, Option, Some, None, nat_eq, if◌then◌else◌, refl, sym, ap, ◌∙◌, subst, append_assoc, append-nil, eqb-true, eq-eqb}
-use Rattle.std.proofs.lemmas.Bool.{cond_both, cases_Bool, false_from_ne_true}
+use Rattle.std.proofs.lemmas.Bool.{cond_both, cases_Bool, false_from_ne_true, or_right}
 use Rattle.std.specs.Prelude.{slice_get}
 use Rattle.tora_packet.specs.declared.Packet.{Packet}
 use Rattle.tora_arq.specs.declared.Life.{Life}
@@ -25,6 +25,7 @@ use Rattle.tora_seat.specs.Serves.{IsCut}
 use Rattle.tora_world.specs.Layers.{CoreLaws, SeatLaws}
 use Rattle.tora_world.proofs.LinksUp.{up_accepted, down_accepted}
 use Rattle.tora_world.proofs.OwnHeights.{IsOwnView, IsSentBy, views_own, sends_own}
+use Rattle.tora_seat.proofs.Calm.{accepted_step, accepted_up}
 
 accepted-push : (k : ℕ) (is : List (Input × ℕ)) (input : Input) (now : ℕ) → packets_accepted k (is ++ (input, now) ∷ []) ≡ packets_accepted k is ++ packet_in k input
 accepted-push k [] input now = append-nil (packet_in k input)
@@ -75,11 +76,7 @@ current_is l (Some j) e = ap Some (sym (same_true l j e))
 pub at_in : (ks : List ℕ) (i k : ℕ) → slice_get ks i ≡ Some k → has_number k ks ≡ true
 at_in [] i k e = absurd (cc)
 at_in (x ∷ xs) zero k e = let q : x ≡ k = cc in ap (λ b. b || has_number k xs) (eq-eqb x k q)
-at_in (x ∷ xs) (suc i) k e = ap (λ b. nat_eq x k || b) (at_in xs i k e) ∙ or_true (nat_eq x k)
-  where
-    or_true : (b : Bool) → (b || true) ≡ true
-    or_true true = refl
-    or_true false = refl
+at_in (x ∷ xs) (suc i) k e = ap (λ b. nat_eq x k || b) (at_in xs i k e) ∙ or_right (nat_eq x k) true refl
 
 module _ (cores : CoreLaws) (seats : SeatLaws) (n : ℕ) (ks : List ℕ) (answers : Answers) (Excuse : StepError → Type 0) where
   -- a core whose link to each neighbour with a current life is up, and that has refused nothing without an excuse
@@ -137,31 +134,7 @@ module _ (cores : CoreLaws) (seats : SeatLaws) (n : ℕ) (ks : List ℕ) (answer
   broadcasts_sound [] v from h = h
   broadcasts_sound (packet ∷ packets) v from h = broadcasts_sound packets (after_broadcast answers packet ks v) from.1 (broadcast_sound packet from.0 ks v h)
 
-  -- broadcasts leave the core
-  sent_core : (packet : Packet) (v : Serving) (k : ℕ) (o : Option Life) → (after_sent answers packet v k o).seat.core ≡ v.seat.core
-  sent_core packet v k None = refl
-  sent_core packet v k (Some l) = cond_both (answers v.offers k) _ _ (λ (x : Serving). x.seat.core ≡ v.seat.core) (λ _. refl) (λ _. refl)
-
-  broadcast_core : (packet : Packet) (js : List ℕ) (v : Serving) → (after_broadcast answers packet js v).seat.core ≡ v.seat.core
-  unfolding after_broadcast
-  broadcast_core packet [] v = refl
-  broadcast_core packet (k ∷ js) v = broadcast_core packet js (after_sent answers packet v k (v.seat.current k)) ∙ sent_core packet v k (v.seat.current k)
-
-  broadcasts_core : (packets : List Packet) (v : Serving) → (after_broadcasts answers ks packets v).seat.core ≡ v.seat.core
-  unfolding after_broadcasts
-  broadcasts_core [] v = refl
-  broadcasts_core (packet ∷ packets) v = broadcasts_core packets (after_broadcast answers packet ks v) ∙ broadcast_core packet ks v
-
   -- ---- inputs
-
-  -- an input that is accepted
-  step_is : (v : Serving) (input : Input) (now : ℕ) → refusal_of v.seat.core input ≡ None → after_step answers ks input now v ≡ after_broadcasts answers ks (sends_of v.seat.core input now) (accepting v input now)
-  unfolding after_step
-  step_is v input now e = ap (after_answer answers ks input now v) e
-
-  step_up : (v : Serving) (input : Input) (now : ℕ) → refusal_of v.seat.core input ≡ None → (after_step answers ks input now v).seat.core.up ≡ (core_after v.seat.core input now).up
-  step_up v input now e =
-      ap (λ (x : Serving). x.seat.core.up) (step_is v input now e) ∙ ap (λ (c : CoreView). c.up) (broadcasts_core (sends_of v.seat.core input now) (accepting v input now))
 
   -- what is asked where an input is stepped: all but the links up and the packets agreed
   record Ready (v : Serving) : Type 0 where
@@ -177,7 +150,7 @@ module _ (cores : CoreLaws) (seats : SeatLaws) (n : ℕ) (ks : List ℕ) (answer
       ((j : ℕ) (l : Life) → has_number j ks ≡ true → v.seat.current j ≡ Some l → has_number j (core_after v.seat.core input now).up ≡ true) →
       ((k : ℕ) → packets_accepted k v.inputs ++ packet_in k input ≡ packets_in (stepped_from k v.steps)) → Sound (after_step answers ks input now v)
   accepts v input now ok h up agreed =
-      subst Sound (sym (step_is v input now ok))
+      subst Sound (sym (accepted_step answers ks v input now ok))
       (broadcasts_sound (sends_of v.seat.core input now) (accepting v input now) (sends_own n v.seat.core input now h.own)
       (record {
         near = λ j m. ap (λ ns. has_number j ns) (cores.neighbours v.seat.core input now) ∙ h.near j m;
@@ -227,7 +200,7 @@ module _ (cores : CoreLaws) (seats : SeatLaws) (n : ℕ) (ks : List ℕ) (answer
           let f = seats.next ks v.seat j e in
           let ok : refusal_of v.seat.core (In.LinkDown j) ≡ None = down_accepted cores v.seat.core j (h.near j f.neighbour) f.up in
           again (after_step answers ks (In.LinkDown j) now v) (down_sound v j now f.neighbour f.up f.none h)
-          (ap (λ up. has_number k up) (step_up v (In.LinkDown j) now ok) ∙ gone j ok (cases_Bool (nat_eq j k)))
+          (ap (λ up. has_number k up) (accepted_up answers ks v (In.LinkDown j) now ok) ∙ gone j ok (cases_Bool (nat_eq j k)))
         where
           gone : (j : ℕ) → refusal_of v.seat.core (In.LinkDown j) ≡ None → (nat_eq j k ≡ true) ⊎ (nat_eq j k ≡ false) → has_number k (core_after v.seat.core (In.LinkDown j) now).up ≡ false
           gone j ok (inl t) = subst (λ x. has_number x (core_after v.seat.core (In.LinkDown j) now).up ≡ false) (eqb-true j k t) (cores.goes v.seat.core j now ok)
@@ -269,7 +242,7 @@ module _ (cores : CoreLaws) (seats : SeatLaws) (n : ℕ) (ks : List ℕ) (answer
       let s : Sound (after_step answers ks (In.LinkDown k) now v') = down_step v k now l m on h in
       let ok : refusal_of v.seat.core (In.LinkDown k) ≡ None = down_accepted cores v.seat.core k (h.near k m) (h.up k l m on) in
       stays_down k (length ks) now (after_step answers ks (In.LinkDown k) now v') s
-      (ap (λ up. has_number k up) (step_up v' (In.LinkDown k) now ok) ∙ cores.goes v.seat.core k now ok)
+      (ap (λ up. has_number k up) (accepted_up answers ks v' (In.LinkDown k) now ok) ∙ cores.goes v.seat.core k now ok)
 
   -- before a life comes up its link is down at the core
   old_done : (v : Serving) (k now : ℕ) (o : Option Life) → has_number k ks ≡ true → v.seat.current k ≡ o → Done v → Sound (after_old_down answers ks k now v o) × (has_number k (after_old_down answers ks k now v o).seat.core.up ≡ false)
@@ -322,6 +295,7 @@ module _ (cores : CoreLaws) (seats : SeatLaws) (n : ℕ) (ks : List ℕ) (answer
   link_item_done v k now (Tells.Need m) i from excuse d = need_done v m now (excuse m refl) d.sound
   link_item_done v k now Tells.Beat m from excuse d = d
   link_item_done v k now Tells.Show m from excuse d = record { sound = record { near = d.sound.near; up = d.sound.up; silent = λ e q. absurd (cc); agreed = d.sound.agreed; own = d.sound.own; sends = d.sound.sends }; settled = λ j c. d.settled j (record { neighbour = c.neighbour; up = c.up; none = c.none }) }
+  link_item_done v k now (Tells.Status status) m from excuse d = record { sound = record { near = d.sound.near; up = d.sound.up; silent = λ e q. absurd (cc); agreed = d.sound.agreed; own = d.sound.own; sends = d.sound.sends }; settled = λ j c. d.settled j (record { neighbour = c.neighbour; up = c.up; none = c.none }) }
   link_item_done v k now Tells.Quit m from excuse d = record { sound = record { near = d.sound.near; up = d.sound.up; silent = λ e q. absurd (cc); agreed = d.sound.agreed; own = d.sound.own; sends = d.sound.sends }; settled = λ j c. d.settled j (record { neighbour = c.neighbour; up = c.up; none = c.none }) }
 
   other_item_done : (v : Serving) (now : ℕ) (what : What) → ((d : ℕ) → what ≡ Tells.Need d → (e : StepError) → refusal_of v.seat.core (In.Need d) ≡ Some e → Excuse e) → Done v → Done (after_other_item answers ks now what v)
@@ -332,6 +306,7 @@ module _ (cores : CoreLaws) (seats : SeatLaws) (n : ℕ) (ks : List ℕ) (answer
   other_item_done v now (Tells.Down l r) excuse d = d
   other_item_done v now Tells.Beat excuse d = d
   other_item_done v now Tells.Show excuse d = record { sound = record { near = d.sound.near; up = d.sound.up; silent = λ e q. absurd (cc); agreed = d.sound.agreed; own = d.sound.own; sends = d.sound.sends }; settled = λ j c. d.settled j (record { neighbour = c.neighbour; up = c.up; none = c.none }) }
+  other_item_done v now (Tells.Status status) excuse d = record { sound = record { near = d.sound.near; up = d.sound.up; silent = λ e q. absurd (cc); agreed = d.sound.agreed; own = d.sound.own; sends = d.sound.sends }; settled = λ j c. d.settled j (record { neighbour = c.neighbour; up = c.up; none = c.none }) }
   other_item_done v now Tells.Quit excuse d = record { sound = record { near = d.sound.near; up = d.sound.up; silent = λ e q. absurd (cc); agreed = d.sound.agreed; own = d.sound.own; sends = d.sound.sends }; settled = λ j c. d.settled j (record { neighbour = c.neighbour; up = c.up; none = c.none }) }
 
   -- the cuts that are tried first change neither the core nor a current life

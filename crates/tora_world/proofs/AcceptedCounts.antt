@@ -6,6 +6,7 @@ use Rattle.tora_packet.specs.declared.Packet.{Packet}
 use Rattle.tora_frame.specs.declared.parts.Body.{Body}
 use Rattle.tora_frame.specs.declared.parts.Body.TheVariants.{Hello, Data, Ack}
 use Rattle.tora_frame.specs.FrameParts.{FrameParts}
+use Rattle.tora_arq.specs.declared.TheConstants.{QUEUE_PLACES}
 use Rattle.tora_arq.specs.declared.Life.{Life}
 use Rattle.tora_arq.specs.declared.Times.{Times}
 use Rattle.tora_arq.specs.declared.Verdict.{Verdict}
@@ -29,8 +30,10 @@ use Rattle.tora_world.specs.declared.Call.{Call}
 use Rattle.tora_world.specs.declared.Call.TheVariants as Fails
 use Rattle.tora_world.specs.Topology.{Topology, is_link}
 use Rattle.tora_world.specs.LinkMachine.{put_at}
-use Rattle.tora_world.specs.World.{World, Choice, settings, datagram, with_end, first_world, refusal_by, open_with, after_cargo, after_pull, after_sending, after_receiving, after_pump, after_turn, after_arming, effect_by, world_by}
-use Rattle.tora_world.specs.FreeWorld.{FreeEvent, after_cut_of_bound, free_by, Schedule, after_schedule}
+use Rattle.tora_seat.specs.Between.{after_cargo}
+use Rattle.tora_world.specs.World.{World, Choice, settings, datagram, with_end, first_world, refusal_by, open_with, after_pull, after_sending, after_receiving, after_pump, after_turn, after_arming, effect_by, world_by}
+use Rattle.tora_seat.specs.Between.{after_cut_of_bound}
+use Rattle.tora_world.specs.FreeWorld.{FreeEvent, free_by, Schedule, after_schedule}
 use Rattle.tora_world.specs.FreeWorld.FreeEvent.{Happens, TicksEnd, PumpsOver, Puts, CutsBound, ChangesFile, StartsAnew}
 use Rattle.tora_world.specs.Law.{Sometime, HasAccepted, is_bound_to, times_bound}
 use Rattle.tora_world.specs.Layers.{LinkLaws, LifeLaws}
@@ -107,7 +110,7 @@ module _ (l : Life) where
       subst (λ ph. NotLess e (on_submit_in e life packet ph).1) (sym j)
       (cond_both (not (is_same_life life l)) _ _ (λ (x : Result (Unit {0}) SubmitError × EndState). NotLess e x.1) (λ _. omega arith)
       (λ _. cond_both (nat_le (2 ^ 62) (e.acknowledged + length e.queue)) _ _ (λ (x : Result (Unit {0}) SubmitError × EndState). NotLess e x.1) (λ _. omega arith)
-      (λ _. cond_both (nat_le 256 (length e.queue)) _ _ (λ (x : Result (Unit {0}) SubmitError × EndState). NotLess e x.1) (λ _. omega arith) (λ _. omega arith))))
+      (λ _. cond_both (nat_le QUEUE_PLACES (length e.queue)) _ _ (λ (x : Result (Unit {0}) SubmitError × EndState). NotLess e x.1) (λ _. omega arith) (λ _. omega arith))))
 
   grows_cut : (e : EndState) (life : Life) → Grows e (after_cut e life)
   unfolding after_cut

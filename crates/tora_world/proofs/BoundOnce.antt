@@ -29,8 +29,10 @@ use Rattle.tora_world.specs.declared.Call.{Call}
 use Rattle.tora_world.specs.declared.Call.TheVariants as Fails
 use Rattle.tora_world.specs.Topology.{Topology, is_link}
 use Rattle.tora_world.specs.LinkMachine.{put_at}
-use Rattle.tora_world.specs.World.{owner_of, World, Choice, settings, datagram, with_end, first_world, refusal_by, open_with, after_opening, after_cargo, after_pull, after_sending, after_receiving, after_pump, after_turn, is_file_of, with_armed_files, after_arming, reopened, effect_by, world_by}
-use Rattle.tora_world.specs.FreeWorld.{FreeEvent, after_cut_of_bound, free_by, Schedule}
+use Rattle.tora_seat.specs.Between.{after_cargo}
+use Rattle.tora_world.specs.World.{owner_of, World, Choice, settings, datagram, with_end, first_world, refusal_by, open_with, after_opening, after_pull, after_sending, after_receiving, after_pump, after_turn, is_file_of, with_armed_files, after_arming, reopened, effect_by, world_by}
+use Rattle.tora_seat.specs.Between.{after_cut_of_bound}
+use Rattle.tora_world.specs.FreeWorld.{FreeEvent, free_by, Schedule}
 use Rattle.tora_world.specs.FreeWorld.FreeEvent.{Happens, TicksEnd, PumpsOver, Puts, CutsBound, ChangesFile, StartsAnew}
 use Rattle.tora_world.specs.Law.{is_bound_to, times_bound, BindsOnce}
 use Rattle.tora_world.specs.Layers.{LinkLaws, LifeLaws}

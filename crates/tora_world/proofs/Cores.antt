@@ -1,25 +1,19 @@
 -- Each core is what the inputs that it accepted make of it.
-use Rattle.std.proofs.Common.{◌≡◌, ℕ, true, false, ◌⊎◌, inl, inr, List, [], ◌∷◌, ◌++◌, Option, Some, None, nat_eq, if◌then◌else◌, refl, sym, ap, ap₂, ◌∙◌, subst, eqb-true}
+use Rattle.std.proofs.Common.{◌≡◌, ℕ, true, false, ◌⊎◌, inl, inr, List, [], ◌∷◌, ◌++◌, Option, nat_eq, if◌then◌else◌, refl, sym, ap, ap₂, ◌∙◌, subst, eqb-true}
 use Rattle.std.proofs.lemmas.Bool.{cond_both, cases_Bool}
 use Rattle.std.specs.Prelude.{is_some}
-use Rattle.tora_frame.specs.FrameParts.{FrameParts}
 use Rattle.tora_arq.specs.declared.Times.{Times}
-use Rattle.tora_arq.specs.declared.LinkEvent.{LinkEvent}
-use Rattle.tora_arq.specs.LinkEnd.{frame_due, after_transmit, first_event}
 use Rattle.tora_core.specs.declared.Input.{Input}
 use Rattle.tora_core.specs.CoreRun.{CoreView, core_after, core_after_all}
 use Rattle.tora_seat.specs.declared.Item.{Item}
-use Rattle.tora_seat.specs.declared.Cargo.{Cargo}
 use Rattle.tora_seat.specs.Serving.{Serving, put_one, serving_of}
 use Rattle.tora_world.specs.declared.Event.{Event}
-use Rattle.tora_world.specs.declared.Event.TheVariants.{Need, Tick, Open, Pull, Transmit, Deliver, Pump, CoreTurn, Arm, Restart}
-use Rattle.tora_world.specs.declared.Call.{Call}
-use Rattle.tora_world.specs.declared.Call.TheVariants as Fails
 use Rattle.tora_world.specs.Topology.{Topology, new_core}
-use Rattle.tora_world.specs.World.{World, Choice, settings, neighbours, datagram, first_seat, first_world, refusal_by, after_pull, after_sending, after_receiving, after_pump, after_serving, after_turn, after_arming, effect_by, world_by}
+use Rattle.tora_world.specs.World.{World, Choice, neighbours, first_seat, first_world, refusal_by, after_serving, after_turn, effect_by, world_by, after_restart}
 use Rattle.tora_world.specs.FreeWorld.{FreeEvent, free_by, Schedule, after_schedule}
 use Rattle.tora_world.specs.Law.{CoresFollow}
 use Rattle.tora_world.specs.Layers.{SeatLaws}
+use Rattle.tora_world.proofs.CoreEvents.{effect_cases}
 use Rattle.tora_world.proofs.FreeEvents.{free_cases}
 
 pub core_after-push : (c : CoreView) (is : List (Input × ℕ)) (input : Input) (now : ℕ) → core_after_all c (is ++ (input, now) ∷ []) ≡ core_after (core_after_all c is) input now
@@ -73,43 +67,9 @@ module _ (seats : SeatLaws) (t : Topology) (w : World) (h : AllFollow t w) where
       go m (inr e) = subst (λ x. (if x then first_seat w.topology n else w.seats m).core ≡ core_after_all (new_core t m) (if x then [] else w.inputs m)) (sym e) (h.each m)
 
   effect_follows : (c : Choice) (event : Event) → AllFollow t (effect_by c w event)
-  unfolding effect_by
-  effect_follows c (Need n d) = same_cores t w (effect_by c w (Need n d)) refl refl refl h
-  effect_follows c Tick = same_cores t w (effect_by c w Tick) refl refl refl h
-  effect_follows c (Open n k) = same_cores t w (effect_by c w (Open n k)) refl refl refl h
-  effect_follows c (Pull n k) = go (w.cargoes n k)
-    where
-      go : (cs : List Cargo) → AllFollow t (after_pull w n k cs)
-      go [] = h
-      go (x ∷ cs) = same_cores t w (after_pull w n k (x ∷ cs)) refl refl refl h
-  effect_follows c (Transmit n k) = go (frame_due (settings w n k) (w.ends n k) (c.now n k))
-    where
-      go : (o : Option FrameParts) → AllFollow t (after_sending w n k (after_transmit (settings w n k) (w.ends n k) (c.now n k)) o)
-      go None = h
-      go (Some f) = same_cores t w (after_sending w n k (after_transmit (settings w n k) (w.ends n k) (c.now n k)) (Some f)) refl refl refl h
-  effect_follows c (Deliver i) = go (datagram w i)
-    where
-      go : (o : Option FrameParts) → AllFollow t (after_receiving w c o)
-      go None = h
-      go (Some f) = cond_both (w.arms f.header.receiver).receive _ _ (AllFollow t)
-          (λ _. same_cores t w (record w { arms = put_one w.arms f.header.receiver (record (w.arms f.header.receiver) { receive = false }) }) refl refl refl h)
-          (λ _. same_cores t w _ refl refl refl h)
-  effect_follows c (Pump n k) = go (first_event (w.ends n k))
-    where
-      go : (o : Option LinkEvent) → AllFollow t (after_pump w c n k o)
-      go None = h
-      go (Some event) = same_cores t w (after_pump w c n k (Some event)) refl refl refl h
-  effect_follows c (CoreTurn n) = turn_follows c n (w.items n)
-  effect_follows c (Arm n call) = go call
-    where
-      go : (x : Call) → AllFollow t (after_arming w n x)
-      go Fails.SendLost = same_cores t w (after_arming w n Fails.SendLost) refl refl refl h
-      go Fails.SendGone = same_cores t w (after_arming w n Fails.SendGone) refl refl refl h
-      go Fails.Receive = same_cores t w (after_arming w n Fails.Receive) refl refl refl h
-      go Fails.Read = same_cores t w (after_arming w n Fails.Read) refl refl refl h
-      go Fails.Write = same_cores t w (after_arming w n Fails.Write) refl refl refl h
-      go Fails.Sync = same_cores t w (after_arming w n Fails.Sync) refl refl refl h
-  effect_follows c (Restart n torn) = restart_follows n torn (effect_by c w (Restart n torn)) refl refl refl
+  effect_follows c event =
+      effect_cases c w (AllFollow t) (λ after l. same_cores t w after l.topology l.seats l.inputs h) (λ n. turn_follows c n (w.items n))
+      (λ n torn. restart_follows n torn (after_restart w n torn) refl refl refl) event
 
   world_follows : (c : Choice) (event : Event) → AllFollow t (world_by c w event)
   unfolding world_by

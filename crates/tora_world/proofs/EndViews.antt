@@ -16,7 +16,8 @@ use Rattle.tora_seat.specs.declared.Cargo.{Cargo}
 use Rattle.tora_seat.specs.declared.Cargo.TheVariants as Gives
 use Rattle.tora_seat.specs.Serving.{Parcel}
 use Rattle.tora_world.specs.Lists.{parcels_in, parcel_of}
-use Rattle.tora_world.specs.World.{World, settings, neighbours, place_of, what_of}
+use Rattle.tora_seat.specs.Between.{what_of}
+use Rattle.tora_world.specs.World.{World, settings, neighbours, place_of}
 use Rattle.tora_world.specs.Layers.{LinkLaws}
 use Rattle.tora_world.proofs.Invariant.{Arrival, EndView, arrival_of}
 use Rattle.tora_world.proofs.Invariant.Arrival.{LifeComes, PacketComes, OtherComes}
@@ -29,6 +30,7 @@ arrival_in (Tells.Down l r) = OtherComes
 arrival_in Tells.Beat = OtherComes
 arrival_in (Tells.Need d) = OtherComes
 arrival_in Tells.Show = OtherComes
+arrival_in (Tells.Status status) = OtherComes
 arrival_in Tells.Quit = OtherComes
 
 -- the sign of an item, where it is of this neighbour

@@ -1,6 +1,7 @@
 -- Each event but the core's turn keeps what is said of all ends.
-use Rattle.std.proofs.Common.{◌≡◌, ◌≢◌, ℕ, zero, suc, Bool, true, false, true≢false, ◌&&◌, ◌⊎◌, inl, inr, ⊎_elim, List, [], ◌∷◌, ◌++◌, length, map, drop, Option, Some, None, nat_eq, if◌then◌else◌, refl, sym, ap, ap₂, ◌∙◌, subst, subst₂, append_assoc, append-nil, eqb-true, eq-eqb, ne_eqb, Ok, Err}
-use Rattle.std.proofs.lemmas.Bool.{cond_both, cases_Bool, eqb-false}
+use Rattle.std.proofs.Common.{◌≡◌, ◌≢◌, ℕ, zero, suc, Bool, true, false, true≢false, ◌&&◌, ◌⊎◌, inl, inr, ⊎_elim, List, [], ◌∷◌, ◌++◌, length, map, drop, Option, Some, None, nat_eq, if◌then◌else◌, refl, sym, ap, ap₂, ◌∙◌, subst, subst₂, append_assoc, append-nil, eqb-true, eq-eqb, Ok, Err}
+use Rattle.tora_seat.proofs.Places.{turned}
+use Rattle.std.proofs.lemmas.Bool.{cond_both, cases_Bool}
 use Rattle.std.specs.Prelude.{slice_get, Result}
 use Rattle.tora_packet.specs.declared.Packet.{Packet}
 use Rattle.tora_frame.specs.declared.parts.Version.{Version}
@@ -35,7 +36,8 @@ use Rattle.tora_world.specs.declared.Call.TheVariants as Fails
 use Rattle.tora_world.specs.Topology.{version_at, is_link}
 use Rattle.tora_world.specs.Lists.{reversed, packet_where, packets_of, parcels_in, parcel_of, Begins, IsIn}
 use Rattle.tora_world.specs.LinkMachine.{put_at, MachineEnd, Machine, MachineStep, machine_after, made, IsLast}
-use Rattle.tora_world.specs.World.{World, Choice, Sending, settings, neighbours, place_of, datagram, first_seat, with_end, with_item, open_with, after_opening, after_pull, with_datagram, after_sending, after_receiving, what_of, after_pump, is_file_of, with_armed_files, after_arming, reopened, after_restart}
+use Rattle.tora_seat.specs.Between.{what_of}
+use Rattle.tora_world.specs.World.{World, Choice, Sending, settings, neighbours, place_of, datagram, first_seat, with_end, with_item, open_with, after_opening, after_pull, with_datagram, after_sending, after_receiving, after_pump, is_file_of, with_armed_files, after_arming, reopened, after_restart}
 use Rattle.tora_world.specs.World.Sending.{Goes, IsLost, IsGone}
 use Rattle.tora_world.specs.MachineRun.{steps_of_opening, steps_of_binding, steps_of_frame, steps_of_restart}
 use Rattle.tora_world.specs.Layers.{LinkLaws, LifeLaws}
@@ -78,9 +80,6 @@ body_told submitted sent accepted done l (Data number count packets) b d t =
 last_in : (x : ℕ) (xs : List ℕ) → IsLast x xs → IsIn x xs
 last_in x [] e = absurd e
 last_in x (y ∷ ys) e = inl e
-
-pub turned : (a b : ℕ) → nat_eq a b ≡ false → nat_eq b a ≡ false
-turned a b e = ne_eqb b a (λ q. eqb-false a b e (sym q))
 
 -- what an end that makes a call without a frame hands in
 module _ (v : EndView) (p : MachineEnd) (other : List Parcel) (done : Life → ℕ → Type 0) where

@@ -6,11 +6,8 @@ use Rattle.std.specs.List.{AllByRecursion, cons_option}
 use Rattle.tora_packet.specs.declared.Packet.{Packet}
 use Rattle.tora_packet.specs.PacketParts.{IsId}
 use Rattle.tora_packet.specs.AnyPacket.{IsPacket}
-use Rattle.tora_frame.specs.FrameParts.{FrameParts}
 use Rattle.tora_arq.specs.declared.Life.{Life}
 use Rattle.tora_arq.specs.declared.Times.{Times}
-use Rattle.tora_arq.specs.declared.LinkEvent.{LinkEvent}
-use Rattle.tora_arq.specs.LinkEnd.{frame_due, after_frame, after_transmit, first_event}
 use Rattle.tora_core.specs.declared.Input.{Input}
 use Rattle.tora_core.specs.declared.Input.TheVariants as In
 use Rattle.tora_core.specs.declared.errors.StepError.{StepError}
@@ -28,19 +25,17 @@ use Rattle.tora_seat.specs.declared.What.TheVariants as Tells
 use Rattle.tora_seat.specs.declared.Item.{Item}
 use Rattle.tora_seat.specs.declared.Cargo.{Cargo}
 use Rattle.tora_seat.specs.declared.Cargo.TheVariants as Gives
-use Rattle.tora_seat.specs.Serving.{SeatState, Offer, Serving, Answers, put_one, with_current, after_cut_tried, after_cuts_tried, after_sent, after_broadcast, after_broadcasts, accepting, after_answer, after_step, first_cut, after_settling, after_input, is_current, after_old_down, after_link_item, after_other_item, after_item_of, begin_serving, serving_of, put_to}
+use Rattle.tora_seat.specs.Serving.{SeatState, Offer, Serving, Answers, with_current, after_cut_tried, after_cuts_tried, after_sent, after_broadcast, after_broadcasts, accepting, after_answer, after_step, first_cut, after_settling, after_input, is_current, after_old_down, after_link_item, after_other_item, after_item_of, begin_serving, serving_of, put_to}
 use Rattle.tora_world.specs.declared.Event.{Event}
-use Rattle.tora_world.specs.declared.Event.TheVariants.{Need, Tick, Open, Pull, Transmit, Deliver, Pump, CoreTurn, Arm, Restart}
-use Rattle.tora_world.specs.declared.Call.{Call}
-use Rattle.tora_world.specs.declared.Call.TheVariants as Fails
 use Rattle.tora_world.specs.Topology.{Topology, neighbours_of, new_core}
 use Rattle.tora_world.specs.Lists.{reversed, parcel_of, Each}
 use Rattle.tora_world.specs.LinkMachine.{MachineStep, made}
 use Rattle.tora_world.specs.MachineRun.{free_steps_by}
-use Rattle.tora_world.specs.World.{World, Choice, settings, neighbours, datagram, first_seat, first_world, refusal_by, with_end, after_pull, after_sending, after_receiving, after_pump, after_serving, after_turn, after_arming, after_restart, effect_by, world_by}
+use Rattle.tora_world.specs.World.{World, Choice, neighbours, first_seat, first_world, refusal_by, after_serving, after_turn, after_restart, effect_by, world_by}
 use Rattle.tora_world.specs.FreeWorld.{FreeEvent, free_by, Schedule, after_schedule}
 use Rattle.tora_world.specs.Law.{HasAccepted}
 use Rattle.tora_world.specs.Layers.{LinkLaws, LifeLaws}
+use Rattle.tora_world.proofs.CoreEvents.{effect_cases}
 use Rattle.tora_world.proofs.Invariant.{AllEndsFollow, Seen}
 use Rattle.tora_world.proofs.AllEnds.{more_seen}
 use Rattle.tora_world.proofs.EndViews.{end_views}
@@ -194,6 +189,7 @@ module _ (t : Topology) (n : ℕ) (keeps : KeepsLaws t n) (ks : List ℕ) (answe
   link_item_fine v k now (Tells.Need d) from h = input_fine v (In.Need d) now tt h
   link_item_fine v k now Tells.Beat from h = h
   link_item_fine v k now Tells.Show from h = record { core = h.core; sends = h.sends }
+  link_item_fine v k now (Tells.Status status) from h = record { core = h.core; sends = h.sends }
   link_item_fine v k now Tells.Quit from h = record { core = h.core; sends = h.sends }
 
   other_item_fine : (v : Serving) (now : ℕ) (what : What) → Fine v → Fine (after_other_item answers ks now what v)
@@ -204,6 +200,7 @@ module _ (t : Topology) (n : ℕ) (keeps : KeepsLaws t n) (ks : List ℕ) (answe
   other_item_fine v now (Tells.Down l r) h = h
   other_item_fine v now Tells.Beat h = h
   other_item_fine v now Tells.Show h = record { core = h.core; sends = h.sends }
+  other_item_fine v now (Tells.Status status) h = record { core = h.core; sends = h.sends }
   other_item_fine v now Tells.Quit h = record { core = h.core; sends = h.sends }
 
   -- the cuts that are tried first leave the current lives
@@ -298,43 +295,8 @@ module _ (t : Topology) (keeping : IsKeeping t) (steps : List MachineStep) (w : 
       core_at a id (inr e) = subst (λ x. IsRunOf t a (if x then first_seat w.topology n else w.seats a).core) (sym e) (h.cores a id)
 
   effect_kept : (c : Choice) (event : Event) → AreKept t (effect_by c w event)
-  unfolding effect_by
-  effect_kept c (Need m d) = same_kept t w (effect_by c w (Need m d)) refl refl refl h
-  effect_kept c Tick = same_kept t w (effect_by c w Tick) refl refl refl h
-  effect_kept c (Open m j) = same_kept t w (effect_by c w (Open m j)) refl refl refl h
-  effect_kept c (Pull m j) = go (w.cargoes m j)
-    where
-      go : (cs : List Cargo) → AreKept t (after_pull w m j cs)
-      go [] = h
-      go (x ∷ cs) = same_kept t w (after_pull w m j (x ∷ cs)) refl refl refl h
-  effect_kept c (Transmit m j) = go (frame_due (settings w m j) (w.ends m j) (c.now m j))
-    where
-      go : (r : Option FrameParts) → AreKept t (after_sending w m j (after_transmit (settings w m j) (w.ends m j) (c.now m j)) r)
-      go None = h
-      go (Some f) = same_kept t w (after_sending w m j (after_transmit (settings w m j) (w.ends m j) (c.now m j)) (Some f)) refl refl refl h
-  effect_kept c (Deliver i) = go (datagram w i)
-    where
-      go : (r : Option FrameParts) → AreKept t (after_receiving w c r)
-      go None = h
-      go (Some f) = cond_both (w.arms f.header.receiver).receive _ _ (AreKept t)
-          (λ _. same_kept t w (record w { arms = put_one w.arms f.header.receiver (record (w.arms f.header.receiver) { receive = false }) }) refl refl refl h)
-          (λ _. same_kept t w (with_end w f.header.receiver f.header.sender (after_frame (settings w f.header.receiver f.header.sender) (w.ends f.header.receiver f.header.sender) f (c.now f.header.receiver f.header.sender))) refl refl refl h)
-  effect_kept c (Pump m j) = go (first_event (w.ends m j))
-    where
-      go : (r : Option LinkEvent) → AreKept t (after_pump w c m j r)
-      go None = h
-      go (Some event) = same_kept t w (after_pump w c m j (Some event)) refl refl refl h
-  effect_kept c (CoreTurn m) = turn_kept c m (w.items m) refl
-  effect_kept c (Arm m call) = go call
-    where
-      go : (x : Call) → AreKept t (after_arming w m x)
-      go Fails.SendLost = same_kept t w (after_arming w m Fails.SendLost) refl refl refl h
-      go Fails.SendGone = same_kept t w (after_arming w m Fails.SendGone) refl refl refl h
-      go Fails.Receive = same_kept t w (after_arming w m Fails.Receive) refl refl refl h
-      go Fails.Read = same_kept t w (after_arming w m Fails.Read) refl refl refl h
-      go Fails.Write = same_kept t w (after_arming w m Fails.Write) refl refl refl h
-      go Fails.Sync = same_kept t w (after_arming w m Fails.Sync) refl refl refl h
-  effect_kept c (Restart m torn) = restart_kept m torn
+  effect_kept c event =
+      effect_cases c w (AreKept t) (λ after l. same_kept t w after l.topology l.seats l.put h) (λ n. turn_kept c n (w.items n) refl) restart_kept event
 
   world_kept : (c : Choice) (event : Event) → AreKept t (world_by c w event)
   unfolding world_by

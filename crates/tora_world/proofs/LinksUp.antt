@@ -1,25 +1,12 @@
 -- Which links are up after an input, and when the input of a link is accepted, by the laws of the core.
-use Rattle.std.proofs.Common.{◌≡◌, ℕ, Bool, true, false, true≢false, ◌||◌, ◌⊎◌, inl, inr, None, nat_eq, refl, sym, ap, ◌∙◌, subst, eqb-true, eq-eqb}
+use Rattle.std.proofs.Common.{◌≡◌, ℕ, true, false, true≢false, None, sym, ap, ◌∙◌, subst, eqb-true, eq-eqb}
+use Rattle.tora_seat.specs.SeatLaws.{is_link_down}
 use Rattle.tora_core.specs.declared.Input.{Input}
 use Rattle.tora_core.specs.declared.Input.TheVariants as In
 use Rattle.tora_core.specs.Numbers.{has_number}
 use Rattle.tora_core.specs.CoreRun.{CoreView, core_after, refusal_of}
 use Rattle.tora_world.specs.Gaps.{is_link_up}
 use Rattle.tora_world.specs.Layers.{CoreLaws}
-
-pub or_left : (a b : Bool) → (a || b) ≡ true → (a ≡ true) ⊎ (b ≡ true)
-or_left true b e = inl refl
-or_left false b e = inr e
-
-pub or_none : (a b : Bool) → (a || b) ≡ false → (a ≡ false) × (b ≡ false)
-or_none true b e = absurd (true≢false e)
-or_none false b e = (refl, e)
-
-abbrev pub is_link_down : ℕ → Input → Bool
-is_link_down k (In.LinkUp j) = false
-is_link_down k (In.LinkDown j) = nat_eq j k
-is_link_down k (In.Packet j packet) = false
-is_link_down k (In.Need d) = false
 
 module _ (cores : CoreLaws) where
   pub up_accepted : (c : CoreView) (k : ℕ) → has_number k c.neighbours ≡ true → has_number k c.up ≡ false → refusal_of c (In.LinkUp k) ≡ None

@@ -21,6 +21,7 @@ use Rattle.tora_world.proofs.Events.{put_one_here, put_one_there}
 use Rattle.tora_world.proofs.LinksUp.{up_accepted, down_accepted}
 use Rattle.tora_world.proofs.Cores.{core_after-push}
 use Rattle.tora_world.proofs.Accepted.{current_is, at_in}
+use Rattle.tora_seat.proofs.Calm.{accepted_step, accepted_up}
 
 -- ---- the packets of a neighbour that a core has accepted since its link came up last
 
@@ -106,31 +107,7 @@ module _ (cores : CoreLaws) (seats : SeatLaws) (ks : List ℕ) (answers : Answer
   broadcasts_sound ss [] v h = h
   broadcasts_sound ss (packet ∷ packets) v h = broadcasts_sound ss packets (after_broadcast answers packet ks v) (broadcast_sound ss packet ks v h)
 
-  -- broadcasts leave the core
-  sent_core : (packet : Packet) (v : Serving) (k : ℕ) (o : Option Life) → (after_sent answers packet v k o).seat.core ≡ v.seat.core
-  sent_core packet v k None = refl
-  sent_core packet v k (Some l) = cond_both (answers v.offers k) _ _ (λ (x : Serving). x.seat.core ≡ v.seat.core) (λ _. refl) (λ _. refl)
-
-  broadcast_core : (packet : Packet) (js : List ℕ) (v : Serving) → (after_broadcast answers packet js v).seat.core ≡ v.seat.core
-  unfolding after_broadcast
-  broadcast_core packet [] v = refl
-  broadcast_core packet (k ∷ js) v = broadcast_core packet js (after_sent answers packet v k (v.seat.current k)) ∙ sent_core packet v k (v.seat.current k)
-
-  broadcasts_core : (packets : List Packet) (v : Serving) → (after_broadcasts answers ks packets v).seat.core ≡ v.seat.core
-  unfolding after_broadcasts
-  broadcasts_core [] v = refl
-  broadcasts_core (packet ∷ packets) v = broadcasts_core packets (after_broadcast answers packet ks v) ∙ broadcast_core packet ks v
-
   -- ---- inputs
-
-  -- an input that is accepted
-  step_is : (v : Serving) (input : Input) (now : ℕ) → refusal_of v.seat.core input ≡ None → after_step answers ks input now v ≡ after_broadcasts answers ks (sends_of v.seat.core input now) (accepting v input now)
-  unfolding after_step
-  step_is v input now e = ap (after_answer answers ks input now v) e
-
-  step_up : (v : Serving) (input : Input) (now : ℕ) → refusal_of v.seat.core input ≡ None → (after_step answers ks input now v).seat.core.up ≡ (core_after v.seat.core input now).up
-  step_up v input now e =
-      ap (λ (x : Serving). x.seat.core.up) (step_is v input now e) ∙ ap (λ (c : CoreView). c.up) (broadcasts_core (sends_of v.seat.core input now) (accepting v input now))
 
   -- what is asked where an input is stepped: all but the links up and what was received
   record Ready (ss : List Step) (v : Serving) : Type 0 where
@@ -145,7 +122,7 @@ module _ (cores : CoreLaws) (seats : SeatLaws) (ks : List ℕ) (answers : Answer
       ((j : ℕ) (l : Life) → has_number j ks ≡ true → v.seat.current j ≡ Some l → has_number j (core_after v.seat.core input now).up ≡ true) →
       ((k : ℕ) (l : Life) → v.seat.current k ≡ Some l → taken_in ss k l ≡ with_received k input (received k v.inputs)) → Sound ss (after_step answers ks input now v)
   accepts ss v input now ok h up same =
-      subst (Sound ss) (sym (step_is v input now ok))
+      subst (Sound ss) (sym (accepted_step answers ks v input now ok))
       (broadcasts_sound ss (sends_of v.seat.core input now) (accepting v input now)
       (record {
         near = λ j m. ap (λ ns. has_number j ns) (cores.neighbours v.seat.core input now) ∙ h.near j m;
@@ -194,7 +171,7 @@ module _ (cores : CoreLaws) (seats : SeatLaws) (ks : List ℕ) (answers : Answer
           let f = seats.next ks v.seat j e in
           let ok : refusal_of v.seat.core (In.LinkDown j) ≡ None = down_accepted cores v.seat.core j (h.near j f.neighbour) f.up in
           again (after_step answers ks (In.LinkDown j) now v) (down_sound ss v j now f.neighbour f.up f.none h)
-          (ap (λ up. has_number k up) (step_up v (In.LinkDown j) now ok) ∙ gone j ok (cases_Bool (nat_eq j k)))
+          (ap (λ up. has_number k up) (accepted_up answers ks v (In.LinkDown j) now ok) ∙ gone j ok (cases_Bool (nat_eq j k)))
         where
           gone : (j : ℕ) → refusal_of v.seat.core (In.LinkDown j) ≡ None → (nat_eq j k ≡ true) ⊎ (nat_eq j k ≡ false) → has_number k (core_after v.seat.core (In.LinkDown j) now).up ≡ false
           gone j ok (inl t) = subst (λ x. has_number x (core_after v.seat.core (In.LinkDown j) now).up ≡ false) (eqb-true j k t) (cores.goes v.seat.core j now ok)
@@ -238,7 +215,7 @@ module _ (cores : CoreLaws) (seats : SeatLaws) (ks : List ℕ) (answers : Answer
       let s : Sound ss (after_step answers ks (In.LinkDown k) now v') = down_step ss v k now l m on h in
       let ok : refusal_of v.seat.core (In.LinkDown k) ≡ None = down_accepted cores v.seat.core k (h.near k m) (h.up k l m on) in
       stays_down ss k (length ks) now (after_step answers ks (In.LinkDown k) now v') s
-      (ap (λ up. has_number k up) (step_up v' (In.LinkDown k) now ok) ∙ cores.goes v.seat.core k now ok)
+      (ap (λ up. has_number k up) (accepted_up answers ks v' (In.LinkDown k) now ok) ∙ cores.goes v.seat.core k now ok)
 
   -- no neighbour is to be stepped down
   abbrev Settled : Serving → Type 0
@@ -323,6 +300,7 @@ module _ (cores : CoreLaws) (seats : SeatLaws) (ks : List ℕ) (answers : Answer
   link_item_done v k now (Tells.Need d) m from fresh settled h = record { ss = []; sound = need_sound [] v d now h }
   link_item_done v k now Tells.Beat m from fresh settled h = record { ss = []; sound = h }
   link_item_done v k now Tells.Show m from fresh settled h = record { ss = []; sound = record { near = h.near; up = h.up; stepped = h.stepped; follows = h.follows; same = h.same } }
+  link_item_done v k now (Tells.Status status) m from fresh settled h = record { ss = []; sound = record { near = h.near; up = h.up; stepped = h.stepped; follows = h.follows; same = h.same } }
   link_item_done v k now Tells.Quit m from fresh settled h = record { ss = []; sound = record { near = h.near; up = h.up; stepped = h.stepped; follows = h.follows; same = h.same } }
 
   other_item_done : (v : Serving) (now : ℕ) (what : What) → Sound [] v → Done (after_other_item answers ks now what v)
@@ -333,6 +311,7 @@ module _ (cores : CoreLaws) (seats : SeatLaws) (ks : List ℕ) (answers : Answer
   other_item_done v now (Tells.Down l r) h = record { ss = []; sound = h }
   other_item_done v now Tells.Beat h = record { ss = []; sound = h }
   other_item_done v now Tells.Show h = record { ss = []; sound = record { near = h.near; up = h.up; stepped = h.stepped; follows = h.follows; same = h.same } }
+  other_item_done v now (Tells.Status status) h = record { ss = []; sound = record { near = h.near; up = h.up; stepped = h.stepped; follows = h.follows; same = h.same } }
   other_item_done v now Tells.Quit h = record { ss = []; sound = record { near = h.near; up = h.up; stepped = h.stepped; follows = h.follows; same = h.same } }
 
   -- the cuts that are tried first change neither the core nor a current life

@@ -1,31 +1,25 @@
 -- In every world of a run, what a core has taken in a current life is what it has accepted from the neighbour since the link came up.
-use Rattle.std.proofs.Common.{◌≡◌, ℕ, Bool, true, false, ◌⊎◌, inl, inr, List, [], ◌∷◌, ◌++◌, map, Option, Some, None, nat_eq, if◌then◌else◌, refl, sym, ap, ap₂, ◌∙◌, subst, append-nil, eqb-true, eq-eqb, arith}
+use Rattle.std.proofs.Common.{◌≡◌, ℕ, Bool, true, false, ◌⊎◌, inl, inr, List, [], ◌∷◌, ◌++◌, map, Option, Some, nat_eq, if◌then◌else◌, refl, sym, ap, ap₂, ◌∙◌, subst, append-nil, eqb-true, eq-eqb, arith}
 use Rattle.std.proofs.lemmas.Bool.{cond_both, cases_Bool}
 use Rattle.std.specs.Prelude.{slice_get, is_some}
-use Rattle.tora_frame.specs.FrameParts.{FrameParts}
 use Rattle.tora_arq.specs.declared.Life.{Life}
 use Rattle.tora_arq.specs.declared.Times.{Times}
-use Rattle.tora_arq.specs.declared.LinkEvent.{LinkEvent}
-use Rattle.tora_arq.specs.LinkEnd.{frame_due, after_frame, after_transmit, first_event}
 use Rattle.tora_core.specs.declared.Input.{Input}
 use Rattle.tora_core.specs.CoreRun.{core_after_all}
 use Rattle.tora_seat.specs.declared.What.{What}
 use Rattle.tora_seat.specs.declared.What.TheVariants as Tells
 use Rattle.tora_seat.specs.declared.Item.{Item}
-use Rattle.tora_seat.specs.declared.Cargo.{Cargo}
-use Rattle.tora_seat.specs.Serving.{SeatState, Serving, Parcel, Answers, put_one, serving_of, stepped_from}
+use Rattle.tora_seat.specs.Serving.{SeatState, Serving, Parcel, Answers, serving_of, stepped_from}
 use Rattle.tora_world.specs.declared.Event.{Event}
-use Rattle.tora_world.specs.declared.Event.TheVariants.{Need, Tick, Open, Pull, Transmit, Deliver, Pump, CoreTurn, Arm, Restart}
-use Rattle.tora_world.specs.declared.Call.{Call}
-use Rattle.tora_world.specs.declared.Call.TheVariants as Fails
 use Rattle.tora_world.specs.Topology.{Topology, new_core}
 use Rattle.tora_world.specs.Lists.{packets_of}
 use Rattle.tora_world.specs.LinkMachine.{MachineStep, machine_after, made}
 use Rattle.tora_world.specs.MachineRun.{free_steps_by}
-use Rattle.tora_world.specs.World.{World, Choice, settings, neighbours, datagram, first_seat, first_world, refusal_by, with_end, after_pull, after_sending, after_receiving, after_pump, after_serving, after_turn, after_arming, after_restart, effect_by, world_by}
+use Rattle.tora_world.specs.World.{World, Choice, neighbours, first_seat, first_world, refusal_by, after_serving, after_turn, after_restart, effect_by, world_by}
 use Rattle.tora_world.specs.FreeWorld.{FreeEvent, free_by, Schedule, after_schedule}
 use Rattle.tora_world.specs.Law.{HasAccepted}
 use Rattle.tora_world.specs.Layers.{LinkLaws, LifeLaws, CoreLaws, SeatLaws}
+use Rattle.tora_world.proofs.CoreEvents.{effect_cases}
 use Rattle.tora_world.proofs.Invariant.{arrival_of, AllEndsFollow, Seen, seen_at_other}
 use Rattle.tora_world.proofs.Invariant.Arrival.{LifeComes}
 use Rattle.tora_world.proofs.Moves.{comes_untaken}
@@ -112,43 +106,8 @@ module _ (cores : CoreLaws) (seats : SeatLaws) (t : Topology) (steps : List Mach
       at m (inr e) = subst (λ (b : Bool). RestartedAt n m b) (sym e) (record { follows = h.follows m; same = h.same m })
 
   effect_at : (c : Choice) (event : Event) → AreReceived t (effect_by c w event)
-  unfolding effect_by
-  effect_at c (Need m d) = same_received t w (effect_by c w (Need m d)) refl refl refl refl h
-  effect_at c Tick = same_received t w (effect_by c w Tick) refl refl refl refl h
-  effect_at c (Open m j) = same_received t w (effect_by c w (Open m j)) refl refl refl refl h
-  effect_at c (Pull m j) = go (w.cargoes m j)
-    where
-      go : (cs : List Cargo) → AreReceived t (after_pull w m j cs)
-      go [] = h
-      go (x ∷ cs) = same_received t w (after_pull w m j (x ∷ cs)) refl refl refl refl h
-  effect_at c (Transmit m j) = go (frame_due (settings w m j) (w.ends m j) (c.now m j))
-    where
-      go : (r : Option FrameParts) → AreReceived t (after_sending w m j (after_transmit (settings w m j) (w.ends m j) (c.now m j)) r)
-      go None = h
-      go (Some f) = same_received t w (after_sending w m j (after_transmit (settings w m j) (w.ends m j) (c.now m j)) (Some f)) refl refl refl refl h
-  effect_at c (Deliver i) = go (datagram w i)
-    where
-      go : (r : Option FrameParts) → AreReceived t (after_receiving w c r)
-      go None = h
-      go (Some f) = cond_both (w.arms f.header.receiver).receive _ _ (AreReceived t)
-          (λ _. same_received t w (record w { arms = put_one w.arms f.header.receiver (record (w.arms f.header.receiver) { receive = false }) }) refl refl refl refl h)
-          (λ _. same_received t w (with_end w f.header.receiver f.header.sender (after_frame (settings w f.header.receiver f.header.sender) (w.ends f.header.receiver f.header.sender) f (c.now f.header.receiver f.header.sender))) refl refl refl refl h)
-  effect_at c (Pump m j) = go (first_event (w.ends m j))
-    where
-      go : (r : Option LinkEvent) → AreReceived t (after_pump w c m j r)
-      go None = h
-      go (Some event) = same_received t w (after_pump w c m j (Some event)) refl refl refl refl h
-  effect_at c (CoreTurn m) = turn_at c m (w.items m) refl
-  effect_at c (Arm m call) = go call
-    where
-      go : (x : Call) → AreReceived t (after_arming w m x)
-      go Fails.SendLost = same_received t w (after_arming w m Fails.SendLost) refl refl refl refl h
-      go Fails.SendGone = same_received t w (after_arming w m Fails.SendGone) refl refl refl refl h
-      go Fails.Receive = same_received t w (after_arming w m Fails.Receive) refl refl refl refl h
-      go Fails.Read = same_received t w (after_arming w m Fails.Read) refl refl refl refl h
-      go Fails.Write = same_received t w (after_arming w m Fails.Write) refl refl refl refl h
-      go Fails.Sync = same_received t w (after_arming w m Fails.Sync) refl refl refl refl h
-  effect_at c (Restart m torn) = restart_at m torn
+  effect_at c event =
+      effect_cases c w (AreReceived t) (λ after l. same_received t w after l.topology l.seats l.inputs l.steps h) (λ n. turn_at c n (w.items n) refl) restart_at event
 
   world_at : (c : Choice) (event : Event) → AreReceived t (world_by c w event)
   unfolding world_by

@@ -1,13 +1,10 @@
 -- In no run is anything but a need refused.
 use Rattle.std.proofs.Common.{◌≡◌, ℕ, zero, suc, Bool, true, false, true≢false, ◌⊎◌, inl, inr, List, [], ◌∷◌, ◌++◌, map, length, Option, Some, None, nat_eq, if◌then◌else◌, refl, sym, ap, ap₂, ◌∙◌, subst, append_assoc, append-nil, eqb-true, eq-eqb, arith}
-use Rattle.std.proofs.lemmas.Bool.{cond_both, cases_Bool}
+use Rattle.std.proofs.lemmas.Bool.{cases_Bool}
 use Rattle.std.specs.Prelude.{slice_get, is_some}
 use Rattle.tora_packet.specs.declared.Packet.{Packet}
-use Rattle.tora_frame.specs.FrameParts.{FrameParts}
 use Rattle.tora_arq.specs.declared.Life.{Life}
 use Rattle.tora_arq.specs.declared.Times.{Times}
-use Rattle.tora_arq.specs.declared.LinkEvent.{LinkEvent}
-use Rattle.tora_arq.specs.LinkEnd.{frame_due, after_frame, after_transmit, first_event}
 use Rattle.tora_core.specs.declared.Input.{Input}
 use Rattle.tora_core.specs.declared.Input.TheVariants as In
 use Rattle.tora_core.specs.declared.errors.StepError.{StepError}
@@ -19,20 +16,19 @@ use Rattle.tora_seat.specs.declared.What.TheVariants as Tells
 use Rattle.tora_seat.specs.declared.Item.{Item}
 use Rattle.tora_seat.specs.declared.Cargo.{Cargo}
 use Rattle.tora_seat.specs.declared.Cargo.TheVariants as Gives
-use Rattle.tora_seat.specs.Serving.{SeatState, Serving, Parcel, Answers, put_one, begin_serving, serving_of, put_to, stepped_from}
+use Rattle.tora_seat.specs.Serving.{SeatState, Serving, Parcel, Answers, begin_serving, serving_of, put_to, stepped_from}
 use Rattle.tora_world.specs.declared.Event.{Event}
 use Rattle.tora_world.specs.declared.Event.TheVariants.{Need, Tick, Open, Pull, Transmit, Deliver, Pump, CoreTurn, Arm, Restart}
-use Rattle.tora_world.specs.declared.Call.{Call}
-use Rattle.tora_world.specs.declared.Call.TheVariants as Fails
 use Rattle.tora_world.specs.Topology.{Topology, neighbours_of}
 use Rattle.tora_world.specs.Lists.{reversed, packets_of, parcels_in, Each}
 use Rattle.tora_world.specs.LinkMachine.{MachineStep, machine_after, made}
 use Rattle.tora_world.specs.MachineRun.{free_steps_by}
-use Rattle.tora_world.specs.World.{World, Choice, settings, neighbours, datagram, first_seat, first_world, refusal_by, with_end, after_pull, after_sending, after_receiving, after_pump, after_serving, after_turn, after_arming, after_restart, effect_by, world_by}
+use Rattle.tora_world.specs.World.{World, Choice, neighbours, first_seat, first_world, refusal_by, after_serving, after_turn, after_restart, effect_by, world_by}
 use Rattle.tora_world.specs.FreeWorld.{FreeEvent, free_by, Schedule, after_schedule}
 use Rattle.tora_world.specs.Law.{HasAccepted}
 use Rattle.tora_world.specs.Refusals.{OnlyNeedsAreRefused, packets_accepted, packets_in, stepped_by, stepped_after, free_stepped_after, stepped_at_restart, SteppedAreAccepted}
 use Rattle.tora_world.specs.Layers.{LinkLaws, LifeLaws, CoreLaws, SeatLaws}
+use Rattle.tora_world.proofs.CoreEvents.{LeavesSeats, leaves_seats}
 use Rattle.tora_world.proofs.Invariant.{arrival_of, AllEndsFollow, Seen, seen_at_other}
 use Rattle.tora_world.proofs.Invariant.Arrival.{PacketComes}
 use Rattle.tora_world.proofs.Moves.{takes_next}
@@ -196,43 +192,20 @@ module _ (cores : CoreLaws) (seats : SeatLaws) (steps : List MachineStep) (w : W
       agreed_at a k (inl t) = subst (λ x. (if x then packets_in (w.steps a k) else earlier a k) ++ packets_accepted k (if x then [] else w.inputs a) ≡ packets_in (w.steps a k)) (sym t) (append-nil (packets_in (w.steps a k)))
       agreed_at a k (inr t) = subst (λ x. (if x then packets_in (w.steps a k) else earlier a k) ++ packets_accepted k (if x then [] else w.inputs a) ≡ packets_in (w.steps a k)) (sym t) (h.agreed a k)
 
+  left_nodes : (after : World) → LeavesSeats w after → AreNodes earlier after
+  left_nodes after l = same_nodes w after l.topology l.seats l.put l.inputs l.steps h
+
   effect_nodes : (c : Choice) (event : Event) → AreNodes (λ a k. stepped_by w a k event (earlier a k)) (effect_by c w event)
   unfolding effect_by
-  effect_nodes c (Need m d) = same_nodes w (effect_by c w (Need m d)) refl refl refl refl refl h
-  effect_nodes c Tick = same_nodes w (effect_by c w Tick) refl refl refl refl refl h
-  effect_nodes c (Open m j) = same_nodes w (effect_by c w (Open m j)) refl refl refl refl refl h
-  effect_nodes c (Pull m j) = go (w.cargoes m j)
-    where
-      go : (cs : List Cargo) → AreNodes earlier (after_pull w m j cs)
-      go [] = h
-      go (x ∷ cs) = same_nodes w (after_pull w m j (x ∷ cs)) refl refl refl refl refl h
-  effect_nodes c (Transmit m j) = go (frame_due (settings w m j) (w.ends m j) (c.now m j))
-    where
-      go : (r : Option FrameParts) → AreNodes earlier (after_sending w m j (after_transmit (settings w m j) (w.ends m j) (c.now m j)) r)
-      go None = h
-      go (Some f) = same_nodes w (after_sending w m j (after_transmit (settings w m j) (w.ends m j) (c.now m j)) (Some f)) refl refl refl refl refl h
-  effect_nodes c (Deliver i) = go (datagram w i)
-    where
-      go : (r : Option FrameParts) → AreNodes earlier (after_receiving w c r)
-      go None = h
-      go (Some f) = cond_both (w.arms f.header.receiver).receive _ _ (AreNodes earlier)
-          (λ _. same_nodes w (record w { arms = put_one w.arms f.header.receiver (record (w.arms f.header.receiver) { receive = false }) }) refl refl refl refl refl h)
-          (λ _. same_nodes w (with_end w f.header.receiver f.header.sender (after_frame (settings w f.header.receiver f.header.sender) (w.ends f.header.receiver f.header.sender) f (c.now f.header.receiver f.header.sender))) refl refl refl refl refl h)
-  effect_nodes c (Pump m j) = go (first_event (w.ends m j))
-    where
-      go : (r : Option LinkEvent) → AreNodes earlier (after_pump w c m j r)
-      go None = h
-      go (Some event) = same_nodes w (after_pump w c m j (Some event)) refl refl refl refl refl h
+  effect_nodes c (Need m d) = left_nodes (effect_by c w (Need m d)) (leaves_seats c w (Need m d) refl)
+  effect_nodes c Tick = left_nodes (effect_by c w Tick) (leaves_seats c w Tick refl)
+  effect_nodes c (Open m j) = left_nodes (effect_by c w (Open m j)) (leaves_seats c w (Open m j) refl)
+  effect_nodes c (Pull m j) = left_nodes (effect_by c w (Pull m j)) (leaves_seats c w (Pull m j) refl)
+  effect_nodes c (Transmit m j) = left_nodes (effect_by c w (Transmit m j)) (leaves_seats c w (Transmit m j) refl)
+  effect_nodes c (Deliver i) = left_nodes (effect_by c w (Deliver i)) (leaves_seats c w (Deliver i) refl)
+  effect_nodes c (Pump m j) = left_nodes (effect_by c w (Pump m j)) (leaves_seats c w (Pump m j) refl)
   effect_nodes c (CoreTurn m) = turn_nodes c m (w.items m) refl
-  effect_nodes c (Arm m call) = go call
-    where
-      go : (x : Call) → AreNodes earlier (after_arming w m x)
-      go Fails.SendLost = same_nodes w (after_arming w m Fails.SendLost) refl refl refl refl refl h
-      go Fails.SendGone = same_nodes w (after_arming w m Fails.SendGone) refl refl refl refl refl h
-      go Fails.Receive = same_nodes w (after_arming w m Fails.Receive) refl refl refl refl refl h
-      go Fails.Read = same_nodes w (after_arming w m Fails.Read) refl refl refl refl refl h
-      go Fails.Write = same_nodes w (after_arming w m Fails.Write) refl refl refl refl refl h
-      go Fails.Sync = same_nodes w (after_arming w m Fails.Sync) refl refl refl refl refl h
+  effect_nodes c (Arm m call) = left_nodes (effect_by c w (Arm m call)) (leaves_seats c w (Arm m call) refl)
   effect_nodes c (Restart m torn) = restart_nodes m torn
 
   world_nodes : (c : Choice) (event : Event) → AreNodes (λ a k. stepped_after c w a k event (earlier a k)) (world_by c w event)

@@ -14,7 +14,8 @@ use Rattle.tora_seat.specs.Serving.{put_to, serving_of}
 use Rattle.tora_world.specs.declared.Event.{Event}
 use Rattle.tora_world.specs.declared.Event.TheVariants.{Pull, Transmit, Pump, CoreTurn}
 use Rattle.tora_world.specs.declared.SimError.{SimError}
-use Rattle.tora_world.specs.World.{World, Choice, own_choice, own_answers, settings, neighbours, place_of, is_empty, has_room, what_of, after_pull, after_sending, after_pump, after_turn, refusal_of, effect_by, world_by, world_after, world_after_all}
+use Rattle.tora_seat.specs.Between.{what_of}
+use Rattle.tora_world.specs.World.{World, Choice, own_choice, own_answers, settings, neighbours, place_of, is_empty, has_room, after_pull, after_sending, after_pump, after_turn, refusal_of, effect_by, world_by, world_after, world_after_all}
 use Rattle.tora_world.specs.FreeWorld.{happening, after_schedule}
 use Rattle.tora_world.specs.Frames.{ChangesAt, ChangesAtEnd}
 use Rattle.tora_world.specs.Table.{IsStepBy, refused, needed, ticked, opened, stays_closed, packet_pulled, cut_pulled, sent, send_lost, send_gone, received, receive_failed, pumped, turned, send_lost_armed, send_gone_armed, receive_armed, read_armed, write_armed, sync_armed, restarted}

@@ -1,6 +1,6 @@
 -- A world is at rest just where the look at every node and link says so.
 use Rattle.std.proofs.Common.{◌≡◌, ℕ, Bool, true, false, true≢false, ◌&&◌, ◌||◌, List, [], ◌∷◌, Option, None, Some, nat_eq, refl, sym, ap, ◌∙◌, subst, eqb-true, eq-eqb}
-use Rattle.std.proofs.lemmas.Bool.{and_from, and_parts}
+use Rattle.std.proofs.lemmas.Bool.{and_from, and_parts, or_right}
 use Rattle.std.specs.Prelude.{option_map}
 use Rattle.std.specs.List.{list_all}
 use Rattle.tora_arq.specs.declared.Life.{Life}
@@ -35,11 +35,7 @@ all_pass p (n ∷ ns) f = and_from (p n) (list_all p ns) (f n (itself n)) (all_p
     itself m = ap (λ b. b || has_number m ns) (eq-eqb m m refl)
 
     later : (m : ℕ) → has_number m ns ≡ true → (nat_eq n m || has_number m ns) ≡ true
-    later m i = or_true (nat_eq n m) (has_number m ns) i
-      where
-        or_true : (b c : Bool) → c ≡ true → (b || c) ≡ true
-        or_true true c e = refl
-        or_true false c e = e
+    later m i = or_right (nat_eq n m) (has_number m ns) i
 
 is_empty_true : {A : Type 0} (xs : List A) → is_empty xs ≡ true → xs ≡ []
 is_empty_true [] e = refl

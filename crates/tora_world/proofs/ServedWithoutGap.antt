@@ -1,6 +1,8 @@
 -- Serving an item leaves no gap: what a core broadcasts while a life is current is sent in it, or the life is cut.
 use Rattle.std.proofs.Common.{◌≡◌, ℕ, zero, suc, Bool, true, false, true≢false, ◌&&◌, ◌||◌, ◌⊎◌, inl, inr, ⊎_elim, List, [], ◌∷◌, ◌++◌, length, Option, Some, None, nat_eq, if◌then◌else◌, refl, sym, ap, ◌∙◌, subst, append_assoc, append-nil, eqb-true, eq-eqb}
-use Rattle.std.proofs.lemmas.Bool.{cond_both, cases_Bool, false_from_ne_true}
+use Rattle.tora_seat.proofs.Places.{turned}
+use Rattle.tora_seat.specs.SeatLaws.{is_link_down}
+use Rattle.std.proofs.lemmas.Bool.{cond_both, cases_Bool, false_from_ne_true, or_parts}
 use Rattle.std.specs.Prelude.{slice_get}
 use Rattle.tora_packet.specs.declared.Packet.{Packet}
 use Rattle.tora_arq.specs.declared.Life.{Life}
@@ -19,12 +21,13 @@ use Rattle.tora_seat.specs.Serving.{SeatState, Parcel, Serving, Answers, put_one
 use Rattle.tora_world.specs.Lists.{packets_of, parcels_in, parcel_of, Begins}
 use Rattle.tora_world.specs.Gaps.{is_link_up, with_sends, broadcast_from, life_told}
 use Rattle.tora_world.proofs.PacketLists.{same_true, of-push, only_same, only_other, begins_refl, begins_trans, begins_append}
-use Rattle.tora_world.proofs.Events.{put_one_here, put_one_there, turned}
+use Rattle.tora_world.proofs.Events.{put_one_here, put_one_there}
 use Rattle.tora_world.proofs.Cores.{core_after-push}
 use Rattle.tora_world.proofs.Serving.{offer_parcels, nothing_more, no_cut, no_back}
 use Rattle.tora_world.specs.Layers.{CoreLaws, SeatLaws}
 use Rattle.tora_seat.specs.Serves.{IsCut}
-use Rattle.tora_world.proofs.LinksUp.{or_none, is_link_down, up_same, up_gone, up_accepted, down_accepted}
+use Rattle.tora_world.proofs.LinksUp.{up_same, up_gone, up_accepted, down_accepted}
+use Rattle.tora_seat.proofs.Calm.{calm_broadcasts, accepted_step}
 
 -- by the life that is current: what is still to be sent of it, or what was sent of the life that came up last
 abbrev pub Now : (Life → Type 0) → Option Life → List Packet → List Packet → Bool → Option Life → List Parcel → Option Life → Type 0
@@ -106,13 +109,13 @@ module _ (cores : CoreLaws) (seats : SeatLaws) (answers : Answers) (ks : List �
   unfolding after_broadcast
   broadcast_off o old ps all p [] v i h = h
   broadcast_off o old ps all p (j ∷ js) v i h =
-      let e = or_none (nat_eq j k) (has_number k js) i in
+      let e = or_parts (nat_eq j k) (has_number k js) i in
       broadcast_off o old ps all p js (after_sent answers p v j (v.seat.current j)) e.1 (sent_off o old ps all p v j (v.seat.current j) e.0 h)
 
   broadcast_on : (o : Option Life) (old : List Parcel) (ps all : List Packet) (p : Packet) (js : List ℕ) (v : Serving) → has_number k js ≡ true → has_repeat js ≡ false → FitsIn o old (p ∷ ps) all v → FitsIn o old ps all (after_broadcast answers p js v)
   unfolding after_broadcast
   broadcast_on o old ps all p [] v i a h = absurd (true≢false (sym i))
-  broadcast_on o old ps all p (j ∷ js) v i a h = go (cases_Bool (nat_eq j k)) (or_none (has_number j js) (has_repeat js) a) (λ x y z. broadcast_on o old ps all p js x y (or_none (has_number j js) (has_repeat js) a).1 z)
+  broadcast_on o old ps all p (j ∷ js) v i a h = go (cases_Bool (nat_eq j k)) (or_parts (has_number j js) (has_repeat js) a) (λ x y z. broadcast_on o old ps all p js x y (or_parts (has_number j js) (has_repeat js) a).1 z)
     where
       go : (nat_eq j k ≡ true) ⊎ (nat_eq j k ≡ false) → (has_number j js ≡ false) × (has_repeat js ≡ false) → ((x : Serving) → has_number k js ≡ true → FitsIn o old (p ∷ ps) all x → FitsIn o old ps all (after_broadcast answers p js x)) →
           FitsIn o old ps all (after_broadcast answers p js (after_sent answers p v j (v.seat.current j)))
@@ -128,29 +131,6 @@ module _ (cores : CoreLaws) (seats : SeatLaws) (answers : Answers) (ks : List �
   unfolding after_broadcasts
   broadcasts_on o old [] all v h = h
   broadcasts_on o old (p ∷ ps) all v h = broadcasts_on o old ps all (after_broadcast answers p ks v) (broadcast_on o old ps all p ks v inside apart h)
-
-  -- ---- broadcasts leave the core and its inputs
-
-  record Calm (v v' : Serving) : Type 0 where
-    core : v'.seat.core ≡ v.seat.core
-    inputs : v'.inputs ≡ v.inputs
-
-  calm_by : (v v' v'' : Serving) → Calm v v' → Calm v' v'' → Calm v v''
-  calm_by v v' v'' a b = record { core = b.core ∙ a.core; inputs = b.inputs ∙ a.inputs }
-
-  calm_sent : (p : Packet) (v : Serving) (j : ℕ) (cur : Option Life) → Calm v (after_sent answers p v j cur)
-  calm_sent p v j None = record { core = refl; inputs = refl }
-  calm_sent p v j (Some l) = cond_both (answers v.offers j) _ _ (Calm v) (λ _. record { core = refl; inputs = refl }) (λ _. record { core = refl; inputs = refl })
-
-  calm_broadcast : (p : Packet) (js : List ℕ) (v : Serving) → Calm v (after_broadcast answers p js v)
-  unfolding after_broadcast
-  calm_broadcast p [] v = record { core = refl; inputs = refl }
-  calm_broadcast p (j ∷ js) v = calm_by v (after_sent answers p v j (v.seat.current j)) (after_broadcast answers p js (after_sent answers p v j (v.seat.current j))) (calm_sent p v j (v.seat.current j)) (calm_broadcast p js (after_sent answers p v j (v.seat.current j)))
-
-  calm_broadcasts : (ps : List Packet) (v : Serving) → Calm v (after_broadcasts answers ks ps v)
-  unfolding after_broadcasts
-  calm_broadcasts [] v = record { core = refl; inputs = refl }
-  calm_broadcasts (p ∷ ps) v = calm_by v (after_broadcast answers p ks v) (after_broadcasts answers ks ps (after_broadcast answers p ks v)) (calm_broadcast p ks v) (calm_broadcasts ps (after_broadcast answers p ks v))
 
   -- ---- inputs
 
@@ -179,7 +159,7 @@ module _ (cores : CoreLaws) (seats : SeatLaws) (answers : Answers) (ks : List �
   accepts o old v input now f near h =
       let v' : Serving = accepting v input now in
       let v'' : Serving = after_broadcasts answers ks (sends_of v.seat.core input now) (accepting v input now) in
-      let c = calm_broadcasts (sends_of v.seat.core input now) (accepting v input now) in
+      let c = calm_broadcasts answers ks (sends_of v.seat.core input now) (accepting v input now) in
       let all_same : with_sends k v.seat.core input now (all_of v) ≡ all_of v'' = sym (all_accepting v input now f) ∙ ap (λ is. broadcast_from k first (before ++ is) []) (sym c.inputs) in
       record {
         fits = subst (λ a. FitsIn o old [] a v'') all_same (broadcasts_on o old (sends_of v.seat.core input now) (with_sends k v.seat.core input now (all_of v)) (accepting v input now) h);
@@ -243,11 +223,6 @@ module _ (cores : CoreLaws) (seats : SeatLaws) (answers : Answers) (ks : List �
       go None e = accepts o old v input now h.follows h.near (entry o old v input now e not_up down h.fits)
       go (Some error) e = record { fits = h.fits; follows = h.follows; near = h.near }
 
-  -- an input that is accepted
-  step_is : (v : Serving) (input : Input) (now : ℕ) → refusal_of v.seat.core input ≡ None → after_step answers ks input now v ≡ after_broadcasts answers ks (sends_of v.seat.core input now) (accepting v input now)
-  unfolding after_step
-  step_is v input now e = ap (after_answer answers ks input now v) e
-
   -- the current life of this neighbour is over, and its link goes down at the core
   down_step : (o o' : Option Life) (old old' : List Parcel) (v : Serving) (now : ℕ) (l : Life) → v.seat.current k ≡ Some l → ((j : Life) → o' ≡ Some j → o ≡ Some j) → ((j : Life) → (o' ≡ Some j → ⊥) → packets_of j (xs_of v) ≡ packets_of j old') →
       Inv o old v → Inv o' old' (after_step answers ks (In.LinkDown k) now (with_current v k None)) × (has_number k (after_step answers ks (In.LinkDown k) now (with_current v k None)).seat.core.up ≡ false)
@@ -257,7 +232,7 @@ module _ (cores : CoreLaws) (seats : SeatLaws) (answers : Answers) (ks : List �
       let ok : refusal_of v.seat.core (In.LinkDown k) ≡ None = down_accepted cores v.seat.core k (h.near k inside) n.2 in
       let gone : has_number k (core_after v.seat.core (In.LinkDown k) now).up ≡ false = cores.goes v.seat.core k now ok in
       let all : with_sends k v.seat.core (In.LinkDown k) now (all_of v) ≡ all_of v = with_sends_is k v.seat.core (In.LinkDown k) now (all_of v) false refl gone in
-      let is : after_step answers ks (In.LinkDown k) now v' ≡ after_broadcasts answers ks (sends_of v.seat.core (In.LinkDown k) now) (accepting v' (In.LinkDown k) now) = step_is v' (In.LinkDown k) now ok in
+      let is : after_step answers ks (In.LinkDown k) now v' ≡ after_broadcasts answers ks (sends_of v.seat.core (In.LinkDown k) now) (accepting v' (In.LinkDown k) now) = accepted_step answers ks v' (In.LinkDown k) now ok in
       let fit : FitsIn o' old' (sends_of v.seat.core (In.LinkDown k) now) (with_sends k v.seat.core (In.LinkDown k) now (all_of v)) (accepting v' (In.LinkDown k) now) =
       record {
         now = subst (λ c. Now Was o' (sends_of v.seat.core (In.LinkDown k) now) (with_sends k v.seat.core (In.LinkDown k) now (all_of v)) (has_number k (core_after v.seat.core (In.LinkDown k) now).up) (v.seat.pending k) (xs_of v) c) (sym (put_one_here v.seat.current k None)) (
@@ -270,7 +245,7 @@ module _ (cores : CoreLaws) (seats : SeatLaws) (answers : Answers) (ks : List �
       } in
       let inv : Inv o' old' (after_broadcasts answers ks (sends_of v.seat.core (In.LinkDown k) now) (accepting v' (In.LinkDown k) now)) = accepts o' old' v' (In.LinkDown k) now h.follows h.near fit in (
         subst (Inv o' old') (sym is) inv,
-        ap (λ (x : Serving). has_number k x.seat.core.up) is ∙ ap (λ (c : CoreView). has_number k c.up) (calm_broadcasts (sends_of v.seat.core (In.LinkDown k) now) (accepting v' (In.LinkDown k) now)).core ∙ gone,
+        ap (λ (x : Serving). has_number k x.seat.core.up) is ∙ ap (λ (c : CoreView). has_number k c.up) (calm_broadcasts answers ks (sends_of v.seat.core (In.LinkDown k) now) (accepting v' (In.LinkDown k) now)).core ∙ gone,
       )
 
   -- a life comes up of which nothing was sent
@@ -282,7 +257,7 @@ module _ (cores : CoreLaws) (seats : SeatLaws) (answers : Answers) (ks : List �
       let come : has_number k (core_after v.seat.core (In.LinkUp k) now).up ≡ true = cores.comes v.seat.core k now ok in
       let all : with_sends k v.seat.core (In.LinkUp k) now (all_of v) ≡ sends_of v.seat.core (In.LinkUp k) now =
       ap (λ x. if x then sends_of v.seat.core (In.LinkUp k) now else if has_number k (core_after v.seat.core (In.LinkUp k) now).up then all_of v ++ sends_of v.seat.core (In.LinkUp k) now else all_of v) (eq-eqb k k refl) in
-      let is : after_step answers ks (In.LinkUp k) now v' ≡ after_broadcasts answers ks (sends_of v.seat.core (In.LinkUp k) now) (accepting v' (In.LinkUp k) now) = step_is v' (In.LinkUp k) now ok in
+      let is : after_step answers ks (In.LinkUp k) now v' ≡ after_broadcasts answers ks (sends_of v.seat.core (In.LinkUp k) now) (accepting v' (In.LinkUp k) now) = accepted_step answers ks v' (In.LinkUp k) now ok in
       let fit : FitsIn (Some l) old (sends_of v.seat.core (In.LinkUp k) now) (with_sends k v.seat.core (In.LinkUp k) now (all_of v)) (accepting v' (In.LinkUp k) now) =
       record {
         now = subst (λ c. Now Was (Some l) (sends_of v.seat.core (In.LinkUp k) now) (with_sends k v.seat.core (In.LinkUp k) now (all_of v)) (has_number k (core_after v.seat.core (In.LinkUp k) now).up) (v.seat.pending k) (xs_of v) c) (sym (put_one_here v.seat.current k (Some l)))
@@ -317,7 +292,7 @@ module _ (cores : CoreLaws) (seats : SeatLaws) (answers : Answers) (ks : List �
 
       go : (r : Option StepError) → refusal_of v.seat.core (In.LinkDown j) ≡ r → has_number k (after_answer answers ks (In.LinkDown j) now v r).seat.core.up ≡ false
       go None e =
-          ap (λ (c : CoreView). has_number k c.up) (calm_broadcasts (sends_of v.seat.core (In.LinkDown j) now) (accepting v (In.LinkDown j) now)).core ∙ gone e (cases_Bool (nat_eq j k))
+          ap (λ (c : CoreView). has_number k c.up) (calm_broadcasts answers ks (sends_of v.seat.core (In.LinkDown j) now) (accepting v (In.LinkDown j) now)).core ∙ gone e (cases_Bool (nat_eq j k))
       go (Some error) e = u
 
   stays_down : (most now : ℕ) (v : Serving) → has_number k v.seat.core.up ≡ false → has_number k (after_settling most answers ks now v).seat.core.up ≡ false
@@ -506,6 +481,7 @@ module _ (cores : CoreLaws) (seats : SeatLaws) (answers : Answers) (ks : List �
   link_item_done o seat v s w j now (Tells.Need d) fresh = input_done o (parcels_in base) v (In.Need d) now refl (λ x. absurd (true≢false (sym x))) (inv_start o seat v s w)
   link_item_done o seat v s w j now Tells.Beat fresh = done_start o seat v s w
   link_item_done o seat v s w j now Tells.Show fresh = done_start o seat (record v { answer = Says.Show }) (record { core = s.core; current = s.current; inputs = s.inputs; xs = s.xs }) w
+  link_item_done o seat v s w j now (Tells.Status status) fresh = done_start o seat (record v { answer = Says.Show }) (record { core = s.core; current = s.current; inputs = s.inputs; xs = s.xs }) w
   link_item_done o seat v s w j now Tells.Quit fresh = done_start o seat (record v { answer = Says.Quit }) (record { core = s.core; current = s.current; inputs = s.inputs; xs = s.xs }) w
 
   other_item_done : (o : Option Life) (seat : SeatState) (v : Serving) → Started seat v → Whole o seat → (now : ℕ) (what : What) → Done o (parcels_in base) (after_other_item answers ks now what v)
@@ -516,6 +492,7 @@ module _ (cores : CoreLaws) (seats : SeatLaws) (answers : Answers) (ks : List �
   other_item_done o seat v s w now (Tells.Need d) = input_done o (parcels_in base) v (In.Need d) now refl (λ x. absurd (true≢false (sym x))) (inv_start o seat v s w)
   other_item_done o seat v s w now Tells.Beat = done_start o seat v s w
   other_item_done o seat v s w now Tells.Show = done_start o seat (record v { answer = Says.Show }) (record { core = s.core; current = s.current; inputs = s.inputs; xs = s.xs }) w
+  other_item_done o seat v s w now (Tells.Status status) = done_start o seat (record v { answer = Says.Show }) (record { core = s.core; current = s.current; inputs = s.inputs; xs = s.xs }) w
   other_item_done o seat v s w now Tells.Quit = done_start o seat (record v { answer = Says.Quit }) (record { core = s.core; current = s.current; inputs = s.inputs; xs = s.xs }) w
 
   pub serving_done : (o : Option Life) (seat : SeatState) (item : Item) → Whole o seat → ((l : Life) → slice_get ks item.seat ≡ Some k → item.what ≡ Tells.Up l → packets_of l (parcels_in base) ≡ []) →

@@ -1,5 +1,6 @@
 -- A turn of the core keeps what is said of all ends, and makes the steps of the machine that are stated for it.
 use Rattle.std.proofs.Common.{◌≡◌, ◌≢◌, ℕ, zero, suc, Bool, true, false, true≢false, ◌&&◌, ◌⊎◌, inl, inr, List, [], ◌∷◌, ◌++◌, length, map, Option, Some, None, nat_eq, if◌then◌else◌, refl, sym, ap, ap₂, ◌∙◌, subst, append_assoc, append-nil, eqb-true, eq-eqb}
+use Rattle.tora_seat.proofs.Places.{turned}
 use Rattle.std.proofs.lemmas.Bool.{cond_both, cases_Bool}
 use Rattle.std.specs.Prelude.{slice_get}
 use Rattle.tora_packet.specs.declared.Packet.{Packet}
@@ -25,7 +26,7 @@ use Rattle.tora_world.proofs.Invariant.Arrival.{LifeComes, PacketComes, OtherCom
 use Rattle.tora_world.proofs.Moves.{passes, skips, ups}
 use Rattle.tora_world.proofs.AllEnds.{Changes, no_step, same_views, taking_follows, putting_follows, closing_follows}
 use Rattle.tora_world.proofs.EndViews.{arrival_in, arrivals_in, arrivals_of, view_of, end_views, parcels-append}
-use Rattle.tora_world.proofs.Events.{turned, put_one_here, put_one_there}
+use Rattle.tora_world.proofs.Events.{put_one_here, put_one_there}
 
 -- ---- lists that grow
 
@@ -345,6 +346,7 @@ module _ (w : World) (seen : Seen) (n : ℕ) where
   link_item_keeps before answers lane lane' k now (Tells.Need m) front v q g = input_keeps before answers lane' ks (In.Need m) now v (pass_keeps before lane lane' k (Tells.Need m) front v refl g)
   link_item_keeps before answers lane lane' k now Tells.Beat front v q g = pass_keeps before lane lane' k Tells.Beat front v refl g
   link_item_keeps before answers lane lane' k now Tells.Show front v q g = pass_keeps before lane lane' k Tells.Show front v refl g
+  link_item_keeps before answers lane lane' k now (Tells.Status status) front v q g = pass_keeps before lane lane' k (Tells.Status status) front v refl g
   link_item_keeps before answers lane lane' k now Tells.Quit front v q g = pass_keeps before lane lane' k Tells.Quit front v refl g
 
   other_item_keeps : (before : List MachineStep) (answers : Answers) (lane lane' : List Item) (now : ℕ) (what : What) → ((b : ℕ) → arrivals_of ks b lane' ≡ arrivals_of ks b lane) →
@@ -362,6 +364,7 @@ module _ (w : World) (seen : Seen) (n : ℕ) where
       go (Tells.Down l r) = past
       go Tells.Beat = past
       go Tells.Show = past
+      go (Tells.Status status) = past
       go Tells.Quit = past
 
   -- the cuts that are tried first change no current life, and are no steps

@@ -1,7 +1,8 @@
 -- A topology that has no fault: how many neighbours a node has, and that they are different from each other and from the node.
 use Rattle.std.proofs.Common.{◌≡◌, refl, sym, ap, ap₂, ◌∙◌, subst, ℕ, suc, ◌+◌, ◌≤◌, ◌==◌, Bool, true, false, not, ◌||◌, ◌&&◌, nat_lt, List, [], ◌∷◌, length, cond, arith, if◌then◌else◌, Some, None, eqb-true}
+use Rattle.tora_core.proofs.AfterInputs.{has-with}
 use Rattle.std.specs.List.{list_any}
-use Rattle.std.proofs.lemmas.Bool.{cond_both}
+use Rattle.std.proofs.lemmas.Bool.{cond_both, or_from}
 use Rattle.std.proofs.lemmas.Bool.Decides.{nat_tests}
 use Rattle.tora_core.specs.declared.errors.CoreError.TheVariants as Fault
 use Rattle.tora_core.specs.Numbers.{has_number, has_repeat, with_number, without_number}
@@ -14,19 +15,6 @@ pub length-with_number : (k : ℕ) (ns : List ℕ) → length (with_number k ns)
 length-with_number k [] = refl
 length-with_number k (n ∷ ns) =
     cond_both (nat_lt k n) (k ∷ n ∷ ns) (n ∷ with_number k ns) (λ (xs : List ℕ). length xs ≡ suc (suc (length ns))) (λ _. refl) (λ _. ap suc (length-with_number k ns))
-
-pub has-with_number : (n k : ℕ) (ns : List ℕ) → has_number n (with_number k ns) ≡ ((k == n) || has_number n ns)
-has-with_number n k [] = refl
-has-with_number n k (m ∷ ns) =
-    cond_both (nat_lt k m) (k ∷ m ∷ ns) (m ∷ with_number k ns) (λ (xs : List ℕ). has_number n xs ≡ ((k == n) || has_number n (m ∷ ns)))
-    (λ _. refl)
-    (λ _. ap (λ b. (m == n) || b) (has-with_number n k ns) ∙ turned (m == n) (k == n) (has_number n ns))
-  where
-    turned : (a b c : Bool) → (a || (b || c)) ≡ (b || (a || c))
-    turned true true c = refl
-    turned true false c = refl
-    turned false true c = refl
-    turned false false c = refl
 
 -- ---- how many of them are not the node itself
 
@@ -69,11 +57,11 @@ split-more n k ns absent e = go (k == n) refl
         let same : k ≡ n = grind (arith, nat_tests) in
         let none : has_number n ns ≡ false = subst (λ m. has_number m ns ≡ false) same absent in
         let had : length (without_number n ns) + 0 ≡ length ns = subst (λ b. length (without_number n ns) + one_if b ≡ length ns) none e in
-        let there : has_number n (with_number k ns) ≡ true = has-with_number n k ns ∙ ap (λ b. b || has_number n ns) is in
+        let there : has_number n (with_number k ns) ≡ true = has-with n k ns ∙ ap (λ b. b || has_number n ns) is in
         let size : length (without_number n (with_number k ns)) ≡ 0 + length (without_number n ns) = without-with_number n k ns ∙ ap (λ b. weight b + length (without_number n ns)) is in
         subst (λ b. length (without_number n (with_number k ns)) + one_if b ≡ length (with_number k ns)) (sym there) (omega (arith, length-with_number k ns))
     go false is =
-        let there : has_number n (with_number k ns) ≡ has_number n ns = has-with_number n k ns ∙ ap (λ b. b || has_number n ns) is in
+        let there : has_number n (with_number k ns) ≡ has_number n ns = has-with n k ns ∙ ap (λ b. b || has_number n ns) is in
         let size : length (without_number n (with_number k ns)) ≡ 1 + length (without_number n ns) = without-with_number n k ns ∙ ap (λ b. weight b + length (without_number n ns)) is in
         subst (λ b. length (without_number n (with_number k ns)) + one_if b ≡ length (with_number k ns)) (sym there) (omega (arith, length-with_number k ns))
 
@@ -92,10 +80,6 @@ or-false-left false b e = refl
 pub or-false-right : (a b : Bool) → (a || b) ≡ false → b ≡ false
 or-false-right true b e = absurd cc
 or-false-right false b e = e
-
-or-false : (a b : Bool) → a ≡ false → b ≡ false → (a || b) ≡ false
-or-false true b e f = e
-or-false false b e f = f
 
 -- none of the three causes
 pub no-cause : (a b c : Bool) → (if a then Some Fault.TooMany else if b then Some Fault.Repeated else if c then Some Fault.OwnId else None) ≡ None
@@ -125,7 +109,7 @@ within-greatest greatest limit count few = go (nat_lt limit greatest) refl few
 none-weaker : (p q : ℕ → Bool) → ((n : ℕ) → p n ≡ false → q n ≡ false) → (ns : List ℕ) → list_any p ns ≡ false → list_any q ns ≡ false
 none-weaker p q weaker [] none = refl
 none-weaker p q weaker (n ∷ ns) none =
-    or-false (q n) (list_any q ns) (weaker n (or-false-left (p n) (list_any p ns) none)) (none-weaker p q weaker ns (or-false-right (p n) (list_any p ns) none))
+    or_from (q n) (list_any q ns) (weaker n (or-false-left (p n) (list_any p ns) none)) (none-weaker p q weaker ns (or-false-right (p n) (list_any p ns) none))
 
 -- the three parts of the first cause
 pub record AreFew (limits : Limits) (t : Topology) : Type 0 where
@@ -169,7 +153,7 @@ within-all t limits e =
     let nodes = within-greatest 1024 limits.nodes (length (nodes_in t.links)) few.nodes in
     let near = none-weaker _ _ (λ n. within-greatest 32 limits.neighbours (length (different_neighbours n t.links))) (nodes_in t.links) few.neighbours in
     let table = within-greatest 64 limits.destinations (length t.destinations) few.destinations in
-    let many : has_too_many_within greatest_limits t ≡ false = or-false _ _ (or-false _ _ nodes near) table in
+    let many : has_too_many_within greatest_limits t ≡ false = or_from _ _ (or_from _ _ nodes near) table in
     rw (many, h.1, h.2) refl
 
 -- ---- the other ends of a node's links
@@ -183,8 +167,8 @@ others-apart n (x ∷ links) e =
     go : has_number n (other_ends n links) ≡ false → (x.a == x.b) ≡ false → (p q : Bool) → (x.a == n) ≡ p → (x.b == n) ≡ q
         → has_number n (if p then x.b ∷ other_ends n links else if q then x.a ∷ other_ends n links else other_ends n links) ≡ false
     go rest apart true true a b = absurd (grind (arith, nat_tests))
-    go rest apart true false a b = or-false (x.b == n) (has_number n (other_ends n links)) b rest
-    go rest apart false true a b = or-false (x.a == n) (has_number n (other_ends n links)) a rest
+    go rest apart true false a b = or_from (x.b == n) (has_number n (other_ends n links)) b rest
+    go rest apart false true a b = or_from (x.a == n) (has_number n (other_ends n links)) a rest
     go rest apart false false a b = rest
 
 -- a node that has no link to another is not among its other ends
@@ -204,8 +188,8 @@ not-linked n k (x ∷ links) e =
 
     go : has_number k (other_ends n links) ≡ false → is_same_link (record { a = n; b = k }) x ≡ false → (p q : Bool) → (x.a == n) ≡ p → (x.b == n) ≡ q
         → has_number k (if p then x.b ∷ other_ends n links else if q then x.a ∷ other_ends n links else other_ends n links) ≡ false
-    go rest here true q a b = or-false (x.b == k) (has_number k (other_ends n links)) (other-b here a) rest
-    go rest here false true a b = or-false (x.a == k) (has_number k (other_ends n links)) (other-a here b) rest
+    go rest here true q a b = or_from (x.b == k) (has_number k (other_ends n links)) (other-b here a) rest
+    go rest here false true a b = or_from (x.a == k) (has_number k (other_ends n links)) (other-a here b) rest
     go rest here false false a b = rest
 
 swapped : (p q r s : Bool) → ((p && q) || (r && s)) ≡ ((s && r) || (q && p))
@@ -239,10 +223,10 @@ others-once n (x ∷ links) e =
     go : has_repeat (other_ends n links) ≡ false → has_link x links ≡ false → (p q : Bool) → (x.a == n) ≡ p → (x.b == n) ≡ q
         → has_repeat (if p then x.b ∷ other_ends n links else if q then x.a ∷ other_ends n links else other_ends n links) ≡ false
     go rest here true q a b =
-        or-false (has_number x.b (other_ends n links)) (has_repeat (other_ends n links))
+        or_from (has_number x.b (other_ends n links)) (has_repeat (other_ends n links))
         (not-linked n x.b links (subst (λ m. has_link (record { a = m; b = x.b }) links ≡ false) (eqb-true x.a n a) here)) rest
     go rest here false true a b =
-        or-false (has_number x.a (other_ends n links)) (has_repeat (other_ends n links))
+        or_from (has_number x.a (other_ends n links)) (has_repeat (other_ends n links))
         (not-linked n x.a links (has_link-turned n x.a links ∙ subst (λ m. has_link (record { a = x.a; b = m }) links ≡ false) (eqb-true x.b n b) here)) rest
     go rest here false false a b = rest
 
@@ -251,7 +235,7 @@ others-once n (x ∷ links) e =
 pub has-with_node : (n k : ℕ) (ns : List ℕ) → has_number n (with_node k ns) ≡ ((k == n) || has_number n ns)
 has-with_node n k ns =
     cond_both (has_number k ns) ns (with_number k ns) (λ (xs : List ℕ). has_number n xs ≡ ((k == n) || has_number n ns))
-    (λ there. go (k == n) refl there) (λ _. has-with_number n k ns)
+    (λ there. go (k == n) refl there) (λ _. has-with n k ns)
   where
     go : (b : Bool) → (k == n) ≡ b → has_number k ns ≡ true → has_number n ns ≡ (b || has_number n ns)
     go true e there = subst (λ m. has_number m ns ≡ true) (eqb-true k n e) there

@@ -24,7 +24,8 @@ use Rattle.tora_world.specs.declared.SimError.{SimError}
 use Rattle.tora_world.specs.declared.SimError.TheVariants as Refused
 use Rattle.tora_world.specs.Topology.{is_node, is_link}
 use Rattle.tora_world.specs.LinkMachine.{put_at}
-use Rattle.tora_world.specs.World.{World, Choice, Sending, Goes, IsLost, IsGone, Arms, first_seat, settings, neighbours, command_seat, place_of, datagram, is_empty, has_room, with_item, open_with, after_pull, with_datagram, after_sending, after_receiving, what_of, after_pump, after_serving, after_turn, after_arming, after_restart, refusal_by, effect_by, world_by}
+use Rattle.tora_seat.specs.Between.{what_of}
+use Rattle.tora_world.specs.World.{World, Choice, Sending, Goes, IsLost, IsGone, Arms, first_seat, settings, neighbours, command_seat, place_of, datagram, is_empty, has_room, with_item, open_with, after_pull, with_datagram, after_sending, after_receiving, after_pump, after_serving, after_turn, after_arming, after_restart, refusal_by, effect_by, world_by}
 use Rattle.tora_world.specs.Frames.{ChangesAt, PutsItem, LeavesServed}
 use Rattle.tora_world.specs.Table.{IsStepBy, refused, needed, ticked, opened, stays_closed, packet_pulled, cut_pulled, sent, send_lost, send_gone, received, receive_failed, pumped, turned, send_lost_armed, send_gone_armed, receive_armed, read_armed, write_armed, sync_armed, restarted}
 use Rattle.tora_world.proofs.TableWords.{both_true, one_changes, end_changes, one_same, end_same, ends_of, change_files, is_datagram, is_seat, is_told}

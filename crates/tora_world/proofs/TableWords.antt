@@ -1,6 +1,6 @@
 -- The words of the table, beside those of the computing definition.
 use Rattle.std.proofs.Common.{◌≡◌, ℕ, zero, suc, ◌<◌, Bool, true, false, true≢false, ◌&&◌, ◌||◌, ◌⊎◌, inl, inr, List, [], ◌∷◌, ◌++◌, length, Some, None, nat_eq, if◌then◌else◌, refl, sym, ap, ap₂, ◌∙◌, subst, slice_get, eqb-true, eq-eqb, ne_eqb, arith}
-use Rattle.std.proofs.lemmas.Bool.{cases_Bool}
+use Rattle.std.proofs.lemmas.Bool.{cases_Bool, or_parts}
 use Rattle.std.proofs.lemmas.Option.{slice_get_past}
 use mathlib.Core.Path.{fun_ext}
 use Rattle.tora_frame.specs.FrameParts.{FrameParts}
@@ -12,7 +12,8 @@ use Rattle.tora_seat.specs.declared.What.{What}
 use Rattle.tora_seat.specs.Serving.{put_one}
 use Rattle.tora_world.specs.Topology.{is_link}
 use Rattle.tora_world.specs.LinkMachine.{put_at}
-use Rattle.tora_world.specs.World.{World, place_of, datagram, what_of, is_file_of}
+use Rattle.tora_seat.specs.Between.{what_of}
+use Rattle.tora_world.specs.World.{World, place_of, datagram, is_file_of}
 use Rattle.tora_world.specs.Frames.{ChangesAt, ChangesAtEnd, ChangesFiles}
 use Rattle.tora_world.specs.Table.{IsDatagram, IsSeatOf, IsTold, up_told, packet_told, down_told}
 
@@ -160,14 +161,10 @@ past_no_datagram w (suc place) (inr lt) = slice_get_past w.datagrams place (omeg
 
 -- ---- seats
 
-or_false : (x y : Bool) → (x || y) ≡ false → (x ≡ false) × (y ≡ false)
-or_false true y e = absurd (true≢false e)
-or_false false y e = (refl, e)
-
 placed : (k : ℕ) (before behind : List ℕ) → has_number k before ≡ false → place_of k (before ++ k ∷ behind) ≡ length before
 placed k [] behind e = ap (λ (b : Bool). if b then 0 else suc (place_of k behind)) (eq-eqb k k refl)
 placed k (j ∷ before) behind e =
-    let x = or_false (nat_eq j k) (has_number k before) e in
+    let x = or_parts (nat_eq j k) (has_number k before) e in
     ap (λ (b : Bool). if b then 0 else suc (place_of k (before ++ k ∷ behind))) x.0 ∙ ap suc (placed k before behind x.1)
 
 pub seat_is : (k : ℕ) (ks : List ℕ) (seat : ℕ) → IsSeatOf k ks seat → place_of k ks ≡ seat

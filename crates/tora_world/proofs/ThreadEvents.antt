@@ -14,7 +14,8 @@ use Rattle.tora_seat.specs.Serving.{Parcel}
 use Rattle.tora_world.specs.Topology.{is_link}
 use Rattle.tora_world.specs.LinkMachine.{put_at, MachineEnd, MachineStep, machine_after}
 use Rattle.tora_world.specs.World.{World, Choice, settings, neighbours, with_end, with_item, after_pump}
-use Rattle.tora_world.specs.FreeWorld.{TellsNoLife, after_cut_of_bound}
+use Rattle.tora_seat.specs.Between.{after_cut_of_bound}
+use Rattle.tora_world.specs.FreeWorld.{TellsNoLife}
 use Rattle.tora_world.specs.Layers.{LinkLaws, LifeLaws}
 use Rattle.tora_world.proofs.PacketLists.{put_here, put_there}
 use Rattle.tora_world.proofs.Invariant.{Arrival, FollowsMachine, AllEndsFollow, Seen, arrival_of, seen_at_other}
@@ -33,6 +34,7 @@ arrival_silent (Tells.Down l r) h = absurd h
 arrival_silent Tells.Beat h = refl
 arrival_silent (Tells.Need d) h = refl
 arrival_silent Tells.Show h = refl
+arrival_silent (Tells.Status status) h = refl
 arrival_silent Tells.Quit h = refl
 
 arrivals_silent : (k : ℕ) (seat : Option ℕ) (what : What) → TellsNoLife what → (arrivals_in k seat what ≡ []) ⊎ (arrivals_in k seat what ≡ OtherComes ∷ [])

@@ -1,5 +1,6 @@
 -- What a core has broadcast of a destination tells its height, or it has none: each height that it takes is broadcast, in an update, to all up neighbours.
 use Rattle.std.proofs.Common.{◌≡◌, ℕ, ◌<◌, Bool, true, false, ◌&&◌, ◌||◌, ◌⊎◌, inl, inr, List, [], ◌∷◌, ◌++◌, map, Option, Some, None, nat_eq, if◌then◌else◌, refl, sym, ap, ◌∙◌, subst, eqb-true, eq-eqb, append_assoc, append-nil, true≢false, arith}
+use Rattle.tora_seat.specs.SeatLaws.{is_link_down}
 use Rattle.std.proofs.lemmas.Bool.{cond_both, cases_Bool, false_from_ne_true}
 use Rattle.std.specs.Prelude.{is_some, is_none, not, ◌==◌, find, filter_map, option_map, pos}
 use Rattle.std.specs.List.{list_all, cons_option, AllByRecursion}
@@ -24,7 +25,7 @@ use Rattle.tora_world.specs.Losses.{LosesQuietly, WasLost}
 use Rattle.tora_world.specs.Losses.LosesQuietly.{clears_another_level, loses_last_entry, finds_no_height}
 use Rattle.tora_world.specs.Layers.{CoreLaws}
 use Rattle.tora_world.proofs.Cores.{core_after-push}
-use Rattle.tora_world.proofs.LinksUp.{is_link_down, up_same, up_gone}
+use Rattle.tora_world.proofs.LinksUp.{up_same, up_gone}
 
 -- ---- what packets say of a height
 

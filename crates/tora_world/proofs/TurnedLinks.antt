@@ -1,6 +1,6 @@
 -- A link leads both ways, and each of its ends is a node.
 use Rattle.std.proofs.Common.{◌≡◌, ℕ, Bool, true, false, true≢false, ◌||◌, ◌⊎◌, inl, inr, List, [], ◌∷◌, nat_eq, if◌then◌else◌, refl, sym, ap, ◌∙◌, subst, eqb-true, eq-eqb}
-use Rattle.std.proofs.lemmas.Bool.{cases_Bool}
+use Rattle.std.proofs.lemmas.Bool.{cases_Bool, or_left, or_right}
 use Rattle.tora_core.specs.Numbers.{has_number}
 use Rattle.tora_world.specs.Topology.{Topology, Link, other_ends, is_node, is_link}
 use Rattle.tora_world.specs.Layers.{CoreLaws}
@@ -10,17 +10,9 @@ use Rattle.tora_world.proofs.SoundTopology.{unnamed}
 abbrev ends_with : Bool → Bool → Link → List ℕ → List ℕ
 ends_with p q x ends = if p then x.b ∷ ends else if q then x.a ∷ ends else ends
 
-or_true : (b c : Bool) → c ≡ true → (b || c) ≡ true
-or_true true c e = refl
-or_true false c e = e
-
-or_first : (b c : Bool) → b ≡ true → (b || c) ≡ true
-or_first true c e = refl
-or_first false c e = absurd (true≢false (sym e))
-
 more_ends : (n : ℕ) (p q : Bool) (x : Link) (ends : List ℕ) → has_number n ends ≡ true → has_number n (ends_with p q x ends) ≡ true
-more_ends n true q x ends e = or_true (nat_eq x.b n) (has_number n ends) e
-more_ends n false true x ends e = or_true (nat_eq x.a n) (has_number n ends) e
+more_ends n true q x ends e = or_right (nat_eq x.b n) (has_number n ends) e
+more_ends n false true x ends e = or_right (nat_eq x.a n) (has_number n ends) e
 more_ends n false false x ends e = e
 
 turned_ends : (n k : ℕ) (links : List Link) → has_number k (other_ends n links) ≡ true → has_number n (other_ends k links) ≡ true
@@ -32,12 +24,12 @@ turned_ends n k (x ∷ links) e = go (nat_eq x.a n) (nat_eq x.b n) refl refl e (
 
     -- k is the second end of the link, n the first
     first : x.a ≡ n → x.b ≡ k → (p : Bool) → nat_eq x.a k ≡ p → has_number n (ends_with p (nat_eq x.b k) x (other_ends k links)) ≡ true
-    first a b true t = or_first (nat_eq x.b n) (has_number n (other_ends k links)) (eq-eqb x.b n (b ∙ sym (eqb-true x.a k t) ∙ a))
-    first a b false t = subst (λ (q : Bool). has_number n (ends_with false q x (other_ends k links)) ≡ true) (sym (eq-eqb x.b k b)) (or_first (nat_eq x.a n) (has_number n (other_ends k links)) (eq-eqb x.a n a))
+    first a b true t = or_left (nat_eq x.b n) (has_number n (other_ends k links)) (eq-eqb x.b n (b ∙ sym (eqb-true x.a k t) ∙ a))
+    first a b false t = subst (λ (q : Bool). has_number n (ends_with false q x (other_ends k links)) ≡ true) (sym (eq-eqb x.b k b)) (or_left (nat_eq x.a n) (has_number n (other_ends k links)) (eq-eqb x.a n a))
 
     -- the other way round
     second : x.b ≡ n → x.a ≡ k → has_number n (ends_with (nat_eq x.a k) (nat_eq x.b k) x (other_ends k links)) ≡ true
-    second b a = subst (λ (p : Bool). has_number n (ends_with p (nat_eq x.b k) x (other_ends k links)) ≡ true) (sym (eq-eqb x.a k a)) (or_first (nat_eq x.b n) (has_number n (other_ends k links)) (eq-eqb x.b n b))
+    second b a = subst (λ (p : Bool). has_number n (ends_with p (nat_eq x.b k) x (other_ends k links)) ≡ true) (sym (eq-eqb x.a k a)) (or_left (nat_eq x.b n) (has_number n (other_ends k links)) (eq-eqb x.b n b))
 
     pick : (b : Bool) (ends : Bool) → (b || ends) ≡ true → (b ≡ true) ⊎ (ends ≡ true)
     pick true ends f = inl refl

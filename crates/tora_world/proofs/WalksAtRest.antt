@@ -1,58 +1,28 @@
 -- Walks where each entry is the height of its neighbour or the neighbour has no height: they go down.
-use Rattle.std.proofs.Common.{◌≡◌, ◌≢◌, ℕ, zero, suc, ◌+◌, ◌<◌, ◌≤◌, ◌||◌, Bool, true, false, true≢false, ◌⊎◌, inl, inr, ⊎_elim, List, [], ◌∷◌, length, Option, None, Some, nat_eq, if◌then◌else◌, refl, sym, ap, ◌∙◌, subst, arith, eqb-true, eq-eqb}
+use Rattle.std.proofs.Common.{◌≡◌, ◌≢◌, ℕ, zero, suc, ◌+◌, ◌<◌, ◌≤◌, ◌||◌, Bool, true, false, true≢false, ◌⊎◌, inl, inr, ⊎_elim, List, [], ◌∷◌, length, Some, nat_eq, refl, sym, ap, ◌∙◌, subst, arith, eqb-true, eq-eqb}
 use Rattle.std.proofs.lemmas.Bool.{cases_Bool}
-use Rattle.std.specs.Prelude.{IfSome, IsSome, option_and_then}
 use Rattle.std.specs.Ordering.{is_lt}
 use Rattle.std.specs.declared.cmp.Ordering.TheVariants.{Less, Equal}
 use Rattle.tora_height.specs.Height.{Quintuple}
 use Rattle.tora_height.specs.HeightOrder.{IsLower}
 use Rattle.tora_core.specs.Numbers.{has_number}
-use Rattle.tora_core.specs.View.{View, has_downstream, next_hop_of}
-use Rattle.tora_core.specs.CoreRun.{entry_in, hop_of, entry_of}
-use Rattle.tora_core.specs.Kept.{IsKept}
 use Rattle.tora_world.specs.Topology.{nodes_in, is_node}
 use Rattle.tora_world.specs.World.{World}
 use Rattle.tora_world.specs.Layers.{RuleLaws}
-use Rattle.tora_world.specs.Walks.{height_at, hop_at, entry_at, LeadsOn, IsBelow, FallsFrom, Arrives}
+use Rattle.tora_world.specs.Walks.{height_at, hop_at, LeadsOn, IsBelow, FallsFrom, Arrives}
 use Rattle.tora_world.specs.Rest.{LacksHeight, EntriesAreHeights, FollowsHops, GoesDown, HopsDown, ComesDown, HaveHeights, last_of, IsReached}
 use Rattle.tora_world.specs.Rest.IsReached.{itself as here, further}
-use Rattle.tora_world.proofs.Entries.{IsCoreOf, view_in, has_view, has_hop, entry_found}
+use Rattle.tora_world.proofs.Entries.{IsCoreOf, has_view}
 use Rattle.tora_world.proofs.ExactEntries.{itself}
-use Rattle.tora_world.proofs.WalksDown.{one_where, is_under, under, under_most, one_less, walk_found}
+use Rattle.tora_world.proofs.WalksDown.{one_where, is_under, under, under_most, one_less, walk_found, Hops, hops}
 
 module _ (rules : RuleLaws) (w : World) (cores : (n : ℕ) → is_node w.topology n ≡ true → IsCoreOf w.topology n (w.seats n).core) (d : ℕ) (entries : EntriesAreHeights w) where
-  -- the next hop of a node that has a height, with the entry by which it is
-  record Hops (n : ℕ) (h : Quintuple) : Type 0 where
-    hop : ℕ
-    low : Quintuple
-    next : hop_at w n d ≡ Some hop
-    entry : entry_at w n hop d ≡ Some (Some low)
-    order : IsLower low h
-
-  hops : (n : ℕ) (h : Quintuple) → n ≢ d → height_at w n d ≡ Some (Some h) → Hops n h
-  hops n h other e =
-      let has = has_view w n d h e in
-      let c = cores n has.node in
-      let v : View = has.view in
-      let view = view_in (w.seats n).core d v c.kept has.found in
-      let kept : IsKept v = view.view.kept in
-      let away : v.me ≢ v.destination = λ q. other (sym (view.view.owner ∙ c.me) ∙ q ∙ view.destination) in
-      let down : has_downstream v ≡ true = kept.lower away (subst IsSome (sym has.height) refl) in
-      let hop = has_hop rules v kept down in
-      record {
-        hop = hop.hop;
-        low = hop.entry;
-        next = ap (λ b. if b then hop_of (w.seats n).core d else None) has.node ∙ ap (option_and_then next_hop_of) has.found ∙ hop.next;
-        entry = ap (λ b. if b then entry_of (w.seats n).core d hop.hop else None) has.node ∙ ap (option_and_then (entry_in hop.hop)) has.found ∙ entry_found v hop.hop hop.entry kept.ascending hop.known;
-        order = subst (λ (o : Option Quintuple). IfSome o (IsLower hop.entry)) has.height hop.lower;
-      }
-
-  below : (n : ℕ) (h : Quintuple) → height_at w n d ≡ Some (Some h) → (x : Hops n h) → height_at w x.hop d ≡ Some (Some x.low) → IsBelow w d x.hop n
+  below : (n : ℕ) (h : Quintuple) → height_at w n d ≡ Some (Some h) → (x : Hops w d n h) → height_at w x.hop d ≡ Some (Some x.low) → IsBelow w d x.hop n
   below n h e x q = record { low = x.low; high = h; lower = q; upper = e; order = x.order }
 
   pub hops_down : (n : ℕ) (h : Quintuple) → n ≢ d → height_at w n d ≡ Some (Some h) → HopsDown w d n
   hops_down n h other e =
-      let x = hops n h other e in
+      let x = hops rules w cores d n h other e in
       record { hop = x.hop; next = x.next; lower = ⊎_elim (λ q. inl (below n h e x q)) (λ q. inr q) (entries n x.hop d x.low x.entry) }
 
   -- ---- down to the destination, or to a node without a height
@@ -65,7 +35,7 @@ module _ (rules : RuleLaws) (w : World) (cores : (n : ℕ) → is_node w.topolog
   node_there : (k : ℕ) (h : Quintuple) → height_at w k d ≡ Some (Some h) → is_node w.topology k ≡ true
   node_there k h e = (has_view w k d h e).node
 
-  fewer_below : (n : ℕ) (h : Quintuple) (x : Hops n h) → height_at w x.hop d ≡ Some (Some x.low) → under w d x.low (nodes_in w.topology.links) < under w d h (nodes_in w.topology.links)
+  fewer_below : (n : ℕ) (h : Quintuple) (x : Hops w d n h) → height_at w x.hop d ≡ Some (Some x.low) → under w d x.low (nodes_in w.topology.links) < under w d h (nodes_in w.topology.links)
   fewer_below n h x q = one_less rules w d x.low h x.order x.hop q (nodes_in w.topology.links) (node_there x.hop x.low q)
 
   -- `most` is at least the number of nodes below, and one more: for a node that has no height
@@ -77,7 +47,7 @@ module _ (rules : RuleLaws) (w : World) (cores : (n : ℕ) → is_node w.topolog
       go (inl is) again = record { after = []; goes = eqb-true n d is; within = omega arith }
       go (inr is) again =
           let other : n ≢ d = λ q. true≢false (sym (eq-eqb n d q) ∙ is) in
-          let x = hops n h other e in
+          let x = hops rules w cores d n h other e in
           ⊎_elim
           (λ (q : height_at w x.hop d ≡ Some (Some x.low)).
           let less = fewer_below n h x q in
@@ -121,7 +91,7 @@ module _ (rules : RuleLaws) (w : World) (cores : (n : ℕ) → is_node w.topolog
   -- the node after n, where it has a height
   after_hop : (n : ℕ) (h : Quintuple) → n ≢ d → height_at w n d ≡ Some (Some h) → (k : ℕ) → hop_at w n d ≡ Some k → (LacksHeight w k d → ⊥) → LastBelow h k
   after_hop n h other e k next have =
-      let x = hops n h other e in
+      let x = hops rules w cores d n h other e in
       let q : Some x.hop ≡ Some k = sym x.next ∙ next in
       let same : x.hop ≡ k = cc in
       let height : height_at w k d ≡ Some (Some x.low) =
@@ -154,7 +124,7 @@ module _ (rules : RuleLaws) (w : World) (cores : (n : ℕ) → is_node w.topolog
       within : length after ≤ most
       falls : FallsFrom w d m after
 
-    height_of_hop : (m : ℕ) (h : Quintuple) → IsReached w d n m → (x : Hops m h) → height_at w x.hop d ≡ Some (Some x.low)
+    height_of_hop : (m : ℕ) (h : Quintuple) → IsReached w d n m → (x : Hops w d m h) → height_at w x.hop d ≡ Some (Some x.low)
     height_of_hop m h r x = ⊎_elim (λ q. q) (λ q. absurd (none x.hop (further r x.entry) q)) (entries m x.hop d x.low x.entry)
 
     leads_down : (most m : ℕ) (h : Quintuple) → IsReached w d n m → height_at w m d ≡ Some (Some h) → under w d h (nodes_in w.topology.links) ≤ most → Leads m most
@@ -163,7 +133,7 @@ module _ (rules : RuleLaws) (w : World) (cores : (n : ℕ) → is_node w.topolog
         go : (nat_eq m d ≡ true) ⊎ (nat_eq m d ≡ false) → Leads m 0
         go (inl is) = record { after = []; leads = eqb-true m d is; within = omega arith; falls = tt }
         go (inr is) =
-            let x = hops m h (λ q. true≢false (sym (eq-eqb m d q) ∙ is)) e in
+            let x = hops rules w cores d m h (λ q. true≢false (sym (eq-eqb m d q) ∙ is)) e in
             let less = fewer_below m h x (height_of_hop m h r x) in
             absurd (omega (arith, le, less))
     leads_down (suc most) m h r e le = go (cases_Bool (nat_eq m d)) (leads_down most)
@@ -172,7 +142,7 @@ module _ (rules : RuleLaws) (w : World) (cores : (n : ℕ) → is_node w.topolog
         go (inl is) again = record { after = []; leads = eqb-true m d is; within = omega arith; falls = tt }
         go (inr is) again =
             let other : m ≢ d = λ q. true≢false (sym (eq-eqb m d q) ∙ is) in
-            let x = hops m h other e in
+            let x = hops rules w cores d m h other e in
             let q = height_of_hop m h r x in
             let less = fewer_below m h x q in
             let rest = again x.hop x.low (further r x.entry) q (omega (arith, le, less)) in

@@ -104,6 +104,14 @@ one_weaker : (a b : Bool) → (a ≡ true → b ≡ true) → one_where a ≤ on
 one_weaker true b f = let e = f refl in subst (λ x. 1 ≤ one_where x) (sym e) (omega arith)
 one_weaker false b f = omega arith
 
+-- the next hop of a node that has a height, with the entry by which it is
+pub record Hops (w : World) (d n : ℕ) (h : Quintuple) : Type 0 where
+  pub hop : ℕ
+  pub low : Quintuple
+  pub next : hop_at w n d ≡ Some hop
+  pub entry : entry_at w n hop d ≡ Some (Some low)
+  pub order : IsLower low h
+
 module _ (rules : RuleLaws) where
   less_is : (o : Ordering) → is_lt o ≡ true → o ≡ Less
   less_is Less e = refl
@@ -141,15 +149,8 @@ module _ (rules : RuleLaws) where
 
   -- ---- one hop
 
-  module _ (w : World) (cores : (n : ℕ) → is_node w.topology n ≡ true → IsCoreOf w.topology n (w.seats n).core) (d : ℕ) (exact : IsExact w d) where
-    record Hops (n : ℕ) (h : Quintuple) : Type 0 where
-      hop : ℕ
-      low : Quintuple
-      next : hop_at w n d ≡ Some hop
-      lower : height_at w hop d ≡ Some (Some low)
-      order : IsLower low h
-
-    hops : (n : ℕ) (h : Quintuple) → n ≢ d → height_at w n d ≡ Some (Some h) → Hops n h
+  module _ (w : World) (cores : (n : ℕ) → is_node w.topology n ≡ true → IsCoreOf w.topology n (w.seats n).core) (d : ℕ) where
+    pub hops : (n : ℕ) (h : Quintuple) → n ≢ d → height_at w n d ≡ Some (Some h) → Hops w d n h
     hops n h other e =
         let has = has_view w n d h e in
         let c = cores n has.node in
@@ -159,15 +160,18 @@ module _ (rules : RuleLaws) where
         let away : v.me ≢ v.destination = λ q. other (sym (view.view.owner ∙ c.me) ∙ q ∙ view.destination) in
         let down : has_downstream v ≡ true = kept.lower away (subst IsSome (sym has.height) refl) in
         let hop = has_hop rules v kept down in
-        let entry : entry_at w n hop.hop d ≡ Some (Some hop.entry) =
-        ap (λ b. if b then entry_of (w.seats n).core d hop.hop else None) has.node ∙ ap (option_and_then (entry_in hop.hop)) has.found ∙ entry_found v hop.hop hop.entry kept.ascending hop.known in
         record {
           hop = hop.hop;
           low = hop.entry;
           next = ap (λ b. if b then hop_of (w.seats n).core d else None) has.node ∙ ap (option_and_then next_hop_of) has.found ∙ hop.next;
-          lower = exact n hop.hop hop.entry entry;
+          entry = ap (λ b. if b then entry_of (w.seats n).core d hop.hop else None) has.node ∙ ap (option_and_then (entry_in hop.hop)) has.found ∙ entry_found v hop.hop hop.entry kept.ascending hop.known;
           order = subst (λ (o : Option Quintuple). IfSome o (IsLower hop.entry)) has.height hop.lower;
         }
+
+  module _ (w : World) (cores : (n : ℕ) → is_node w.topology n ≡ true → IsCoreOf w.topology n (w.seats n).core) (d : ℕ) (exact : IsExact w d) where
+    -- the entry is the height of the node there
+    lower : (n : ℕ) (h : Quintuple) (x : Hops w d n h) → height_at w x.hop d ≡ Some (Some x.low)
+    lower n h x = exact n x.hop x.low x.entry
 
     -- the nodes after n, with at most so many hops
     record GoesDown (n most : ℕ) : Type 0 where
@@ -185,8 +189,8 @@ module _ (rules : RuleLaws) where
         go : (nat_eq n d ≡ true) ⊎ (nat_eq n d ≡ false) → GoesDown n 0
         go (inl is) = record { after = []; leads = eqb-true n d is; within = omega arith; falls = tt }
         go (inr is) =
-            let x = hops n h (λ q. true≢false (sym (eq-eqb n d q) ∙ is)) e in
-            let less = one_less w d x.low h x.order x.hop x.lower (nodes_in w.topology.links) (node_there x.hop x.low x.lower) in
+            let x = hops w cores d n h (λ q. true≢false (sym (eq-eqb n d q) ∙ is)) e in
+            let less = one_less w d x.low h x.order x.hop (lower n h x) (nodes_in w.topology.links) (node_there x.hop x.low (lower n h x)) in
             absurd (omega arith)
     goes_down (suc most) n h e le = go (cases_Bool (nat_eq n d)) (goes_down most)
       where
@@ -194,15 +198,15 @@ module _ (rules : RuleLaws) where
         go (inl is) again = record { after = []; leads = eqb-true n d is; within = omega arith; falls = tt }
         go (inr is) again =
             let other : n ≢ d = λ q. true≢false (sym (eq-eqb n d q) ∙ is) in
-            let x = hops n h other e in
-            let less = one_less w d x.low h x.order x.hop x.lower (nodes_in w.topology.links) (node_there x.hop x.low x.lower) in
-            let rest = again x.hop x.low x.lower (omega arith) in
+            let x = hops w cores d n h other e in
+            let less = one_less w d x.low h x.order x.hop (lower n h x) (nodes_in w.topology.links) (node_there x.hop x.low (lower n h x)) in
+            let rest = again x.hop x.low (lower n h x) (omega arith) in
             let within = rest.within in
             record {
               after = x.hop ∷ rest.after;
               leads = (other, x.next, rest.leads);
               within = omega arith;
-              falls = (record { low = x.low; high = h; lower = x.lower; upper = e; order = x.order }, rest.falls);
+              falls = (record { low = x.low; high = h; lower = (lower n h x); upper = e; order = x.order }, rest.falls);
             }
 
     pub arrives : (n : ℕ) (h : Quintuple) → height_at w n d ≡ Some (Some h) → Arrives w n d

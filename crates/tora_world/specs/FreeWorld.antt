@@ -1,8 +1,8 @@
 -- The free world: the events of the simulator with any ticks and any answers, and what the threads of a running node do beside them.
-use Rattle.std.specs.Prelude.{◌≡◌, ℕ, if◌then◌else◌, List, [], ◌∷◌, Option, Some, None}
-use Rattle.tora_arq.specs.declared.Life.{Life}
-use Rattle.tora_arq.specs.LinkEnd.{EndState, bound_life, after_tick, after_cut, first_event}
+use Rattle.std.specs.Prelude.{◌≡◌, ℕ, if◌then◌else◌, List, [], ◌∷◌, None}
+use Rattle.tora_arq.specs.LinkEnd.{bound_life, after_tick, first_event}
 use Rattle.tora_life.specs.LifeRun.{LifeDisk, IsFloor}
+use Rattle.tora_seat.specs.Between.{after_cut_of_bound}
 use Rattle.tora_seat.specs.declared.What.{What}
 use Rattle.tora_seat.specs.declared.What.TheVariants as Tells
 use Rattle.tora_world.specs.declared.Event.{Event}
@@ -21,6 +21,7 @@ TellsNoLife (Tells.Down life reason) = ⊥
 TellsNoLife Tells.Beat = Unit {0}
 TellsNoLife (Tells.Need d) = Unit {0}
 TellsNoLife Tells.Show = Unit {0}
+TellsNoLife (Tells.Status status) = Unit {0}
 TellsNoLife Tells.Quit = Unit {0}
 
 -- a change of a life file after which no number is drawn that was not to be drawn before it
@@ -58,11 +59,6 @@ if_happens f value (ChangesFile n k change kept) = value
 if_happens f value (StartsAnew n) = f (Restart n None)
 
 -- ---- what it does
-
--- the bound life is cut, where there is one
-abbrev pub after_cut_of_bound : EndState → Option Life → EndState
-after_cut_of_bound e None = e
-after_cut_of_bound e (Some life) = after_cut e life
 
 -- the event, handed the ticks and answers of this choice
 abbrev pub free_by : Choice → World → FreeEvent → World

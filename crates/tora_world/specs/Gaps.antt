@@ -49,6 +49,7 @@ life_told k (Some j) (Tells.Down other reason) life = life
 life_told k (Some j) Tells.Beat life = life
 life_told k (Some j) (Tells.Need d) life = life
 life_told k (Some j) Tells.Show life = life
+life_told k (Some j) (Tells.Status status) life = life
 life_told k (Some j) Tells.Quit life = life
 
 abbrev pub life_taken : List ℕ → ℕ → List Item → Option Life → Option Life

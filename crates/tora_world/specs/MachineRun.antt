@@ -48,6 +48,7 @@ steps_of_link_item n k current (Tells.Down life reason) = if is_current life cur
 steps_of_link_item n k current Tells.Beat = []
 steps_of_link_item n k current (Tells.Need d) = []
 steps_of_link_item n k current Tells.Show = []
+steps_of_link_item n k current (Tells.Status status) = []
 steps_of_link_item n k current Tells.Quit = []
 
 -- an item of a seat that is no link

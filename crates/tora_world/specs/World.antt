@@ -5,9 +5,8 @@ use Rattle.tora_frame.specs.FrameParts.{FrameParts}
 use Rattle.tora_arq.specs.declared.Life.{Life}
 use Rattle.tora_arq.specs.declared.Times.{Times}
 use Rattle.tora_arq.specs.declared.LinkEvent.{LinkEvent}
-use Rattle.tora_arq.specs.declared.LinkEvent.TheVariants as Link
 use Rattle.tora_arq.specs.Settings.{Settings, settings_of}
-use Rattle.tora_arq.specs.LinkEnd.{EndState, first_end, is_closed, after_open, after_frame, after_tick, after_submit, after_cut, first_event, after_poll_event, frame_due, after_transmit}
+use Rattle.tora_arq.specs.LinkEnd.{EndState, first_end, is_closed, after_open, after_frame, after_tick, first_event, after_poll_event, frame_due, after_transmit}
 use Rattle.tora_core.specs.declared.Input.{Input}
 use Rattle.tora_life.specs.declared.state.DiskCall.TheVariants as Disk
 use Rattle.tora_life.specs.declared.state.DiskCall.{DiskCall}
@@ -15,11 +14,11 @@ use Rattle.tora_life.specs.State.{fresh_state, after_crash}
 use Rattle.tora_life.specs.declared.tags.Owner.{Owner}
 use Rattle.tora_life.specs.LifeRun.{LifeDisk, opened, state_in, after_event, drawn_by}
 use Rattle.tora_life.specs.LifeRun.LifeEvent.{Draw as DrawsNumber, Arm as ArmsDisk, Restart as OpensAnew}
+use Rattle.tora_seat.specs.Between.{what_of, after_cargo}
 use Rattle.tora_seat.specs.declared.What.{What}
 use Rattle.tora_seat.specs.declared.What.TheVariants as Tells
 use Rattle.tora_seat.specs.declared.Item.{Item}
 use Rattle.tora_seat.specs.declared.Cargo.{Cargo}
-use Rattle.tora_seat.specs.declared.Cargo.TheVariants as Gives
 use Rattle.tora_seat.specs.Serving.{SeatState, Parcel, Answers, Serving, put_one, serving_of, put_to, stepped_from}
 use Rattle.tora_seat.specs.declared.TheConstants.{MOST_ITEMS, MOST_CARGOES}
 use Rattle.tora_world.specs.declared.Event.{Event}
@@ -192,11 +191,6 @@ after_opening w c n k = record w {
   files = put_at w.files n k (after_event DrawsNumber (w.files n k));
 }
 
--- a cargo is submitted, or cuts
-abbrev pub after_cargo : EndState → Cargo → EndState
-after_cargo e (Gives.Packet life packet) = after_submit e life packet
-after_cargo e (Gives.Cut life) = after_cut e life
-
 abbrev pub after_pull : World → ℕ → ℕ → List Cargo → World
 after_pull w n k [] = w
 after_pull w n k (cargo ∷ cargoes) = record w {
@@ -225,12 +219,6 @@ after_receiving w c (Some f) =
     if (w.arms f.header.receiver).receive
     then record w { arms = put_one w.arms f.header.receiver (record (w.arms f.header.receiver) { receive = false }) }
     else with_end w f.header.receiver f.header.sender (after_frame (settings w f.header.receiver f.header.sender) (w.ends f.header.receiver f.header.sender) f (c.now f.header.receiver f.header.sender))
-
--- what a link event tells the core
-abbrev pub what_of : LinkEvent → What
-what_of (Link.Up life) = Tells.Up life
-what_of (Link.Deliver life packet) = Tells.Packet life packet
-what_of (Link.Down life reason) = Tells.Down life reason
 
 -- the first event of a link end goes into the lane, in the seat of its neighbour
 abbrev pub after_pump : World → Choice → ℕ → ℕ → Option LinkEvent → World

@@ -23,16 +23,16 @@ pub struct Limits {
 impl Limits {
     /// 32 neighbours of a node, 64 destinations and 64 nodes.
     pub const STANDARD: Limits = Limits {
-        neighbours: 32,
-        destinations: 64,
-        nodes: 64,
+        neighbours: MOST_NEIGHBOURS,
+        destinations: MOST_DESTINATIONS,
+        nodes: MOST_NODES,
     };
 
     /// The greatest limits: 32 neighbours of a node, 64 destinations and 1,024 nodes.
     pub const GREATEST: Limits = Limits {
-        neighbours: 32,
-        destinations: 64,
-        nodes: 1024,
+        neighbours: MOST_NEIGHBOURS,
+        destinations: MOST_DESTINATIONS,
+        nodes: GREATEST_NODES,
     };
 
     /// How many neighbours a node may have.

@@ -1,5 +1,5 @@
 //! The table of events as a relation: the definition that computes does what the table says, and the table says nothing else.
-ghost use Rattle.std.specs.Prelude.{◌≡◌, ◌↔◌, ◌≤◌, ℕ, List, length, Some};
+ghost use Rattle.std.specs.Prelude.{◌≡◌, ◌↔◌, ◌+◌, ◌≤◌, ℕ, List, length, Some};
 ghost use Rattle.tora_arq.specs.Settings.{IsTimes};
 ghost use Rattle.tora_arq.specs.declared.Times.{Times};
 ghost use Rattle.tora_seat.specs.declared.TheConstants.{MOST_CARGOES, MOST_ITEMS};
@@ -13,7 +13,7 @@ ghost use Rattle.tora_world.specs.declared.Event.TheVariants.{CoreTurn, Pull, Pu
 ghost use Rattle.tora_world.specs.declared.Event.{Event};
 ghost use Rattle.tora_world.specs.declared.SimError.{SimError};
 
-use tora_arq::polls_of_a_tick_end;
+use tora_arq::{WINDOW, polls_of_a_tick_end};
 
 /// The table of events is the world's definition: in the table each event has a case for each of its outcomes, which says what changes
 /// and that all else is as it was, and the world after an event is the one that the table allows.
@@ -56,7 +56,7 @@ pub fn events_run_out()
         → length ((world_after_all (first_world t times) events).cargoes n k) ≤ MOST_CARGOES }
     ensures turns { (w : World) (n : ℕ) → length (w.items n) ≤ MOST_ITEMS → HappensAtMost MOST_ITEMS (CoreTurn n) w }
     ensures pulls { (w : World) (n k : ℕ) → length (w.cargoes n k) ≤ MOST_CARGOES → HappensAtMost MOST_CARGOES (Pull n k) w }
-    ensures transmits { (w : World) (n k : ℕ) → IsTimes w.times → HappensAtMost 36 (Transmit n k) w }
+    ensures transmits { (w : World) (n k : ℕ) → IsTimes w.times → HappensAtMost (WINDOW + 4) (Transmit n k) w }
     ensures pumps { (w : World) (n k : ℕ) → HappensAtMost MOST_ITEMS (Pump n k) w }
 {
     polls_of_a_tick_end();

@@ -10,7 +10,7 @@ use super::link_steps::Told::{Down, Up};
 use super::link_steps::{End, LIFE, REVERSED, Refusal, Step};
 use super::link_turns::{does, ends_do, error_of, first_end};
 use super::made::query_of;
-use super::sees::{prints, same, same_text, sees};
+use super::sees::{prints, same, same_at, same_text, sees};
 use std::alloc::Global;
 use std::process::Abort;
 use std::test::Fail;
@@ -300,6 +300,34 @@ const CLOCK: &[Step] = &[
 #[test]
 fn clock_that_goes_back_counts_as_no_time(rt: HostRuntime) {
     first_does(&rt, rt.alloc(), CLOCK);
+}
+
+/// Steps, and of ticks behind them the first at which a frame is due from each of them on, or the life ends. Of the times of the program a
+/// HELLO follows after 10 ticks, a packet once more after 5.
+const DUE: &[(&[Step], &[(u64, Option<u64>)])] = &[
+    (&[], &[(0, Some(0)), (7, Some(7))]),
+    (BOUND, &[(0, Some(10)), (9, Some(10)), (12, Some(12))]),
+    (&[Submits(1, 2)], &[(0, Some(0))]),
+    (
+        &[
+            Sends(Version::One, 5, 9, Query(1)),
+            Sends(Version::One, 5, 9, Query(2)),
+            SendsNone,
+        ],
+        &[(0, Some(5)), (6, Some(6)), (u64::MAX, Some(u64::MAX))],
+    ),
+    (&[Cuts(LIFE)], &[(0, None), (u64::MAX, None)]),
+];
+
+#[test]
+fn next_due_is_the_first_tick_with_a_frame(rt: HostRuntime) {
+    let mut end = first_end(&rt, rt.alloc(), Version::One);
+    for (steps, rows) in DUE {
+        does(&rt, rt.alloc(), &mut end, steps);
+        for (now, wanted) in *rows {
+            same_at(&rt, &end.next_due(*now), wanted, "the tick", now);
+        }
+    }
 }
 
 #[test]

@@ -16,7 +16,19 @@ fn spells(rt: &impl Abort, alloc: Global, packet: Packet, digits: &str) {
     let out = encode(&packet);
     same_at(rt, &out.as_slice(), &bytes.as_slice(), "the bytes", &digits);
     same_at(rt, &packet.destination(), &4, "the destination", &digits);
+    let len = encoded_length(&packet);
+    same_at(rt, &len, &bytes.len(), "the length", &digits);
+    same_at(rt, &is_packet_length(len), &true, "of packets", &digits);
     reads(rt, &bytes, &Ok(packet), digits);
+}
+
+/// Sees that of several packets one after another the first is that of these digits, with so many bytes behind it.
+fn cuts(rt: &impl Abort, alloc: Global, digits: &str, first: &str, behind: usize) {
+    let bytes = bytes_of(rt, alloc, digits);
+    let wanted = bytes_of(rt, alloc, first);
+    let (front, rest) = cut_packet(&bytes);
+    same_at(rt, &front, &wanted.as_slice(), "the first", &digits);
+    same_at(rt, &rest.len(), &behind, "behind it", &digits);
 }
 
 const VECTORS: &[(Parts, &str)] = &[
@@ -67,6 +79,27 @@ const VECTORS: &[(Parts, &str)] = &[
 fn packet_vectors(rt: HostRuntime) {
     for (parts, text) in VECTORS {
         spells(&rt, rt.alloc(), parts.packet(&rt), text);
+    }
+}
+
+/// Digits, those of the first packet, and how many bytes are behind it.
+const FIRST: &[(&str, &str, usize)] = &[
+    ("", "", 0),
+    ("01010000000000040103", "0101000000000004", 2),
+    (
+        "010300000000000400000000000000070000000301",
+        "0103000000000004000000000000000700000003",
+        1,
+    ),
+    ("0102000000000004", "0102000000000004", 0),
+    ("0109000000000004", "0109000000000004", 0),
+    ("0201000000000004ff", "0201000000000004ff", 0),
+];
+
+#[test]
+fn first_packets_are_cut_off(rt: HostRuntime) {
+    for (digits, first, behind) in FIRST {
+        cuts(&rt, rt.alloc(), digits, first, *behind);
     }
 }
 

@@ -14,6 +14,7 @@ use tora_height::Id;
 use tora_sim::{Event, Sim};
 
 mod memory;
+mod quiet;
 mod rest;
 mod steps;
 mod topologies;
@@ -221,7 +222,7 @@ fn tries(sim: &mut Sim, event: Event) -> bool {
 }
 
 /// Lets happen once, at each end, what is possible there, and hands over each datagram at once.
-fn pass(sim: &mut Sim) {
+pub fn pass(sim: &mut Sim) {
     for end in ENDS {
         let (n, k) = *end;
         tries(sim, Event::Open(n, k));
@@ -260,7 +261,7 @@ fn exact_entries_give_a_walk(rt: HostRuntime) {
 }
 
 /// Times that are not the standard ones.
-const TIMES: Times = Times {
+pub const TIMES: Times = Times {
     hello: 2,
     silent: 3,
     retry: 1,

@@ -20,9 +20,13 @@ use tora_height::Id;
 use tora_life::{Disk, LifeError};
 use tora_neighbour::{MemWire, NodeError, UnixClock, Wire};
 use tora_node::*;
+use tora_seat::Status;
+use tora_waking::NodeClock;
 
 mod byte_disk;
 mod faults;
+mod quitting;
+mod statuses;
 mod streams;
 
 /// The configuration of a node with the destination 4.
@@ -74,6 +78,7 @@ fn run_one<R: Threads + Wait + Sync + time::Clock + log::Log + Abort>(
     me: u32,
     peer: u32,
     woken: Woken<'_, R>,
+    clock: &NodeClock<&R>,
     first: &[u8],
     course: &Course,
 ) -> bool
@@ -88,7 +93,6 @@ fn run_one<R: Threads + Wait + Sync + time::Clock + log::Log + Abort>(
     let links = config.peers().len();
     as_many(rt, wires.len(), links);
     as_many(rt, disks.len(), links);
-    let clock = UnixClock::new(rt);
     let mut commands = Asking {
         rt,
         first,
@@ -103,7 +107,7 @@ fn run_one<R: Threads + Wait + Sync + time::Clock + log::Log + Abort>(
         wires,
         disks,
         wakers,
-        &clock,
+        clock,
         &mut commands,
         &mut screen,
     )
@@ -124,7 +128,10 @@ fn wait_for_print<R: time::Clock>(rt: &R, course: &Course) {
 fn two_nodes_on_the_loopback(rt: HostRuntime) {
     let alloc = rt.alloc();
     let here = IpAddr::V4(Ipv4Addr::LOCALHOST);
-    let pair = woken_pair(&rt, alloc, here, 44_400);
+    let third_clock = NodeClock::new(&rt);
+    let fourth_clock = NodeClock::new(&rt);
+    let clocks = (&third_clock, &fourth_clock);
+    let pair = woken_pair(&rt, alloc, clocks, here, 44_400);
     let (third, fourth) = there(&rt, pair, "a pair of free ports");
     let course = Course {
         printed: AtomicU64::new(0),
@@ -133,10 +140,13 @@ fn two_nodes_on_the_loopback(rt: HostRuntime) {
     let (runtime, shared) = (&rt, &course);
     let (three, four) = thread::join(
         &rt,
-        move || run_one(runtime, alloc, 3, 4, third, b"need 4\nshow\n", shared),
+        move || {
+            let asked = b"need 4\nshow\n";
+            run_one(runtime, alloc, 3, 4, third, clocks.0, asked, shared)
+        },
         move || {
             wait_for_print(runtime, shared);
-            run_one(runtime, alloc, 4, 3, fourth, b"hello\n", shared)
+            run_one(runtime, alloc, 4, 3, fourth, clocks.1, b"hello\n", shared)
         },
     );
     sees(&rt, three && four, "both nodes end well");
@@ -247,6 +257,8 @@ fn a_life_file_of_another_link_starts_no_thread(rt: HostRuntime) {
 /// Lines, and the commands that they are.
 const LINES: &[(&[u8], Command)] = &[
     (b"show", Command::Show),
+    (b"json", Command::Status(Status::Json)),
+    (b"watch", Command::Status(Status::Watch)),
     (b"quit", Command::Quit),
     (b"need 4", Command::Need(4)),
     (b"need 4294967295", Command::Need(4_294_967_295)),
@@ -261,6 +273,8 @@ const LINES: &[(&[u8], Command)] = &[
     (b"need 4294967296", Command::Unknown),
     (b"need 99999999999", Command::Unknown),
     (b"Show", Command::Unknown),
+    (b"json ", Command::Unknown),
+    (b"watch 4", Command::Unknown),
     (b"show ", Command::Unknown),
     (b"quit\r", Command::Unknown),
 ];
@@ -339,7 +353,7 @@ fn is_core_of_1(rt: &impl Abort, ended: &Ended) {
 #[test]
 fn want_of_memory_ends_a_node(rt: HostRuntime) {
     let mut page = Page {
-        bytes: [0; 256],
+        bytes: [0; 640],
         length: 0,
     };
     let commands = b"need 9\nhello\nshow\nneed 0\nquit\nshow\n";

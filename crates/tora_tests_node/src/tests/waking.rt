@@ -7,25 +7,27 @@ use std::test::Fail;
 use std::time::Clock;
 use tora_neighbour::{Wire, WireError};
 use tora_node::Wake;
-use tora_waking::{SocketWaker, WakingWire};
+use tora_waking::{NodeClock, SocketWaker, WakingWire};
 
 /// A wire, and what ends its waits.
-pub(super) type Woken<'a, R> = (WakingWire<&'a R>, SocketWaker);
+pub(super) type Woken<'a, R> = (WakingWire<'a, &'a R>, SocketWaker<'a, &'a R>);
 
-/// Two wires to each other, on two free ports of this address: one of the 500 from this one on, and the one 500 above it.
+/// Two wires to each other, by these clocks, on two free ports of this address: one of the 500 from this one on, and the one 500 above
+/// it.
 pub(super) fn woken_pair<'a, R: Net + Clock>(
     rt: &'a R,
     alloc: Global,
+    (one, two): (&'a NodeClock<&'a R>, &'a NodeClock<&'a R>),
     at: IpAddr,
     from: u16,
 ) -> Option<(Woken<'a, R>, Woken<'a, R>)> {
     for n in 0..500u16 {
         let port = SocketAddr::new(at, from.saturating_add(n));
         let other = SocketAddr::new(at, from.saturating_add(n).saturating_add(500));
-        let Ok(first) = WakingWire::bind(rt, alloc, rt, port, other) else {
+        let Ok(first) = WakingWire::bind(rt, alloc, one, port, other) else {
             continue;
         };
-        let Ok(second) = WakingWire::bind(rt, alloc, rt, other, port) else {
+        let Ok(second) = WakingWire::bind(rt, alloc, two, other, port) else {
             continue;
         };
         return Some((first, second));
@@ -63,9 +65,11 @@ fn three_come<R: Clock + Abort>(rt: &R, (first, second): (Woken<'_, R>, Woken<'_
 #[test]
 fn datagrams_that_came_are_given_one_a_receive(rt: HostRuntime) {
     let alloc = rt.alloc();
-    let v4 = woken_pair(&rt, alloc, IpAddr::V4(Ipv4Addr::LOCALHOST), 45_400);
+    let clock = NodeClock::new(&rt);
+    let clocks = (&clock, &clock);
+    let v4 = woken_pair(&rt, alloc, clocks, IpAddr::V4(Ipv4Addr::LOCALHOST), 45_400);
     three_come(&rt, there(&rt, v4, "a pair of free ports"));
-    if let Some(pair) = woken_pair(&rt, alloc, IpAddr::V6(Ipv6Addr::LOCALHOST), 45_400) {
+    if let Some(pair) = woken_pair(&rt, alloc, clocks, IpAddr::V6(Ipv6Addr::LOCALHOST), 45_400) {
         three_come(&rt, pair);
     }
 }
@@ -73,7 +77,9 @@ fn datagrams_that_came_are_given_one_a_receive(rt: HostRuntime) {
 /// A thousand waits, of which each ends by a wake-up: without one each would take as long as the rest of a tick.
 #[test]
 fn wake_ups_end_waits(rt: HostRuntime) {
-    let v4 = woken_pair(&rt, rt.alloc(), IpAddr::V4(Ipv4Addr::LOCALHOST), 46_400);
+    let clock = NodeClock::new(&rt);
+    let here = IpAddr::V4(Ipv4Addr::LOCALHOST);
+    let v4 = woken_pair(&rt, rt.alloc(), (&clock, &clock), here, 46_400);
     let ((mut wire, waker), _other) = there(&rt, v4, "a pair of free ports");
     let mut buffer = [0u8; 4];
     for _ in 0..1000 {
@@ -90,9 +96,10 @@ fn wake_ups_end_waits(rt: HostRuntime) {
 #[test]
 fn an_address_that_is_taken_is_not_bound(rt: HostRuntime) -> Result<(), Fail> {
     let any = SocketAddr::new(IpAddr::V4(Ipv4Addr::LOCALHOST), 0);
-    let (first, _waker) = WakingWire::bind(&rt, rt.alloc(), &rt, any, any)?;
+    let clock = NodeClock::new(&rt);
+    let (first, _waker) = WakingWire::bind(&rt, rt.alloc(), &clock, any, any)?;
     let taken = first.local_addr()?;
-    let second = WakingWire::bind(&rt, rt.alloc(), &rt, taken, any);
+    let second = WakingWire::bind(&rt, rt.alloc(), &clock, taken, any);
     sees(&rt, second.is_err(), "an address that is taken");
     Ok(())
 }

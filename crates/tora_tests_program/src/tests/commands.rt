@@ -9,10 +9,12 @@ use std::fs::{self, File, Files};
 use std::io::Read;
 use std::process::{Abort, ExitCode};
 use std::test::Fail;
+use std::time::Clock;
 use tora_arq::Times;
+use tora_channel::ChannelTable;
 use tora_commands::{
-    INPUT, MEMORY, SetupWords, USAGE, drive_command, replay_command, sim_command, simulate_file,
-    traced_command, usage,
+    ChannelFile, INPUT, MEMORY, SetupWords, USAGE, drive_command, replay_command, sim_command,
+    simulate_file, traced_command, usage,
 };
 use tora_script::Setup;
 use tora_sim::Sim;
@@ -40,10 +42,11 @@ impl Run {
         let reader = LinesReader::new((lines, "", 0, ""));
         match self {
             Run::Replay => replay_command::run(rt, reader, is_verbose, writer),
-            Run::Drive => drive_command::run(rt, None, reader, writer),
+            Run::Drive => drive_command::run(rt, None, false, reader, writer),
             Run::Simulation => sim_command::run_over::<Sim, T, LinesReader<'_>, ArrayWriter>(
                 rt,
                 Setup::plain(Times::STANDARD),
+                ChannelTable::none(),
                 reader,
                 is_verbose,
                 writer,
@@ -52,6 +55,7 @@ impl Run {
                 traced_command::run_over::<Sim, T, LinesReader<'_>, ArrayWriter, ArrayWriter>(
                     rt,
                     Setup::plain(Times::STANDARD),
+                    ChannelFile::none(),
                     reader,
                     is_verbose,
                     writer,
@@ -229,7 +233,7 @@ type Asked = (
 );
 
 /// Simulates a file once.
-fn simulated_once<T: Files + AllocGlobal + Eprint>(
+fn simulated_once<T: Files + AllocGlobal + Eprint + Clock>(
     rt: &T,
     ((times, channel), path, trace): Asked,
     writer: &mut ArrayWriter,
@@ -240,12 +244,14 @@ fn simulated_once<T: Files + AllocGlobal + Eprint>(
         seed: None,
         has_notice: false,
         is_large: false,
+        until: None,
+        channel_file: None,
     };
-    simulate_file(rt, words, path, trace, false, writer)
+    simulate_file(rt, words, path, trace, (false, false), writer)
 }
 
 /// Simulates a file, and expects its status and what is printed. Where memory was refused it simulates again.
-fn expect_simulated<T: Files + AllocGlobal + Eprint + Abort>(
+fn expect_simulated<T: Files + AllocGlobal + Eprint + Clock + Abort>(
     rt: &T,
     asked: Asked,
     wanted: u8,
@@ -337,7 +343,11 @@ const STATUSES: &[(&[&str], u8)] = &[
     (&["tora", "sim"], USAGE),
     (&["tora", "sim", "file", "other"], USAGE),
     (&["tora", "sim", "file", "--trace"], USAGE),
+    (&["tora", "sim", "file", "--channel-file"], USAGE),
+    (&["tora", "sim", "file", "--until"], USAGE),
     (&["tora", "sim", "file", "--check"], USAGE),
+    (&["tora", "drive", "--small"], USAGE),
+    (&["tora", "drive", "file"], USAGE),
     (&["tora", "node"], USAGE),
     (&["tora", "node", "file", "--trace", "other"], USAGE),
     (&["tora", "--help"], SUCCESS),

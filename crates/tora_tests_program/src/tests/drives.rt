@@ -1,5 +1,6 @@
 //! Drives: the answers to their lines, line by line.
 use super::runs::{Files, NOTHING, Row, Way, expect_files, expect_rows};
+use super::simulation_rows::LINKS_OF_A_LINE;
 use tora_lines::Ended;
 
 /// A link, and a first step behind it: each end has sent a HELLO of each version.
@@ -136,6 +137,33 @@ const LONG: &[Files] = &[
     },
 ];
 
+/// A line of 65 nodes, which is refused within the standard limits.
+const LONG_LINE: &[Files] = &[Files {
+    front: "dests 4\n",
+    middles: &[LINKS_OF_A_LINE],
+    times: 1,
+    end: "link 64 65\nwalk 65 4\nold 65\n",
+    text: "ok\nok\nok\nok\nok\nok\nok\nok\nok\nok\nok\nok\nok\nok\nok\nok\nok\nok\nok\nok\nok\nok\nok\nok\n\
+         ok\nok\nok\nok\nok\nok\nok\nok\nok\nok\nok\nok\nok\nok\nok\nok\nok\nok\nok\nok\nok\nok\nok\nok\n\
+         ok\nok\nok\nok\nok\nok\nok\nok\nok\nok\nok\nok\nok\nok\nok\nok\nok\n\
+         fault 66 the links and destinations are refused\n\
+         fault 67 the links and destinations are refused\n",
+    ended: Ended::Whole,
+}];
+
+/// The same within the greatest limits.
+const LARGE_WORLD: &[Files] = &[Files {
+    front: "dests 4\n",
+    middles: &[LINKS_OF_A_LINE],
+    times: 1,
+    end: "link 64 65\nold 65\nwalk 65 4\nwalk 66 4\n",
+    text: "ok\nok\nok\nok\nok\nok\nok\nok\nok\nok\nok\nok\nok\nok\nok\nok\nok\nok\nok\nok\nok\nok\nok\nok\n\
+         ok\nok\nok\nok\nok\nok\nok\nok\nok\nok\nok\nok\nok\nok\nok\nok\nok\nok\nok\nok\nok\nok\nok\nok\n\
+         ok\nok\nok\nok\nok\nok\nok\nok\nok\nok\nok\nok\nok\nok\nok\nok\nok\nok\n\
+         walk -\nok\nfault 68 it names a node, a link or a destination that there is not\n",
+    ended: Ended::Whole,
+}];
+
 #[test]
 fn each_line_is_answered(rt: HostRuntime) {
     expect_rows(&rt, Way::Drive, ANSWERS);
@@ -150,4 +178,11 @@ fn own_lines_are_answered(rt: HostRuntime) {
 #[test]
 fn long_lines_end_a_drive(rt: HostRuntime) {
     expect_files(&rt, Way::Drive, LONG);
+}
+
+/// More than 64 nodes are taken in a large world alone.
+#[test]
+fn large_worlds_are_driven(rt: HostRuntime) {
+    expect_files(&rt, Way::Drive, LONG_LINE);
+    expect_files(&rt, Way::LargeDrive, LARGE_WORLD);
 }

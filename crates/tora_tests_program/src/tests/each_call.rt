@@ -41,6 +41,14 @@ impl Simulator for Recorder {
         self.sim.may_happen(place, event)
     }
 
+    fn is_quiet(&self) -> bool {
+        self.sim.is_quiet()
+    }
+
+    fn settle(&mut self) {
+        self.sim.settle();
+    }
+
     fn happen(&mut self, event: &Event) -> Result<Option<SimError>, AllocError> {
         let refused = self.sim.happen(event)?;
         if refused.is_none() {

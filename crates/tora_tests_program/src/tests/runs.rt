@@ -1,9 +1,10 @@
 //! Runs of files of lines by the calls of the crates: what is printed, and how they end.
 use super::expected::{expect_ended, expect_written, is_memory};
 use super::failing_streams::{ArrayWriter, Fails, Lines, LinesReader};
+use std::alloc::Global;
 use std::process::Abort;
 use tora_arq::Times;
-use tora_channel::Channel;
+use tora_channel::ChannelTable;
 use tora_commands::{replay_and_flush, simulate_and_flush, simulate_told_and_flush};
 use tora_drive::drive_in;
 use tora_lines::{Ended, ReplayError};
@@ -31,6 +32,8 @@ pub enum Way {
     LargeSimulation,
     /// A drive.
     Drive,
+    /// A drive of a world within the greatest limits.
+    LargeDrive,
 }
 
 /// Ends of a link that are silent after 20 ticks.
@@ -40,6 +43,17 @@ pub const SHORT_SILENCE: Times = Times {
     retry: 5,
     tries: 8,
 };
+
+/// Drives a world within the limits by what a reader gives.
+fn driven(
+    alloc: Global,
+    limits: Limits,
+    reader: &mut LinesReader<'_>,
+    writer: &mut ArrayWriter,
+) -> Result<Ended, ReplayError> {
+    let times = Times::STANDARD;
+    drive_in::<Sim, LinesReader<'_>, ArrayWriter>(alloc, limits, times, reader, writer)
+}
 
 impl Way {
     /// Runs what a reader gives. Calls whose contracts tell much stand in functions without one, here and in the tests: the proofs of
@@ -75,22 +89,17 @@ impl Way {
                     rt,
                     alloc,
                     Setup {
-                        times: Times::STANDARD,
-                        channel: Channel::CLEAR,
-                        has_notice: false,
                         limits: Limits::GREATEST,
+                        ..Setup::plain(Times::STANDARD)
                     },
+                    ChannelTable::none(),
                     reader,
                     writer,
                     false,
                 )
             }
-            Way::Drive => drive_in::<Sim, LinesReader<'_>, ArrayWriter>(
-                alloc,
-                Times::STANDARD,
-                reader,
-                writer,
-            ),
+            Way::Drive => driven(alloc, Limits::STANDARD, reader, writer),
+            Way::LargeDrive => driven(alloc, Limits::GREATEST, reader, writer),
         }
     }
 

@@ -140,7 +140,8 @@ pub const LARGE_WORLDS: &[Files] = &[
     },
 ];
 
-const LINKS_OF_A_LINE: &str = "link 1 2\nlink 2 3\nlink 3 4\nlink 4 5\nlink 5 6\nlink 6 7\n\
+/// The links of a line of 64 nodes.
+pub const LINKS_OF_A_LINE: &str = "link 1 2\nlink 2 3\nlink 3 4\nlink 4 5\nlink 5 6\nlink 6 7\n\
     link 7 8\nlink 8 9\nlink 9 10\nlink 10 11\nlink 11 12\nlink 12 13\n\
     link 13 14\nlink 14 15\nlink 15 16\nlink 16 17\nlink 17 18\nlink 18 19\n\
     link 19 20\nlink 20 21\nlink 21 22\nlink 22 23\nlink 23 24\nlink 24 25\n\

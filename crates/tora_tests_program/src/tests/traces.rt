@@ -5,6 +5,7 @@ use super::route_rows::{FOUND_AND_LOST, FOUR_FOUND_AND_LOST};
 use super::sees::{same_at, sees_at};
 use std::process::Abort;
 use tora_arq::Times;
+use tora_channel::ChannelTable;
 use tora_lines::{Ended, ReplayError};
 use tora_script::Setup;
 use tora_sim::Sim;
@@ -35,6 +36,7 @@ fn traced_once<'a, T: AllocGlobal + Eprint>(
         rt,
         rt.alloc(),
         Setup::plain(Times::STANDARD),
+        ChannelTable::none(),
         &mut reader,
         &mut writer,
         &mut out,

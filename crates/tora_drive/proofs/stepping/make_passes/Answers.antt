@@ -13,8 +13,8 @@ returns-then-not-branch g c =
 pub loop-preserved : goal.loop-preserved
 loop-preserved g c =
     let k : 1000 - c.loop.counter ≡ suc (1000 - (c.loop.counter + 1)) = omega (arith, c.loop-test.true) in
-    passes_on (g.S.Simulator.world c.loop.sim) (g.S.Simulator.world c.pass.new.sim) (1000 - (c.loop.counter + 1)) c.args.nodes.now c.args.ends.now c.args.far.now
-    (world_after_all (g.S.Simulator.world c.args.sim.now) (step_passes 1000 c.args.nodes.now c.args.ends.now c.args.far.now (g.S.Simulator.world c.args.sim.now))) (rw k at c.loop.invariant) (rw c.if-not-branch.false at c.in_ok-pass.ensures)
+    rw c.settle.ensures (passes_on (g.S.Simulator.world c.loop.sim) (g.S.Simulator.world c.pass.new.sim) (1000 - (c.loop.counter + 1)) c.args.nodes.now c.args.ends.now c.args.far.now
+    (world_after_all (g.S.Simulator.world c.args.sim.now) (step_passes 1000 c.args.nodes.now c.args.ends.now c.args.far.now (g.S.Simulator.world c.args.sim.now))) (rw k at c.loop.invariant) (rw c.if-not-branch.false at c.in_ok-pass.ensures))
 
 pub returns : goal.returns
 returns g c =

@@ -1,7 +1,8 @@
 use Rattle.std.proofs.Common.{◌≡◌, ◌+◌, ◌-◌, ◌++◌, refl, sym, ap, ◌∙◌, arith}
 use Rattle.std.proofs.lemmas.Result.{err_from_is_err_and}
 use Rattle.std.proofs.lemmas.List.{append-nil, append_assoc}
-use Rattle.tora_frame.specs.FrameGrammar.{whole_packet_fault, whole_packet_at, first_packet, behind_first, packets_fault}
+use Rattle.tora_packet.specs.PacketGrammar.{first_packet, behind_first}
+use Rattle.tora_frame.specs.FrameGrammar.{whole_packet_fault, whole_packet_at, packets_fault}
 use Rattle.tora_frame.proofs.PacketLists.{stops, goes_on, next_fault, next_at, fault_at_end, no_fault_at_end, none_left, all_push}
 use Rattle.tora_frame.proofs.packets.read_list.Goals as goal
 

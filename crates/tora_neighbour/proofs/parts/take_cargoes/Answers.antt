@@ -2,7 +2,7 @@ use Rattle.std.proofs.Common.{◌++◌, [], ◌∷◌, refl, sym, ap, ◌∙◌,
 use Rattle.tora_neighbour.proofs.Chains.{takes_more}
 use Rattle.std.proofs.lemmas.List.{append-nil}
 use Rattle.tora_arq.specs.EndRange.{link_end_of}
-use Rattle.tora_neighbour.specs.Turns.{after_cargo}
+use Rattle.tora_seat.specs.Between.{after_cargo}
 use Rattle.tora_neighbour.proofs.Further.{cargoes_more, one_more, none_more}
 use Rattle.tora_neighbour.proofs.parts.take_cargoes.Goals as goal
 

@@ -1,11 +1,14 @@
 use Rattle.std.proofs.Common.{◌++◌, ◌∷◌, [], ℕ, List, length, refl, sym, ap, subst, ◌∙◌, inl, inr, arith}
+use Rattle.std.specs.Prelude.{Option, is_some}
 use Rattle.std.specs.Io.KnownBytes.{Appends}
 use Rattle.tora_seat.specs.declared.Item.{Item}
 use Rattle.tora_seat.specs.Rows.{state_of, serving_at}
 use Rattle.tora_seat.specs.declared.Answer.{Answer}
 use Rattle.tora_seat.specs.declared.What.{What}
-use Rattle.tora_node.specs.CoreRuns.{reply_text, MayFail}
-use Rattle.tora_node.proofs.Served.{Appends-nil, nothing_ran, done, goes_on, core_is}
+use Rattle.tora_node.specs.CoreRuns.{reply_text, MayFail, IsWatched}
+use Rattle.tora_node.specs.StatusLines.{told_in}
+use Rattle.tora_node.specs.declared.watch.Told.{Told}
+use Rattle.tora_node.proofs.Served.{Appends-nil, nothing_ran, done, goes_on, core_is, may_fail_more, told_before}
 use Rattle.tora_node.proofs.core_thread.run_core.Goals as goal
 
 pub loop-init : goal.loop-init
@@ -42,7 +45,7 @@ returns-then-is_quit g c =
     let ks = c.args.seat.core.neighbours in
     let v = serving_at c.in-Ok.item.now c.serve-answer.new.self t.0 in
     let d = done g.O.OutLanes.did_offer ks (state_of c.args.seat) c.args.outs c.args.port.taken (g.W.Write.contents c.args.writer.now)
-    (state_of c.loop.seat) c.loop.outs c.loop.port.taken (g.W.Write.contents c.loop.writer) h.ran
+    (state_of c.loop.seat) c.loop.outs c.loop.port.taken (g.W.Write.contents c.loop.writer) (told_in c.loop.watch) h.ran
     c.in-Ok.item t.0 c.serve-answer.new.outs c.take.new.self.taken v c.loop.seat.core.neighbours h.neighbours c.in-Ok.ensures.taken.0 t.1 t.2 refl in
     let quit = c.is_quit.ensures.quit c.if-is_quit.true in
     let text = g.W.Write.contents c.loop.writer in
@@ -53,7 +56,7 @@ returns-then-is_quit g c =
         d.served,
         d.offered,
         core_is c.accepted_inputs_make_the_core.ensures.runs ks (state_of c.args.seat) (state_of c.serve-answer.new.self) (d.front ++ d.x ∷ []) d.served,
-        (λ none. d.written text (subst (λ (w : What). Appends text text (reply_text w v.answer v.seat.core)) (sym quit) (Appends-nil text))),
+        (λ none. d.written text (subst (λ (w : What). Appends text text (reply_text (told_in c.loop.watch) c.in-Ok.item.now w v.answer v.seat)) (sym quit) (Appends-nil text))),
         inl (d.front, d.x, refl, d.goes, ap (λ (i : Item). i.what) d.item_is ∙ quit),
       );
       neighbours = c.serve-answer.ensures.neighbours ∙ h.neighbours;
@@ -67,7 +70,7 @@ returns-in-Err-reply g c =
     let ks = c.args.seat.core.neighbours in
     let v = serving_at c.in-Ok.item.now c.serve-answer.new.self t.0 in
     let d = done g.O.OutLanes.did_offer ks (state_of c.args.seat) c.args.outs c.args.port.taken (g.W.Write.contents c.args.writer.now)
-    (state_of c.loop.seat) c.loop.outs c.loop.port.taken (g.W.Write.contents c.loop.writer) h.ran
+    (state_of c.loop.seat) c.loop.outs c.loop.port.taken (g.W.Write.contents c.loop.writer) (told_in c.loop.watch) h.ran
     c.in-Ok.item t.0 c.serve-answer.new.outs c.take.new.self.taken v c.loop.seat.core.neighbours h.neighbours c.in-Ok.ensures.taken.0 t.1 t.2 refl in
     record {
       runs = (
@@ -77,7 +80,7 @@ returns-in-Err-reply g c =
         d.offered,
         core_is c.accepted_inputs_make_the_core.ensures.runs ks (state_of c.args.seat) (state_of c.serve-answer.new.self) (d.front ++ d.x ∷ []) d.served,
         (λ none. absurd (cc)),
-        (d.front, d.x, refl, d.goes, subst (λ (i : Item). MayFail c.in-Err-reply.fault i.what) (sym d.item_is) c.in-Err-reply.ensures.err),
+        (d.front, d.x, refl, d.goes, subst (λ (i : Item). MayFail c.in-Err-reply.fault (IsWatched d.front) i.what) (sym d.item_is) (may_fail_more c.in-Err-reply.fault c.in-Ok.item.what (told_before c.loop.watch d.front d.before) c.in-Err-reply.ensures.err)),
       );
       neighbours = c.serve-answer.ensures.neighbours ∙ h.neighbours;
       lane = c.take.ensures.lane.0 ∙ h.lane;
@@ -90,7 +93,7 @@ loop-preserved g c =
     let ks = c.args.seat.core.neighbours in
     let v = serving_at c.in-Ok.item.now c.serve-answer.new.self t.0 in
     let d = done g.O.OutLanes.did_offer ks (state_of c.args.seat) c.args.outs c.args.port.taken (g.W.Write.contents c.args.writer.now)
-    (state_of c.loop.seat) c.loop.outs c.loop.port.taken (g.W.Write.contents c.loop.writer) h.ran
+    (state_of c.loop.seat) c.loop.outs c.loop.port.taken (g.W.Write.contents c.loop.writer) (told_in c.loop.watch) h.ran
     c.in-Ok.item t.0 c.serve-answer.new.outs c.take.new.self.taken v c.loop.seat.core.neighbours h.neighbours c.in-Ok.ensures.taken.0 t.1 t.2 refl in
     let same = c.serve-answer.ensures.neighbours in
     let count = c.serve-answer.ensures.count in
@@ -104,7 +107,9 @@ loop-preserved g c =
         taken_is = d.taken_is;
         served = d.served;
         offered = d.offered;
-        written = d.written new (subst (λ (a : Answer). Appends (g.W.Write.contents c.loop.writer) new (reply_text c.in-Ok.item.what a v.seat.core)) c.serve-answer.ensures.answer c.in-Ok-reply.ensures.ok);
+        written = d.written new (subst (λ (a : Answer). Appends (g.W.Write.contents c.loop.writer) new (reply_text (told_in c.loop.watch) c.in-Ok.item.now c.in-Ok.item.what a v.seat)) c.serve-answer.ensures.answer c.in-Ok-reply.ensures.ok);
+        told_is = c.in-Ok-reply.ensures.told ∙ d.told_is;
+        watched = λ e. d.watched (ap (λ (t : Option (List Told)). is_some t) (sym c.in-Ok-reply.ensures.told) ∙ e);
         goes = goes_on d.front d.x c.in-Ok.item d.goes d.item_is (c.is_quit.ensures.other c.if-is_quit.false);
       };
     }

@@ -1,6 +1,7 @@
 use Rattle.std.proofs.Common.{length}
 use Rattle.tora_script.specs.declared.rounds.EndTurn.TheVariants as turn
 use Rattle.tora_script.specs.Rounds.{plan_then, each_core, each_end, new_deliveries, pass}
+use Rattle.tora_script.specs.Air.{moment_on}
 use Rattle.tora_script.proofs.RoundLaws.{Happened-then}
 use Rattle.tora_script.proofs.rounds.pass.Goals as goal
 
@@ -16,7 +17,7 @@ returns g c =
     let cores = each_core c.args.nodes.now in
     let pulls = each_end turn.Pull c.args.ends.now in
     let sends = each_end turn.Transmit c.args.ends.now in
-    let deliveries = new_deliveries c.args.parted.now c.args.moment (length w0.datagrams) in
+    let deliveries = new_deliveries c.args.parted.now (moment_on c.args.table.now c.args.moment) (length w0.datagrams) in
     let pumps = each_end turn.Pump c.args.ends.now in
     let delivered = rw c.datagrams-first.ensures at c.in_ok-delivered.ensures in
     let last = Happened-then w3 w4 w5 c.in_ok-delivered.delivered c.in_ok-pumped.pumped deliveries pumps delivered c.in_ok-pumped.ensures in

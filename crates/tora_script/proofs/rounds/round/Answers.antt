@@ -1,6 +1,7 @@
 use Rattle.tora_world.specs.declared.Event.TheVariants.{Tick}
 use Rattle.tora_script.specs.declared.rounds.EndTurn.TheVariants as turn
 use Rattle.tora_script.specs.Rounds.{once, plan_then, each_end_once, arrivals, passes, round}
+use Rattle.tora_script.specs.Air.{moment_on}
 use Rattle.tora_script.proofs.RoundLaws.{after_then}
 use Rattle.tora_script.proofs.rounds.round.Goals as goal
 
@@ -14,7 +15,7 @@ returns g c =
     let w4 = g.S.Simulator.world c.make_passes.new.sim in
     let opens = each_end_once turn.Open c.args.ends.now in
     let come = arrivals c.args.parted.now c.args.later.now in
-    let all = passes 1000 c.args.nodes.now c.args.ends.now c.args.parted.now c.args.moment in
+    let all = passes 1000 c.args.nodes.now c.args.ends.now c.args.parted.now (moment_on c.args.table.now c.args.moment) in
     let arrived = after_then w2 w3 w4 come all c.in_ok-arrive_all.ensures.after_is c.in_ok-make_passes.ensures in
     let opened = after_then w1 w2 w4 opens (plan_then come all) c.in_ok-turn_ends.ensures.after_is arrived in
     after_then w0 w1 w4 (once Tick) (plan_then opens (plan_then come all)) c.in_ok-repeat.ensures.after_is opened

@@ -1,6 +1,10 @@
 use Rattle.tora_script.specs.Rounds.{repeats, each, end_event}
-use Rattle.tora_script.proofs.RoundLaws.{each_part}
+use Rattle.tora_script.proofs.RoundLaws.{each_part, all_idle, quiet_ends}
 use Rattle.tora_script.proofs.rounds.turn_ends.Goals as goal
+
+pub returns-then-is_quiet : goal.returns-then-is_quiet
+returns-then-is_quiet g c =
+    all_idle (end_event c.args.kind) c.args.most c.args.ends.now (g.S.Simulator.world c.args.sim.now) (quiet_ends c.args.kind (g.S.Simulator.world c.args.sim.now) (c.is_quiet.ensures c.if-is_quiet.true))
 
 pub loop-place-preserved : goal.loop-place-preserved
 loop-place-preserved g c =

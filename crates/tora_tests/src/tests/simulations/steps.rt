@@ -42,6 +42,10 @@ pub enum Step {
     NoNode(Id, Id),
     /// Whether the world is at rest.
     Rests(bool),
+    /// It is looked for the tick before which nothing is to be done.
+    Settles,
+    /// Whether it is known that nothing is to be done.
+    Quiet(bool),
 }
 
 /// The simulator of a topology at its start.
@@ -121,6 +125,7 @@ fn reads(rt: &impl Abort, alloc: Global, sim: &Sim, row: &Step) {
             same_at(rt, &error, &Some(SimError::NoNode), "the error", row);
         }
         Step::Rests(rests) => same_at(rt, &sim.is_at_rest(), &rests, "at rest", row),
+        Step::Quiet(quiet) => same_at(rt, &sim.is_quiet(), &quiet, "quiet", row),
         _ => {}
     }
 }
@@ -142,6 +147,7 @@ fn does(rt: &impl Abort, alloc: Global, sim: &mut Sim, row: &Step) {
             happens(rt, sim, Event::Pump(n, k), row);
             happens(rt, sim, Event::CoreTurn(n), row);
         }
+        Step::Settles => sim.settle(),
         _ => reads(rt, alloc, sim, row),
     }
 }

@@ -113,7 +113,7 @@ fn run_settled<
 /// An output on which nothing is printed.
 fn paper_of(output: Output) -> Paper {
     let page = Page {
-        bytes: [0; 256],
+        bytes: [0; 640],
         length: 0,
     };
     Paper { page, output }

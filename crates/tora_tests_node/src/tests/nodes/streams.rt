@@ -128,12 +128,12 @@ impl<R: time::Clock> Read for Waiting<'_, R> {
     }
 }
 
-/// Where a node prints: 256 bytes at most.
+/// Where a node prints: 640 bytes at most.
 #[derive(Drop)]
 pub struct Page {
-    pub bytes: [u8; 256],
+    pub bytes: [u8; 640],
     pub length: usize,
-    ghost within: { length ≤ 256 },
+    ghost within: { length ≤ 640 },
 }
 
 impl Write for Page {

@@ -1,5 +1,5 @@
 use Rattle.tora_seat.specs.Rows.{SeatView}
-use Rattle.tora_seat.proofs.Steps.{link_up_goes, link_packet_goes, link_down_goes, link_need_goes, link_beat_goes, link_show_goes, link_quit_goes}
+use Rattle.tora_seat.proofs.Steps.{link_up_goes, link_packet_goes, link_down_goes, link_need_goes, link_beat_goes, link_show_goes, link_status_goes, link_quit_goes}
 use Rattle.tora_seat.proofs.seat.CoreSeat.on_link_item.Goals as goal
 
 pub returns-in-Up-clause-goes : goal.returns-in-Up-clause-goes
@@ -22,6 +22,12 @@ returns-in-Show-clause-goes g c =
     let i = c.self.inside in
     let s : SeatView = record { core = i.core; rows = i.rows.items; inputs = i.inputs.items; stepped = i.stepped; answer = i.answer } in
     link_show_goes g.O.OutLanes.did_offer c.args.now c.args.self.now c.args.outs.now c.args.k c.args.what.now s c.self.view_is c.in-Show.is
+
+pub returns-in-Status-clause-goes : goal.returns-in-Status-clause-goes
+returns-in-Status-clause-goes g c =
+    let i = c.self-in-Status.inside in
+    let s : SeatView = record { core = i.core; rows = i.rows.items; inputs = i.inputs.items; stepped = i.stepped; answer = i.answer } in
+    link_status_goes g.O.OutLanes.did_offer c.args.now c.args.self.now c.args.outs.now c.args.k c.args.what.now _ s c.self-in-Status.view_is c.in-Status.is
 
 pub returns-in-Quit-clause-goes : goal.returns-in-Quit-clause-goes
 returns-in-Quit-clause-goes g c =

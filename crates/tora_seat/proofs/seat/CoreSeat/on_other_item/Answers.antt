@@ -1,6 +1,6 @@
 use Rattle.std.proofs.Common.{refl}
 use Rattle.tora_seat.specs.Rows.{SeatView}
-use Rattle.tora_seat.proofs.Steps.{other_need_goes, other_idle_goes, other_show_goes, other_quit_goes}
+use Rattle.tora_seat.proofs.Steps.{other_need_goes, other_idle_goes, other_show_goes, other_status_goes, other_quit_goes}
 use Rattle.tora_seat.proofs.seat.CoreSeat.on_other_item.Goals as goal
 
 pub returns-in-Need-clause-goes : goal.returns-in-Need-clause-goes
@@ -11,6 +11,12 @@ returns-in-Show-clause-goes g c =
     let i = c.self.inside in
     let s : SeatView = record { core = i.core; rows = i.rows.items; inputs = i.inputs.items; stepped = i.stepped; answer = i.answer } in
     other_show_goes g.O.OutLanes.did_offer c.args.now c.args.self.now c.args.outs.now c.args.what.now s c.self.view_is c.in-Show.is
+
+pub returns-in-Status-clause-goes : goal.returns-in-Status-clause-goes
+returns-in-Status-clause-goes g c =
+    let i = c.self-in-Status.inside in
+    let s : SeatView = record { core = i.core; rows = i.rows.items; inputs = i.inputs.items; stepped = i.stepped; answer = i.answer } in
+    other_status_goes g.O.OutLanes.did_offer c.args.now c.args.self.now c.args.outs.now c.args.what.now _ s c.self-in-Status.view_is c.in-Status.is
 
 pub returns-in-Quit-clause-goes : goal.returns-in-Quit-clause-goes
 returns-in-Quit-clause-goes g c =

@@ -14,7 +14,7 @@ pub arm-requires : goal.arm-requires
 arm-requires c =
     let s = c.self.inside in
     let home : IsFirst (is_of c.args.n) s.nodes.items c.args.home = subst (λ (before : SimState). IsFirst (is_of c.args.n) before.nodes c.args.home) (sym c.self.view_is) c.requires in
-    let within = ends_within s.topology s.times s.clock s.nodes.items s.links.items s.datagrams.items c.self.invariant c.args.n c.args.home c.index.result.now home c.index.ensures in
+    let within = ends_within s.topology s.times s.clock s.nodes.items s.links.items s.datagrams.items c.self.invariant.0 c.args.n c.args.home c.index.result.now home c.index.ensures in
     let count : c.count-count.result ≡ c.index.result.now.count = c.count-count.ensures ∙ ap (λ (x : NodeView). x.count) (same_read s.nodes.items c.args.home c.index-2.result.now c.index.result.now home.within c.index-2.ensures c.index.ensures) in
     omega (arith, within, c.first-first.ensures, count)
 
@@ -27,16 +27,20 @@ module _ (c : goal.After-arm) where
       let s = c.self.inside in
       let x = c.index.result.now in
       let count : c.count-count.result ≡ x.count = c.count-count.ensures ∙ ap (λ (z : NodeView). z.count) (same_read s.nodes.items c.args.home c.index-2.result.now x home.within c.index-2.ensures c.index.ensures) in
-      changed_is s.topology s.times s.clock s.nodes.items s.links.items s.datagrams.items c.self.invariant c.args.n c.args.home x home c.index.ensures (λ link. after_arm link c.args.call) c.arm.new.links.items
+      changed_is s.topology s.times s.clock s.nodes.items s.links.items s.datagrams.items c.self.invariant.0 c.args.n c.args.home x home c.index.ensures (λ link. after_arm link c.args.call) c.arm.new.links.items
       (subst (λ (m : ℕ). AreChanged (λ link. after_arm link c.args.call) s.links.items c.arm.new.links.items x.first m) count
       (subst (λ (m : ℕ). AreChanged (λ link. after_arm link c.args.call) s.links.items c.arm.new.links.items m c.count-count.result) c.first-first.ensures c.arm.ensures))
 
 pub invariant_of-self : goal.invariant_of-self
-invariant_of-self c = let s = c.self.inside in files_store s.topology s.times s.clock s.nodes.items s.links.items s.datagrams.items c.self.invariant c.args.n c.args.call c.arm.new.links.items (armed c)
+invariant_of-self c =
+    let s = c.self.inside in (
+      files_store s.topology s.times s.clock s.nodes.items s.links.items s.datagrams.items c.self.invariant.0 c.args.n c.args.call c.arm.new.links.items (armed c),
+      λ none. absurd (omega (arith, none)),
+    )
 
 pub returns : goal.returns
 returns c =
     let s = c.self.inside in
     subst (λ (before : SimState). IsDone (world_of before) (Arm c.args.n (call_of c.args.call)) (world_of (state_of s.topology s.times s.clock s.nodes.items c.arm.new.links.items s.datagrams.items))) c.self.view_is
-    (files_done s.topology s.times s.clock s.nodes.items s.links.items s.datagrams.items c.self.invariant c.args.n c.args.call c.arm.new.links.items
-    (noded_at s.topology s.times s.clock s.nodes.items s.links.items s.datagrams.items c.self.invariant c.args.n c.args.home (home c)) (armed c))
+    (files_done s.topology s.times s.clock s.nodes.items s.links.items s.datagrams.items c.self.invariant.0 c.args.n c.args.call c.arm.new.links.items
+    (noded_at s.topology s.times s.clock s.nodes.items s.links.items s.datagrams.items c.self.invariant.0 c.args.n c.args.home (home c)) (armed c))

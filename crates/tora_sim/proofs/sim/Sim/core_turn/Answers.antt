@@ -14,13 +14,13 @@ pub returns-then-waiting-eq0 : goal.returns-then-waiting-eq0
 returns-then-waiting-eq0 c =
     let s = c.self.inside in
     subst (λ (w : SimState). IsRefused (world_of w) (CoreTurn c.args.n) Refused.NotPossible (world_of w)) c.self.view_is
-    (turn_refused s.topology s.times s.clock s.nodes.items s.links.items s.datagrams.items c.self.invariant c.args.n c.in-Some.home c.index.result.now c.in-Some.ensures.first c.index.ensures
+    (turn_refused s.topology s.times s.clock s.nodes.items s.links.items s.datagrams.items c.self.invariant.0 c.args.n c.in-Some.home c.index.result.now c.in-Some.ensures.first c.index.ensures
     (sym c.waiting.ensures ∙ c.if-waiting-eq0.true))
 
 pub make_room-requires : goal.make_room-requires
 make_room-requires c =
     let s = c.self.inside in
-    let within = ends_within s.topology s.times s.clock s.nodes.items s.links.items s.datagrams.items c.self.invariant c.args.n c.in-Some.home c.index.result.now c.in-Some.ensures.first c.index.ensures in
+    let within = ends_within s.topology s.times s.clock s.nodes.items s.links.items s.datagrams.items c.self.invariant.0 c.args.n c.in-Some.home c.index.result.now c.in-Some.ensures.first c.index.ensures in
     let first : c.first-first.result ≡ c.index.result.now.first =
     c.first-first.ensures ∙ ap (λ (x : NodeView). x.first) (same_read s.nodes.items c.in-Some.home c.index-2.result.now c.index.result.now c.in-Some.ensures.first.within c.index-2.ensures c.index.ensures) in
     let count : c.count-count.result ≡ c.index.result.now.count =
@@ -29,8 +29,10 @@ make_room-requires c =
 
 pub invariant_of-self : goal.invariant_of-self
 invariant_of-self c =
-    let s = c.self.inside in
-    store_same s.topology s.times s.clock s.nodes.items s.links.items c.make_room.new.links.items s.datagrams.items (same_alike s.links.items c.make_room.new.links.items c.make_room.ensures.same) c.self.invariant
+    let s = c.self.inside in (
+      store_same s.topology s.times s.clock s.nodes.items s.links.items c.make_room.new.links.items s.datagrams.items (same_alike s.links.items c.make_room.new.links.items c.make_room.ensures.same) c.self.invariant.0,
+      λ none. absurd (omega (arith, none)),
+    )
 
 waits : (nodes : List NodeView) (home : ℕ) (x y : NodeView) (count : ℕ) → home < length nodes → x ≡ slice_index_or nodes home x → y ≡ slice_index_or nodes home y → count ≡ length x.items → 0 < count → 0 < length y.items
 waits nodes home x y count lt a b e more = subst (λ (v : NodeView). 0 < length v.items) (same_read nodes home x y lt a b) (omega (arith, e, more))
@@ -39,24 +41,26 @@ pub returns-then-is_err : goal.returns-then-is_err
 returns-then-is_err c =
     let s = c.self.inside in
     subst (λ (w : SimState). IsRefused (world_of w) (CoreTurn c.args.n) Refused.Memory (world_of (state_of s.topology s.times s.clock s.nodes.items c.make_room.new.links.items s.datagrams.items))) c.self.view_is
-    (turn_starved s.topology s.times s.clock s.nodes.items s.links.items s.datagrams.items c.self.invariant c.args.n c.in-Some.home c.index.result.now c.in-Some.ensures.first c.index.ensures
+    (turn_starved s.topology s.times s.clock s.nodes.items s.links.items s.datagrams.items c.self.invariant.0 c.args.n c.in-Some.home c.index.result.now c.in-Some.ensures.first c.index.ensures
     (omega (arith, c.waiting.ensures, c.if-waiting-eq0.false)) c.make_room.new.links.items c.make_room.ensures.same)
 
 pub turn-requires-clause-neighbours : goal.turn-requires-clause-neighbours
 turn-requires-clause-neighbours c =
     let s = c.self.inside in
-    as_many s.topology s.times s.clock s.nodes.items s.links.items s.datagrams.items c.self.invariant c.args.n c.in-Some.home c.index_mut.result.now c.in-Some.ensures.first c.index_mut.ensures.value
+    as_many s.topology s.times s.clock s.nodes.items s.links.items s.datagrams.items c.self.invariant.0 c.args.n c.in-Some.home c.index_mut.result.now c.in-Some.ensures.first c.index_mut.ensures.value
 
 pub invariant_of-self-2 : goal.invariant_of-self-2
 invariant_of-self-2 c =
-    let s = c.self.inside in
-    turn_store s.topology s.times s.clock s.nodes.items s.links.items s.datagrams.items c.self.invariant c.args.n c.in-Some.home c.index_mut.result.now c.in-Some.ensures.first c.index_mut.ensures.value
-    c.make_room.new.links.items c.make_room.ensures.same c.turn.new.node c.turn.new.links.items c.turn.result c.turn.ensures
+    let s = c.self.inside in (
+      turn_store s.topology s.times s.clock s.nodes.items s.links.items s.datagrams.items c.self.invariant.0 c.args.n c.in-Some.home c.index_mut.result.now c.in-Some.ensures.first c.index_mut.ensures.value
+          c.make_room.new.links.items c.make_room.ensures.same c.turn.new.node c.turn.new.links.items c.turn.result c.turn.ensures,
+      λ none. absurd (omega (arith, none)),
+    )
 
 pub returns : goal.returns
 returns c =
     let s = c.self.inside in
     subst (λ (before : SimState). Does before (CoreTurn c.args.n) c.turn.result (state_of s.topology s.times s.clock (slice_set s.nodes.items c.in-Some.home c.turn.new.node) c.turn.new.links.items s.datagrams.items)) c.self.view_is
-    (turn_does s.topology s.times s.clock s.nodes.items s.links.items s.datagrams.items c.self.invariant c.args.n c.in-Some.home c.index_mut.result.now c.in-Some.ensures.first c.index_mut.ensures.value
+    (turn_does s.topology s.times s.clock s.nodes.items s.links.items s.datagrams.items c.self.invariant.0 c.args.n c.in-Some.home c.index_mut.result.now c.in-Some.ensures.first c.index_mut.ensures.value
     c.make_room.new.links.items c.make_room.ensures.same c.turn.new.node c.turn.new.links.items c.turn.result
     (waits s.nodes.items c.in-Some.home c.index.result.now c.index_mut.result.now c.waiting.result c.in-Some.ensures.first.within c.index.ensures c.index_mut.ensures.value c.waiting.ensures (omega (arith, c.if-waiting-eq0.false))) c.turn.ensures)

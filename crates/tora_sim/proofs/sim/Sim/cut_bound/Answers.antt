@@ -1,4 +1,4 @@
-use Rattle.std.proofs.Common.{◌≡◌, subst}
+use Rattle.std.proofs.Common.{◌≡◌, subst, arith}
 use Rattle.std.specs.Prelude.{slice_set}
 use Rattle.tora_sim.specs.Cuts.{after_cut_at}
 use Rattle.tora_sim.specs.Store.{SimState, state_of, world_of}
@@ -7,13 +7,15 @@ use Rattle.tora_sim.proofs.sim.Sim.cut_bound.Goals as goal
 
 pub invariant_of-self : goal.invariant_of-self
 invariant_of-self c =
-    let s = c.self.inside in
-    cut_store s.topology s.times s.clock s.nodes.items s.links.items s.datagrams.items c.self.invariant c.args.n c.args.k c.in-Some.at c.index_mut.result.now c.in-Some.ensures.first c.index_mut.ensures.value
-    c.cut_bound.new.self c.cut_bound.ensures
+    let s = c.self.inside in (
+      cut_store s.topology s.times s.clock s.nodes.items s.links.items s.datagrams.items c.self.invariant.0 c.args.n c.args.k c.in-Some.at c.index_mut.result.now c.in-Some.ensures.first c.index_mut.ensures.value
+          c.cut_bound.new.self c.cut_bound.ensures,
+      λ none. absurd (omega (arith, none)),
+    )
 
 pub returns-in-Some : goal.returns-in-Some
 returns-in-Some c =
     let s = c.self.inside in
     subst (λ (before : SimState). world_of (state_of s.topology s.times s.clock s.nodes.items (slice_set s.links.items c.in-Some.at c.cut_bound.new.self) s.datagrams.items) ≡ after_cut_at (world_of before) c.args.n c.args.k) c.self.view_is
-    (cut_done s.topology s.times s.clock s.nodes.items s.links.items s.datagrams.items c.self.invariant c.args.n c.args.k c.in-Some.at c.index_mut.result.now c.in-Some.ensures.first c.index_mut.ensures.value
+    (cut_done s.topology s.times s.clock s.nodes.items s.links.items s.datagrams.items c.self.invariant.0 c.args.n c.args.k c.in-Some.at c.index_mut.result.now c.in-Some.ensures.first c.index_mut.ensures.value
     c.cut_bound.new.self c.cut_bound.ensures)

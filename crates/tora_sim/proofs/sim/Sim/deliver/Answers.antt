@@ -1,4 +1,4 @@
-use Rattle.std.proofs.Common.{◌≡◌, true, None, ap, sym, ◌∙◌, subst, find}
+use Rattle.std.proofs.Common.{◌≡◌, true, None, ap, sym, ◌∙◌, subst, find, arith}
 use Rattle.std.specs.Prelude.{slice_set}
 use Rattle.tora_frame.specs.declared.parts.Header.{Header}
 use Rattle.tora_world.specs.declared.Event.TheVariants.{Deliver}
@@ -14,10 +14,10 @@ use Rattle.tora_sim.proofs.sim.Sim.deliver.Goals as goal
 pub returns-in_default-node_place : goal.returns-in_default-node_place
 returns-in_default-node_place c =
     let s = c.self.inside in
-    absurd (home_is_there s.topology s.times s.clock s.nodes.items s.links.items s.datagrams.items c.self.invariant c.args.i c.in-Some.frame (sym c.in-Some.ensures)
+    absurd (home_is_there s.topology s.times s.clock s.nodes.items s.links.items s.datagrams.items c.self.invariant.0 c.args.i c.in-Some.frame (sym c.in-Some.ensures)
     (subst (λ (hd : Header). find (is_of hd.receiver) s.nodes.items ≡ None) c.header-header.ensures.value c.in_default-node_place.ensures.none))
 
-module _ (c : goal.After-self-1) where
+module _ (c : goal.After-self-then-receive-1) where
   first : IsFirst (is_of c.in-Some.frame.header.receiver) c.self.inside.nodes.items c.in-Some-node_place.home
   first = subst (λ (hd : Header). IsFirst (is_of hd.receiver) c.self.inside.nodes.items c.in-Some-node_place.home) c.header-header.ensures.value c.in-Some-node_place.ensures.first
 
@@ -28,24 +28,28 @@ module _ (c : goal.After-self-1) where
 
 pub invariant_of-self : goal.invariant_of-self
 invariant_of-self c =
-    let s = c.self.inside in
-    failed_store s.topology s.times s.clock s.nodes.items s.links.items s.datagrams.items c.self.invariant c.args.i c.in-Some.frame (sym c.in-Some.ensures)
-    c.in-Some-node_place.home c.index_mut.result.now (first c) c.index_mut.ensures.value c.arm_receive.new.self c.arm_receive.ensures
+    let s = c.self.inside in (
+      failed_store s.topology s.times s.clock s.nodes.items s.links.items s.datagrams.items c.self.invariant.0 c.args.i c.in-Some.frame (sym c.in-Some.ensures)
+          c.in-Some-node_place.home c.index_mut.result.now (first c) c.index_mut.ensures.value c.arm_receive.new.self c.arm_receive.ensures,
+      λ none. absurd (omega (arith, none)),
+    )
 
 pub returns-then-receive : goal.returns-then-receive
 returns-then-receive c =
     let s = c.self.inside in
     subst (λ (before : SimState). IsDone (world_of before) (Deliver c.args.i) (world_of (state_of s.topology s.times s.clock (slice_set s.nodes.items c.in-Some-node_place.home c.arm_receive.new.self) s.links.items s.datagrams.items))) c.self.view_is
-    (failed_done s.topology s.times s.clock s.nodes.items s.links.items s.datagrams.items c.self.invariant c.args.i c.in-Some.frame (sym c.in-Some.ensures)
+    (failed_done s.topology s.times s.clock s.nodes.items s.links.items s.datagrams.items c.self.invariant.0 c.args.i c.in-Some.frame (sym c.in-Some.ensures)
     c.in-Some-node_place.home c.index_mut.result.now (first c) c.index_mut.ensures.value c.arm_receive.new.self (armed c) c.arm_receive.ensures)
 
 pub invariant_of-self-2 : goal.invariant_of-self-2
 invariant_of-self-2 c =
     let s = c.self.inside in
     let home_first : IsFirst (is_of c.in-Some.frame.header.receiver) s.nodes.items c.in-Some-node_place.home = subst (λ (hd : Header). IsFirst (is_of hd.receiver) s.nodes.items c.in-Some-node_place.home) c.header-header.ensures.value c.in-Some-node_place.ensures.first in
-    let end_first : IsFirst (is_at c.in-Some.frame.header.receiver c.in-Some.frame.header.sender) s.links.items c.in-Some-place.at = subst (λ (hd : Header). IsFirst (is_at hd.receiver hd.sender) s.links.items c.in-Some-place.at) c.header-header.ensures.value c.in-Some-place.ensures.first in
-    received_store s.topology s.times s.clock s.nodes.items s.links.items s.datagrams.items c.self.invariant c.args.i c.in-Some.frame (sym c.in-Some.ensures)
-    c.in-Some-node_place.home c.index.result.now home_first c.index.ensures c.in-Some-place.at c.index_mut-2.result.now end_first c.index_mut-2.ensures.value c.receive-2.new.self c.receive-2.ensures
+    let end_first : IsFirst (is_at c.in-Some.frame.header.receiver c.in-Some.frame.header.sender) s.links.items c.in-Some-place.at = subst (λ (hd : Header). IsFirst (is_at hd.receiver hd.sender) s.links.items c.in-Some-place.at) c.header-header.ensures.value c.in-Some-place.ensures.first in (
+      received_store s.topology s.times s.clock s.nodes.items s.links.items s.datagrams.items c.self.invariant.0 c.args.i c.in-Some.frame (sym c.in-Some.ensures)
+          c.in-Some-node_place.home c.index.result.now home_first c.index.ensures c.in-Some-place.at c.index_mut-2.result.now end_first c.index_mut-2.ensures.value c.receive-2.new.self c.receive-2.ensures,
+      λ none. absurd (omega (arith, none)),
+    )
 
 pub returns : goal.returns
 returns c =
@@ -53,6 +57,6 @@ returns c =
     let home_first : IsFirst (is_of c.in-Some.frame.header.receiver) s.nodes.items c.in-Some-node_place.home = subst (λ (hd : Header). IsFirst (is_of hd.receiver) s.nodes.items c.in-Some-node_place.home) c.header-header.ensures.value c.in-Some-node_place.ensures.first in
     let end_first : IsFirst (is_at c.in-Some.frame.header.receiver c.in-Some.frame.header.sender) s.links.items c.in-Some-place.at = subst (λ (hd : Header). IsFirst (is_at hd.receiver hd.sender) s.links.items c.in-Some-place.at) c.header-header.ensures.value c.in-Some-place.ensures.first in
     subst (λ (before : SimState). IsDone (world_of before) (Deliver c.args.i) (world_of (state_of s.topology s.times s.clock s.nodes.items (slice_set s.links.items c.in-Some-place.at c.receive-2.new.self) s.datagrams.items))) c.self.view_is
-    (received_done s.topology s.times s.clock s.nodes.items s.links.items s.datagrams.items c.self.invariant c.args.i c.in-Some.frame (sym c.in-Some.ensures)
+    (received_done s.topology s.times s.clock s.nodes.items s.links.items s.datagrams.items c.self.invariant.0 c.args.i c.in-Some.frame (sym c.in-Some.ensures)
     c.in-Some-node_place.home c.index.result.now home_first c.index.ensures c.in-Some-place.at c.index_mut-2.result.now end_first c.index_mut-2.ensures.value c.receive-2.new.self
     (sym c.receive.ensures ∙ c.if-receive.false) c.receive-2.ensures)

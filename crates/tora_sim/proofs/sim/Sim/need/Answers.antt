@@ -16,16 +16,16 @@ returns-then-waiting-ge-MOST_ITEMS c =
     let s = c.self.inside in
     let full : 1024 ≤ length c.index.result.now.items = omega (arith, c.waiting.ensures, c.if-waiting-ge-MOST_ITEMS.true) in
     subst (λ (w : SimState). IsRefused (world_of w) (Need c.args.n c.args.d) Refused.NotPossible (world_of w)) c.self.view_is
-    (need_refused s.topology s.times s.clock s.nodes.items s.links.items s.datagrams.items c.self.invariant c.args.n c.in-Some.home c.index.result.now c.in-Some.ensures.first c.index.ensures c.args.d
+    (need_refused s.topology s.times s.clock s.nodes.items s.links.items s.datagrams.items c.self.invariant.0 c.args.n c.in-Some.home c.index.result.now c.in-Some.ensures.first c.index.ensures c.args.d
     (le-ltb (length c.index.result.now.items) 1024 full))
 
 pub put_item-requires : goal.put_item-requires
 put_item-requires c =
     let s = c.self.inside in
     subst (λ m. m < 33) (sym c.count-seat.ensures)
-    (of_node s.topology s.times s.clock s.nodes.items s.links.items s.datagrams.items c.self.invariant c.args.n c.in-Some.home c.index-2.result.now c.in-Some.ensures.first c.index-2.ensures).room
+    (of_node s.topology s.times s.clock s.nodes.items s.links.items s.datagrams.items c.self.invariant.0 c.args.n c.in-Some.home c.index-2.result.now c.in-Some.ensures.first c.index-2.ensures).room
 
-module _ (c : goal.After-self-1) where
+module _ (c : goal.After-self-2-1) where
   abbrev x : NodeView
   x = c.index_mut.result.now
 
@@ -43,20 +43,22 @@ module _ (c : goal.After-self-1) where
       let less : length c.index.result.now.items < 1024 = omega (arith, c.waiting.ensures, c.if-waiting-ge-MOST_ITEMS.false) in
       subst (λ (y : NodeView). nat_lt (length y.items) 1024 ≡ true) first_read (lt-ltb (length c.index.result.now.items) 1024 less)
 
-  is_put : IsPut c.self.inside.topology c.self.inside.times c.self.inside.clock c.self.inside.nodes.items c.self.inside.links.items c.self.inside.datagrams.items c.self.invariant c.args.n c.in-Some.home x c.in-Some.ensures.first c.index_mut.ensures.value
+  is_put : IsPut c.self.inside.topology c.self.inside.times c.self.inside.clock c.self.inside.nodes.items c.self.inside.links.items c.self.inside.datagrams.items c.self.invariant.0 c.args.n c.in-Some.home x c.in-Some.ensures.first c.index_mut.ensures.value
       x.count (Tells.Need c.args.d) c.put_item.new.self c.put_item.result
   is_put = subst (λ m. MatchResult c.put_item.result (λ _. c.put_item.new.self ≡ after_item x m c.self.inside.clock (Tells.Need c.args.d)) (λ e. (e ≡ Refused.Memory) × (c.put_item.new.self ≡ x))) seat_is c.put_item.ensures
 
 pub invariant_of-self : goal.invariant_of-self
 invariant_of-self c =
-    let s = c.self.inside in
-    put_store s.topology s.times s.clock s.nodes.items s.links.items s.datagrams.items c.self.invariant c.args.n c.in-Some.home (x c) c.in-Some.ensures.first c.index_mut.ensures.value
-    (x c).count (Tells.Need c.args.d) c.put_item.new.self c.put_item.result
-    (of_node s.topology s.times s.clock s.nodes.items s.links.items s.datagrams.items c.self.invariant c.args.n c.in-Some.home (x c) c.in-Some.ensures.first c.index_mut.ensures.value).room (is_put c)
+    let s = c.self.inside in (
+      put_store s.topology s.times s.clock s.nodes.items s.links.items s.datagrams.items c.self.invariant.0 c.args.n c.in-Some.home (x c) c.in-Some.ensures.first c.index_mut.ensures.value
+          (x c).count (Tells.Need c.args.d) c.put_item.new.self c.put_item.result
+          (of_node s.topology s.times s.clock s.nodes.items s.links.items s.datagrams.items c.self.invariant.0 c.args.n c.in-Some.home (x c) c.in-Some.ensures.first c.index_mut.ensures.value).room (is_put c),
+      λ none. absurd (omega (arith, none)),
+    )
 
 pub returns : goal.returns
 returns c =
     let s = c.self.inside in
     subst (λ (before : SimState). Does before (Need c.args.n c.args.d) c.put_item.result (state_of s.topology s.times s.clock (slice_set s.nodes.items c.in-Some.home c.put_item.new.self) s.links.items s.datagrams.items)) c.self.view_is
-    (need_does s.topology s.times s.clock s.nodes.items s.links.items s.datagrams.items c.self.invariant c.args.n c.in-Some.home (x c) c.in-Some.ensures.first c.index_mut.ensures.value
+    (need_does s.topology s.times s.clock s.nodes.items s.links.items s.datagrams.items c.self.invariant.0 c.args.n c.in-Some.home (x c) c.in-Some.ensures.first c.index_mut.ensures.value
     c.args.d c.put_item.new.self c.put_item.result (waits c) (is_put c))

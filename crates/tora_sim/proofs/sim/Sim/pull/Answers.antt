@@ -1,4 +1,4 @@
-use Rattle.std.proofs.Common.{◌<◌, length, sym, ◌∙◌, subst}
+use Rattle.std.proofs.Common.{◌<◌, length, sym, ◌∙◌, subst, arith}
 use Rattle.std.specs.Prelude.{slice_set}
 use borrow.Author.Tests.{ltb-true, ltb-false}
 use Rattle.tora_world.specs.declared.Event.TheVariants.{Pull}
@@ -13,10 +13,10 @@ pub returns-then-not-has_cargo : goal.returns-then-not-has_cargo
 returns-then-not-has_cargo c =
     let s = c.self.inside in
     subst (λ (w : SimState). IsRefused (world_of w) (Pull c.args.n c.args.k) Refused.NotPossible (world_of w)) c.self.view_is
-    (pull_refused s.topology s.times s.clock s.nodes.items s.links.items s.datagrams.items c.self.invariant c.args.n c.args.k c.in-Some.at c.index.result.now c.in-Some.ensures.first c.index.ensures
+    (pull_refused s.topology s.times s.clock s.nodes.items s.links.items s.datagrams.items c.self.invariant.0 c.args.n c.args.k c.in-Some.at c.index.result.now c.in-Some.ensures.first c.index.ensures
     (ltb-false c.index.result.now.pulled (length c.index.result.now.put) (sym c.has_cargo.ensures ∙ c.if-not-has_cargo.true)))
 
-module _ (c : goal.After-self-1) where
+module _ (c : goal.After-self-2-1) where
   waits : c.index_mut.result.now.pulled < length c.index_mut.result.now.put
   waits =
       subst (λ (x : LinkView). x.pulled < length x.put)
@@ -25,13 +25,15 @@ module _ (c : goal.After-self-1) where
 
 pub invariant_of-self : goal.invariant_of-self
 invariant_of-self c =
-    let s = c.self.inside in
-    pull_store s.topology s.times s.clock s.nodes.items s.links.items s.datagrams.items c.self.invariant c.args.n c.args.k c.in-Some.at c.index_mut.result.now c.in-Some.ensures.first c.index_mut.ensures.value
-    c.pull.new.self (waits c) c.pull.ensures
+    let s = c.self.inside in (
+      pull_store s.topology s.times s.clock s.nodes.items s.links.items s.datagrams.items c.self.invariant.0 c.args.n c.args.k c.in-Some.at c.index_mut.result.now c.in-Some.ensures.first c.index_mut.ensures.value
+          c.pull.new.self (waits c) c.pull.ensures,
+      λ none. absurd (omega (arith, none)),
+    )
 
 pub returns : goal.returns
 returns c =
     let s = c.self.inside in
     subst (λ (before : SimState). IsDone (world_of before) (Pull c.args.n c.args.k) (world_of (state_of s.topology s.times s.clock s.nodes.items (slice_set s.links.items c.in-Some.at c.pull.new.self) s.datagrams.items))) c.self.view_is
-    (pull_done s.topology s.times s.clock s.nodes.items s.links.items s.datagrams.items c.self.invariant c.args.n c.args.k c.in-Some.at c.index_mut.result.now c.in-Some.ensures.first c.index_mut.ensures.value
+    (pull_done s.topology s.times s.clock s.nodes.items s.links.items s.datagrams.items c.self.invariant.0 c.args.n c.args.k c.in-Some.at c.index_mut.result.now c.in-Some.ensures.first c.index_mut.ensures.value
     c.pull.new.self (waits c) c.pull.ensures)

@@ -5,7 +5,7 @@ use Rattle.tora_arq.specs.LinkEnd.{after_poll_event}
 use Rattle.tora_world.specs.declared.Event.TheVariants.{Pump}
 use Rattle.tora_world.specs.declared.SimError.{SimError}
 use Rattle.tora_world.specs.declared.SimError.TheVariants as Refused
-use Rattle.tora_world.specs.World.{what_of}
+use Rattle.tora_seat.specs.Between.{what_of}
 use Rattle.tora_sim.specs.Links.{LinkView, with_state}
 use Rattle.tora_sim.specs.Nodes.{NodeView, after_item}
 use Rattle.tora_sim.specs.Store.{SimState, state_of, world_of}
@@ -22,19 +22,19 @@ pub returns-in_default-next_event : goal.returns-in_default-next_event
 returns-in_default-next_event c =
     let s = c.self.inside in
     subst (λ (w : SimState). IsRefused (world_of w) (Pump c.args.n c.args.k) Refused.NotPossible (world_of w)) c.self.view_is
-    (pump_without s.topology s.times s.clock s.nodes.items s.links.items s.datagrams.items c.self.invariant c.args.n c.args.k c.in-Some.at c.index.result.now c.in-Some.ensures.first c.index.ensures (sym c.next_event.ensures ∙ c.in_default-next_event.is))
+    (pump_without s.topology s.times s.clock s.nodes.items s.links.items s.datagrams.items c.self.invariant.0 c.args.n c.args.k c.in-Some.at c.index.result.now c.in-Some.ensures.first c.index.ensures (sym c.next_event.ensures ∙ c.in_default-next_event.is))
 
 pub returns-in_default-node_place : goal.returns-in_default-node_place
 returns-in_default-node_place c =
     let s = c.self.inside in
-    absurd (at_home s.topology s.times s.clock s.nodes.items s.links.items s.datagrams.items c.self.invariant c.args.n c.args.k c.in-Some.at c.index.result.now c.in-Some.ensures.first c.index.ensures c.in_default-node_place.ensures.none)
+    absurd (at_home s.topology s.times s.clock s.nodes.items s.links.items s.datagrams.items c.self.invariant.0 c.args.n c.args.k c.in-Some.at c.index.result.now c.in-Some.ensures.first c.index.ensures c.in_default-node_place.ensures.none)
 
 pub returns-then-waiting-ge-MOST_ITEMS : goal.returns-then-waiting-ge-MOST_ITEMS
 returns-then-waiting-ge-MOST_ITEMS c =
     let s = c.self.inside in
     let full : 1024 ≤ length c.index-2.result.now.items = omega (arith, c.waiting.ensures, c.if-waiting-ge-MOST_ITEMS.true) in
     subst (λ (w : SimState). IsRefused (world_of w) (Pump c.args.n c.args.k) Refused.NotPossible (world_of w)) c.self.view_is
-    (pump_full s.topology s.times s.clock s.nodes.items s.links.items s.datagrams.items c.self.invariant c.args.n c.args.k c.in-Some.at c.index.result.now c.in-Some.ensures.first c.index.ensures c.in-Some-next_event.event (sym c.next_event.ensures ∙ c.in-Some-next_event.is)
+    (pump_full s.topology s.times s.clock s.nodes.items s.links.items s.datagrams.items c.self.invariant.0 c.args.n c.args.k c.in-Some.at c.index.result.now c.in-Some.ensures.first c.index.ensures c.in-Some-next_event.event (sym c.next_event.ensures ∙ c.in-Some-next_event.is)
     c.in-Some-node_place.home c.index-2.result.now c.in-Some-node_place.ensures.first c.index-2.ensures (le-ltb (length c.index-2.result.now.items) 1024 full))
 
 module _ (c : goal.After-what_of) where
@@ -45,7 +45,7 @@ pub put_item-requires : goal.put_item-requires
 put_item-requires c =
     let s = c.self.inside in
     subst (λ m. m < 33) (sym (seat_is c))
-    (seat_room s.topology s.times s.clock s.nodes.items s.links.items s.datagrams.items c.self.invariant c.args.n c.args.k c.in-Some.at c.index.result.now c.in-Some.ensures.first c.index.ensures c.in-Some-next_event.event (sym c.next_event.ensures ∙ c.in-Some-next_event.is)
+    (seat_room s.topology s.times s.clock s.nodes.items s.links.items s.datagrams.items c.self.invariant.0 c.args.n c.args.k c.in-Some.at c.index.result.now c.in-Some.ensures.first c.index.ensures c.in-Some-next_event.event (sym c.next_event.ensures ∙ c.in-Some-next_event.is)
     c.in-Some-node_place.home c.index_mut.result.now c.in-Some-node_place.ensures.first c.index_mut.ensures.value)
 
 pub returns-in-Err : goal.returns-in-Err
@@ -53,7 +53,7 @@ returns-in-Err c =
     let s = c.self.inside in
     subst (λ (w : SimState). IsRefused (world_of w) (Pump c.args.n c.args.k) c.in-Err.error (world_of (state_of s.topology s.times s.clock (slice_set s.nodes.items c.in-Some-node_place.home c.put_item.new.self) s.links.items s.datagrams.items))) c.self.view_is
     (subst (λ (e : SimError). IsRefused (world_of (state_of s.topology s.times s.clock s.nodes.items s.links.items s.datagrams.items)) (Pump c.args.n c.args.k) e (world_of (state_of s.topology s.times s.clock (slice_set s.nodes.items c.in-Some-node_place.home c.put_item.new.self) s.links.items s.datagrams.items))) (sym c.in-Err.ensures.0)
-    (pump_starved s.topology s.times s.clock s.nodes.items s.links.items s.datagrams.items c.self.invariant c.args.n c.args.k c.in-Some.at c.index.result.now c.in-Some.ensures.first c.index.ensures c.in-Some-next_event.event (sym c.next_event.ensures ∙ c.in-Some-next_event.is)
+    (pump_starved s.topology s.times s.clock s.nodes.items s.links.items s.datagrams.items c.self.invariant.0 c.args.n c.args.k c.in-Some.at c.index.result.now c.in-Some.ensures.first c.index.ensures c.in-Some-next_event.event (sym c.next_event.ensures ∙ c.in-Some-next_event.is)
     c.in-Some-node_place.home c.index_mut.result.now c.in-Some-node_place.ensures.first c.index_mut.ensures.value c.put_item.new.self (waits s.nodes.items c.in-Some-node_place.home c.index-2.result.now c.index_mut.result.now c.waiting.result c.in-Some-node_place.ensures.first.within c.index-2.ensures c.index_mut.ensures.value c.waiting.ensures c.if-waiting-ge-MOST_ITEMS.false) c.in-Err.ensures.1))
 
 module _ (c : goal.After-self-in-Ok-1) where
@@ -71,13 +71,15 @@ module _ (c : goal.After-self-in-Ok-1) where
 
 pub invariant_of-self : goal.invariant_of-self
 invariant_of-self c =
-    let s = c.self.inside in
-    pump_store s.topology s.times s.clock s.nodes.items s.links.items s.datagrams.items c.self.invariant c.args.n c.args.k c.in-Some.at c.index.result.now c.in-Some.ensures.first c.index.ensures c.in-Some-next_event.event (sym c.next_event.ensures ∙ c.in-Some-next_event.is)
-    c.in-Some-node_place.home c.index_mut.result.now c.in-Some-node_place.ensures.first c.index_mut.ensures.value c.take_event.new.self c.put_item.new.self (link_is c) (node_is c)
+    let s = c.self.inside in (
+      pump_store s.topology s.times s.clock s.nodes.items s.links.items s.datagrams.items c.self.invariant.0 c.args.n c.args.k c.in-Some.at c.index.result.now c.in-Some.ensures.first c.index.ensures c.in-Some-next_event.event (sym c.next_event.ensures ∙ c.in-Some-next_event.is)
+          c.in-Some-node_place.home c.index_mut.result.now c.in-Some-node_place.ensures.first c.index_mut.ensures.value c.take_event.new.self c.put_item.new.self (link_is c) (node_is c),
+      λ none. absurd (omega (arith, none)),
+    )
 
 pub returns-in-Ok : goal.returns-in-Ok
 returns-in-Ok c =
     let s = c.self.inside in
     subst (λ (before : SimState). IsDone (world_of before) (Pump c.args.n c.args.k) (world_of (state_of s.topology s.times s.clock (slice_set s.nodes.items c.in-Some-node_place.home c.put_item.new.self) (slice_set s.links.items c.in-Some.at c.take_event.new.self) s.datagrams.items))) c.self.view_is
-    (pump_done s.topology s.times s.clock s.nodes.items s.links.items s.datagrams.items c.self.invariant c.args.n c.args.k c.in-Some.at c.index.result.now c.in-Some.ensures.first c.index.ensures c.in-Some-next_event.event (sym c.next_event.ensures ∙ c.in-Some-next_event.is)
+    (pump_done s.topology s.times s.clock s.nodes.items s.links.items s.datagrams.items c.self.invariant.0 c.args.n c.args.k c.in-Some.at c.index.result.now c.in-Some.ensures.first c.index.ensures c.in-Some-next_event.event (sym c.next_event.ensures ∙ c.in-Some-next_event.is)
     c.in-Some-node_place.home c.index_mut.result.now c.in-Some-node_place.ensures.first c.index_mut.ensures.value c.take_event.new.self c.put_item.new.self (waits s.nodes.items c.in-Some-node_place.home c.index-2.result.now c.index_mut.result.now c.waiting.result c.in-Some-node_place.ensures.first.within c.index-2.ensures c.index_mut.ensures.value c.waiting.ensures c.if-waiting-ge-MOST_ITEMS.false) (link_is c) (node_is c))

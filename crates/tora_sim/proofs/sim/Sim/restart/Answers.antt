@@ -18,18 +18,18 @@ pub returns-in_default-new_seat : goal.returns-in_default-new_seat
 returns-in_default-new_seat c =
     let s = c.self.inside in
     subst (λ (w : SimState). IsRefused (world_of w) (Restart c.args.n c.args.torn) Refused.Memory (world_of w)) c.self.view_is
-    (restart_starved s.topology s.times s.clock s.nodes.items s.links.items s.datagrams.items c.self.invariant c.args.n c.in-Some.home c.index.result.now c.in-Some.ensures.first c.index.ensures c.args.torn)
+    (restart_starved s.topology s.times s.clock s.nodes.items s.links.items s.datagrams.items c.self.invariant.0 c.args.n c.in-Some.home c.index.result.now c.in-Some.ensures.first c.index.ensures c.args.torn)
 
 pub returns-in_default-new_ends : goal.returns-in_default-new_ends
 returns-in_default-new_ends c =
     let s = c.self.inside in
     subst (λ (w : SimState). IsRefused (world_of w) (Restart c.args.n c.args.torn) Refused.Memory (world_of w)) c.self.view_is
-    (restart_starved s.topology s.times s.clock s.nodes.items s.links.items s.datagrams.items c.self.invariant c.args.n c.in-Some.home c.index.result.now c.in-Some.ensures.first c.index.ensures c.args.torn)
+    (restart_starved s.topology s.times s.clock s.nodes.items s.links.items s.datagrams.items c.self.invariant.0 c.args.n c.in-Some.home c.index.result.now c.in-Some.ensures.first c.index.ensures c.args.torn)
 
 pub new_ends-requires : goal.new_ends-requires
 new_ends-requires c =
     let s = c.self.inside in
-    let within = ends_within s.topology s.times s.clock s.nodes.items s.links.items s.datagrams.items c.self.invariant c.args.n c.in-Some.home c.index.result.now c.in-Some.ensures.first c.index.ensures in
+    let within = ends_within s.topology s.times s.clock s.nodes.items s.links.items s.datagrams.items c.self.invariant.0 c.args.n c.in-Some.home c.index.result.now c.in-Some.ensures.first c.index.ensures in
     let count : c.count-count.result ≡ c.index.result.now.count =
     c.count-count.ensures ∙ ap (λ (x : NodeView). x.count) (same_read s.nodes.items c.in-Some.home c.index-2.result.now c.index.result.now c.in-Some.ensures.first.within c.index-2.ensures c.index.ensures) in
     omega (arith, within, c.first-first.ensures, count)
@@ -37,7 +37,7 @@ new_ends-requires c =
 pub restart_ends-requires-clause-within : goal.restart_ends-requires-clause-within
 restart_ends-requires-clause-within c =
     let s = c.self.inside in
-    let within = ends_within s.topology s.times s.clock s.nodes.items s.links.items s.datagrams.items c.self.invariant c.args.n c.in-Some.home c.index.result.now c.in-Some.ensures.first c.index.ensures in
+    let within = ends_within s.topology s.times s.clock s.nodes.items s.links.items s.datagrams.items c.self.invariant.0 c.args.n c.in-Some.home c.index.result.now c.in-Some.ensures.first c.index.ensures in
     let count : c.count-count.result ≡ c.index.result.now.count =
     c.count-count.ensures ∙ ap (λ (x : NodeView). x.count) (same_read s.nodes.items c.in-Some.home c.index-2.result.now c.index.result.now c.in-Some.ensures.first.within c.index-2.ensures c.index.ensures) in
     let many = c.in-Ok-new_ends.ensures.as_many in
@@ -63,13 +63,15 @@ module _ (c : goal.After-drop-ends) where
 
 pub invariant_of-self : goal.invariant_of-self
 invariant_of-self c =
-    let s = c.self.inside in
-    restart_store s.topology s.times s.clock s.nodes.items s.links.items s.datagrams.items c.self.invariant c.args.n c.in-Some.home (x c) c.in-Some.ensures.first c.index_mut.ensures.value c.args.torn (core_kept c)
-    c.in-Ok.seat c.restart.new.self c.restart_ends.new.links.items (made c) c.restart.ensures (ends c)
+    let s = c.self.inside in (
+      restart_store s.topology s.times s.clock s.nodes.items s.links.items s.datagrams.items c.self.invariant.0 c.args.n c.in-Some.home (x c) c.in-Some.ensures.first c.index_mut.ensures.value c.args.torn (core_kept c)
+          c.in-Ok.seat c.restart.new.self c.restart_ends.new.links.items (made c) c.restart.ensures (ends c),
+      λ none. absurd (omega (arith, none)),
+    )
 
 pub returns : goal.returns
 returns c =
     let s = c.self.inside in
     subst (λ (before : SimState). IsDone (world_of before) (Restart c.args.n c.args.torn) (world_of (state_of s.topology s.times s.clock (slice_set s.nodes.items c.in-Some.home c.restart.new.self) c.restart_ends.new.links.items s.datagrams.items))) c.self.view_is
-    (restart_done s.topology s.times s.clock s.nodes.items s.links.items s.datagrams.items c.self.invariant c.args.n c.in-Some.home (x c) c.in-Some.ensures.first c.index_mut.ensures.value c.args.torn (core_kept c)
+    (restart_done s.topology s.times s.clock s.nodes.items s.links.items s.datagrams.items c.self.invariant.0 c.args.n c.in-Some.home (x c) c.in-Some.ensures.first c.index_mut.ensures.value c.args.torn (core_kept c)
     c.in-Ok.seat c.restart.new.self c.restart_ends.new.links.items (made c) c.restart.ensures (ends c))

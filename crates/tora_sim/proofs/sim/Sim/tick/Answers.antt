@@ -1,17 +1,35 @@
-use Rattle.std.proofs.Common.{subst}
+use Rattle.std.proofs.Common.{◌<◌, sym, subst, arith}
 use Rattle.tora_world.specs.declared.Event.TheVariants.{Tick}
 use Rattle.tora_sim.specs.Store.{SimState, state_of, world_of}
 use Rattle.tora_sim.specs.Steps.{IsDone}
 use Rattle.tora_sim.proofs.Ticks.{tick_store, tick_done}
+use Rattle.tora_sim.proofs.Quiets.{still_ticks}
 use Rattle.tora_sim.proofs.sim.Sim.tick.Goals as goal
 
 pub invariant_of-self : goal.invariant_of-self
 invariant_of-self c =
     let s = c.self.inside in
-    tick_store s.topology s.times s.clock s.nodes.items s.links.items s.datagrams.items c.self.invariant c.in-Some.now c.tick.new.links.items c.in-Some.ensures.1 c.tick.ensures
+    let lt : c.in-Some.now < s.quiet = omega (arith, c.if-now-self.true) in (
+      tick_store s.topology s.times s.clock s.nodes.items s.links.items s.datagrams.items c.self.invariant.0 c.in-Some.now s.links.items c.in-Some.ensures.1 (sym (still_ticks s.quiet c.in-Some.now s.links.items lt (c.self.invariant.1 (omega (arith, lt))).1)),
+      c.self.invariant.1,
+    )
+
+pub returns-then-now-self : goal.returns-then-now-self
+returns-then-now-self c =
+    let s = c.self.inside in
+    let lt : c.in-Some.now < s.quiet = omega (arith, c.if-now-self.true) in
+    subst (λ (before : SimState). IsDone (world_of before) Tick (world_of (state_of s.topology s.times c.in-Some.now s.nodes.items s.links.items s.datagrams.items))) c.self.view_is
+    (tick_done s.topology s.times s.clock s.nodes.items s.links.items s.datagrams.items c.self.invariant.0 c.in-Some.now s.links.items c.in-Some.ensures.1 (sym (still_ticks s.quiet c.in-Some.now s.links.items lt (c.self.invariant.1 (omega (arith, lt))).1)))
+
+pub invariant_of-self-2 : goal.invariant_of-self-2
+invariant_of-self-2 c =
+    let s = c.self.inside in (
+      tick_store s.topology s.times s.clock s.nodes.items s.links.items s.datagrams.items c.self.invariant.0 c.in-Some.now c.tick.new.links.items c.in-Some.ensures.1 c.tick.ensures,
+      λ none. absurd (omega (arith, none)),
+    )
 
 pub returns : goal.returns
 returns c =
     let s = c.self.inside in
     subst (λ (before : SimState). IsDone (world_of before) Tick (world_of (state_of s.topology s.times c.in-Some.now s.nodes.items c.tick.new.links.items s.datagrams.items))) c.self.view_is
-    (tick_done s.topology s.times s.clock s.nodes.items s.links.items s.datagrams.items c.self.invariant c.in-Some.now c.tick.new.links.items c.in-Some.ensures.1 c.tick.ensures)
+    (tick_done s.topology s.times s.clock s.nodes.items s.links.items s.datagrams.items c.self.invariant.0 c.in-Some.now c.tick.new.links.items c.in-Some.ensures.1 c.tick.ensures)

@@ -1,4 +1,4 @@
-use Rattle.std.proofs.Common.{◌≡◌, List, Some, ap, sym, ◌∙◌, subst}
+use Rattle.std.proofs.Common.{◌≡◌, List, Some, ap, sym, ◌∙◌, subst, arith}
 use Rattle.std.specs.Prelude.{slice_set}
 use Rattle.tora_frame.specs.FrameParts.{FrameParts}
 use Rattle.tora_arq.specs.LinkEnd.{frame_due}
@@ -6,7 +6,7 @@ use Rattle.tora_world.specs.declared.Event.TheVariants.{Transmit}
 use Rattle.tora_world.specs.declared.SimError.TheVariants as Refused
 use Rattle.tora_world.specs.World.{with_datagram}
 use Rattle.tora_sim.specs.Nodes.{sending_of}
-use Rattle.tora_sim.specs.Store.{SimState, state_of, world_of}
+use Rattle.tora_sim.specs.Store.{SimState, IsStore, state_of, world_of}
 use Rattle.tora_sim.specs.Steps.{IsDone, IsRefused}
 use Rattle.tora_sim.proofs.Opens.{same_read}
 use Rattle.tora_sim.proofs.Sends.{transmit_refused, transmit_starved, transmit_done, transmit_store, at_home}
@@ -16,13 +16,13 @@ pub returns-then-not-has_frame_due : goal.returns-then-not-has_frame_due
 returns-then-not-has_frame_due c =
     let s = c.self.inside in
     subst (λ (w : SimState). IsRefused (world_of w) (Transmit c.args.n c.args.k) Refused.NotPossible (world_of w)) c.self.view_is
-    (transmit_refused s.topology s.times s.clock s.nodes.items s.links.items s.datagrams.items c.self.invariant c.args.n c.args.k c.in-Some.at c.index.result.now c.in-Some.ensures.first c.index.ensures
+    (transmit_refused s.topology s.times s.clock s.nodes.items s.links.items s.datagrams.items c.self.invariant.0 c.args.n c.args.k c.in-Some.at c.index.result.now c.in-Some.ensures.first c.index.ensures
     (sym c.has_frame_due.ensures ∙ c.if-not-has_frame_due.true))
 
 pub returns-in_default-node_place : goal.returns-in_default-node_place
 returns-in_default-node_place c =
     let s = c.self.inside in
-    absurd (at_home s.topology s.times s.clock s.nodes.items s.links.items s.datagrams.items c.self.invariant c.args.n c.args.k c.in-Some.at c.index.result.now c.in-Some.ensures.first c.index.ensures
+    absurd (at_home s.topology s.times s.clock s.nodes.items s.links.items s.datagrams.items c.self.invariant.0 c.args.n c.args.k c.in-Some.at c.index.result.now c.in-Some.ensures.first c.index.ensures
     c.in_default-node_place.ensures.none)
 
 pub returns-then-is_err : goal.returns-then-is_err
@@ -31,7 +31,7 @@ returns-then-is_err c =
     subst (λ (w : SimState). IsRefused (world_of w) (Transmit c.args.n c.args.k) Refused.Memory (world_of (state_of s.topology s.times s.clock s.nodes.items s.links.items c.reserve.new.self.items))) c.self.view_is
     (subst (λ (ds : List FrameParts). IsRefused (world_of (state_of s.topology s.times s.clock s.nodes.items s.links.items s.datagrams.items)) (Transmit c.args.n c.args.k) Refused.Memory (world_of (state_of s.topology s.times s.clock s.nodes.items s.links.items ds)))
     (sym c.reserve.ensures.items)
-    (transmit_starved s.topology s.times s.clock s.nodes.items s.links.items s.datagrams.items c.self.invariant c.args.n c.args.k c.in-Some.at c.index.result.now c.in-Some.ensures.first c.index.ensures
+    (transmit_starved s.topology s.times s.clock s.nodes.items s.links.items s.datagrams.items c.self.invariant.0 c.args.n c.args.k c.in-Some.at c.index.result.now c.in-Some.ensures.first c.index.ensures
     (sym c.has_frame_due.ensures ∙ c.if-not-has_frame_due.false)))
 
 module _ (c : goal.After-packets-2-1) where
@@ -44,17 +44,26 @@ module _ (c : goal.After-packets-2-1) where
   all : c.note_sent.new.datagrams.items ≡ with_datagram (sending_of c.index_mut-2.result.now.sending) c.self.inside.datagrams.items c.in-Some-send.frame
   all = c.note_sent.ensures.datagrams ∙ ap (λ ds. with_datagram (sending_of c.index_mut-2.result.now.sending) ds c.in-Some-send.frame) c.reserve.ensures.items
 
+pub invariant_of-self : goal.invariant_of-self
+invariant_of-self c =
+    let s = c.self.inside in (
+      subst (λ (ds : List FrameParts). IsStore (state_of s.topology s.times s.clock s.nodes.items s.links.items ds)) (sym c.reserve.ensures.items) c.self.invariant.0,
+      c.self.invariant.1,
+    )
+
 pub invariant_of-self-2 : goal.invariant_of-self-2
 invariant_of-self-2 c =
-    let s = c.self.inside in
-    transmit_store s.topology s.times s.clock s.nodes.items s.links.items s.datagrams.items c.self.invariant c.args.n c.args.k c.in-Some.at c.index_mut.result.now c.in-Some.ensures.first c.index_mut.ensures.value
-    c.in-Some-node_place.home c.index_mut-2.result.now c.in-Some-node_place.ensures.first c.index_mut-2.ensures.value c.in-Some-send.frame (due c)
-    c.data_frames_are_what_was_submitted.ensures.frame c.send.new.self c.note_sent.new.node c.note_sent.new.datagrams.items c.in-Some-send.ensures.state c.note_sent.ensures.node (all c)
+    let s = c.self.inside in (
+      transmit_store s.topology s.times s.clock s.nodes.items s.links.items s.datagrams.items c.self.invariant.0 c.args.n c.args.k c.in-Some.at c.index_mut.result.now c.in-Some.ensures.first c.index_mut.ensures.value
+          c.in-Some-node_place.home c.index_mut-2.result.now c.in-Some-node_place.ensures.first c.index_mut-2.ensures.value c.in-Some-send.frame (due c)
+          c.data_frames_are_what_was_submitted.ensures.frame c.send.new.self c.note_sent.new.node c.note_sent.new.datagrams.items c.in-Some-send.ensures.state c.note_sent.ensures.node (all c),
+      λ none. absurd (omega (arith, none)),
+    )
 
 pub returns : goal.returns
 returns c =
     let s = c.self.inside in
     subst (λ (before : SimState). IsDone (world_of before) (Transmit c.args.n c.args.k) (world_of (state_of s.topology s.times s.clock (slice_set s.nodes.items c.in-Some-node_place.home c.note_sent.new.node) (slice_set s.links.items c.in-Some.at c.send.new.self) c.note_sent.new.datagrams.items))) c.self.view_is
-    (transmit_done s.topology s.times s.clock s.nodes.items s.links.items s.datagrams.items c.self.invariant c.args.n c.args.k c.in-Some.at c.index_mut.result.now c.in-Some.ensures.first c.index_mut.ensures.value
+    (transmit_done s.topology s.times s.clock s.nodes.items s.links.items s.datagrams.items c.self.invariant.0 c.args.n c.args.k c.in-Some.at c.index_mut.result.now c.in-Some.ensures.first c.index_mut.ensures.value
     c.in-Some-node_place.home c.index_mut-2.result.now c.in-Some-node_place.ensures.first c.index_mut-2.ensures.value c.in-Some-send.frame (due c)
     c.send.new.self c.note_sent.new.node c.note_sent.new.datagrams.items c.in-Some-send.ensures.state c.note_sent.ensures.node (all c))

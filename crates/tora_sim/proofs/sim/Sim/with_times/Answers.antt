@@ -1,4 +1,4 @@
-use Rattle.std.proofs.Common.{◌≡◌, ◌<◌, ℕ, List, take, length, get_or, sym, ap, ◌∙◌, subst}
+use Rattle.std.proofs.Common.{◌≡◌, ◌<◌, ℕ, List, take, length, get_or, sym, ap, ◌∙◌, subst, arith}
 use Rattle.std.proofs.lemmas.List.{take_more, take_all}
 use Rattle.tora_frame.specs.FrameParts.{FrameParts}
 use Rattle.tora_world.specs.Topology.{Topology, nodes_in}
@@ -31,9 +31,11 @@ module _ (c : goal.After-new) where
       (subst (λ (ns : List ℕ). AreMade c.args.topology.now c.args.times ns c.loop-n.nodes.items c.loop-n.links.items) (whole ∙ same) c.loop-n.invariant)
 
 pub invariant_of-result : goal.invariant_of-result
-invariant_of-result c =
-    subst (λ (ds : List FrameParts). IsStore (state_of c.in-Ok.own c.args.times 0 c.loop-n.nodes.items c.loop-n.links.items ds)) (sym c.new.ensures)
-    (is-store c.numbers_are_put_in_order.ensures.order c.numbers_come_and_go.ensures.in_order c.in-Ok.own c.args.times c.nodes-named.ensures.kept c.loop-n.nodes.items c.loop-n.links.items (made c))
+invariant_of-result c = (
+  subst (λ (ds : List FrameParts). IsStore (state_of c.in-Ok.own c.args.times 0 c.loop-n.nodes.items c.loop-n.links.items ds)) (sym c.new.ensures)
+      (is-store c.numbers_are_put_in_order.ensures.order c.numbers_come_and_go.ensures.in_order c.in-Ok.own c.args.times c.nodes-named.ensures.kept c.loop-n.nodes.items c.loop-n.links.items (made c)),
+  λ none. absurd (omega (arith, none)),
+)
 
 pub returns-clause-made : goal.returns-clause-made
 returns-clause-made c =

@@ -1,0 +1,46 @@
+#!/usr/bin/env python3
+"""Processor time that a datagram takes in `tora sim --large`, and that of the last file by that of the first.
+
+per_datagram.py ROUNDS PROGRAM FILE..
+Datagrams are counted in a trace (HELLO, DATA and ACK, those too that went over a parted link); the time is the best of ROUNDS runs
+without a trace, in turn, from the start of the process to its end.
+"""
+import os
+import subprocess
+import sys
+import tempfile
+
+
+def processor_time(command):
+    """Seconds of processor time of a command that has to end well."""
+    child = subprocess.Popen(command, stdout=subprocess.DEVNULL)
+    _, status, usage = os.wait4(child.pid, 0)
+    if status:
+        sys.exit(f"per_datagram: status {os.waitstatus_to_exitcode(status)}: {' '.join(command)}")
+    return usage.ru_utime + usage.ru_stime
+
+
+def datagrams(program, path):
+    """How many datagrams a simulation sends."""
+    with tempfile.TemporaryDirectory() as work:
+        trace = os.path.join(work, "trace")
+        processor_time([program, "sim", "--large", "--trace", trace, path])
+        with open(trace, encoding="ascii") as source:
+            words = (line.split() for line in source if " frames " in line)
+            return sum(int(count) for line in words for count in line[2:5])
+
+
+def main():
+    """Prints a line for each file, and the ratio."""
+    rounds, program, paths = int(sys.argv[1]), sys.argv[2], sys.argv[3:]
+    counts, best = [datagrams(program, path) for path in paths], [float("inf")] * len(paths)
+    for _ in range(rounds):
+        for at, path in enumerate(paths):
+            best[at] = min(best[at], processor_time([program, "sim", "--large", path]))
+    each = [seconds / count * 1e9 for seconds, count in zip(best, counts)]
+    for path, count, seconds, one in zip(paths, counts, best, each):
+        print(f"{os.path.basename(path):20} {count:9} datagrams  processor {seconds:8.3f} s  {one:8.1f} ns a datagram")
+    print(f"ratio                {each[-1] / each[0]:8.2f}")
+
+
+main()

@@ -1,0 +1,26 @@
+-- When something is next due at a link end, if nothing comes.
+use Rattle.std.specs.Prelude.{◌≡◌, ℕ, ◌^◌, ◌<◌, ◌≤◌, Bool, true, false, not, nat_le, ◌||◌, ◌&&◌, Option, Some, None, is_some}
+use Rattle.tora_arq.specs.declared.Times.{Times}
+use Rattle.tora_arq.specs.declared.queue.QueuedPacket.{QueuedPacket}
+use Rattle.tora_arq.specs.Settings.{Settings}
+use Rattle.tora_arq.specs.SendQueue.{is_ready, is_given_up}
+use Rattle.tora_arq.specs.LinkEnd.{EndState, is_closed, frame_due, after_tick}
+
+-- at this tick a frame is due, or a life ends
+abbrev pub is_any_due : Settings → EndState → ℕ → Bool
+is_any_due s e tick = is_some (frame_due s e tick) || (not (is_closed e) && is_closed (after_tick s e tick))
+
+-- the first such tick from `now` on, of those below 2^64
+abbrev pub IsNextDue : Settings → EndState → ℕ → Option ℕ → Type 0
+IsNextDue s e now None = (tick : ℕ) → tick < 2 ^ 64 → now ≤ tick → is_any_due s e tick ≡ false
+IsNextDue s e now (Some next) =
+    (now ≤ next) × (is_any_due s e next ≡ true) × ((tick : ℕ) → now ≤ tick → tick < next → is_any_due s e tick ≡ false)
+
+-- a tick is this one or a later one
+abbrev pub has_begun : Option ℕ → ℕ → Bool
+has_begun None tick = false
+has_begun (Some first) tick = nat_le first tick
+
+-- at this tick a packet is due or given up
+abbrev pub is_packet_due : Times → ℕ → QueuedPacket → Bool
+is_packet_due times tick q = is_ready times tick q || is_given_up times tick q

@@ -1,0 +1,157 @@
+//! `--progress` of `tora sim`: a bar on a terminal, which is drawn as the lines of the file are read.
+ghost use Rattle.std.specs.Prelude.{◌≡◌};
+ghost use Rattle.std.specs.Io.{ReadsAtMost};
+ghost use Rattle.std.specs.Io.KnownBytes.{ReadConsumes};
+
+use crate::progress::{Progress, RoundCount, within};
+use std::alloc::Global;
+use std::fmt::Display;
+use std::io;
+use std::io::Read;
+use std::time::Clock;
+
+/// The most bytes that are read at once: those of a line or two, so that the lines before are done when the next are read.
+const PIECE: usize = 16;
+
+/// The milliseconds from a drawing to the next.
+const PAUSE: u64 = 100;
+
+/// What wipes away the line of a terminal.
+const WIPE: &str = "\r\x1b[K";
+
+/// The milliseconds of a clock, 0 where it can't be read.
+fn millis<T: Clock>(clock: &T) -> u64 {
+    match clock.monotonic() {
+        Ok(now) => u64::try_from(now.as_millis()).unwrap_or(0),
+        Err(_) => 0,
+    }
+}
+
+/// A runtime whose messages take the place of a bar.
+#[derive(Clone, Copy)]
+pub struct Wiping<'a, T> {
+    rt: &'a T,
+}
+
+impl<'a, T> Wiping<'a, T> {
+    /// Messages to the standard error of this runtime.
+    pub fn new(rt: &'a T) -> Wiping<'a, T> {
+        Wiping { rt }
+    }
+}
+
+impl<T: AllocGlobal> Alloc for Wiping<'_, T> {
+    type A = Global;
+
+    fn alloc(&self) -> Global {
+        self.rt.alloc()
+    }
+}
+
+impl<T: Eprint> Eprint for Wiping<'_, T> {
+    fn eprint<D: Display + Drop>(&self, value: D) -> io::Result<()> {
+        self.rt.eprint(WIPE)?;
+        self.rt.eprint(value)
+    }
+
+    fn eprintln<D: Display + Drop>(&self, value: D) -> io::Result<()> {
+        self.rt.eprint(WIPE)?;
+        self.rt.eprintln(value)
+    }
+}
+
+/// The bar of a simulation.
+#[derive(Drop)]
+struct Bar<'a, T> {
+    rt: &'a T,
+    count: RoundCount,
+    /// The last round.
+    until: Option<u64>,
+    /// The rounds that there will be, where that is known.
+    total: Option<u64>,
+    /// The clock as the simulation began, in milliseconds.
+    begun: u64,
+    /// The clock at the last drawing.
+    drawn: u64,
+}
+
+impl<T: Eprint + Clock> Bar<'_, T> {
+    /// Draws what is done now.
+    fn draw(&mut self, now: u64) {
+        self.drawn = now;
+        let progress = Progress {
+            done: within(self.count.rounds, self.until),
+            total: self.total,
+            millis: now.saturating_sub(self.begun),
+        };
+        let wipe = WIPE;
+        let _ = self.rt.eprint(format_args!("{wipe}{progress}"));
+    }
+
+    /// Draws what is done, where the last drawing is some time ago.
+    fn show(&mut self) {
+        let now = millis(self.rt);
+        if now.saturating_sub(self.drawn) >= PAUSE {
+            self.draw(now);
+        }
+    }
+
+    /// Draws what is done at the end of the file, and ends the line.
+    fn end(&mut self) {
+        self.count.end_line();
+        let now = millis(self.rt);
+        self.draw(now);
+        let _ = self.rt.eprintln("");
+    }
+}
+
+/// Reads a piece at most.
+fn read_piece<R: Read>(reader: &mut R, buf: &mut [u8]) -> io::Result<usize>
+    ensures bound { ReadsAtMost result buf.new }
+    ensures bytes { ReadConsumes (R.remaining reader.old) (R.remaining reader.new) result buf.new }
+{
+    let most = buf.len().min(PIECE);
+    let n = reader.read(&mut buf[..most])?;
+    Ok(n)
+}
+
+/// Hands on what a reader gives, piece by piece, and draws how far the simulation of its lines is.
+#[derive(Drop)]
+pub struct Paced<'a, T, R> {
+    pub(crate) reader: R,
+    bar: Bar<'a, T>,
+}
+
+impl<'a, T: Eprint + Clock, R: Read> Paced<'a, T, R> {
+    /// Nothing was read yet. The lines ask for so many rounds, where that is known, and not more than these are done.
+    pub fn new(rt: &'a T, total: Option<u64>, until: Option<u64>, reader: R) -> Paced<'a, T, R>
+        ensures { result.reader ≡ reader }
+    {
+        let begun = millis(rt);
+        Paced {
+            reader,
+            bar: Bar {
+                rt,
+                count: RoundCount::new(),
+                until,
+                total: total.map(|rounds| within(rounds, until)),
+                begun,
+                drawn: begun,
+            },
+        }
+    }
+}
+
+impl<T: Eprint + Clock, R: Read> Read for Paced<'_, T, R> {
+    ghost remaining = { λ p. R.remaining p.reader };
+
+    fn read(&mut self, buf: &mut [u8]) -> io::Result<usize> {
+        self.bar.show();
+        let n = read_piece(&mut self.reader, buf)?;
+        match buf.get(..n) {
+            Some(given) if n > 0 => self.bar.count.take(given),
+            _ => self.bar.end(),
+        }
+        Ok(n)
+    }
+}

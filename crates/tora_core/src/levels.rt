@@ -1,0 +1,173 @@
+//! How the height of a destination comes and goes (Park and Corson 1997, section 3): a node joins below a neighbour, and where it
+//! loses its last downstream link it defines a reference level, propagates or reflects one, or gives its height up.
+ghost use Rattle.std.specs.Prelude.{◌≡◌, ◌<◌, Some, pos};
+ghost use Rattle.tora_height.specs.Height.{IsLevel, quintuple};
+ghost use Rattle.tora_core.specs.Heights.{fitted_height, fresh_time};
+ghost use Rattle.tora_core.specs.Rules.{query_broadcast, update_broadcast, joined_height, after_join, new_level, after_erase, after_link_loss, after_update_loss, propagated_level, reflected_level};
+
+use crate::destination::{Broadcast, Destination};
+use crate::rows::{all_at, greatest_level, least_delta, time_after_all};
+use tora_height::{Entry, Height, Id, Level};
+
+/// A computed height, or NULL where a part of it is out of range.
+fn fitted(tau: u64, oid: Id, r: u8, delta: i32, id: Id) -> Entry
+    ensures { result ≡ fitted_height (quintuple tau oid r delta id) }
+{
+    Height::new(tau, oid, r, delta, id).ok()
+}
+
+impl Destination {
+    /// From now on a route is required.
+    pub(crate) fn broadcast_query(&mut self) -> Option<Broadcast>
+        ensures view { self.new.view ≡ (query_broadcast self.old.view).view }
+        ensures broadcast { result ≡ (query_broadcast self.old.view).broadcast }
+        ensures room { self.new.room ≡ self.old.room }
+    {
+        self.flag = true;
+        Some(Broadcast::Query)
+    }
+
+    /// Tells the height to every up neighbour, where there is one.
+    pub(crate) fn broadcast_update(&mut self) -> Option<Broadcast>
+        ensures view { self.new.view ≡ (update_broadcast self.old.view).view }
+        ensures broadcast { result ≡ (update_broadcast self.old.view).broadcast }
+        ensures room { self.new.room ≡ self.old.room }
+    {
+        let height = self.links.own()?;
+        self.links.tell_all();
+        Some(Broadcast::Update(height))
+    }
+
+    /// Takes the height one above the least entry.
+    #[tactic(auto, unfolding(crate::specs::Rules::after_join))]
+    pub(crate) fn join(&mut self) -> Option<Broadcast>
+        ensures view { self.new.view ≡ (after_join self.old.view).view }
+        ensures broadcast { result ≡ (after_join self.old.view).broadcast }
+        ensures room { self.new.room ≡ self.old.room }
+    {
+        let own = self.joined_height();
+        self.links.set_own(own);
+        self.flag = false;
+        self.broadcast_update()
+    }
+
+    fn joined_height(&self) -> Entry
+        ensures { result ≡ joined_height self.now.view }
+    {
+        match self.links.least() {
+            None => None,
+            Some(low) => fitted(low.tau(), low.oid(), low.r(), low.delta() + 1, self.me),
+        }
+    }
+
+    /// The last downstream link was lost by a link failure or a clear.
+    #[tactic(auto, unfolding(crate::specs::Rules::after_link_loss))]
+    pub(crate) fn after_link_loss(&mut self, now: u64) -> Option<Broadcast>
+        ensures view { self.new.view ≡ (after_link_loss self.old.view now).view }
+        ensures broadcast { result ≡ (after_link_loss self.old.view now).broadcast }
+        ensures room { self.new.room ≡ self.old.room }
+    {
+        if self.links.are_null() {
+            self.links.set_own(None);
+            return None;
+        }
+        self.define_level(now)
+    }
+
+    /// The last downstream link was lost by an update.
+    #[tactic(auto, unfolding(crate::specs::Rules::after_update_loss))]
+    pub(crate) fn after_update_loss(&mut self, now: u64) -> Option<Broadcast>
+        ensures view { self.new.view ≡ (after_update_loss self.old.view now).view }
+        ensures broadcast { result ≡ (after_update_loss self.old.view now).broadcast }
+        ensures room { self.new.room ≡ self.old.room }
+    {
+        let Some(level) = greatest_level(self.links.rows()) else {
+            self.links.set_own(None);
+            return None;
+        };
+        if !all_at(level, self.links.rows()) {
+            return self.propagate(level);
+        }
+        if level.r == 0 {
+            return self.reflect(level);
+        }
+        if level.oid == self.me {
+            return self.erase(level);
+        }
+        self.define_level(now)
+    }
+
+    /// A time tag after all that the node generated and knows.
+    fn fresh_time(&self, now: u64) -> u64
+        ensures { result ≡ fresh_time self.now.view now }
+    {
+        let own = match self.links.own() {
+            None => 0,
+            Some(height) => height.tau() + 1,
+        };
+        let known = own.max(time_after_all(self.links.rows()));
+        let later = (self.last + 1).max(known);
+        now.max(1u64.max(later))
+    }
+
+    /// Defines a new reference level.
+    #[tactic(auto, unfolding(crate::specs::Rules::new_level))]
+    fn define_level(&mut self, now: u64) -> Option<Broadcast>
+        ensures view { self.new.view ≡ (new_level self.old.view now).view }
+        ensures broadcast { result ≡ (new_level self.old.view now).broadcast }
+        ensures room { self.new.room ≡ self.old.room }
+    {
+        let time = self.fresh_time(now);
+        self.links.set_own(fitted(time, self.me, 0, 0, self.me));
+        if let Some(height) = self.links.own() {
+            self.last = height.tau();
+        }
+        self.broadcast_update()
+    }
+
+    /// Propagates the greatest level of the entries.
+    fn propagate(&mut self, level: Level) -> Option<Broadcast>
+        ensures view { self.new.view ≡ (propagated_level self.old.view level).view }
+        ensures broadcast { result ≡ (propagated_level self.old.view level).broadcast }
+        ensures room { self.new.room ≡ self.old.room }
+    {
+        let own = match least_delta(level, self.links.rows()) {
+            None => None,
+            Some(delta) => fitted(level.tau, level.oid, level.r, delta - 1, self.me),
+        };
+        self.links.set_own(own);
+        self.broadcast_update()
+    }
+
+    /// Reflects the level that all entries are at.
+    fn reflect(&mut self, level: Level) -> Option<Broadcast>
+        requires { IsLevel level }
+        ensures view { self.new.view ≡ (reflected_level self.old.view level).view }
+        ensures broadcast { result ≡ (reflected_level self.old.view level).broadcast }
+        ensures room { self.new.room ≡ self.old.room }
+    {
+        self.links.set_own(reflected(level, self.me));
+        self.broadcast_update()
+    }
+
+    /// Gives up the height and every entry but that of the destination.
+    #[tactic(auto, unfolding(crate::specs::Rules::after_erase))]
+    pub(crate) fn erase(&mut self, level: Level) -> Option<Broadcast>
+        ensures view { self.new.view ≡ (after_erase self.old.view level.tau level.oid).view }
+        ensures broadcast { result ≡ (after_erase self.old.view level.tau level.oid).broadcast }
+        ensures room { self.new.room ≡ self.old.room }
+    {
+        self.links.set_own(None);
+        self.links.erase_all(self.destination);
+        Some(Broadcast::Clear(level.tau, level.oid))
+    }
+}
+
+/// The height of a node that reflects a level.
+fn reflected(level: Level, me: Id) -> Entry
+    requires level { IsLevel level }
+    requires me { 0 < me }
+    ensures { result ≡ Some (quintuple level.tau level.oid 1 (pos 0) me) }
+{
+    fitted(level.tau, level.oid, 1, 0, me)
+}

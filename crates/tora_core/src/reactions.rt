@@ -1,0 +1,189 @@
+//! What an input does to a destination (Park and Corson 1997, section 3): the rows take it in, and the rule for it is followed.
+ghost use Rattle.std.specs.Prelude.{◌≡◌, ◌==◌, ◌<◌, None, Some, MatchBool, nat_lt, length};
+ghost use Rattle.std.specs.List.{position_or_len};
+ghost use Rattle.tora_height.specs.Height.{destination_height};
+ghost use Rattle.tora_packet.specs.PacketParts.{IsId};
+ghost use Rattle.tora_core.specs.declared.Input.{Input};
+ghost use Rattle.tora_core.specs.Links.{IsOnlyPlace};
+ghost use Rattle.tora_core.specs.View.{up_neighbours};
+ghost use Rattle.tora_core.specs.Rules.{link_row, on_need, on_query, on_update, on_clear, on_packet, cleared_level, outcome_of};
+
+use crate::destination::{Broadcast, Destination};
+use crate::rows::{Row, is_entry_at};
+use tora_height::{Height, Id, Level};
+use tora_packet::{Clear, Packet};
+
+impl Destination {
+    /// A route to the destination is needed.
+    pub(crate) fn react_to_need(&mut self) -> Option<Broadcast>
+        ensures view { self.new.view ≡ (outcome_of self.old.view (Input.Need self.old.view.destination) 0).view }
+        ensures broadcast { result ≡ (outcome_of self.old.view (Input.Need self.old.view.destination) 0).broadcast }
+        ensures room { self.new.room ≡ self.old.room }
+    {
+        if self.is_own() { None } else { self.on_need() }
+    }
+
+    /// A packet of the neighbour `k`, whose row is at `place`, came for the destination.
+    pub(crate) fn react_to_packet(
+        &mut self,
+        k: Id,
+        place: usize,
+        packet: &Packet,
+        now: u64,
+    ) -> Option<Broadcast>
+        requires { IsOnlyPlace k place (up_neighbours self.old.view) }
+        ensures view { self.new.view ≡ (outcome_of self.old.view (Input.Packet k packet.now) now).view }
+        ensures broadcast { result ≡ (outcome_of self.old.view (Input.Packet k packet.now) now).broadcast }
+        ensures room { self.new.room ≡ self.old.room }
+    {
+        if self.is_own() {
+            None
+        } else {
+            self.on_packet(k, place, packet, now)
+        }
+    }
+
+    /// The link to a neighbour came up; its row goes to `place`.
+    pub(crate) fn react_to_link_up(&mut self, k: Id, place: usize) -> Option<Broadcast>
+        requires place { place ≡ position_or_len (λ row. nat_lt k row.neighbour) self.old.view.rows }
+        requires neighbour { IsId k }
+        requires room { length self.old.view.rows < self.old.room }
+        ensures view { self.new.view ≡ (outcome_of self.old.view (Input.LinkUp k) 0).view }
+        ensures broadcast { result ≡ (outcome_of self.old.view (Input.LinkUp k) 0).broadcast }
+        ensures room { self.new.room ≡ self.old.room }
+    {
+        self.links
+            .insert(place, first_row(self.me, self.destination, k));
+        if self.is_own() || !self.flag {
+            None
+        } else if k == self.destination {
+            self.join()
+        } else {
+            self.broadcast_query()
+        }
+    }
+
+    /// The link to neighbour `k`, whose row is at `place`, went down.
+    pub(crate) fn react_to_link_down(&mut self, k: Id, place: usize, now: u64) -> Option<Broadcast>
+        requires { IsOnlyPlace k place (up_neighbours self.old.view) }
+        ensures view { self.new.view ≡ (outcome_of self.old.view (Input.LinkDown k) now).view }
+        ensures broadcast { result ≡ (outcome_of self.old.view (Input.LinkDown k) now).broadcast }
+        ensures room { self.new.room ≡ self.old.room }
+    {
+        self.links.remove(k, place);
+        if self.is_own() || !self.lacks_downstream() {
+            None
+        } else {
+            self.after_link_loss(now)
+        }
+    }
+
+    fn on_packet(&mut self, k: Id, place: usize, packet: &Packet, now: u64) -> Option<Broadcast>
+        requires { IsOnlyPlace k place (up_neighbours self.old.view) }
+        ensures view { self.new.view ≡ (on_packet self.old.view k packet.now now).view }
+        ensures broadcast { result ≡ (on_packet self.old.view k packet.now now).broadcast }
+        ensures room { self.new.room ≡ self.old.room }
+    {
+        match packet {
+            Packet::Qry(_) => self.on_query(k, place),
+            Packet::Upd(update) => self.on_update(k, place, update.height(), now),
+            Packet::Clr(clear) => self.on_clear(cleared_level(clear), now),
+        }
+    }
+
+    fn on_need(&mut self) -> Option<Broadcast>
+        ensures view { self.new.view ≡ (on_need self.old.view).view }
+        ensures broadcast { result ≡ (on_need self.old.view).broadcast }
+        ensures room { self.new.room ≡ self.old.room }
+    {
+        if self.links.are_null() && !self.flag {
+            self.broadcast_query()
+        } else {
+            None
+        }
+    }
+
+    fn on_query(&mut self, k: Id, place: usize) -> Option<Broadcast>
+        requires { IsOnlyPlace k place (up_neighbours self.old.view) }
+        ensures view { self.new.view ≡ (on_query self.old.view k).view }
+        ensures broadcast { result ≡ (on_query self.old.view k).broadcast }
+        ensures room { self.new.room ≡ self.old.room }
+    {
+        if !self.has_downstream() {
+            if !self.flag {
+                self.broadcast_query()
+            } else {
+                None
+            }
+        } else if self.links.own().is_none() {
+            self.join()
+        } else if !self.links.is_told(k, place) {
+            self.broadcast_update()
+        } else {
+            None
+        }
+    }
+
+    fn on_update(&mut self, k: Id, place: usize, height: Height, now: u64) -> Option<Broadcast>
+        requires { IsOnlyPlace k place (up_neighbours self.old.view) }
+        ensures view { self.new.view ≡ (on_update self.old.view k height now).view }
+        ensures broadcast { result ≡ (on_update self.old.view k height now).broadcast }
+        ensures room { self.new.room ≡ self.old.room }
+    {
+        self.links.set_entry(k, place, height);
+        if self.flag {
+            self.join()
+        } else if self.lacks_downstream() {
+            self.after_update_loss(now)
+        } else {
+            None
+        }
+    }
+
+    fn on_clear(&mut self, level: Level, now: u64) -> Option<Broadcast>
+        ensures view { self.new.view ≡ (on_clear self.old.view level now).view }
+        ensures broadcast { result ≡ (on_clear self.old.view level now).broadcast }
+        ensures room { self.new.room ≡ self.old.room }
+    {
+        if is_entry_at(level, self.links.own()) {
+            return self.erase(level);
+        }
+        self.links.clear_level(self.destination, level);
+        if self.lacks_downstream() {
+            self.after_link_loss(now)
+        } else {
+            None
+        }
+    }
+}
+
+/// The reflected level that a clear erases.
+fn cleared_level(clear: &Clear) -> Level
+    ensures { result ≡ cleared_level clear.now.tau clear.now.oid }
+{
+    Level {
+        tau: clear.tau(),
+        oid: clear.oid(),
+        r: 1,
+    }
+}
+
+/// The row of a neighbour whose link came up: the entry of the destination is its own height, any other is NULL.
+fn first_row(me: Id, destination: Id, k: Id) -> Row
+    requires { 0 < k }
+    ensures { MatchBool (me == destination) (result ≡ link_row k None)
+        (MatchBool (k == destination) (result ≡ link_row k (Some (destination_height k))) (result ≡ link_row k None)) }
+{
+    let entry = if me == destination {
+        None
+    } else if k == destination {
+        Some(Height::zero(k))
+    } else {
+        None
+    };
+    Row {
+        neighbour: k,
+        entry,
+        told: false,
+    }
+}

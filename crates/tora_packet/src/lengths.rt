@@ -1,0 +1,71 @@
+//! How many bytes packets have, and where the first of several packets ends.
+ghost use Rattle.std.specs.Prelude.{◌≡◌, ◌≤◌, length, take};
+ghost use Rattle.tora_packet.specs.PacketGrammar.{packet_length, is_packet_length, first_packet, behind_first};
+
+use crate::Packet;
+
+/// The bytes of a query. Own profile.
+pub const QUERY_LENGTH: usize = 8;
+
+/// The bytes of an update. Own profile.
+pub const UPDATE_LENGTH: usize = 32;
+
+/// The bytes of a clear. Own profile.
+pub const CLEAR_LENGTH: usize = 20;
+
+/// The fewest bytes that a packet has: those of a query. Own profile.
+pub const SHORTEST_PACKET: usize = QUERY_LENGTH;
+
+/// The most bytes that a packet has: those of an update. Own profile.
+pub const LONGEST_PACKET: usize = UPDATE_LENGTH;
+
+/// How many bytes a packet has, as `encode` gives them.
+#[inline(always)]
+pub fn encoded_length(packet: &Packet) -> usize
+    ensures length { result ≡ packet_length packet.now }
+    ensures most { result ≤ LONGEST_PACKET }
+{
+    match packet {
+        Packet::Qry(_) => QUERY_LENGTH,
+        Packet::Upd(_) => UPDATE_LENGTH,
+        Packet::Clr(_) => CLEAR_LENGTH,
+    }
+}
+
+/// Whether the packets of some kind have so many bytes.
+#[inline(always)]
+pub fn is_packet_length(len: usize) -> bool
+    ensures { result ≡ is_packet_length len }
+{
+    len == QUERY_LENGTH || len == UPDATE_LENGTH || len == CLEAR_LENGTH
+}
+
+/// How many bytes the first packet has: no more than its kind, where they begin as a packet.
+#[inline(always)]
+#[tactic(auto, unfolding(crate::specs::PacketGrammar::first_packet))]
+fn first_length(bytes: &[u8]) -> usize
+    ensures length { result ≡ length (first_packet bytes.now) }
+    ensures front { take result bytes.now ≡ first_packet bytes.now }
+    ensures within { result ≤ length bytes.now }
+{
+    let all = bytes.len();
+    if all < 2 || bytes[0] != 1 {
+        return all;
+    }
+    match bytes[1] {
+        1 => all.min(QUERY_LENGTH),
+        2 => all.min(UPDATE_LENGTH),
+        3 => all.min(CLEAR_LENGTH),
+        _ => all,
+    }
+}
+
+/// The bytes of the first of several packets, as many as its kind has, and the bytes behind them. All are those of the first
+/// where they don't begin as a packet, or where there are fewer.
+#[inline(always)]
+pub fn cut_packet(bytes: &[u8]) -> (&[u8], &[u8])
+    ensures first { result.0.now ≡ first_packet bytes.now }
+    ensures behind { result.1.now ≡ behind_first bytes.now }
+{
+    bytes.split_at(first_length(bytes))
+}

@@ -1,7 +1,0 @@
-use Rattle.std.proofs.Common.{◌≡◌, ◌-◌}
-use Rattle.tora_script.specs.Rounds.{rounds, sky_of}
-use Rattle.tora_script.proofs.rounds.make_rounds.Given as goal
-
-abbrev pub invariant-loop : goal.invariant-loop
-invariant-loop g l =
-    rounds (l.count - l.counter) l.nodes l.ends l.parted l.channel (sky_of g.S.Simulator.world l.sim l.air) ≡ rounds l.count l.nodes l.ends l.parted l.channel (sky_of g.S.Simulator.world l.initial.sim l.initial.air)

@@ -1,0 +1,30 @@
+//! Whether a simulation file has come to its last round.
+ghost use Rattle.std.specs.Prelude.{◌≡◌};
+ghost use Rattle.tora_script.specs.Done.{is_done_at};
+ghost use Rattle.tora_script.specs.SimulationText.{is_done};
+
+use crate::simulation::{Simulation, Stage};
+use crate::simulator::Simulator;
+
+/// Whether nothing more is done once so many rounds are.
+pub fn is_done(until: Option<u64>, rounds: u64) -> bool
+    ensures { result ≡ is_done until rounds }
+{
+    match until {
+        None => false,
+        Some(until) => until <= rounds,
+    }
+}
+
+impl<S: Simulator> Simulation<S> {
+    /// Whether so many rounds are done that nothing more is; before the simulation runs none is.
+    pub fn is_done(&self) -> bool
+        ensures { result ≡ is_done_at self.now.setup.until self.now.stage }
+    {
+        match &self.stage {
+            Stage::First => is_done(self.setup.until, 0),
+            Stage::Links(_) => is_done(self.setup.until, 0),
+            Stage::Runs(running) => is_done(self.setup.until, running.air.round),
+        }
+    }
+}

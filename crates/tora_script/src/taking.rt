@@ -1,0 +1,89 @@
+//! A simulation behind its links takes a line of its file.
+ghost use Rattle.std.specs.Prelude.{◌≡◌, [], OnOk, string_bytes};
+ghost use Rattle.tora_lines.specs.Gives.{Gives};
+ghost use Rattle.tora_channel.specs.Table.{lines_of, over};
+ghost use Rattle.tora_script.specs.RunningView.{running_view};
+ghost use Rattle.tora_script.specs.SimulationText.{script_reply, script_line_reply, rounds_left, after_rounds_on};
+
+use crate::done::is_done;
+use crate::parse::simulation_line;
+use crate::rounds::make_rounds_over;
+use crate::running::Running;
+use crate::script_line::SimulationLine;
+use crate::simulator::Simulator;
+use std::alloc::AllocError;
+use tora_channel::ChannelTable;
+use tora_lines::words::LineError;
+
+impl<S: Simulator> Running<S> {
+    /// How many of some rounds are still made.
+    fn rounds_left(&self, until: Option<u64>, count: u64) -> u64
+        ensures { result ≡ rounds_left until self.now.air.round count }
+    {
+        match until {
+            None => count,
+            Some(until) => count.min(until.saturating_sub(self.air.round)),
+        }
+    }
+
+    /// So many rounds, over a channel that the lines of a table change.
+    fn rounds_over(&mut self, table: &ChannelTable, count: u64) -> Result<(), AllocError>
+        ensures { OnOk result (running_view S.world self.new ≡ after_rounds_on (over table.now self.old.channel) count (running_view S.world self.old)) }
+    {
+        make_rounds_over(
+            &mut self.sim,
+            count,
+            &self.nodes,
+            &self.ends,
+            &self.parted,
+            table,
+            self.channel,
+            &mut self.air,
+        )
+    }
+
+    /// Does what a line of a simulation asks for, as `answer` does, but for rounds: not more than are left are made, over the
+    /// channel that the lines of a table change.
+    #[tactic(auto, unfolding(crate::specs::SimulationText::script_reply))]
+    fn script(
+        &mut self,
+        until: Option<u64>,
+        table: &ChannelTable,
+        line: SimulationLine,
+        out: &mut String,
+    ) -> Result<(), LineError>
+        requires { string_bytes out.old ≡ [] }
+        ensures { Gives (λ _. ((running_view S.world self.new), string_bytes out.new)) result (script_reply until (lines_of table.now) (running_view S.world self.old) line) }
+    {
+        match line {
+            SimulationLine::Rounds(count) => {
+                let left = self.rounds_left(until, count);
+                self.rounds_over(table, left)?;
+                Ok(())
+            }
+            _ => self.answer(line, out),
+        }
+    }
+
+    /// Takes a line of a simulation, and puts what is printed for it behind an empty text. Nothing is done once so many rounds are
+    /// done; the rounds are over a channel that the lines of a table change.
+    pub fn take(
+        &mut self,
+        until: Option<u64>,
+        table: &ChannelTable,
+        line: &[u8],
+        out: &mut String,
+    ) -> Result<(), LineError>
+        requires { string_bytes out.old ≡ [] }
+        ensures { Gives (λ _. ((running_view S.world self.new), string_bytes out.new)) result (script_line_reply until (lines_of table.now) (running_view S.world self.old) line.now) }
+    {
+        self.refused = None;
+        if is_done(until, self.air.round) {
+            return Ok(());
+        }
+        let Some(line) = simulation_line(line) else {
+            return Err(LineError::Fault);
+        };
+        self.script(until, table, line, out)
+    }
+}

@@ -1,0 +1,26 @@
+-- What a link end and a core's seat hand each other: events become what items tell, and cargoes are submitted or cut.
+use Rattle.std.specs.Prelude.{Option, Some, None}
+use Rattle.tora_arq.specs.declared.Life.{Life}
+use Rattle.tora_arq.specs.declared.LinkEvent.{LinkEvent}
+use Rattle.tora_arq.specs.declared.LinkEvent.TheVariants as Link
+use Rattle.tora_arq.specs.LinkEnd.{EndState, after_submit, after_cut}
+use Rattle.tora_seat.specs.declared.What.{What}
+use Rattle.tora_seat.specs.declared.What.TheVariants as Tells
+use Rattle.tora_seat.specs.declared.Cargo.{Cargo}
+use Rattle.tora_seat.specs.declared.Cargo.TheVariants as Gives
+
+-- what an event of a link end tells the core
+abbrev pub what_of : LinkEvent → What
+what_of (Link.Up life) = Tells.Up life
+what_of (Link.Deliver life packet) = Tells.Packet life packet
+what_of (Link.Down life reason) = Tells.Down life reason
+
+-- a packet is submitted in its life, and a life is cut
+abbrev pub after_cargo : EndState → Cargo → EndState
+after_cargo e (Gives.Packet life packet) = after_submit e life packet
+after_cargo e (Gives.Cut life) = after_cut e life
+
+-- the bound life is cut, where there is one
+abbrev pub after_cut_of_bound : EndState → Option Life → EndState
+after_cut_of_bound e None = e
+after_cut_of_bound e (Some life) = after_cut e life

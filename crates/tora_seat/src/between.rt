@@ -1,0 +1,39 @@
+//! What a link end and a core's seat hand each other. The simulator and the threads of a running node both call this.
+ghost use Rattle.std.specs.Prelude.{◌≡◌};
+ghost use Rattle.tora_arq.specs.LinkEnd.{bound_life};
+ghost use Rattle.tora_seat.specs.Between.{what_of, after_cargo, after_cut_of_bound};
+
+use crate::{Cargo, What};
+use tora_arq::{LinkEnd, LinkEvent};
+
+/// What an event of a link end tells the core.
+pub fn what_of(event: LinkEvent) -> What
+    ensures { result ≡ what_of event }
+{
+    match event {
+        LinkEvent::Up(life) => What::Up(life),
+        LinkEvent::Deliver(life, packet) => What::Packet(life, packet),
+        LinkEvent::Down(life, reason) => What::Down(life, reason),
+    }
+}
+
+/// Hands a cargo to the link end: submits its packet, or cuts its life. A packet that the end refuses is dropped: its life has ended.
+pub fn hand_in(end: &mut LinkEnd, cargo: &Cargo)
+    ensures { end.new ≡ record end.old { state = after_cargo end.old.state cargo.now } }
+{
+    match cargo {
+        Cargo::Packet(life, packet) => {
+            let _ = end.submit(*life, *packet);
+        }
+        Cargo::Cut(life) => end.cut(*life),
+    }
+}
+
+/// Cuts the life that the link end is bound to, if there is one.
+pub fn cut_bound(end: &mut LinkEnd)
+    ensures { end.new ≡ record end.old { state = after_cut_of_bound end.old.state (bound_life end.old.state) } }
+{
+    if let Some(life) = end.life() {
+        end.cut(life);
+    }
+}

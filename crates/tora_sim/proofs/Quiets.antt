@@ -1,0 +1,114 @@
+-- Where nothing is to be done before a tick, the clock alone goes on, and every turn is refused.
+use Rattle.std.proofs.Common.{◌≡◌, ℕ, zero, suc, ◌+◌, ◌<◌, ◌≤◌, inl, inr, min, not, ◌&&◌, Bool, true, false, List, [], ◌∷◌, length, map, slice_get, is_some, Option, Some, None, refl, sym, ap, ap₂, ◌∙◌, subst, arith, if◌then◌else◌}
+use Rattle.std.proofs.Math.Nat.{min-le_left, min-le_right}
+use Rattle.std.specs.List.{list_all}
+use Rattle.std.specs.Prelude.{slice_index_or}
+use Rattle.std.proofs.lemmas.Option.{slice_get_read, slice_get_within}
+use Rattle.std.proofs.lemmas.Bool.{and_parts}
+use borrow.Author.Tests.{ltb-false, eqb-true}
+use Rattle.tora_frame.specs.FrameParts.{FrameParts}
+use Rattle.tora_arq.specs.declared.Times.{Times}
+use Rattle.tora_arq.specs.LinkEnd.{is_closed, first_event, frame_due}
+use Rattle.tora_world.specs.declared.Event.{Event}
+use Rattle.tora_world.specs.declared.Event.TheVariants.{Open, Pull, Transmit, Pump, CoreTurn}
+use Rattle.tora_world.specs.declared.SimError.TheVariants as Refused
+use Rattle.tora_world.specs.Topology.{Topology, is_node, is_link}
+use Rattle.tora_world.specs.World.{World, settings, is_empty, has_room, unless_possible, at_node, at_link}
+use Rattle.tora_sim.specs.Keyed.{IsFirst}
+use Rattle.tora_sim.specs.Links.{LinkView, is_at, ticked, with_state}
+use Rattle.tora_sim.specs.Nodes.{NodeView, is_of}
+use Rattle.tora_sim.specs.Quiet.{IsQuiet, IsStill, is_idle, AreStill}
+use Rattle.tora_sim.specs.Store.{state_of, world_of, IsStore, EachOf, node_at, link_at}
+use Rattle.tora_sim.proofs.Keys.{le_cases, read_first, read_first_node}
+use Rattle.tora_sim.proofs.Opens.{open_refused, pull_refused}
+use Rattle.tora_sim.proofs.Sends.{transmit_refused}
+use Rattle.tora_sim.proofs.Pumps.{pump_without}
+use Rattle.tora_sim.proofs.Turning.{turn_refused}
+use Rattle.tora_sim.proofs.Possibles.{IsImpossible, is_impossible, no_event, read_of}
+use Rattle.tora_sim.proofs.Stores.{is_found}
+
+-- what is still up to a tick is still up to an earlier one
+pub earlier : (until before : ℕ) (link : LinkView) → before ≤ until → IsStill until link → IsStill before link
+earlier until before link le h = record {
+  opened = h.opened;
+  lane = h.lane;
+  events = h.events;
+  frames = λ tick lt. h.frames tick (omega (arith, lt, le));
+  ticks = λ tick lt. h.ticks tick (omega (arith, lt, le));
+}
+
+-- one link end more is still up to the earlier of both ticks
+pub one_more : (links : List LinkView) (n until here : ℕ) (y : LinkView) → n < length links → y ≡ slice_index_or links n y → ((i : ℕ) (x : LinkView) → i < n → slice_get links i ≡ Some x → IsStill until x) → IsStill here y →
+    (i : ℕ) (x : LinkView) → i < n + 1 → slice_get links i ≡ Some x → IsStill (min until here) x
+one_more links n until here y within is before h i x lt e = elim (le_cases i n (omega (arith, lt))) [
+  | inl q ↦ subst (λ (z : LinkView). IsStill (min until here) z) (same q) (earlier here (min until here) y (min-le_right until here) h)
+  | inr l ↦ earlier until (min until here) x (min-le_left until here) (before i x l e)
+]
+  where
+    some_is : {a b : LinkView} → Some a ≡ Some b → a ≡ b
+    some_is {a} {b} q = cc
+
+    same : i ≡ n → y ≡ x
+    same q = some_is (sym (slice_get_read links (length links) n y refl within is) ∙ ap (λ (m : ℕ). slice_get links m) (sym q) ∙ e)
+
+-- ---- a tick
+
+still_tick : (until now : ℕ) (link : LinkView) → now < until → IsStill until link → ticked now link ≡ link
+still_tick until now link lt h = ap (with_state link) (h.ticks now lt)
+
+pub still_ticks : (until now : ℕ) (links : List LinkView) → now < until → EachOf (IsStill until) links → map (ticked now) links ≡ links
+still_ticks until now [] lt h = refl
+still_ticks until now (x ∷ links) lt h =
+    ap₂ (λ (y : LinkView) (ys : List LinkView). y ∷ ys) (still_tick until now x lt (h zero x refl)) (still_ticks until now links lt (λ i y e. h (suc i) y e))
+
+-- ---- turns
+
+idle_at : (nodes : List NodeView) (i : ℕ) (x : NodeView) → list_all is_idle nodes ≡ true → slice_get nodes i ≡ Some x → length x.items ≡ 0
+idle_at [] i x all e = absurd (let none : None ≡ Some x = e in cc)
+idle_at (y ∷ nodes) zero x all e =
+    let there : Some y ≡ Some x = e in
+    let same : y ≡ x = cc in
+    subst (λ (z : NodeView). length z.items ≡ 0) same (eqb-true (length y.items) 0 (and_parts (is_idle y) (list_all is_idle nodes) all).0)
+idle_at (y ∷ nodes) (suc i) x all e = idle_at nodes i x (and_parts (is_idle y) (list_all is_idle nodes) all).1 e
+
+no_link : (w : World) (n k : ℕ) (possible : Bool) → is_link w.topology n k ≡ false → is_some (at_link w n k possible) ≡ true
+no_link w n k possible e = ap (λ (b : Bool). is_some (if b then unless_possible possible else Some Refused.NoNode)) e
+
+no_node : (w : World) (n : ℕ) (possible : Bool) → is_node w.topology n ≡ false → is_some (at_node w n possible) ≡ true
+no_node w n possible e = ap (λ (b : Bool). is_some (if b then unless_possible possible else Some Refused.NoNode)) e
+
+module _ (t : Topology) (times : Times) (clock : ℕ) (nodes : List NodeView) (links : List LinkView) (ds : List FrameParts) (h : IsStore (state_of t times clock nodes links ds)) where
+  abbrev w : World
+  w = world_of (state_of t times clock nodes links ds)
+
+  at_ends : (event : Event) (n k until : ℕ) → EachOf (IsStill until) links → (is_link t n k ≡ false → IsImpossible w event) →
+      ((x : LinkView) (place : ℕ) → IsFirst (is_at n k) links place → x ≡ slice_index_or links place x → IsStill until x → IsImpossible w event) → IsImpossible w event
+  at_ends event n k until still away here = go (link_at links n k) refl
+    where
+      go : (o : Option LinkView) → link_at links n k ≡ o → IsImpossible w event
+      go None e = away (h.links n k ∙ ap is_some e)
+      go (Some x) e =
+          let f = is_found (is_at n k) links x e in
+          let read = read_of links f.place x f.there in
+          here x f.place (read_first n k links f.place x h.rising_links (slice_get_within links f.place x f.there) read f.passes) read (still f.place x f.there)
+
+  at_nodes : (n : ℕ) → list_all is_idle nodes ≡ true → IsImpossible w (CoreTurn n)
+  at_nodes n idle = go (node_at nodes n) refl
+    where
+      go : (o : Option NodeView) → node_at nodes n ≡ o → IsImpossible w (CoreTurn n)
+      go None e = no_node w n (not (is_empty (w.items n))) (h.nodes n ∙ ap is_some e)
+      go (Some x) e =
+          let f = is_found (is_of n) nodes x e in
+          let read = read_of nodes f.place x f.there in
+          is_impossible w (CoreTurn n) (turn_refused t times clock nodes links ds h n f.place x (read_first_node n nodes f.place x h.rising_nodes (slice_get_within nodes f.place x f.there) read f.passes) read (idle_at nodes f.place x idle f.there))
+
+  pub quiet_now : (until : ℕ) → AreStill until nodes links → clock < until → IsQuiet w
+  quiet_now until still lt =
+      let all : (list_all is_idle nodes ≡ true) × EachOf (IsStill until) links = still (omega (arith, lt)) in
+      record {
+        cores = λ n. at_nodes n all.0;
+        opens = λ n k. at_ends (Open n k) n k until all.1 (λ e. no_link w n k (is_closed (w.ends n k)) e) (λ x place first read s. is_impossible w (Open n k) (open_refused t times clock nodes links ds h n k place x first read s.opened));
+        pulls = λ n k. at_ends (Pull n k) n k until all.1 (λ e. no_link w n k (not (is_empty (w.cargoes n k))) e) (λ x place first read s. is_impossible w (Pull n k) (pull_refused t times clock nodes links ds h n k place x first read (ltb-false x.pulled (length x.put) s.lane)));
+        sends = λ n k. at_ends (Transmit n k) n k until all.1 (λ e. no_link w n k (is_some (frame_due (settings w n k) (w.ends n k) clock)) e) (λ x place first read s. is_impossible w (Transmit n k) (transmit_refused t times clock nodes links ds h n k place x first read (s.frames clock lt)));
+        pumps = λ n k. at_ends (Pump n k) n k until all.1 (λ e. no_link w n k (not (is_empty (w.ends n k).events) && has_room w n) e) (λ x place first read s. is_impossible w (Pump n k) (pump_without t times clock nodes links ds h n k place x first read (no_event (first_event x.state) s.events)));
+      }

@@ -1,0 +1,34 @@
+-- Worlds in which nothing is to be done, and until which tick what is stored stays so.
+use Rattle.std.specs.Prelude.{◌≡◌, ℕ, ◌<◌, ◌==◌, Bool, true, false, is_some, List, length}
+use Rattle.std.specs.List.{list_all}
+use Rattle.tora_arq.specs.LinkEnd.{is_closed, first_event, frame_due, after_tick}
+use Rattle.tora_world.specs.declared.Event.TheVariants.{Open, Pull, Transmit, Pump, CoreTurn}
+use Rattle.tora_world.specs.World.{World, refusal_of}
+use Rattle.tora_sim.specs.Links.{LinkView}
+use Rattle.tora_sim.specs.Nodes.{NodeView}
+use Rattle.tora_sim.specs.Possible.{has_cargo}
+use Rattle.tora_sim.specs.Store.{EachOf}
+
+-- no core has an item to take, and no link end can be opened, take a cargo, send a frame or give an event
+pub record IsQuiet (w : World) : Type 0 where
+  pub cores : (n : ℕ) → is_some (refusal_of w (CoreTurn n)) ≡ true
+  pub opens : (n k : ℕ) → is_some (refusal_of w (Open n k)) ≡ true
+  pub pulls : (n k : ℕ) → is_some (refusal_of w (Pull n k)) ≡ true
+  pub sends : (n k : ℕ) → is_some (refusal_of w (Transmit n k)) ≡ true
+  pub pumps : (n k : ℕ) → is_some (refusal_of w (Pump n k)) ≡ true
+
+-- nothing is to be done at a link end before a tick, and no tick before it changes the end
+pub record IsStill (until : ℕ) (link : LinkView) : Type 0 where
+  pub opened : is_closed link.state ≡ false
+  pub lane : has_cargo link ≡ false
+  pub events : is_some (first_event link.state) ≡ false
+  pub frames : (tick : ℕ) → tick < until → is_some (frame_due link.settings link.state tick) ≡ false
+  pub ticks : (tick : ℕ) → tick < until → after_tick link.settings link.state tick ≡ link.state
+
+-- no item waits for the core of a node
+abbrev pub is_idle : NodeView → Bool
+is_idle node = length node.items == 0
+
+-- nothing is to be done at any node or link end before a tick; of the tick 0 that says nothing
+abbrev pub AreStill : ℕ → List NodeView → List LinkView → Type 0
+AreStill until nodes links = 0 < until → (list_all is_idle nodes ≡ true) × EachOf (IsStill until) links

@@ -1,0 +1,103 @@
+//! Until which tick nothing is to be done.
+use super::steps::Step::{Cannot, Does, HandsOver, Quiet, Settles, Tells};
+use super::steps::{Step, first_world, runs};
+use super::topologies::topology_of;
+use super::{TIMES, pass};
+use std::alloc::Global;
+use std::process::Abort;
+use tora_sim::{Event, Sim};
+
+/// Two ends that have to be opened.
+const CLOSED: &[Step] = &[Quiet(false), Settles, Quiet(false)];
+
+/// Two bound ends that have said HELLO, two ticks before the next one.
+const BOUND: &[Step] = &[
+    Quiet(false),
+    Settles,
+    Quiet(true),
+    Cannot(Event::CoreTurn(1)),
+    Cannot(Event::Open(1, 2)),
+    Cannot(Event::Pull(1, 2)),
+    Cannot(Event::Transmit(1, 2)),
+    Cannot(Event::Pump(1, 2)),
+    Quiet(true),
+    Does(Event::Tick),
+    Quiet(true),
+    Does(Event::Tick),
+    Quiet(false),
+    Settles,
+    Quiet(false),
+    Does(Event::Transmit(1, 2)),
+    Does(Event::Transmit(2, 1)),
+    Settles,
+    Quiet(true),
+    Does(Event::Need(1, 2)),
+    Quiet(false),
+    Settles,
+    Quiet(false),
+    Does(Event::CoreTurn(1)),
+    Quiet(false),
+    Settles,
+    Quiet(true),
+];
+
+/// A need makes node 1 send an update once the link is up: it waits in the lane, and then for an acknowledgement.
+const WAITING: &[Step] = &[
+    Does(Event::Need(1, 2)),
+    Does(Event::CoreTurn(1)),
+    Does(Event::Open(1, 2)),
+    Does(Event::Open(2, 1)),
+    HandsOver(1, 2),
+    HandsOver(2, 1),
+    HandsOver(1, 2),
+    Tells(1, 2),
+    Tells(2, 1),
+    Settles,
+    Quiet(false),
+    Does(Event::Pull(1, 2)),
+    Settles,
+    Quiet(false),
+];
+
+/// The ends of a link whose HELLOs stay away for three ticks are closed then, and each tells so.
+const SILENT: &[Step] = &[
+    Settles,
+    Quiet(true),
+    Does(Event::Tick),
+    Does(Event::Tick),
+    Does(Event::Transmit(1, 2)),
+    Does(Event::Transmit(2, 1)),
+    Settles,
+    Quiet(true),
+    Does(Event::Tick),
+    Quiet(false),
+    Does(Event::Pump(1, 2)),
+    Does(Event::Open(1, 2)),
+];
+
+/// A world of one link does what the steps say first, and what they say then, once its ends are bound.
+fn bound(rt: &impl Abort, alloc: Global, first: &[Step], then: &[Step]) {
+    let topology = topology_of(rt, alloc, &[(1, 2)], &[2]);
+    let mut sim = Sim::with_times(alloc, &topology, TIMES).expect(rt, "a simulator");
+    runs(rt, alloc, &mut sim, first);
+    for _ in 0..10 {
+        pass(&mut sim);
+    }
+    runs(rt, alloc, &mut sim, then);
+}
+
+#[test]
+fn quiet_world_is_so_until_a_hello_is_due(rt: HostRuntime) {
+    bound(&rt, rt.alloc(), CLOSED, BOUND);
+}
+
+#[test]
+fn silent_ends_are_not_quiet(rt: HostRuntime) {
+    bound(&rt, rt.alloc(), &[], SILENT);
+}
+
+#[test]
+fn world_with_a_packet_is_not_quiet(rt: HostRuntime) {
+    let mut sim = first_world(&rt, rt.alloc(), &[(1, 2)], &[2]);
+    runs(&rt, rt.alloc(), &mut sim, WAITING);
+}

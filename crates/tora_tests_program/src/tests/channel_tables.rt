@@ -1,0 +1,164 @@
+//! Channel files: their lines, the channel of a link in a round, and simulations over them and up to a last round.
+use super::failing_streams::{ArrayWriter, Fails, LinesReader};
+use super::sees::{same_at, sees_at};
+use std::alloc::Global;
+use std::process::{Abort, ExitCode};
+use tora_arq::Times;
+use tora_channel::{Channel, ChannelTable, LineCause, Place, TableError, channel_table};
+use tora_commands::{MEMORY, sim_command};
+use tora_script::Setup;
+use tora_sim::Sim;
+
+/// Lines in no order, of three links; the last one has no LF.
+const LINES: &str =
+    "5 2 1 loss=0.2\n0 1 2 loss=0.1\n3 3 1 delay=4-6,repeat=1\n5 1 2 loss=0.3\n9 2 3 loss=1";
+
+/// The channel of links that no line names.
+const BASE: Channel = Channel {
+    seed: 5,
+    loss: 7,
+    repeat: 9,
+    least: 1,
+    most: 2,
+};
+
+/// A round and two nodes, and what a million of datagrams lose, after how many rounds they come at least, and how many come twice.
+const LOOKS: &[((u64, u32, u32), (u32, u32, u32))] = &[
+    ((0, 1, 2), (100_000, 0, 0)),
+    ((4, 2, 1), (100_000, 0, 0)),
+    ((5, 1, 2), (300_000, 0, 0)),
+    ((1_000_000, 2, 1), (300_000, 0, 0)),
+    ((2, 1, 3), (7, 1, 9)),
+    ((3, 1, 3), (0, 4, 1_000_000)),
+    ((8, 3, 2), (7, 1, 9)),
+    ((9, 2, 3), (1_000_000, 0, 0)),
+    ((9, 1, 4), (7, 1, 9)),
+];
+
+/// Files, and the first line that is none, and why.
+const FAULTS: &[(&str, u64, LineCause)] = &[
+    ("0 1 2 loss=0.1\n\n", 2, LineCause::Words),
+    ("0 1 2", 1, LineCause::Words),
+    ("x 1 2 loss=0", 1, LineCause::Round),
+    ("0 1 2 loss=0\n01 1 2 loss=0", 2, LineCause::Round),
+    ("0 0 2 loss=0", 1, LineCause::Node),
+    ("0 1 4294967296 loss=0", 1, LineCause::Node),
+    ("0 7 7 loss=0", 1, LineCause::OwnLink),
+    ("0 1 2 loss=2", 1, LineCause::Parts),
+    ("0 1 2 loss=0\r\n", 1, LineCause::Parts),
+    ("0 1 2 loss=0 ", 1, LineCause::Parts),
+];
+
+/// The table of a file, read again where memory was refused.
+fn table_of(alloc: Global, text: &str) -> Result<ChannelTable, TableError> {
+    match channel_table(alloc, text.as_bytes()) {
+        Err(TableError::Memory) => channel_table(alloc, text.as_bytes()),
+        found => found,
+    }
+}
+
+/// What a table says of a link in a round.
+fn looked_up(table: &ChannelTable, (round, sender, receiver): (u64, u32, u32)) -> (u32, u32, u32) {
+    let place = Place {
+        round,
+        sender,
+        receiver,
+        before: 0,
+    };
+    let found = table.channel_on(BASE, place);
+    (found.loss, found.least, found.repeat)
+}
+
+/// A line holds from its round on, the later one of two in one round, and links without a line keep the channel.
+#[test]
+fn lines_hold_from_their_rounds(rt: HostRuntime) {
+    let table = table_of(rt.alloc(), LINES).unwrap_or(ChannelTable::none());
+    for (place, wanted) in LOOKS {
+        same_at(&rt, &looked_up(&table, *place), wanted, place);
+    }
+}
+
+/// Whether the first fault of a file is this one.
+fn has_fault(alloc: Global, text: &str, number: u64, cause: LineCause) -> bool {
+    matches!(table_of(alloc, text), Err(TableError::Line(n, c)) if n == number && c == cause)
+}
+
+/// The first line that is none is told with its number and the cause.
+#[test]
+fn faults_are_told(rt: HostRuntime) {
+    for (text, number, cause) in FAULTS {
+        let is_told = has_fault(rt.alloc(), *text, *number, *cause);
+        sees_at(&rt, is_told, text);
+    }
+}
+
+/// A simulation file of five rounds, and what it prints where datagrams come.
+const FIVE: &str = "dests 2\nlink 1 2\nneed 1 2\nrounds 5\nheights 2\n";
+
+const FOUND: &str = "node 1 (0,0,0,1,1) hop 2\nnode 2 (0,0,0,0,2) hop -\n";
+
+const LOST: &str = "node 1 - hop -\nnode 2 (0,0,0,0,2) hop -\n";
+
+/// A channel file, the last round, a simulation file, what it prints, and its status.
+const RUNS: &[(&str, Option<u64>, &str, &str, u8)] = &[
+    ("", None, FIVE, FOUND, 0),
+    ("0 2 1 loss=1\n", None, FIVE, LOST, 0),
+    ("0 1 2 loss=1\n1 1 2 loss=0\n", None, FIVE, FOUND, 0),
+    ("5 1 2 loss=1\n0 1 3 loss=1\n", None, FIVE, FOUND, 0),
+    ("", Some(6), FIVE, FOUND, 0),
+    ("", Some(5), FIVE, "", 0),
+    ("", Some(0), FIVE, "", 0),
+    (
+        "",
+        Some(3),
+        "dests 2\nlink 1 2\nheights 2\nrounds 9\nno line\n",
+        LOST,
+        0,
+    ),
+    (
+        "",
+        Some(3),
+        "dests 2\nlink 1 2\nrounds 2\nno line\n",
+        "fault 4\n",
+        1,
+    ),
+];
+
+/// Simulates once over a channel file, up to a last round.
+fn simulated<T: AllocGlobal + Eprint>(
+    rt: &T,
+    (file, until, lines): (&str, Option<u64>, &'static str),
+    writer: &mut ArrayWriter,
+) -> ExitCode {
+    let table = table_of(rt.alloc(), file).unwrap_or(ChannelTable::none());
+    let setup = Setup {
+        until,
+        ..Setup::plain(Times::STANDARD)
+    };
+    let reader = LinesReader::new((lines, "", 0, ""));
+    sim_command::run_over::<Sim, T, LinesReader<'_>, ArrayWriter>(
+        rt, setup, table, reader, false, writer,
+    )
+}
+
+/// Whether a run prints this and ends so, at once or once memory was refused.
+fn runs_so<T: AllocGlobal + Eprint + Abort>(
+    rt: &T,
+    (file, until, lines, text, status): (&str, Option<u64>, &'static str, &str, u8),
+) -> bool {
+    let mut writer = ArrayWriter::new(Fails::Never);
+    let mut ended = simulated(rt, (file, until, lines), &mut writer);
+    if ended == ExitCode::from(MEMORY) {
+        writer = ArrayWriter::new(Fails::Never);
+        ended = simulated(rt, (file, until, lines), &mut writer);
+    }
+    ended == ExitCode::from(status) && writer.text() == text.as_bytes()
+}
+
+/// A channel file changes what comes, and nothing is done behind the last round.
+#[test]
+fn files_and_last_rounds(rt: HostRuntime) {
+    for row in RUNS {
+        sees_at(&rt, runs_so(&rt, *row), row);
+    }
+}
