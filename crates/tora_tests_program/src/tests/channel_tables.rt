@@ -103,7 +103,7 @@ const LOST: &str = "node 1 - hop -\nnode 2 (0,0,0,0,2) hop -\n";
 const RUNS: &[(&str, Option<u64>, &str, &str, u8)] = &[
     ("", None, FIVE, FOUND, 0),
     ("0 2 1 loss=1\n", None, FIVE, LOST, 0),
-    ("0 1 2 loss=1\n1 1 2 loss=0\n", None, FIVE, FOUND, 0),
+    ("0 1 2 loss=1\n1 1 2 loss=0\n", None, FIVE, LOST, 0),
     ("5 1 2 loss=1\n0 1 3 loss=1\n", None, FIVE, FOUND, 0),
     ("", Some(6), FIVE, FOUND, 0),
     ("", Some(5), FIVE, "", 0),
