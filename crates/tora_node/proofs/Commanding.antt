@@ -5,7 +5,9 @@ use Rattle.std.specs.Io.KnownBytes.{Consumes, Keeps}
 use Rattle.std.proofs.Math.Seq.{drop-cons}
 use Rattle.std.proofs.lemmas.Bool.{le-ltb}
 use Rattle.std.proofs.lemmas.List.{append-nil, length-append}
-use Rattle.tora_node.specs.CommandText.{asked_by, is_word, after, id_of, number_of}
+use Rattle.tora_lines.specs.Fronts.{after}
+use Rattle.tora_lines.specs.Words.{id_of, number_of}
+use Rattle.tora_node.specs.CommandText.{asked_by, is_word}
 use Rattle.tora_lane.specs.Ports.{InEnd}
 use Rattle.tora_seat.specs.declared.Item.{Item}
 use Rattle.tora_seat.specs.declared.What.{What}

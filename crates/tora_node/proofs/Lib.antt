@@ -1,8 +1,6 @@
 mod Told
 mod Served
 mod Refusals
-mod Digits
-mod Numerals
 mod Faults
 mod Commanding
 mod Lists

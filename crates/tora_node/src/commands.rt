@@ -5,7 +5,7 @@ ghost use Rattle.tora_node.specs.CommandText.{asked_by};
 ghost use Rattle.tora_node.specs.CommandRuns.{asked_in, put_for, put_from, IsLine, Commands};
 ghost use Rattle.tora_node.specs.CommandSteps.{Holds, DidPut, PutsAll, PutsLast, is_gone, EndsReading};
 
-use crate::words::{after, id, is_word};
+use crate::words::is_word;
 use arrayvec::ArrayVec;
 use log::{Log, info, warn};
 use std::fmt::Display;
@@ -13,6 +13,8 @@ use std::io::{ErrorKind, Read};
 use std::sync::Wait;
 use tora_height::Id;
 use tora_lane::{InPort, What};
+use tora_lines::after;
+use tora_lines::words::id;
 use tora_neighbour::Clock;
 use tora_seat::Status;
 

@@ -1,6 +1,0 @@
-use Rattle.std.proofs.Common.{◌≡◌, ◌<◌, ◌^◌, drop}
-use Rattle.tora_node.specs.CommandText.{value_from}
-use Rattle.tora_node.proofs.words.value.Given as goal
-
-abbrev pub invariant-loop-c : goal.invariant-loop-c
-invariant-loop-c l = (l.value < 2 ^ 64) × (value_from l.value (drop l.c-index l.text) ≡ value_from 0 l.text)
