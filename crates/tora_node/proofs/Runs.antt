@@ -1,5 +1,5 @@
 -- The links of a node, and what their threads come to.
-use Rattle.std.proofs.Common.{◌≡◌, ◌∙◌, sym, ap, subst, refl, ℕ, zero, suc, List, [], ◌∷◌, ◌++◌, length, append_assoc, append-nil, arith, Option, None, Some}
+use Rattle.std.proofs.Common.{◌≡◌, ◌∙◌, sym, ap, subst, refl, inl, ℕ, zero, suc, List, [], ◌∷◌, ◌++◌, length, append_assoc, append-nil, arith, Option, None, Some, Result, Err}
 use Rattle.std.specs.Prelude.{map, slice_get}
 use Rattle.tora_arq.specs.EndRange.{LinkEndView}
 use Rattle.tora_arq.specs.LinkEnd.{EndState}
@@ -11,11 +11,13 @@ use Rattle.tora_neighbour.specs.declared.ending.Ending.{Ending}
 use Rattle.tora_neighbour.specs.declared.fault.NodeError.{NodeError}
 use Rattle.tora_neighbour.specs.declared.fault.NodeError.TheVariants as Fault
 use Rattle.tora_neighbour.specs.declared.tally.Tally.{Tally}
+use Rattle.tora_neighbour.specs.declared.wire.WireError.{WireError}
 use Rattle.tora_node.specs.NewLinks.{new_end}
 use Rattle.tora_node.specs.NodeRuns.{link_fault, fault_or, first_link_fault, first_fault, IsNodeFault}
 use Rattle.tora_node.specs.LinkRuns.{LinkName, name_of, links_of, AreFaultless, AreLinkRuns, IsLinkRun, IsOpening, IsStartFault}
 use Rattle.tora_node.specs.declared.link_task.LinkFault.{LinkFault}
 use Rattle.tora_node.specs.declared.link_task.Outcome.{Outcome}
+use Rattle.tora_node.specs.WholeRuns.{NodeAnswers}
 use Rattle.tora_node.proofs.Lists.{map_more}
 
 -- ---- what is left of a list, which is gone over
@@ -85,6 +87,13 @@ opening_start first Fault.Output h n = absurd h
 
 pub did_not_start : (first : CoreView) (links : List LinkName) (e : NodeError) → links ≡ links_of first → IsOpening links e → IsStartFault first e
 did_not_start first links e same h = opening_start first e (subst (λ (l : List LinkName). IsOpening l e) same h) (opening_fault first.me first.neighbours links e same h)
+
+-- so a node answers whose threads were not started
+pub not_started : {W D : Type 0} (send : W → List ℕ → Result (Unit {0}) WireError → W → Type 0) (receive : W → Result (Option ℕ) WireError → List ℕ → W → Type 0) (told : ℕ → Type 0) (opened : ℕ → ℕ → D → ℕ → Type 0) (first : CoreView) (wires : List W) (disks : List D)
+    (input : Option (List ℕ)) (links : List LinkName) (e : NodeError) → links ≡ links_of first → IsOpening links e → NodeAnswers send receive told opened first wires disks input (Err e)
+not_started send receive told opened first wires disks input links e same h =
+    let start = did_not_start first links e same h in
+    record { core = tt; links = tt; fault = opening_fault first.me first.neighbours links e same h; cause = inl start; count = tt; ran = tt; failed = inl start }
 
 -- ---- what the threads came to
 

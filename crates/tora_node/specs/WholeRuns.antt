@@ -1,8 +1,9 @@
 -- What a node did, from its start until all of its threads had ended.
-use Rattle.std.specs.Prelude.{◌≡◌, ◌⊎◌, ℕ, Bool, List, [], ◌∷◌, ◌++◌, length, map, slice_get, Option, Some, Result}
+use Rattle.std.specs.Prelude.{◌≡◌, ◌⊎◌, ◌<◌, ◌≤◌, ℕ, Bool, List, [], ◌∷◌, ◌++◌, length, map, slice_get, Option, None, Some, Result, IfOk, IfErr}
 use Rattle.std.specs.Io.KnownBytes.{Consumes}
 use Rattle.tora_core.specs.CoreRun.{CoreView, core_after_all}
 use Rattle.tora_lane.specs.LaneRule.{items_of}
+use Rattle.tora_lane.specs.declared.limits.TheConstants.{MOST_LINKS}
 use Rattle.tora_neighbour.specs.Puts.{put_in}
 use Rattle.tora_neighbour.specs.Traffic.{AreDrawn, cargoes_taken, entries_put, numbers_opened}
 use Rattle.tora_neighbour.specs.declared.fault.NodeError.{NodeError}
@@ -16,8 +17,8 @@ use Rattle.tora_node.specs.declared.commands.CommandsEnd.{CommandsEnd}
 use Rattle.tora_node.specs.declared.link_task.Outcome.{Outcome}
 use Rattle.tora_node.specs.CommandRuns.{AreTold, EndsAt}
 use Rattle.tora_node.specs.CoreRuns.{ServedItem, AreServed, items_served, offers_made, inputs_stepped, EndsSo}
-use Rattle.tora_node.specs.LinkRuns.{IsLinkRun, IsStartFault}
-use Rattle.tora_node.specs.NodeRuns.{first_fault}
+use Rattle.tora_node.specs.LinkRuns.{IsLinkRun, IsStartFault, AreFaultless, IsCause, links_of}
+use Rattle.tora_node.specs.NodeRuns.{EndedView, IsNodeFault, IsRunOf, first_fault}
 use Rattle.tora_node.specs.WireCalls.{HasCalled}
 
 -- The thread of the link at a place has run it. The items of its seat that the core served, and then those left in the lane, are what its
@@ -75,3 +76,21 @@ abbrev pub EndsWithFault : {W D : Type 0} → (W → List ℕ → Result (Unit {
 EndsWithFault send receive told opened first wires disks input e =
     IsStartFault first e
     ⊎ ((core : CoreView) × (tallies : List Tally) × (taken : List Item) × (gone : Bool) × NodeRan send receive told opened first wires disks input (Some e) core tallies taken gone)
+
+-- What a node answers that began with this core, these wires, these disks and this input
+pub record NodeAnswers {W D : Type 0} (send : W → List ℕ → Result (Unit {0}) WireError → W → Type 0) (receive : W → Result (Option ℕ) WireError → List ℕ → W → Type 0) (told : ℕ → Type 0) (opened : ℕ → ℕ → D → ℕ → Type 0) (first : CoreView) (wires : List W) (disks : List D) (input : Option (List ℕ))
+    (answer : Result EndedView NodeError) : Type 0 where
+  -- where it ends without a fault, the core is the run of what serving makes of some items from the first core on
+  pub core : IfOk answer (λ ended. IsRunOf first ended.core)
+  -- then each tally is that of a run of a new end of version 2 with the standard times, which has ended without a fault
+  pub links : IfOk answer (λ ended. AreFaultless (links_of first) ended.tallies)
+  -- a fault of a link names one of the neighbours
+  pub fault : IfErr answer (IsNodeFault first.neighbours)
+  -- a fault is one of the start, or the first one of what the threads came to
+  pub cause : IfErr answer (IsCause first)
+  -- then it has neighbours, and no more than lanes are made for
+  pub count : IfOk answer (λ ended. (0 < length first.neighbours) × (length first.neighbours ≤ MOST_LINKS))
+  -- what its threads did: the runs of its links with their wires and life files, the commands that were read, and the items that the core
+  -- served, which are what these have put, as the lanes carry it
+  pub ran : IfOk answer (λ ended. NodeRan send receive told opened first wires disks input None ended.core ended.tallies ended.taken ended.gone)
+  pub failed : IfErr answer (EndsWithFault send receive told opened first wires disks input)

@@ -1,12 +1,11 @@
 //! A node and its threads.
-ghost use Rattle.std.specs.Prelude.{◌≡◌, ◌<◌, ◌≤◌, [], None, IfErr, IfOk, length};
+ghost use Rattle.std.specs.Prelude.{◌≡◌, [], length};
 ghost use Rattle.tora_lane.specs.Ports.{IsPortOf};
 ghost use Rattle.tora_node.specs.NewLinks.{IsOpened};
-ghost use Rattle.tora_node.specs.LinkRuns.{AreFaultless, IsCause, links_of};
-ghost use Rattle.tora_node.specs.NodeRuns.{IsRunOf, IsNodeFault, tally_of, place_of, fault_of_link, first_link_fault, first_fault};
+ghost use Rattle.tora_node.specs.NodeRuns.{tally_of, place_of, fault_of_link, first_link_fault, first_fault};
 ghost use Rattle.tora_node.specs.Threads.{Each, HasEnds};
 ghost use Rattle.tora_node.specs.Settled.{SettlesTo};
-ghost use Rattle.tora_node.specs.WholeRuns.{EndsWithFault, NodeRan};
+ghost use Rattle.tora_node.specs.WholeRuns.{NodeAnswers};
 
 use crate::config::Config;
 use crate::core_task::{CoreRest, new_core_start};
@@ -23,7 +22,7 @@ use std::sync::Wait;
 use std::thread::Threads;
 use tora_core::Core;
 use tora_height::Id;
-use tora_lane::{Lanes, MOST_LINKS, OutPuts, Settling, what_was_offered_was_sent};
+use tora_lane::{Lanes, OutPuts, Settling, what_was_offered_was_sent};
 use tora_life::Disk;
 use tora_neighbour::{Clock, NodeError, Tally, Wire};
 use tora_seat::CoreSeat;
@@ -178,19 +177,7 @@ pub fn run_node<
 ) -> Result<Ended, NodeError>
     requires wires { length wires.items ≡ length config.neighbours }
     requires disks { length disks.items ≡ length config.neighbours }
-    // Where it ends without a fault, the core is the run of what serving makes of some items from the first core on.
-    ensures core { IfOk result (λ ended. IsRunOf config ended.core) }
-    // Then each tally is that of a run of a new end of version 2 with the standard times, which has ended without a fault.
-    ensures links { IfOk result (λ ended. AreFaultless (links_of config) ended.tallies) }
-    // A fault of a link names one of the neighbours.
-    ensures fault { IfErr result (IsNodeFault config.neighbours) }
-    // A fault is one of the start, or the first one of what the threads came to.
-    ensures cause { IfErr result (IsCause config) }
-    ensures count { IfOk result (λ ended. (0 < length config.neighbours) × (length config.neighbours ≤ MOST_LINKS)) }
-    // What its threads did: the runs of its links with their wires and life files, the commands that were read, and the items that the core
-    // served, which are what these have put, as the lanes carry it.
-    ensures ran { IfOk result (λ ended. NodeRan W.did_send W.did_receive (C.did_tell clock.now) (IsOpened D.syncs D.reads D.writes) config wires.items disks.items (Rd.remaining reader.old) None ended.core ended.tallies ended.taken ended.gone) }
-    ensures failed { IfErr result (EndsWithFault W.did_send W.did_receive (C.did_tell clock.now) (IsOpened D.syncs D.reads D.writes) config wires.items disks.items (Rd.remaining reader.old)) }
+    ensures { NodeAnswers W.did_send W.did_receive (C.did_tell clock.now) (IsOpened D.syncs D.reads D.writes) config wires.items disks.items (Rd.remaining reader.old) result }
 {
     run_node_with_wakers(
         rt,
@@ -231,19 +218,7 @@ pub fn run_node_with_wakers<
 ) -> Result<Ended, NodeError>
     requires wires { length wires.items ≡ length config.neighbours }
     requires disks { length disks.items ≡ length config.neighbours }
-    // Where it ends without a fault, the core is the run of what serving makes of some items from the first core on.
-    ensures core { IfOk result (λ ended. IsRunOf config ended.core) }
-    // Then each tally is that of a run of a new end of version 2 with the standard times, which has ended without a fault.
-    ensures links { IfOk result (λ ended. AreFaultless (links_of config) ended.tallies) }
-    // A fault of a link names one of the neighbours.
-    ensures fault { IfErr result (IsNodeFault config.neighbours) }
-    // A fault is one of the start, or the first one of what the threads came to.
-    ensures cause { IfErr result (IsCause config) }
-    ensures count { IfOk result (λ ended. (0 < length config.neighbours) × (length config.neighbours ≤ MOST_LINKS)) }
-    // What its threads did: the runs of its links with their wires and life files, the commands that were read, and the items that the core
-    // served, which are what these have put, as the lanes carry it.
-    ensures ran { IfOk result (λ ended. NodeRan W.did_send W.did_receive (C.did_tell clock.now) (IsOpened D.syncs D.reads D.writes) config wires.items disks.items (Rd.remaining reader.old) None ended.core ended.tallies ended.taken ended.gone) }
-    ensures failed { IfErr result (EndsWithFault W.did_send W.did_receive (C.did_tell clock.now) (IsOpened D.syncs D.reads D.writes) config wires.items disks.items (Rd.remaining reader.old)) }
+    ensures { NodeAnswers W.did_send W.did_receive (C.did_tell clock.now) (IsOpened D.syncs D.reads D.writes) config wires.items disks.items (Rd.remaining reader.old) result }
 {
     what_was_offered_was_sent();
     let core = config.into_core();

@@ -155,11 +155,11 @@ pub fn runs_are_orders_of_histories()
 /// standard times, made one after another, and they exchange what the turns do whose tally is told of it; they put the items that
 /// the core served, and take the cargoes that serving put.
 pub fn nodes_have_histories()
-    // A node that ended without a fault, as the clause `links` of `run_node` has it.
+    // A node that ended without a fault, as the part `links` of `run_node` has it.
     ensures links { (first : CoreView) (tallies : List Tally) → AreFaultless (links_of first) tallies → HaveHistories first.me first.neighbours tallies }
-    // A node whose threads were started and which ended with the first of their faults, as its clause `cause` has it.
+    // A node whose threads were started and which ended with the first of their faults, as its part `cause` has it.
     ensures threads { (first : CoreView) (e : NodeError) (h : IsThreadsFault first e) → HaveHistories first.me first.neighbours (map (λ o. o.tally) h.outcomes) }
-    // And what a link has exchanged with the core, as the clauses `ran` and `failed` have it, its parts have.
+    // And what a link has exchanged with the core, as the parts `ran` and `failed` have it, its parts have.
     ensures exchanged { (me : ℕ) (xs : List ServedItem) (place peer : ℕ) (outcome : Outcome) → LinkExchanged me xs place peer outcome
         → HasExchanged me xs place peer outcome.tally }
 {}

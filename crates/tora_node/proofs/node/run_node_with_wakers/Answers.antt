@@ -1,4 +1,4 @@
-use Rattle.std.proofs.Common.{◌≡◌, ◌∙◌, ℕ, ◌<◌, ◌≤◌, List, length, sym, ap, subst, inl}
+use Rattle.std.proofs.Common.{◌≡◌, ◌∙◌, ℕ, ◌<◌, ◌≤◌, List, length, sym, ap, subst}
 use Rattle.std.proofs.lemmas.Result.{err_from_is_err_and}
 use Rattle.std.specs.Prelude.{map}
 use Rattle.tora_core.specs.CoreRun.{CoreView}
@@ -11,7 +11,7 @@ use Rattle.tora_node.specs.NewLinks.{IsOpened}
 use Rattle.tora_node.specs.LinkRuns.{name_of, link_ended, links_of}
 use Rattle.tora_node.specs.Threads.{CoreLeaves}
 use Rattle.tora_node.proofs.Lists.{as_long}
-use Rattle.tora_node.proofs.Runs.{opening_fault, did_not_start}
+use Rattle.tora_node.proofs.Runs.{not_started}
 use Rattle.tora_node.proofs.Whole.{Left, always, answers, have_ends}
 use Rattle.tora_node.proofs.node.run_node_with_wakers.Goals as goal
 
@@ -25,23 +25,13 @@ new_links-requires-clause-wires g c =
     let ends : map link_ended c.in-Some.ends.items ≡ links_of c.args.config = subst (λ (v : CoreView). map link_ended c.in-Some.ends.items ≡ links_of v) c.into_core-core.ensures.same c.in-Some.ensures in
     c.requires.wires ∙ sym (as_long link_ended (name_of c.args.config.me) c.in-Some.ends.items c.args.config.neighbours ends)
 
-pub returns-in_err-new-clause-fault : goal.returns-in_err-new-clause-fault
-returns-in_err-new-clause-fault g c =
+pub returns-in_err-new : goal.returns-in_err-new
+returns-in_err-new g c =
     let p = err_from_is_err_and c.from_residual-in_err-new.result c.from_residual-in_err-new.ensures.1 in
     let ends : map link_ended c.in-Some.ends.items ≡ links_of c.args.config = subst (λ (v : CoreView). map link_ended c.in-Some.ends.items ≡ links_of v) c.into_core-core.ensures.same c.in-Some.ensures in
-    rw (p.1, p.2) (opening_fault c.args.config.me c.args.config.neighbours (map link_ended c.in-Some.ends.items) c.in_err-new.field-0.0 ends c.in_err-new.ensures.fault)
-
-pub returns-in_err-new-clause-cause : goal.returns-in_err-new-clause-cause
-returns-in_err-new-clause-cause g c =
-    let p = err_from_is_err_and c.from_residual-in_err-new.result c.from_residual-in_err-new.ensures.1 in
-    let ends : map link_ended c.in-Some.ends.items ≡ links_of c.args.config = subst (λ (v : CoreView). map link_ended c.in-Some.ends.items ≡ links_of v) c.into_core-core.ensures.same c.in-Some.ensures in
-    rw (p.1, p.2) (inl (did_not_start c.args.config (map link_ended c.in-Some.ends.items) c.in_err-new.field-0.0 ends c.in_err-new.ensures.fault))
-
-pub returns-in_err-new-clause-failed : goal.returns-in_err-new-clause-failed
-returns-in_err-new-clause-failed g c =
-    let p = err_from_is_err_and c.from_residual-in_err-new.result c.from_residual-in_err-new.ensures.1 in
-    let ends : map link_ended c.in-Some.ends.items ≡ links_of c.args.config = subst (λ (v : CoreView). map link_ended c.in-Some.ends.items ≡ links_of v) c.into_core-core.ensures.same c.in-Some.ensures in
-    rw (p.1, p.2) (inl (did_not_start c.args.config (map link_ended c.in-Some.ends.items) c.in_err-new.field-0.0 ends c.in_err-new.ensures.fault))
+    rw (p.1, p.2)
+    (not_started g.W.Wire.did_send g.W.Wire.did_receive (g.C.Clock.did_tell c.args.clock.now) (IsOpened g.D.Disk.syncs g.D.Disk.reads g.D.Disk.writes) c.args.config c.args.wires.items c.args.disks.items (g.Rd.Read.remaining c.args.reader.now)
+    (map link_ended c.in-Some.ends.items) c.in_err-new.field-0.0 ends c.in_err-new.ensures.fault)
 
 pub settled-requires-clause-ends : goal.settled-requires-clause-ends
 settled-requires-clause-ends g c =
