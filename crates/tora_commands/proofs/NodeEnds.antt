@@ -1,7 +1,7 @@
 -- How a node that ran has ended.
 use Rattle.std.proofs.Common.{Result, Ok, Err, IfOk, IfErr}
 use Rattle.tora_core.specs.CoreRun.{CoreView}
-use Rattle.tora_neighbour.specs.declared.fault.NodeError.{NodeError}
+use Rattle.tora_node.specs.declared.fault.NodeError.{NodeError}
 use Rattle.tora_node.specs.NodeRuns.{EndedView, IsRunOf}
 use Rattle.tora_node.specs.LinkRuns.{AreFaultless, IsCause, links_of}
 use Rattle.tora_commands.specs.Statuses.{IsEndOf}

@@ -7,8 +7,8 @@ use Rattle.tora_node.specs.NodeRuns.{EndedView, IsRunOf}
 use Rattle.tora_node.specs.LinkRuns.{AreFaultless, IsCause, links_of}
 use Rattle.tora_commands.specs.declared.node_command.Fault.{Fault as NodeFault}
 use Rattle.tora_commands.specs.declared.node_command.Fault.TheVariants.{Memory as NoMemory, Config as NoConfig, Socket as NoSocket, Life as NoLife}
-use Rattle.tora_neighbour.specs.declared.fault.NodeError.{NodeError}
-use Rattle.tora_neighbour.specs.declared.fault.NodeError.TheVariants as Node
+use Rattle.tora_node.specs.declared.fault.NodeError.{NodeError}
+use Rattle.tora_node.specs.declared.fault.NodeError.TheVariants as Node
 
 -- 5 where memory was refused, 1 for the configuration, 3 for a socket, 4 for a life file
 abbrev pub status_of_fault : NodeFault → ℕ

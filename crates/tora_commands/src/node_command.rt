@@ -21,8 +21,7 @@ use tora_config::{ConfigError, LinkConfig, NodeConfig, read_config};
 use tora_core::CoreError;
 use tora_height::Id;
 use tora_life::{Disk, FileDisk, LifeError, Owner, Tag};
-use tora_neighbour::NodeError;
-use tora_node::{Config, Ended, run_node_with_wakers};
+use tora_node::{Config, Ended, NodeError, run_node_with_wakers};
 use tora_simulate::{tell, tell_at};
 use tora_waking::NodeClock;
 

@@ -8,16 +8,16 @@ use Rattle.tora_neighbour.specs.declared.ending.Ending.TheVariants.{NoNumber, Br
 use Rattle.tora_neighbour.specs.Datagrams.{RoseBy}
 use Rattle.tora_neighbour.specs.Causes.{IsCause, IsEndOf, fault_of}
 
-pub end_cause : (peer : ℕ) (ending : Ending) (given before after : Numbers) (disk_given disk disk_now row wire_given wire_now : ℕ) (gone : Bool)
+pub end_cause : (ending : Ending) (given before after : Numbers) (disk_given disk disk_now row wire_given wire_now : ℕ) (gone : Bool)
     → before.failed ≡ given.failed
     → disk ≡ disk_given
     → RoseBy row wire_given wire_now
     → IsCause ending before after disk disk_now row gone
-    → IsEndOf (fault_of peer ending) given after disk_given disk_now wire_given wire_now gone
-end_cause peer (NoNumber Fault.Disk) given before after dg d dn row wg wn gone failed same rose cause = subst (λ (n : ℕ). HasCause n dn) same cause
-end_cause peer (NoNumber Fault.Failed) given before after dg d dn row wg wn gone failed same rose cause = sym failed ∙ cause
-end_cause peer (NoNumber Fault.Spent) given before after dg d dn row wg wn gone failed same rose cause = cause
-end_cause peer (NoNumber Fault.Damaged) given before after dg d dn row wg wn gone failed same rose cause = cause
-end_cause peer (NoNumber Fault.Foreign) given before after dg d dn row wg wn gone failed same rose cause = cause
-end_cause peer (Broken at) given before after dg d dn row wg wn gone failed same rose cause = subst (λ (n : ℕ). RoseBy n wg wn) cause rose
-end_cause peer Refused given before after dg d dn row wg wn gone failed same rose cause = cause
+    → IsEndOf (fault_of ending) given after disk_given disk_now wire_given wire_now gone
+end_cause (NoNumber Fault.Disk) given before after dg d dn row wg wn gone failed same rose cause = subst (λ (n : ℕ). HasCause n dn) same cause
+end_cause (NoNumber Fault.Failed) given before after dg d dn row wg wn gone failed same rose cause = sym failed ∙ cause
+end_cause (NoNumber Fault.Spent) given before after dg d dn row wg wn gone failed same rose cause = cause
+end_cause (NoNumber Fault.Damaged) given before after dg d dn row wg wn gone failed same rose cause = cause
+end_cause (NoNumber Fault.Foreign) given before after dg d dn row wg wn gone failed same rose cause = cause
+end_cause (Broken at) given before after dg d dn row wg wn gone failed same rose cause = subst (λ (n : ℕ). RoseBy n wg wn) cause rose
+end_cause Refused given before after dg d dn row wg wn gone failed same rose cause = cause

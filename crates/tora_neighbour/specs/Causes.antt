@@ -10,8 +10,8 @@ use Rattle.tora_life.specs.Numbers.{IsSpent}
 use Rattle.tora_arq.specs.LinkEnd.{EndState, frame_due, after_transmit}
 use Rattle.tora_neighbour.specs.declared.ending.BrokenAt.{BrokenAt}
 use Rattle.tora_neighbour.specs.declared.ending.BrokenAt.TheVariants.{Send, Receive}
-use Rattle.tora_neighbour.specs.declared.fault.NodeError.{NodeError}
-use Rattle.tora_neighbour.specs.declared.fault.NodeError.TheVariants.{Memory, Lane, Life, Wire, Output}
+use Rattle.tora_neighbour.specs.declared.fault.LinkFault.{LinkFault}
+use Rattle.tora_neighbour.specs.declared.fault.LinkFault.TheVariants.{Life, Wire}
 use Rattle.tora_neighbour.specs.declared.ending.Ending.{Ending}
 use Rattle.tora_neighbour.specs.declared.ending.Ending.TheVariants as Because
 use Rattle.tora_neighbour.specs.Datagrams.{RoseBy}
@@ -53,16 +53,13 @@ IsCause (Because.Broken at) before after failed now row gone = row ≡ 100
 IsCause Because.Refused before after failed now row gone = gone ≡ true
 
 -- the fault that a thread answers
-abbrev pub fault_of : ℕ → Ending → Option NodeError
-fault_of peer (Because.NoNumber error) = Some (Life peer error)
-fault_of peer (Because.Broken at) = Some (Wire peer)
-fault_of peer Because.Refused = None
+abbrev pub fault_of : Ending → Option LinkFault
+fault_of (Because.NoNumber error) = Some (Life error)
+fault_of (Because.Broken at) = Some Wire
+fault_of Because.Refused = None
 
 -- why a thread has ended. None: its hub has answered Gone. Wire: the count of failures of its wire rose by a hundred at least. Life: as its file says
-abbrev pub IsEndOf : Option NodeError → Numbers → Numbers → ℕ → ℕ → ℕ → ℕ → Bool → Type 0
+abbrev pub IsEndOf : Option LinkFault → Numbers → Numbers → ℕ → ℕ → ℕ → ℕ → Bool → Type 0
 IsEndOf None before after disk_failed disk_now wire_failed wire_now gone = gone ≡ true
-IsEndOf (Some (Wire peer)) before after disk_failed disk_now wire_failed wire_now gone = RoseBy 100 wire_failed wire_now
-IsEndOf (Some (Life peer error)) before after disk_failed disk_now wire_failed wire_now gone = IsLifeCause error before after disk_failed disk_now
-IsEndOf (Some Memory) before after disk_failed disk_now wire_failed wire_now gone = ⊥
-IsEndOf (Some Lane) before after disk_failed disk_now wire_failed wire_now gone = ⊥
-IsEndOf (Some Output) before after disk_failed disk_now wire_failed wire_now gone = ⊥
+IsEndOf (Some Wire) before after disk_failed disk_now wire_failed wire_now gone = RoseBy 100 wire_failed wire_now
+IsEndOf (Some (Life error)) before after disk_failed disk_now wire_failed wire_now gone = IsLifeCause error before after disk_failed disk_now

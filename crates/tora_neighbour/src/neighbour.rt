@@ -10,7 +10,7 @@ ghost use Rattle.tora_neighbour.specs.declared.ending.Ending.{Ending};
 
 use crate::clock::Clock;
 use crate::ending::Ending;
-use crate::fault::NodeError;
+use crate::fault::LinkFault;
 use crate::hub::Hub;
 use crate::link::{Finished, Link};
 use crate::tally::Tally;
@@ -18,15 +18,15 @@ use crate::ticks::{Readings, Ticks};
 use crate::turn::{Course, turn};
 use crate::wire::Wire;
 use std::sync::Wait;
-use tora_height::Id;
 use tora_life::Disk;
 
-fn fault_of(peer: Id, ending: Ending) -> Option<NodeError>
-    ensures { result ≡ fault_of peer ending }
+/// The fault that the thread answers.
+fn fault_of(ending: Ending) -> Option<LinkFault>
+    ensures { result ≡ fault_of ending }
 {
     match ending {
-        Ending::NoNumber(error) => Some(NodeError::Life(peer, error)),
-        Ending::Broken(_) => Some(NodeError::Wire(peer)),
+        Ending::NoNumber(error) => Some(LinkFault::Life(error)),
+        Ending::Broken(_) => Some(LinkFault::Wire),
         Ending::Refused => None,
     }
 }
@@ -54,7 +54,7 @@ pub fn run_turns<R: Wait, D: Disk, W: Wire, T: Ticks, H: Hub>(
     hub: H,
 ) -> Finished<D, W, H>
     requires new { link.end.state ≡ first_end }
-    ensures turns { (turns : List Turn) × (last : Turn) × (ending : Ending) × (result.fault ≡ fault_of link.end.settings.peer ending) × IsTurnRun link.end.settings link.end.state turns last ending result.link.end.state × Traffic (outside H.puts H.takes W.tells W.coming W.tries link hub) (turns ++ last ∷ []) (outside H.puts H.takes W.tells W.coming W.tries result.link result.hub) × (result.tally ≡ tally_after first_tally (turns ++ last ∷ [])) × AreRead T.did_read ticks.old (turns ++ last ∷ []) ticks.new × ((before : H) × (wire : W) × AreCalls H.did_take H.did_put W.did_send W.did_receive hub link.wire turns before wire × LastCalls H.did_take H.did_put W.did_send W.did_receive before wire last ending result.hub result.link.wire) }
+    ensures turns { (turns : List Turn) × (last : Turn) × (ending : Ending) × (result.fault ≡ fault_of ending) × IsTurnRun link.end.settings link.end.state turns last ending result.link.end.state × Traffic (outside H.puts H.takes W.tells W.coming W.tries link hub) (turns ++ last ∷ []) (outside H.puts H.takes W.tells W.coming W.tries result.link result.hub) × (result.tally ≡ tally_after first_tally (turns ++ last ∷ [])) × AreRead T.did_read ticks.old (turns ++ last ∷ []) ticks.new × ((before : H) × (wire : W) × AreCalls H.did_take H.did_put W.did_send W.did_receive hub link.wire turns before wire × LastCalls H.did_take H.did_put W.did_send W.did_receive before wire last ending result.hub result.link.wire) }
     ensures cause { IsEndOf result.fault link.file.numbers result.link.file.numbers (D.failures link.file.disk) (D.failures result.link.file.disk) (W.failures link.wire) (W.failures result.link.wire) (H.gone result.hub) }
 {
     let mut link = link;
@@ -69,7 +69,7 @@ pub fn run_turns<R: Wait, D: Disk, W: Wire, T: Ticks, H: Hub>(
         match turn(rt, now, &mut link, &mut hub, &mut course) {
             Ok(()) => {}
             Err(ending) => {
-                let fault = fault_of(link.end.peer(), ending);
+                let fault = fault_of(ending);
                 return Finished {
                     link,
                     hub,
@@ -91,7 +91,7 @@ pub fn run_neighbour<R: Wait, D: Disk, W: Wire, C: Clock, H: Hub>(
     hub: H,
 ) -> Finished<D, W, H>
     requires new { link.end.state ≡ first_end }
-    ensures turns { (turns : List Turn) × (last : Turn) × (ending : Ending) × (result.fault ≡ fault_of link.end.settings.peer ending) × IsTurnRun link.end.settings link.end.state turns last ending result.link.end.state × Traffic (outside H.puts H.takes W.tells W.coming W.tries link hub) (turns ++ last ∷ []) (outside H.puts H.takes W.tells W.coming W.tries result.link result.hub) × (result.tally ≡ tally_after first_tally (turns ++ last ∷ [])) × AreTold (C.did_tell clock.now) (turns ++ last ∷ []) × ((before : H) × (wire : W) × AreCalls H.did_take H.did_put W.did_send W.did_receive hub link.wire turns before wire × LastCalls H.did_take H.did_put W.did_send W.did_receive before wire last ending result.hub result.link.wire) }
+    ensures turns { (turns : List Turn) × (last : Turn) × (ending : Ending) × (result.fault ≡ fault_of ending) × IsTurnRun link.end.settings link.end.state turns last ending result.link.end.state × Traffic (outside H.puts H.takes W.tells W.coming W.tries link hub) (turns ++ last ∷ []) (outside H.puts H.takes W.tells W.coming W.tries result.link result.hub) × (result.tally ≡ tally_after first_tally (turns ++ last ∷ [])) × AreTold (C.did_tell clock.now) (turns ++ last ∷ []) × ((before : H) × (wire : W) × AreCalls H.did_take H.did_put W.did_send W.did_receive hub link.wire turns before wire × LastCalls H.did_take H.did_put W.did_send W.did_receive before wire last ending result.hub result.link.wire) }
     ensures cause { IsEndOf result.fault link.file.numbers result.link.file.numbers (D.failures link.file.disk) (D.failures result.link.file.disk) (W.failures link.wire) (W.failures result.link.wire) (H.gone result.hub) }
 {
     let mut ticks = Readings { clock };

@@ -3,10 +3,10 @@ use Rattle.std.proofs.Common.{◌≡◌, ◌∙◌, sym, ap, subst, refl, ℕ, z
 use Rattle.std.proofs.Math.Seq.{drop-cons}
 use Rattle.std.proofs.lemmas.List.{drop_all}
 use Rattle.std.specs.Prelude.{slice_get}
-use Rattle.tora_neighbour.specs.declared.fault.NodeError.{NodeError}
-use Rattle.tora_neighbour.specs.declared.fault.NodeError.TheVariants as Fault
-use Rattle.tora_node.specs.declared.link_task.LinkFault.{LinkFault}
-use Rattle.tora_node.specs.declared.link_task.LinkFault.TheVariants as Of
+use Rattle.tora_node.specs.declared.fault.NodeError.{NodeError}
+use Rattle.tora_node.specs.declared.fault.NodeError.TheVariants as Fault
+use Rattle.tora_neighbour.specs.declared.fault.LinkFault.{LinkFault}
+use Rattle.tora_neighbour.specs.declared.fault.LinkFault.TheVariants as Of
 use Rattle.tora_node.specs.declared.link_task.Outcome.{Outcome}
 use Rattle.tora_node.specs.CoreRuns.{ServedItem, EndsSo}
 use Rattle.tora_node.specs.NodeRuns.{IsCoreFault, IsNeighbour, IsNodeFault, fault_of_link, fault_or, first_link_fault, first_fault}

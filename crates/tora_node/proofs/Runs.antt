@@ -8,14 +8,14 @@ use Rattle.tora_neighbour.specs.Causes.{fault_of}
 use Rattle.tora_neighbour.specs.Tally.{first_tally}
 use Rattle.tora_neighbour.specs.Turns.{Turn, IsTurnRun, tally_after}
 use Rattle.tora_neighbour.specs.declared.ending.Ending.{Ending}
-use Rattle.tora_neighbour.specs.declared.fault.NodeError.{NodeError}
-use Rattle.tora_neighbour.specs.declared.fault.NodeError.TheVariants as Fault
+use Rattle.tora_node.specs.declared.fault.NodeError.{NodeError}
+use Rattle.tora_node.specs.declared.fault.NodeError.TheVariants as Fault
 use Rattle.tora_neighbour.specs.declared.tally.Tally.{Tally}
 use Rattle.tora_neighbour.specs.declared.wire.WireError.{WireError}
 use Rattle.tora_node.specs.NewLinks.{new_end}
-use Rattle.tora_node.specs.NodeRuns.{link_fault, fault_or, first_link_fault, first_fault, IsNodeFault}
+use Rattle.tora_node.specs.NodeRuns.{fault_or, first_link_fault, first_fault, IsNodeFault}
 use Rattle.tora_node.specs.LinkRuns.{LinkName, name_of, links_of, AreFaultless, AreLinkRuns, IsLinkRun, IsOpening, IsStartFault}
-use Rattle.tora_node.specs.declared.link_task.LinkFault.{LinkFault}
+use Rattle.tora_neighbour.specs.declared.fault.LinkFault.{LinkFault}
 use Rattle.tora_node.specs.declared.link_task.Outcome.{Outcome}
 use Rattle.tora_node.specs.WholeRuns.{NodeAnswers}
 use Rattle.tora_node.proofs.Lists.{map_more}
@@ -47,20 +47,6 @@ at_length (l ∷ done) rest link = at_length done rest link
 pub did_not_open : {A : Type 0} (f : A → LinkName) (done : List LinkName) (before rest : List A) (x : A) (all : List LinkName) → before ≡ x ∷ rest → done ++ map f before ≡ all → slice_get all (length done) ≡ Some (f x)
 did_not_open f done before rest x all e h =
     subst (λ (l : List LinkName). slice_get l (length done) ≡ Some (f x)) (ap (λ (l : List _). done ++ map f l) (sym e) ∙ h) (at_length done (map f rest) (f x))
-
--- the run of a new end is that of its link
-pub link_ran : (end : LinkEndView) (turns : List Turn) (last : Turn) (ending : Ending) (after : EndState) (fault : Option NodeError) (tally : Tally)
-    → end ≡ new_end end.settings.me end.settings.peer → fault ≡ fault_of end.settings.peer ending → IsTurnRun end.settings end.state turns last ending after
-    → tally ≡ tally_after first_tally (turns ++ last ∷ []) → IsLinkRun end.settings.me end.settings.peer (link_fault fault) tally
-link_ran end turns last ending after fault tally new because runs counted = record {
-  turns = turns;
-  last = last;
-  ending = ending;
-  after = after;
-  runs = subst (λ (e : LinkEndView). IsTurnRun e.settings e.state turns last ending after) new runs;
-  fault_is = ap link_fault because;
-  tally_is = counted;
-}
 
 -- the neighbour of a link that did not open
 name_at : (me : ℕ) (neighbours : List ℕ) (place : ℕ) (link : LinkName) → slice_get (map (name_of me) neighbours) place ≡ Some link → slice_get neighbours place ≡ Some link.peer

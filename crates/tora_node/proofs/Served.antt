@@ -15,8 +15,8 @@ use Rattle.tora_seat.specs.Offers.{AreOffered, Follows}
 use Rattle.tora_node.specs.CoreRuns.{ServedItem, answers_told, serving_told, AreServed, items_served, offers_made, inputs_stepped, text_of, told_anew, told_after, text_served, told_served, IsWatched, MayTell, MayFail, GoOn}
 use Rattle.tora_node.specs.declared.watch.Told.{Told}
 use Rattle.tora_node.specs.StatusLines.{told_in}
-use Rattle.tora_neighbour.specs.declared.fault.NodeError.{NodeError}
-use Rattle.tora_neighbour.specs.declared.fault.NodeError.TheVariants as Fault
+use Rattle.tora_node.specs.declared.fault.NodeError.{NodeError}
+use Rattle.tora_node.specs.declared.fault.NodeError.TheVariants as Fault
 use Rattle.std.specs.declared.vec.Vec.{Vec}
 use Rattle.tora_node.proofs.Told.{told_follows, offered_then}
 

@@ -11,8 +11,8 @@ use Rattle.tora_lane.specs.Ports.{InEnd, CoreEnd, new_port}
 use Rattle.tora_life.specs.declared.disk.Disk as Disk
 use Rattle.tora_neighbour.specs.Puts.{put_in}
 use Rattle.tora_neighbour.specs.Traffic.{cargoes_taken, entries_put}
-use Rattle.tora_neighbour.specs.declared.fault.NodeError.{NodeError}
-use Rattle.tora_neighbour.specs.declared.fault.NodeError.TheVariants as Fault
+use Rattle.tora_node.specs.declared.fault.NodeError.{NodeError}
+use Rattle.tora_node.specs.declared.fault.NodeError.TheVariants as Fault
 use Rattle.tora_neighbour.specs.declared.lane_hub.LaneHub.{LaneHub}
 use Rattle.tora_neighbour.specs.declared.wire.Wire as Wire
 use Rattle.tora_neighbour.specs.declared.wire.WireError.{WireError}

@@ -5,8 +5,8 @@ use Rattle.tora_core.specs.declared.Input.{Input}
 use Rattle.tora_core.specs.Errors.{step_error_number}
 use Rattle.tora_core.specs.ShowText.{show_text}
 use Rattle.tora_core.specs.CoreRun.{CoreView}
-use Rattle.tora_neighbour.specs.declared.fault.NodeError.{NodeError}
-use Rattle.tora_neighbour.specs.declared.fault.NodeError.TheVariants as Fault
+use Rattle.tora_node.specs.declared.fault.NodeError.{NodeError}
+use Rattle.tora_node.specs.declared.fault.NodeError.TheVariants as Fault
 use Rattle.tora_seat.specs.declared.Item.{Item}
 use Rattle.tora_seat.specs.declared.Status.TheVariants as Asked
 use Rattle.tora_seat.specs.declared.What.{What}

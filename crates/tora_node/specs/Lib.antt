@@ -4,6 +4,7 @@ pub mod CoreRuns
 pub mod CommandText
 pub mod CommandRuns
 pub mod CommandSteps
+pub mod Faults
 pub mod NodeRuns
 pub mod NewLinks
 pub mod LinkRuns

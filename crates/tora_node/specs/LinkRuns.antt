@@ -10,16 +10,16 @@ use Rattle.tora_neighbour.specs.Causes.{fault_of}
 use Rattle.tora_neighbour.specs.Tally.{first_tally}
 use Rattle.tora_neighbour.specs.Turns.{Turn, IsTurnRun, tally_after}
 use Rattle.tora_neighbour.specs.declared.ending.Ending.{Ending}
-use Rattle.tora_neighbour.specs.declared.fault.NodeError.{NodeError}
-use Rattle.tora_neighbour.specs.declared.fault.NodeError.TheVariants as Fault
+use Rattle.tora_node.specs.declared.fault.NodeError.{NodeError}
+use Rattle.tora_node.specs.declared.fault.NodeError.TheVariants as Fault
 use Rattle.tora_neighbour.specs.declared.tally.Tally.{Tally}
 use Rattle.tora_neighbour.specs.declared.wire.Wire as Wire
 use Rattle.tora_seat.specs.Rows.{SeatView, first_seat}
 use Rattle.tora_node.specs.declared.start.NewEnd.{NewEnd}
 use Rattle.tora_node.specs.declared.start.NewLink.{NewLink}
-use Rattle.tora_node.specs.declared.link_task.LinkFault.{LinkFault}
+use Rattle.tora_neighbour.specs.declared.fault.LinkFault.{LinkFault}
 use Rattle.tora_node.specs.declared.link_task.Outcome.{Outcome}
-use Rattle.tora_node.specs.NodeRuns.{link_fault, first_fault, IsNodeFault, IsCoreRun}
+use Rattle.tora_node.specs.NodeRuns.{first_fault, IsNodeFault, IsCoreRun}
 
 -- ---- which link it is
 
@@ -64,7 +64,7 @@ pub record IsLinkRun (me peer : ℕ) (fault : Option LinkFault) (tally : Tally) 
   pub ending : Ending
   pub after : EndState
   pub runs : IsTurnRun (settings_of Two me peer STANDARD) first_end turns last ending after
-  pub fault_is : fault ≡ link_fault (fault_of peer ending)
+  pub fault_is : fault ≡ fault_of ending
   pub tally_is : tally ≡ tally_after first_tally (turns ++ last ∷ [])
 
 -- each link had a thread, and these are what they came to, in the same order

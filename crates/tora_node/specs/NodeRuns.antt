@@ -2,14 +2,14 @@
 use Rattle.std.specs.Prelude.{◌≡◌, ◌⊎◌, ℕ, ◌<◌, ◌==◌, Bool, List, [], ◌∷◌, length, slice_get, Option, Some, None, option_and_then}
 use Rattle.std.specs.List.{position}
 use Rattle.tora_core.specs.CoreRun.{CoreView, core_after_all}
-use Rattle.tora_neighbour.specs.declared.fault.NodeError.{NodeError}
-use Rattle.tora_neighbour.specs.declared.fault.NodeError.TheVariants as Fault
+use Rattle.tora_node.specs.declared.fault.NodeError.{NodeError}
+use Rattle.tora_node.specs.declared.fault.NodeError.TheVariants as Fault
 use Rattle.tora_neighbour.specs.declared.tally.Tally.{Tally}
 use Rattle.tora_seat.specs.Serving.{SeatState}
 use Rattle.tora_seat.specs.declared.Item.{Item}
 use Rattle.tora_seat.specs.Rows.{SeatView, state_of, first_seat}
-use Rattle.tora_node.specs.declared.link_task.LinkFault.{LinkFault}
-use Rattle.tora_node.specs.declared.link_task.LinkFault.TheVariants as Of
+use Rattle.tora_neighbour.specs.declared.fault.LinkFault.{LinkFault}
+use Rattle.tora_neighbour.specs.declared.fault.LinkFault.TheVariants as Of
 use Rattle.tora_node.specs.declared.link_task.Outcome.{Outcome}
 use Rattle.tora_node.specs.CoreRuns.{ServedItem, AreServed, inputs_stepped, EndsSo}
 
@@ -30,15 +30,7 @@ tally_of e peer = option_and_then (slice_get e.tallies) (place_of e.core.neighbo
 
 -- ---- faults
 
--- the fault of a neighbour's thread, without its neighbour
-abbrev pub link_fault : Option NodeError → Option LinkFault
-link_fault (Some (Fault.Life peer error)) = Some (Of.Life error)
-link_fault (Some (Fault.Wire peer)) = Some Of.Wire
-link_fault (Some Fault.Memory) = None
-link_fault (Some Fault.Lane) = None
-link_fault (Some Fault.Output) = None
-link_fault None = None
-
+-- the fault of the thread of this neighbour
 abbrev pub fault_of_link : ℕ → LinkFault → NodeError
 fault_of_link peer (Of.Life error) = Fault.Life peer error
 fault_of_link peer Of.Wire = Fault.Wire peer

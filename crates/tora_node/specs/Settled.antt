@@ -2,8 +2,8 @@
 use Rattle.std.specs.Prelude.{◌≡◌, ◌⊎◌, List, ◌++◌, map, None, Some, Result, Ok, Err}
 use Rattle.tora_lane.specs.LaneRule.{items_of}
 use Rattle.tora_lane.specs.Ports.{InEnd}
-use Rattle.tora_neighbour.specs.declared.fault.NodeError.{NodeError}
-use Rattle.tora_neighbour.specs.declared.fault.NodeError.TheVariants as Fault
+use Rattle.tora_node.specs.declared.fault.NodeError.{NodeError}
+use Rattle.tora_node.specs.declared.fault.NodeError.TheVariants as Fault
 use Rattle.tora_seat.specs.declared.Item.{Item}
 use Rattle.tora_node.specs.declared.core_task.CoreRest.{CoreRest}
 use Rattle.tora_node.specs.declared.link_task.LinkRest.{LinkRest}

@@ -6,7 +6,7 @@ use Rattle.tora_lane.specs.LaneRule.{items_of}
 use Rattle.tora_lane.specs.declared.limits.TheConstants.{MOST_LINKS}
 use Rattle.tora_neighbour.specs.Puts.{put_in}
 use Rattle.tora_neighbour.specs.Traffic.{AreDrawn, cargoes_taken, entries_put, numbers_opened}
-use Rattle.tora_neighbour.specs.declared.fault.NodeError.{NodeError}
+use Rattle.tora_node.specs.declared.fault.NodeError.{NodeError}
 use Rattle.tora_neighbour.specs.declared.tally.Tally.{Tally}
 use Rattle.tora_neighbour.specs.declared.wire.WireError.{WireError}
 use Rattle.tora_seat.specs.Rows.{state_of, first_seat}

@@ -3,6 +3,7 @@ ghost use Rattle.std.specs.Prelude.{◌≡◌, ◌≤◌, IfSome, length};
 ghost use Rattle.tora_seat.specs.Rows.{first_seat};
 
 use crate::core_thread::run_core;
+use crate::fault::NodeError;
 use crate::task::Task;
 use crate::wake::{Wake, WakingLanes, end_all};
 use log::Log;
@@ -11,7 +12,6 @@ use std::io::Write;
 use std::sync::Wait;
 use tora_core::Core;
 use tora_lane::{CorePort, OutPut, OutPuts, Settling};
-use tora_neighbour::NodeError;
 use tora_seat::CoreSeat;
 
 /// What the core's thread leaves: its seat, what its port has taken, and its ends of the lanes to the neighbours.

@@ -3,20 +3,20 @@ ghost use Rattle.std.specs.Prelude.{◌≡◌, ◌≢◌, ◌≤◌, ◌++◌, �
 ghost use Rattle.std.specs.Io.KnownBytes.{Appends};
 ghost use Rattle.tora_core.specs.CoreRun.{core_after_all};
 ghost use Rattle.tora_core.specs.ShowText.{show_text};
-ghost use Rattle.tora_neighbour.specs.declared.fault.NodeError.{NodeError};
+ghost use Rattle.tora_node.specs.declared.fault.NodeError.{NodeError};
 ghost use Rattle.tora_seat.specs.Offers.{AreOffered};
 ghost use Rattle.tora_seat.specs.Rows.{state_of};
 ghost use Rattle.tora_node.specs.CoreRuns.{ServedItem, AreServed, items_served, offers_made, inputs_stepped, refused_text, news_text, reply_text, told_anew, told_after, text_served, IsTextFault, MayFail, EndsSo};
 ghost use Rattle.tora_node.specs.StatusJson.{json_text};
 ghost use Rattle.tora_node.specs.StatusLines.{all_told, changes_text, state_text, told_in};
 
+use crate::fault::NodeError;
 use crate::status::json;
 use crate::watch::{Told, all_told, changes, state};
 use std::alloc::Global;
 use std::io::Write;
 use std::sync::Wait;
 use tora_lane::CorePort;
-use tora_neighbour::NodeError;
 use tora_seat::{Answer, CoreSeat, Item, OutLanes, Status, What, accepted_inputs_make_the_core};
 
 /// What is left of the core's thread.

@@ -14,6 +14,7 @@ mod commands;
 mod config;
 mod core_task;
 mod core_thread;
+mod fault;
 mod link_task;
 mod log_hub;
 mod node;
@@ -32,6 +33,7 @@ pub use commands::{
 };
 pub use config::Config;
 pub use core_thread::{CoreEnd, run_core};
+pub use fault::NodeError;
 pub use log_hub::LogHub;
 pub use node::{Ended, run_node, run_node_with_wakers};
 pub use wake::{NoWake, Wake, WakingLanes};

@@ -1,23 +1,12 @@
 //! The work of a neighbour's thread.
-ghost use Rattle.std.specs.Prelude.{◌≡◌};
-ghost use Rattle.tora_node.specs.NodeRuns.{link_fault};
 
 use crate::log_hub::LogHub;
 use crate::start::{NewLink, Start};
 use crate::task::Task;
 use log::{Log, info};
 use std::sync::Wait;
-use tora_life::{Disk, LifeError};
-use tora_neighbour::{Clock, Finished, LaneHub, NodeError, Tally, Wire, run_neighbour};
-
-/// Why the thread of a neighbour has ended though nobody told it to.
-#[derive(Clone, Copy)]
-pub(crate) enum LinkFault {
-    /// Its life file drew no number.
-    Life(LifeError),
-    /// Its wire has failed.
-    Wire,
-}
+use tora_life::Disk;
+use tora_neighbour::{Clock, Finished, LaneHub, LinkFault, Tally, Wire, run_neighbour};
 
 /// What a neighbour's thread came to.
 #[derive(Clone, Copy)]
@@ -57,22 +46,10 @@ impl<'a, D: Disk + Drop, W: Wire + Drop, C: Clock> Task<LinkRest> for Start<'a, 
             peer: _,
             hub,
         } = hub;
-        let fault = link_fault(fault);
         LinkRest {
             outcome: Outcome { fault, tally },
             hub,
         }
-    }
-}
-
-/// Why the thread of a neighbour has ended: the others are no fault of it.
-fn link_fault(fault: Option<NodeError>) -> Option<LinkFault>
-    ensures { result ≡ link_fault fault }
-{
-    match fault {
-        Some(NodeError::Life(_, error)) => Some(LinkFault::Life(error)),
-        Some(NodeError::Wire(_)) => Some(LinkFault::Wire),
-        _ => None,
     }
 }
 

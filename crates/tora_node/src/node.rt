@@ -9,7 +9,8 @@ ghost use Rattle.tora_node.specs.WholeRuns.{NodeAnswers};
 
 use crate::config::Config;
 use crate::core_task::{CoreRest, new_core_start};
-use crate::link_task::{LinkFault, LinkRest, Outcome};
+use crate::fault::NodeError;
+use crate::link_task::{LinkRest, Outcome};
 use crate::settle::settle_links;
 use crate::starting::{new_ends, new_lanes, new_links, new_starts};
 use crate::threads::{Rests, run_threads};
@@ -24,7 +25,7 @@ use tora_core::Core;
 use tora_height::Id;
 use tora_lane::{Lanes, OutPuts, Settling, what_was_offered_was_sent};
 use tora_life::Disk;
-use tora_neighbour::{Clock, NodeError, Tally, Wire};
+use tora_neighbour::{Clock, LinkFault, Tally, Wire};
 use tora_seat::CoreSeat;
 
 /// What a node has ended with. Contracts see its core, the tally of each neighbour in ascending order, the items that the

@@ -1,11 +1,12 @@
 //! Making the links and the lanes of a node, before its threads are started.
 ghost use Rattle.std.specs.Prelude.{◌≡◌, ◌⊎◌, ◌<◌, ◌≤◌, IfErr, IfOk, IfSome, length, map};
 ghost use Rattle.tora_lane.specs.NodeLanes.{AreLanes};
-ghost use Rattle.tora_neighbour.specs.declared.fault.NodeError.{NodeError};
+ghost use Rattle.tora_node.specs.declared.fault.NodeError.{NodeError};
 ghost use Rattle.tora_node.specs.NewLinks.{IsOpened};
 ghost use Rattle.tora_node.specs.LinkRuns.{name_of, link_ended, link_made, wire_made, OpenedOn, IsOpening};
 ghost use Rattle.tora_node.specs.Threads.{Each, started, link_to_start, hub_started, hub_of};
 
+use crate::fault::NodeError;
 use crate::start::{NewEnd, NewLink, Start};
 use std::alloc::Global;
 use std::sync::Wait;
@@ -13,7 +14,7 @@ use tora_arq::{LinkEnd, Times};
 use tora_core::Core;
 use tora_lane::{InPort, LaneError, Lanes, MOST_LINKS, OutTake, lanes};
 use tora_life::{Disk, LifeError, LifeFile};
-use tora_neighbour::{LaneHub, Link, NodeError, Wire};
+use tora_neighbour::{LaneHub, Link, Wire};
 
 /// The ends of a node's links, by ascending neighbour, never opened.
 pub(crate) fn new_ends(alloc: Global, core: &Core) -> Option<Vec<NewEnd>>

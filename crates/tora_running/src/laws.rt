@@ -6,7 +6,7 @@ ghost use Rattle.tora_arq.specs.Settings.{Settings};
 ghost use Rattle.tora_neighbour.specs.Turns.{Turn, AreTurns, IsLastTurn, IsTurnRun};
 ghost use Rattle.tora_neighbour.specs.declared.ending.Ending.{Ending};
 ghost use Rattle.tora_core.specs.CoreRun.{CoreView};
-ghost use Rattle.tora_neighbour.specs.declared.fault.NodeError.{NodeError};
+ghost use Rattle.tora_node.specs.declared.fault.NodeError.{NodeError};
 ghost use Rattle.tora_neighbour.specs.declared.tally.Tally.{Tally};
 ghost use Rattle.tora_node.specs.declared.link_task.Outcome.{Outcome};
 ghost use Rattle.tora_node.specs.WholeRuns.{LinkExchanged};

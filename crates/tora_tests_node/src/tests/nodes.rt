@@ -18,7 +18,7 @@ use streams::{Asking, Course, Meeting, Page, Screen, Waiting};
 use tora_core::CoreError;
 use tora_height::Id;
 use tora_life::{Disk, LifeError};
-use tora_neighbour::{MemWire, NodeError, UnixClock, Wire};
+use tora_neighbour::{MemWire, UnixClock, Wire};
 use tora_node::*;
 use tora_seat::Status;
 use tora_waking::NodeClock;

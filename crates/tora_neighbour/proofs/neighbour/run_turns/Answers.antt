@@ -1,9 +1,9 @@
 use Rattle.std.proofs.Common.{◌≡◌, ℕ, [], ◌∷◌, ◌++◌, refl, sym, ap, ◌∙◌, subst, arith, Option}
 use Rattle.tora_arq.specs.Settings.{Settings}
 use Rattle.tora_arq.specs.LinkEnd.{EndState}
-use Rattle.tora_neighbour.specs.declared.fault.NodeError.{NodeError}
+use Rattle.tora_neighbour.specs.declared.fault.LinkFault.{LinkFault}
 use Rattle.tora_neighbour.specs.Tally.{first_tally}
-use Rattle.tora_neighbour.specs.Causes.{fault_of, IsEndOf}
+use Rattle.tora_neighbour.specs.Causes.{IsEndOf}
 use Rattle.tora_neighbour.proofs.Ends.{end_cause}
 use Rattle.tora_neighbour.specs.Turns.{IsTurn, IsLastTurn}
 use Rattle.tora_neighbour.proofs.Chains.{calls_more, row_turns}
@@ -50,7 +50,7 @@ returns-in-Err-clause-turns g c =
       h.so_far.0,
       t.0,
       c.in-Err.ending,
-      c.fault_of-fault.ensures ∙ ap (λ p. fault_of p c.in-Err.ending) (c.peer.ensures.peer ∙ ap (λ (s : Settings). s.peer) (c.in-Err.ensures.settings ∙ h.settings)),
+      c.fault_of-fault.ensures,
       record {
         before = c.loop.link.end.state;
         turns_are = h.so_far.1;
@@ -71,8 +71,8 @@ pub returns-in-Err-clause-cause : goal.returns-in-Err-clause-cause
 returns-in-Err-clause-cause g c =
     let h = c.loop.invariant in
     subst
-    (λ (f : Option NodeError). IsEndOf f c.args.link.file.numbers c.turn.new.link.file.numbers (g.D.Disk.failures c.args.link.file.disk) (g.D.Disk.failures c.turn.new.link.file.disk) (g.W.Wire.failures c.args.link.wire) (g.W.Wire.failures c.turn.new.link.wire) (g.H.Hub.gone c.turn.new.hub))
+    (λ (f : Option LinkFault). IsEndOf f c.args.link.file.numbers c.turn.new.link.file.numbers (g.D.Disk.failures c.args.link.file.disk) (g.D.Disk.failures c.turn.new.link.file.disk) (g.W.Wire.failures c.args.link.wire) (g.W.Wire.failures c.turn.new.link.wire) (g.H.Hub.gone c.turn.new.hub))
     (sym c.fault_of-fault.ensures)
-    (end_cause c.peer.result c.in-Err.ending c.args.link.file.numbers c.loop.link.file.numbers c.turn.new.link.file.numbers (g.D.Disk.failures c.args.link.file.disk) (g.D.Disk.failures c.loop.link.file.disk)
+    (end_cause c.in-Err.ending c.args.link.file.numbers c.loop.link.file.numbers c.turn.new.link.file.numbers (g.D.Disk.failures c.args.link.file.disk) (g.D.Disk.failures c.loop.link.file.disk)
     (g.D.Disk.failures c.turn.new.link.file.disk) c.turn.new.course.row (g.W.Wire.failures c.args.link.wire) (g.W.Wire.failures c.turn.new.link.wire) (g.H.Hub.gone c.turn.new.hub)
     h.failed h.disk (c.in-Err.ensures.failures (g.W.Wire.failures c.args.link.wire) h.failures) c.in-Err.ensures.cause)

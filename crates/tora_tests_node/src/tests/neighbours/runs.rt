@@ -18,7 +18,7 @@ struct Run {
     /// How much the hub takes before it ends the run.
     room: usize,
     /// How the run ends.
-    fault: Option<NodeError>,
+    fault: Option<LinkFault>,
     /// How many datagrams were accepted, and how many there were.
     tally: Option<(u64, u64)>,
     /// How much was put.
@@ -77,7 +77,7 @@ fn run_over<R: Wait + Abort, W: Wire>(
 /// What is seen of a run: its fault, what was counted, and what was put.
 #[derive(Drop)]
 struct Seen {
-    fault: Option<NodeError>,
+    fault: Option<LinkFault>,
     tally: Tally,
     hub: ListHub,
 }
@@ -118,7 +118,7 @@ fn see_run<R: Wait + Abort>(rt: &R, alloc: Global, run: &Run) -> Result<Seen, Al
 }
 
 /// Sees how a run ended.
-fn fault_is(rt: &impl Abort, fault: Option<NodeError>, wanted: Option<NodeError>) {
+fn fault_is(rt: &impl Abort, fault: Option<LinkFault>, wanted: Option<LinkFault>) {
     same(rt, &fault, &wanted, "the fault");
 }
 
@@ -214,7 +214,7 @@ const FAILING: Run = Run {
     fuse: Some((0, FuseMode::Always)),
     cuts: 0,
     room: 1000,
-    fault: Some(NodeError::Wire(2)),
+    fault: Some(LinkFault::Wire),
     tally: Some((0, 0)),
     count: 33,
     puts: &[],
@@ -231,7 +231,7 @@ const BREAKING: Run = Run {
     fuse: Some((3, FuseMode::Always)),
     cuts: 0,
     room: 1000,
-    fault: Some(NodeError::Wire(2)),
+    fault: Some(LinkFault::Wire),
     tally: None,
     count: 3,
     puts: &[Told::Up(0), Told::Beat(0), Told::Cut(0)],
@@ -292,7 +292,7 @@ fn fault_of<R: Wait + Abort>(
     rt: &R,
     alloc: Global,
     file: LifeFile<MemDisk>,
-) -> Result<Option<NodeError>, AllocError> {
+) -> Result<Option<LinkFault>, AllocError> {
     let wire = MemWire::<16>::new(Vec::new(alloc));
     let hub = ListHub::new(alloc, 2, Vec::new(alloc))?;
     let finished = run_over(rt, alloc, 1, file, wire, hub);
@@ -316,7 +316,7 @@ fn each_ends<R: Wait + Abort>(
             same(rt, &file.draw(), &Err(LifeError::Disk), "the draw");
         }
         let fault = there(rt, fault_of(rt, alloc, file).ok(), "memory");
-        let wanted = Some(NodeError::Life(2, *reason));
+        let wanted = Some(LinkFault::Life(*reason));
         same_at(rt, &fault, &wanted, "the fault", armed);
     }
 }
@@ -370,25 +370,22 @@ fn a_damaged_file_gives_no_link(rt: HostRuntime) {
     }
 }
 
-const FAULTS: &[(NodeError, &str)] = &[
-    (NodeError::Memory, "out of memory"),
-    (NodeError::Lane, "there are no lanes for so many links"),
+const FAULTS: &[(LinkFault, &str)] = &[
     (
-        NodeError::Life(2, LifeError::Spent),
-        "the life file of the link to 2: no number is left",
+        LinkFault::Life(LifeError::Spent),
+        "the life file of the link: no number is left",
     ),
     (
-        NodeError::Wire(2),
-        "a hundred calls in a row of the wire to 2 failed",
+        LinkFault::Wire,
+        "a hundred calls in a row of the wire failed",
     ),
-    (NodeError::Output, "the output failed"),
 ];
 
 /// Sees the text of each fault.
-fn each_says(rt: &impl Abort, alloc: Global, rows: &[(NodeError, &str)]) {
-    for (error, text) in rows {
-        let printed = there(rt, format!(in alloc; "{error}").ok(), "memory");
-        same_text(rt, printed.as_str(), text, "the text of an error");
+fn each_says(rt: &impl Abort, alloc: Global, rows: &[(LinkFault, &str)]) {
+    for (fault, text) in rows {
+        let printed = there(rt, format!(in alloc; "{fault}").ok(), "memory");
+        same_text(rt, printed.as_str(), text, "the text of a fault");
     }
 }
 

@@ -2,6 +2,7 @@
 //!
 //! Each node is node 1 between nodes 2 and 3, with the destination 4. It is told to end once each of its wires has settled: it
 //! is broken, or all its datagrams have come. The wire to 3 settles first.
+use super::super::sees::same_text;
 use super::*;
 use devices::{Output, Paper, Settled, Settling, Shown, Tag};
 use hex::decode_to_slice;
@@ -307,4 +308,31 @@ fn a_node_tags_its_life_files(rt: HostRuntime) {
     same(&rt, &fault, &None, "the fault");
     same(&rt, &second.get(), &TAGS[0], "the tag for 2");
     same(&rt, &third.get(), &TAGS[1], "the tag for 3");
+}
+
+const ERRORS: &[(NodeError, &str)] = &[
+    (NodeError::Memory, "out of memory"),
+    (NodeError::Lane, "there are no lanes for so many links"),
+    (
+        NodeError::Life(2, LifeError::Spent),
+        "the life file of the link to 2: no number is left",
+    ),
+    (
+        NodeError::Wire(2),
+        "a hundred calls in a row of the wire to 2 failed",
+    ),
+    (NodeError::Output, "the output failed"),
+];
+
+/// Sees the text of each error.
+fn each_says(rt: &impl Abort, alloc: Global, rows: &[(NodeError, &str)]) {
+    for (error, text) in rows {
+        let printed = there(rt, format!(in alloc; "{error}").ok(), "memory");
+        same_text(rt, printed.as_str(), text, "the text of an error");
+    }
+}
+
+#[test]
+fn errors_say_what_they_are(rt: HostRuntime) {
+    each_says(&rt, rt.alloc(), ERRORS);
 }

@@ -7,8 +7,7 @@ use std::sync::Wait;
 use tora_arq::{Life, Reason};
 use tora_core::Core;
 use tora_lane::{InPort, Lanes, OutPuts, lanes};
-use tora_neighbour::NodeError;
-use tora_node::run_core;
+use tora_node::{NodeError, run_core};
 use tora_packet::Packet;
 use tora_seat::{CoreSeat, Status, What};
 

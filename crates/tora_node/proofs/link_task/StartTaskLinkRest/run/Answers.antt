@@ -1,7 +1,6 @@
-use Rattle.std.proofs.Common.{◌∙◌, ap, subst}
+use Rattle.std.proofs.Common.{subst}
 use Rattle.tora_arq.specs.EndRange.{LinkEndView}
 use Rattle.tora_neighbour.specs.Turns.{IsTurnRun}
-use Rattle.tora_node.specs.NodeRuns.{link_fault}
 use Rattle.tora_node.proofs.Kept.{calls_there, ends_stay}
 use Rattle.tora_node.proofs.link_task.StartTaskLinkRest.run.Goals as goal
 
@@ -18,7 +17,7 @@ returns g c =
         ending = t.2;
         after = after.link.end.state;
         runs = subst (λ (e : LinkEndView). IsTurnRun e.settings e.state t.0 t.1 t.2 after.link.end.state) c.args.self.new.new t.4;
-        fault_is = c.link_fault-fault.ensures ∙ ap link_fault t.3;
+        fault_is = t.3;
         tally_is = t.6;
       };
       called = record {

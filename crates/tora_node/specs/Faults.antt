@@ -1,7 +1,7 @@
 -- The faults of a node.
 use Rattle.std.specs.Prelude.{ℕ}
-use Rattle.tora_neighbour.specs.declared.fault.NodeError.{NodeError}
-use Rattle.tora_neighbour.specs.declared.fault.NodeError.TheVariants.{Memory, Lane, Life, Wire, Output}
+use Rattle.tora_node.specs.declared.fault.NodeError.{NodeError}
+use Rattle.tora_node.specs.declared.fault.NodeError.TheVariants.{Memory, Lane, Life, Wire, Output}
 
 abbrev pub node_error_number : NodeError → ℕ
 node_error_number Memory = 1
