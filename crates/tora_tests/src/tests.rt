@@ -5,6 +5,7 @@ mod cores;
 mod frames;
 mod heights;
 mod link_ends;
+mod link_limits;
 mod link_steps;
 mod link_turns;
 mod made;

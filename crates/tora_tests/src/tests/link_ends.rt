@@ -3,30 +3,27 @@ use super::carried::Carried::{Ack, Data, Hello, Query};
 use super::carried::Parts;
 use super::link_steps::End::{First, Second};
 use super::link_steps::Step::{
-    At, Cuts, Delivers, Gets, Hears, HearsEach, IsForeign, IsRefused, LivesIn, Opens, Rests, Sends,
-    SendsNone, Submits, SubmitsTimes, Tells, TellsNone, Ticks, Waits,
+    At, Cuts, Delivers, Gets, Hears, HearsEach, IsForeign, LivesIn, Opens, Sends, SendsNone,
+    Submits, Tells, TellsNone, Waits,
 };
 use super::link_steps::Told::{Down, Up};
-use super::link_steps::{End, LIFE, REVERSED, Refusal, Step};
-use super::link_turns::{does, ends_do, error_of, first_end};
-use super::made::query_of;
-use super::sees::{prints, same, same_at, same_text, sees};
+use super::link_steps::{End, LIFE, REVERSED, Step};
+use super::link_turns::{does, ends_do, first_end};
 use std::alloc::Global;
 use std::process::Abort;
-use std::test::Fail;
 use tora_arq::Verdict::{Accepted, Ahead, Busy, Foreign, Repeated, Stale};
-use tora_arq::{ArqError, Life, LinkEnd, Reason, Times, Verdict};
+use tora_arq::{Life, Reason};
 use tora_frame::Version;
 
 /// Does the steps at the end of node 1.
-fn first_does(rt: &impl Abort, alloc: Global, steps: &[Step]) {
+pub fn first_does(rt: &impl Abort, alloc: Global, steps: &[Step]) {
     let mut end = first_end(rt, alloc, Version::One);
     does(rt, alloc, &mut end, BOUND);
     does(rt, alloc, &mut end, steps);
 }
 
 /// Node 1's end is bound to the life {5, 9} at tick 0; its HELLO is sent and its event is polled.
-const BOUND: &[Step] = &[
+pub const BOUND: &[Step] = &[
     Hears(9, 5, Hello, Accepted),
     Tells(Up(LIFE)),
     Sends(Version::One, 5, 9, Hello),
@@ -145,58 +142,6 @@ fn newer_life_of_the_peer_ends_the_bound_one(rt: HostRuntime) {
     first_does(&rt, rt.alloc(), NEWER_LIFE);
 }
 
-/// A DATA frame is due every 5 ticks, and before it a HELLO every 10 ticks but the first.
-const UNANSWERED: &[Step] = &[
-    Submits(1, 1),
-    Ticks(0),
-    Sends(Version::One, 5, 9, Query(1)),
-    Rests(4),
-    Ticks(5),
-    Sends(Version::One, 5, 9, Query(1)),
-    Rests(9),
-    Ticks(10),
-    Sends(Version::One, 5, 9, Hello),
-    Sends(Version::One, 5, 9, Query(1)),
-    Rests(14),
-    Ticks(15),
-    Sends(Version::One, 5, 9, Query(1)),
-    Rests(19),
-    Ticks(20),
-    Sends(Version::One, 5, 9, Hello),
-    Sends(Version::One, 5, 9, Query(1)),
-    Rests(24),
-    Ticks(25),
-    Sends(Version::One, 5, 9, Query(1)),
-    Rests(29),
-    Ticks(30),
-    Sends(Version::One, 5, 9, Hello),
-    Sends(Version::One, 5, 9, Query(1)),
-    Rests(34),
-    Ticks(35),
-    Sends(Version::One, 5, 9, Query(1)),
-    Rests(39),
-    TellsNone,
-    Ticks(40),
-    Tells(Down(LIFE, Reason::Silent)),
-];
-
-#[test]
-fn unanswered_packet_is_retried_then_silent(rt: HostRuntime) {
-    first_does(&rt, rt.alloc(), UNANSWERED);
-}
-
-const UNHEARD: &[Step] = &[
-    Ticks(49),
-    TellsNone,
-    Ticks(50),
-    Tells(Down(LIFE, Reason::Silent)),
-];
-
-#[test]
-fn unheard_peer_ends_the_life(rt: HostRuntime) {
-    first_does(&rt, rt.alloc(), UNHEARD);
-}
-
 const ACKNOWLEDGED: &[Step] = &[
     Submits(1, 2),
     Hears(9, 5, Ack(1), Foreign),
@@ -275,72 +220,6 @@ fn busy_end_has_a_place_for_its_down(rt: HostRuntime) {
     first_does(&rt, rt.alloc(), BUSY);
 }
 
-const FULL: &[Step] = &[
-    IsRefused(Life { own: 5, peer: 8 }, 4, Refusal::WrongLife),
-    SubmitsTimes(256, 4),
-    IsRefused(LIFE, 4, Refusal::Full),
-    Tells(Down(LIFE, Reason::Full)),
-    IsRefused(LIFE, 4, Refusal::WrongLife),
-];
-
-#[test]
-fn full_send_queue_ends_the_life(rt: HostRuntime) {
-    first_does(&rt, rt.alloc(), FULL);
-}
-
-const CLOCK: &[Step] = &[
-    At(u64::MAX),
-    Hears(9, 5, Hello, Accepted),
-    Ticks(0),
-    SendsNone,
-    Ticks(u64::MAX),
-    LivesIn(Some(LIFE)),
-];
-
-#[test]
-fn clock_that_goes_back_counts_as_no_time(rt: HostRuntime) {
-    first_does(&rt, rt.alloc(), CLOCK);
-}
-
-/// Steps, and of ticks behind them the first at which a frame is due from each of them on, or the life ends. Of the times of the program a
-/// HELLO follows after 10 ticks, a packet once more after 5.
-const DUE: &[(&[Step], &[(u64, Option<u64>)])] = &[
-    (&[], &[(0, Some(0)), (7, Some(7))]),
-    (BOUND, &[(0, Some(10)), (9, Some(10)), (12, Some(12))]),
-    (&[Submits(1, 2)], &[(0, Some(0))]),
-    (
-        &[
-            Sends(Version::One, 5, 9, Query(1)),
-            Sends(Version::One, 5, 9, Query(2)),
-            SendsNone,
-        ],
-        &[(0, Some(5)), (6, Some(6)), (u64::MAX, Some(u64::MAX))],
-    ),
-    (&[Cuts(LIFE)], &[(0, None), (u64::MAX, None)]),
-];
-
-#[test]
-fn next_due_is_the_first_tick_with_a_frame(rt: HostRuntime) {
-    let mut end = first_end(&rt, rt.alloc(), Version::One);
-    for (steps, rows) in DUE {
-        does(&rt, rt.alloc(), &mut end, steps);
-        for (now, wanted) in *rows {
-            same_at(&rt, &end.next_due(*now), wanted, "the tick", now);
-        }
-    }
-}
-
-#[test]
-fn an_end_is_printed(rt: HostRuntime) -> Result<(), Fail> {
-    let end = first_end(&rt, rt.alloc(), Version::One);
-    let text = format!(in rt.alloc(); "{end:?}")?;
-    let start = "LinkEnd { settings: Settings { version: One, me: 1, peer: 2,";
-    sees(&rt, text.as_str().starts_with(start), "the end's text");
-    let words = format!(in rt.alloc(); "{} {}", Reason::NewPeer, Verdict::Ahead)?;
-    same_text(&rt, words.as_str(), "new peer ahead", "the words");
-    Ok(())
-}
-
 /// In two turns each end sends all its frames to the other.
 const EXAMPLE: &[(End, Step)] = &[
     (First, Sends(Version::One, 5, 0, Hello)),
@@ -359,62 +238,4 @@ const EXAMPLE: &[(End, Step)] = &[
 #[test]
 fn example_of_the_documentation(rt: HostRuntime) {
     ends_do(&rt, rt.alloc(), Version::One, &[EXAMPLE]);
-}
-
-/// An end that was made takes no memory any more: a life is opened and bound, packets wait until the queue is full, and the
-/// life ends.
-const LIVES: &[Step] = &[
-    Waits(0),
-    Opens(5),
-    Hears(9, 5, Hello, Accepted),
-    Tells(Up(LIFE)),
-    Submits(1, 256),
-    Hears(9, 5, Query(32), Ahead),
-    Waits(256),
-    IsRefused(LIFE, 257, Refusal::Full),
-    Tells(Down(LIFE, Reason::Full)),
-];
-
-/// An end is made and lives, or there is no memory for it.
-fn lives(rt: &impl Abort, alloc: Global, made: Result<LinkEnd, ArqError>) {
-    match made {
-        Err(error) => same(rt, &error, &ArqError::Memory, "the error"),
-        Ok(mut end) => {
-            same(rt, &(end.me(), end.peer()), &(1, 2), "the nodes");
-            does(rt, alloc, &mut end, LIVES);
-        }
-    }
-}
-
-// With each request for memory refused in turn: a refusal is answered by Memory, and leaves nothing that stops the next end
-// from being made; an end that is made lives without memory.
-#[test]
-fn want_of_memory_is_answered(rt: HostRuntime) {
-    for _ in 0..2 {
-        lives(
-            &rt,
-            rt.alloc(),
-            LinkEnd::new(rt.alloc(), 1, 2, Times::STANDARD),
-        );
-        lives(
-            &rt,
-            rt.alloc(),
-            LinkEnd::new_v1(rt.alloc(), 1, 2, Times::STANDARD),
-        );
-    }
-}
-
-const CAUSES: &[(Refusal, &str)] = &[
-    (Refusal::WrongLife, "the life is not the bound one"),
-    (Refusal::Full, "the send queue is full"),
-    (Refusal::Spent, "the numbers of packets are used up"),
-];
-
-#[test]
-fn errors_are_printed_with_their_cause(rt: HostRuntime) {
-    for (refusal, text) in CAUSES {
-        let error = error_of(*refusal, query_of(&rt, 4));
-        prints(&rt, rt.alloc(), &error, text);
-    }
-    prints(&rt, rt.alloc(), &ArqError::Memory, "out of memory");
 }
