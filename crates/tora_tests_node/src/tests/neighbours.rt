@@ -18,6 +18,7 @@ use tora_neighbour::*;
 
 mod datagrams;
 mod documented;
+mod life_files;
 mod runs;
 mod sockets;
 
