@@ -8,6 +8,7 @@ use Rattle.tora_arq.specs.declared.LinkEvent.{LinkEvent}
 use Rattle.tora_arq.specs.LinkEnd.{EndState, bound_life, after_tick}
 use Rattle.tora_arq.specs.LinkFacts.{list_of}
 use Rattle.tora_arq.specs.EndRange.{LinkEndView, link_end_of}
+use Rattle.tora_seat.specs.declared.TheConstants.{MOST_CARGOES}
 use Rattle.tora_seat.specs.declared.Cargo.{Cargo}
 use Rattle.tora_neighbour.specs.declared.ending.BrokenAt.{BrokenAt}
 use Rattle.tora_neighbour.specs.declared.ending.BrokenAt.TheVariants.{Send, Receive}
@@ -42,7 +43,7 @@ traffic_of o n t drawn puts takes tells tries came = record {
   came = λ yes. subst (λ (fs : List Reading). Came o.coming fs n.coming) (sym (append-nil (list_of t.came))) (came yes);
 }
 
-module _ (v one : LinkEndView) (now : ℕ) (opened : Option ℕ) (cargoes : List Cargo) (opening : IsOpening v.state opened) (most : length cargoes ≤ 256)
+module _ (v one : LinkEndView) (now : ℕ) (opened : Option ℕ) (cargoes : List Cargo) (opening : IsOpening v.state opened) (most : length cargoes ≤ MOST_CARGOES)
     (begun : one ≡ link_end_of v.settings (after_cargoes (after_tick v.settings (after_opening v.state opened now) now) cargoes)) where
   pub whole_turn : (frames : List FrameParts) (answers : List (Result (Unit {0}) WireError)) (answer : Option (Result (Option ℕ) WireError)) (came : Option Reading) (intake : Option Intake) (two after : EndState) (told : List LinkEvent) (beat : Bool)
       → IsExchange one.settings one.state now frames came intake (Ok tt) two

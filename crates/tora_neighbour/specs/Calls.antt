@@ -4,6 +4,7 @@ use Rattle.tora_frame.specs.FrameParts.{FrameParts}
 use Rattle.tora_frame.specs.FrameGrammar.{frame_spelling}
 use Rattle.tora_arq.specs.declared.LinkEvent.{LinkEvent}
 use Rattle.tora_seat.specs.declared.Cargo.{Cargo}
+use Rattle.tora_seat.specs.declared.TheConstants.{MOST_CARGOES}
 use Rattle.tora_seat.specs.declared.What.{What}
 use Rattle.tora_seat.specs.declared.What.TheVariants as Says
 use Rattle.tora_lane.specs.declared.ports.Gone.{Gone}
@@ -20,9 +21,9 @@ abbrev pub TakesSome : {H : Type 0} → (H → Option Cargo → H → Type 0) �
 TakesSome take h [] after = after ≡ h
 TakesSome {H = H} take h (cargo ∷ cargoes) after = (between : H) × take h (Some cargo) between × TakesSome take between cargoes after
 
--- until none is there, or 256 were taken
+-- until none is there, or as many were taken as a lane holds
 abbrev pub TakesAll : {H : Type 0} → (H → Option Cargo → H → Type 0) → H → List Cargo → H → Type 0
-TakesAll {H = H} take h cargoes after = (between : H) × TakesSome take h cargoes between × (take between None after ⊎ ((length cargoes ≡ 256) × (after ≡ between)))
+TakesAll {H = H} take h cargoes after = (between : H) × TakesSome take h cargoes between × (take between None after ⊎ ((length cargoes ≡ MOST_CARGOES) × (after ≡ between)))
 
 -- these frames are sent, one after another, with these answers
 abbrev pub SendsSome : {W : Type 0} → (W → List ℕ → Result (Unit {0}) WireError → W → Type 0) → W → List FrameParts → List (Result (Unit {0}) WireError) → W → Type 0

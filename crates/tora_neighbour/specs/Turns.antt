@@ -15,6 +15,7 @@ use Rattle.tora_neighbour.specs.declared.ending.Ending.{Ending}
 use Rattle.tora_neighbour.specs.declared.ending.Ending.TheVariants.{NoNumber, Broken, Refused}
 use Rattle.tora_neighbour.specs.declared.ending.BrokenAt.TheVariants.{Send, Receive}
 use Rattle.tora_seat.specs.declared.Cargo.{Cargo}
+use Rattle.tora_seat.specs.declared.TheConstants.{MOST_CARGOES}
 use Rattle.tora_seat.specs.Between.{after_cargo, after_cut_of_bound}
 
 -- A turn, which has one tick: what came to the link end in it, and what the end gave.
@@ -81,7 +82,7 @@ AreDue s e now (frame ∷ frames) = (frame_due s e now ≡ Some frame) × AreDue
 -- up to the last cargo and the last frame that the turn came to
 pub record Begins (s : Settings) (e : EndState) (t : Turn) : Type 0 where
   pub opening : IsOpening e t.opened
-  pub most : length t.cargoes ≤ 256
+  pub most : length t.cargoes ≤ MOST_CARGOES
   pub due : AreDue s (when_served s e t) t.now t.sent
 
 -- the events that wait are told one after another, all of them or up to one that is refused

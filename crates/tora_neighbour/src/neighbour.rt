@@ -37,8 +37,8 @@ fn fault_of(ending: Ending) -> Option<LinkFault>
 /// In each turn, with one tick of 100 ms, it
 /// 1. draws a number for a closed end, and opens it;
 /// 2. hands the tick to the end;
-/// 3. takes the cargoes that wait, at most 256, and submits or cuts each in its own life (a packet of another life than the
-///    bound one is dropped);
+/// 3. takes the cargoes that wait, at most as many as a lane holds, and submits or cuts each in its own life (a packet of
+///    another life than the bound one is dropped);
 /// 4. sends each frame that is due, until none is;
 /// 5. receives once, and takes in the datagram that came, if one did;
 /// 6. puts each event of the end;

@@ -25,10 +25,7 @@ use tora_arq::LinkEnd;
 use tora_frame::{LONGEST_FRAME, Packets, encode_into};
 use tora_lane::Gone;
 use tora_life::{Disk, LifeError, LifeFile};
-use tora_seat::{hand_in, what_of};
-
-/// The most cargoes that a turn takes.
-pub const MOST_CARGOES: usize = 256;
+use tora_seat::{MOST_CARGOES, hand_in, what_of};
 
 /// The most bytes of a datagram that are received. No frame is longer.
 pub const MOST_BYTES: usize = 2048;
@@ -69,9 +66,9 @@ pub fn open_closed<D: Disk>(
     }
 }
 
-/// Takes the cargoes that wait, at most 256.
+/// Takes the cargoes that wait, at most as many as a lane holds (`MOST_CARGOES`).
 pub fn take_cargoes<R: Wait, H: Hub>(rt: &R, end: &mut LinkEnd, hub: &mut H)
-    ensures taken { (cargoes : List Cargo) × (length cargoes ≤ 256) × (end.new ≡ record end.old { state = after_cargoes end.old.state cargoes }) × (H.takes hub.new ≡ H.takes hub.old ++ cargoes) × TakesAll H.did_take hub.old cargoes hub.new }
+    ensures taken { (cargoes : List Cargo) × (length cargoes ≤ MOST_CARGOES) × (end.new ≡ record end.old { state = after_cargoes end.old.state cargoes }) × (H.takes hub.new ≡ H.takes hub.old ++ cargoes) × TakesAll H.did_take hub.old cargoes hub.new }
     ensures puts { H.puts hub.new ≡ H.puts hub.old }
     ensures gone { H.gone hub.new ≡ H.gone hub.old }
 {

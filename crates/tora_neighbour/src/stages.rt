@@ -7,6 +7,7 @@ ghost use Rattle.tora_arq.specs.LinkEnd.{is_closed, bound_life, after_tick};
 ghost use Rattle.tora_arq.specs.LinkFacts.{list_of};
 ghost use Rattle.tora_seat.specs.declared.Cargo.{Cargo};
 ghost use Rattle.tora_seat.specs.declared.What.TheVariants as Says;
+ghost use Rattle.tora_seat.specs.declared.TheConstants.{MOST_CARGOES};
 ghost use Rattle.tora_lane.specs.declared.ports.Gone.{Gone as AnyGone};
 ghost use Rattle.tora_neighbour.specs.Datagrams.{RoseBy};
 ghost use Rattle.tora_neighbour.specs.declared.wire.WireError.{WireError};
@@ -44,7 +45,7 @@ pub fn begin<R: Wait, D: Disk, H: Hub>(
     requires { IsReady end.old.state file.old.numbers }
     ensures puts { H.puts hub.new ≡ H.puts hub.old }
     ensures ready { OnOk result (IsReady end.new.state file.new.numbers) }
-    ensures begun { OnOk result ((opened : Option ℕ) × (cargoes : List Cargo) × IsOpening end.old.state opened × (length cargoes ≤ 256) × (end.new ≡ record end.old { state = after_cargoes (after_tick end.old.settings (after_opening end.old.state opened now) now) cargoes }) × AreDrawn file.old.numbers.drawn (list_of opened) file.new.numbers.drawn × (H.takes hub.new ≡ H.takes hub.old ++ cargoes) × TakesAll H.did_take hub.old cargoes hub.new) }
+    ensures begun { OnOk result ((opened : Option ℕ) × (cargoes : List Cargo) × IsOpening end.old.state opened × (length cargoes ≤ MOST_CARGOES) × (end.new ≡ record end.old { state = after_cargoes (after_tick end.old.settings (after_opening end.old.state opened now) now) cargoes }) × AreDrawn file.old.numbers.drawn (list_of opened) file.new.numbers.drawn × (H.takes hub.new ≡ H.takes hub.old ++ cargoes) × TakesAll H.did_take hub.old cargoes hub.new) }
     ensures failed { OnOk result (file.new.numbers.failed ≡ file.old.numbers.failed) }
     ensures disk { OnOk result (D.failures file.new.disk ≡ D.failures file.old.disk) }
     ensures closed { OnErr result (IsTrue (is_closed end.old.state)) }

@@ -2,6 +2,7 @@
 use Rattle.std.specs.Prelude.{◌≡◌, ◌⊎◌, ℕ, ◌<◌, ◌==◌, Bool, List, [], ◌∷◌, length, slice_get, Option, Some, None, option_and_then}
 use Rattle.std.specs.List.{position}
 use Rattle.tora_core.specs.CoreRun.{CoreView, core_after_all}
+use Rattle.tora_lane.specs.declared.limits.TheConstants.{MOST_LINKS}
 use Rattle.tora_node.specs.declared.fault.NodeError.{NodeError}
 use Rattle.tora_node.specs.declared.fault.NodeError.TheVariants as Fault
 use Rattle.tora_neighbour.specs.declared.tally.Tally.{Tally}
@@ -60,7 +61,7 @@ IsNeighbour neighbours peer = (place : ℕ) × (slice_get neighbours place ≡ S
 -- a fault of a node with these neighbours; Lane only where there are none or more than lanes are made for
 abbrev pub IsNodeFault : List ℕ → NodeError → Type 0
 IsNodeFault neighbours Fault.Memory = Unit {0}
-IsNodeFault neighbours Fault.Lane = (length neighbours ≡ 0) ⊎ (32 < length neighbours)
+IsNodeFault neighbours Fault.Lane = (length neighbours ≡ 0) ⊎ (MOST_LINKS < length neighbours)
 IsNodeFault neighbours (Fault.Life peer error) = IsNeighbour neighbours peer
 IsNodeFault neighbours (Fault.Wire peer) = IsNeighbour neighbours peer
 IsNodeFault neighbours Fault.Output = Unit {0}
