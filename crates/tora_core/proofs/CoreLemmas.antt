@@ -14,11 +14,13 @@ use Rattle.tora_core.specs.declared.errors.CoreError.{CoreError}
 use Rattle.tora_core.specs.declared.errors.CoreError.TheVariants as Refusal
 use Rattle.tora_core.specs.declared.Input.{Input}
 use Rattle.tora_core.specs.declared.Input.TheVariants as In
-use Rattle.tora_core.specs.declared.TheConstants.{MOST_DESTINATIONS, MOST_NEIGHBOURS}
+use Rattle.tora_core.specs.declared.TheConstants.{GREATEST_NEIGHBOURS, MOST_DESTINATIONS}
+use Rattle.tora_core.specs.declared.limits.CoreLimits.{CoreLimits}
+use Rattle.tora_core.specs.Limits.{at_most, most_destinations, most_neighbours}
 use Rattle.tora_core.specs.Numbers.{has_number, ascending, has_repeat, IsAscending}
 use Rattle.tora_core.specs.View.{View, first_view, neighbours_of}
 use Rattle.tora_core.specs.Rules.{view_after}
-use Rattle.tora_core.specs.CoreRun.{CoreView, core_refusal, first_core, is_from, refusal_of, concerns, next_view, up_after, core_taking, core_after, core_after_all}
+use Rattle.tora_core.specs.CoreRun.{CoreView, core_refusal_within, first_core, is_from, refusal_of, concerns, next_view, up_after, core_taking, core_after, core_after_all}
 use Rattle.tora_core.specs.Table.{HaveRoom, TableView, views_in}
 use Rattle.tora_core.specs.Kept.{IsKept, IsPacketOf, CanTake, IsNeighbour, IsPart, IsViewOf, destinations_of, IsCore, IsInput, AreInputs}
 use Rattle.tora_core.proofs.RowLemmas.{all-weaker}
@@ -74,7 +76,7 @@ all-roomy me room up (t ∷ table) fewer is have =
     (omega arith, all-roomy me room up table fewer is.1 have.1)
 
 -- there is room for a link that comes up
-pub room-up : (c : CoreView) (k : ℕ) → IsCore c → refusal_of c (In.LinkUp k) ≡ None → length c.up < MOST_NEIGHBOURS
+pub room-up : (c : CoreView) (k : ℕ) → IsCore c → refusal_of c (In.LinkUp k) ≡ None → length c.up < GREATEST_NEIGHBOURS
 room-up c k core free =
     let is = free-up c k free in
     let shorter = part-shorter k c.up c.neighbours core.up is.0 is.1 in
@@ -88,7 +90,7 @@ can-take c (In.LinkUp k) core ok free v is =
     let name : IsNeighbour c.me k = all-has (IsNeighbour c.me) k c.neighbours core.neighbours here.0 in
     let P : List ℕ → Type 0 = λ ns. AllByRecursion (λ (n : ℕ). n ≢ k) ns in
     let none = rows-apart k v.rows (subst P (sym is.neighbours) (all-other k c.up here.1)) in
-    let few : length v.rows < MOST_NEIGHBOURS = let r = room-up c k core free in let e = length-neighbours_of v.rows in let g = ap length is.neighbours in omega arith in
+    let few : length v.rows < GREATEST_NEIGHBOURS = let r = room-up c k core free in let e = length-neighbours_of v.rows in let g = ap length is.neighbours in omega arith in
     record { kept = is.kept; may = λ _. ((name.0, (λ (e : k ≡ v.me). name.1 (e ∙ is.owner)), none), (name.0, few)) }
 can-take c (In.LinkDown k) core ok free v is = record { kept = is.kept; may = λ _. (tt, tt) }
 can-take c (In.Packet k p) core ok free v is =
@@ -178,21 +180,36 @@ not-refused : (b : Bool) (e : CoreError) (o : Option CoreError) → (if b then S
 not-refused true e o h = absurd cc
 not-refused false e o h = (refl, h)
 
-pub few-neighbours : (me : ℕ) (neighbours destinations : List ℕ) → core_refusal me neighbours destinations ≡ None → length neighbours ≤ MOST_NEIGHBOURS
-few-neighbours me neighbours destinations free =
-    let many = nat_lt MOST_NEIGHBOURS (length neighbours) in
-    let one = not-refused (many || nat_lt MOST_DESTINATIONS (length destinations)) Refusal.TooMany _ free in
-    let t = or-false-left many (nat_lt MOST_DESTINATIONS (length destinations)) one.0 in
-    grind (arith, nat_tests)
+-- a count that is not above a limit is not above the greatest
+within-greatest : (greatest limit count : ℕ) → nat_lt (at_most greatest limit) count ≡ false → count ≤ greatest
+within-greatest greatest limit count few = go (nat_lt limit greatest) refl few
+  where
+    go : (b : Bool) → nat_lt limit greatest ≡ b → nat_lt (if b then limit else greatest) count ≡ false → count ≤ greatest
+    go true less e = grind (arith, nat_tests)
+    go false more e = grind (arith, nat_tests)
 
-pub first_core-kept : (me : ℕ) (neighbours destinations : List ℕ) → IsId me → AllByRecursion IsId neighbours → AllByRecursion IsId destinations → core_refusal me neighbours destinations ≡ None → IsCore (first_core me neighbours destinations)
-first_core-kept me neighbours destinations id ids tos free =
-    let many = nat_lt MOST_NEIGHBOURS (length neighbours) in
-    let one = not-refused (many || nat_lt MOST_DESTINATIONS (length destinations)) Refusal.TooMany _ free in
+pub few-neighbours : (limits : CoreLimits) (me : ℕ) (neighbours destinations : List ℕ)
+    → core_refusal_within (most_neighbours limits) (most_destinations limits) me neighbours destinations ≡ None → length neighbours ≤ GREATEST_NEIGHBOURS
+few-neighbours limits me neighbours destinations free =
+    let many = nat_lt (most_neighbours limits) (length neighbours) in
+    let one = not-refused (many || nat_lt (most_destinations limits) (length destinations)) Refusal.TooMany _ free in
+    within-greatest GREATEST_NEIGHBOURS limits.neighbours (length neighbours) (or-false-left many (nat_lt (most_destinations limits) (length destinations)) one.0)
+
+pub few-destinations : (limits : CoreLimits) (me : ℕ) (neighbours destinations : List ℕ)
+    → core_refusal_within (most_neighbours limits) (most_destinations limits) me neighbours destinations ≡ None → length destinations ≤ MOST_DESTINATIONS
+few-destinations limits me neighbours destinations free =
+    let many = nat_lt (most_neighbours limits) (length neighbours) in
+    let one = not-refused (many || nat_lt (most_destinations limits) (length destinations)) Refusal.TooMany _ free in
+    within-greatest MOST_DESTINATIONS limits.destinations (length destinations) (or-false-right many (nat_lt (most_destinations limits) (length destinations)) one.0)
+
+pub first_core-kept : (limits : CoreLimits) (me : ℕ) (neighbours destinations : List ℕ) → IsId me → AllByRecursion IsId neighbours → AllByRecursion IsId destinations
+    → core_refusal_within (most_neighbours limits) (most_destinations limits) me neighbours destinations ≡ None → IsCore (first_core me neighbours destinations)
+first_core-kept limits me neighbours destinations id ids tos free =
+    let one = not-refused (nat_lt (most_neighbours limits) (length neighbours) || nat_lt (most_destinations limits) (length destinations)) Refusal.TooMany _ free in
     let two = not-refused (has_repeat neighbours || has_repeat destinations) Refusal.Repeated _ one.1 in
     let three = not-refused (has_number me neighbours) Refusal.OwnId None two.1 in
-    let few_neighbours : length neighbours ≤ MOST_NEIGHBOURS = let t = or-false-left many (nat_lt MOST_DESTINATIONS (length destinations)) one.0 in grind (arith, nat_tests) in
-    let few_views : length destinations ≤ MOST_DESTINATIONS = let t = or-false-right many (nat_lt MOST_DESTINATIONS (length destinations)) one.0 in grind (arith, nat_tests) in
+    let few_neighbours = few-neighbours limits me neighbours destinations free in
+    let few_views = few-destinations limits me neighbours destinations free in
     record {
       me = id;
       neighbours = all-ascending (IsNeighbour me) neighbours (both IsId (λ (k : ℕ). k ≢ me) neighbours ids (all-other me neighbours three.0));

@@ -6,6 +6,7 @@ pub mod KeptFront
 pub mod KeptLemmas
 pub mod Broadcasts
 pub mod NumberLemmas
+pub mod NumberPlaces
 pub mod OwnViews
 pub mod CoreLemmas
 pub mod SendsSteps

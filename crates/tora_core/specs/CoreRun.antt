@@ -25,13 +25,17 @@ pub record CoreView : Type 0 where
 
 -- ---- a new core
 
--- why a core is refused: the first cause that holds
-abbrev pub core_refusal : ℕ → List ℕ → List ℕ → Option CoreError
-core_refusal me neighbours destinations =
-    if nat_lt MOST_NEIGHBOURS (length neighbours) || nat_lt MOST_DESTINATIONS (length destinations) then Some Refusal.TooMany
+-- why a core is refused that may have so many neighbours and so many destinations: the first cause that holds
+abbrev pub core_refusal_within : ℕ → ℕ → ℕ → List ℕ → List ℕ → Option CoreError
+core_refusal_within most_neighbours most_destinations me neighbours destinations =
+    if nat_lt most_neighbours (length neighbours) || nat_lt most_destinations (length destinations) then Some Refusal.TooMany
     else if has_repeat neighbours || has_repeat destinations then Some Refusal.Repeated
     else if has_number me neighbours then Some Refusal.OwnId
     else None
+
+-- why a core is refused within the standard limits
+abbrev pub core_refusal : ℕ → List ℕ → List ℕ → Option CoreError
+core_refusal me neighbours destinations = core_refusal_within MOST_NEIGHBOURS MOST_DESTINATIONS me neighbours destinations
 
 abbrev pub first_core : ℕ → List ℕ → List ℕ → CoreView
 first_core me neighbours destinations = record {

@@ -11,7 +11,7 @@ use Rattle.tora_core.specs.declared.Input.TheVariants as In
 use Rattle.tora_core.specs.declared.rows.Row.{Row}
 use Rattle.tora_core.specs.declared.destination.Broadcast.{Broadcast}
 use Rattle.tora_core.specs.declared.destination.Broadcast.TheVariants as Tell
-use Rattle.tora_core.specs.declared.TheConstants.{MOST_DESTINATIONS, MOST_NEIGHBOURS}
+use Rattle.tora_core.specs.declared.TheConstants.{GREATEST_NEIGHBOURS, MOST_DESTINATIONS}
 use Rattle.tora_core.specs.Numbers.{IsAscending, has_number}
 use Rattle.tora_core.specs.View.{View, up_neighbours, known_heights, has_downstream}
 use Rattle.tora_core.specs.Rules.{Outcome}
@@ -61,7 +61,7 @@ MayCome v (In.Packet k packet) = IsPacketOf k v.destination packet
 -- there is room for one more neighbour
 abbrev pub HasRoom : View → Input → Type 0
 HasRoom v (In.Need d) = Unit {0}
-HasRoom v (In.LinkUp k) = IsId k × (length v.rows < MOST_NEIGHBOURS)
+HasRoom v (In.LinkUp k) = IsId k × (length v.rows < GREATEST_NEIGHBOURS)
 HasRoom v (In.LinkDown k) = Unit {0}
 HasRoom v (In.Packet k packet) = Unit {0}
 
@@ -123,7 +123,7 @@ destinations_of views = map (λ v. v.destination) views
 pub record IsCore (c : CoreView) : Type 0 where
   pub me : IsId c.me
   pub neighbours : AllByRecursion (IsNeighbour c.me) c.neighbours
-  pub few_neighbours : length c.neighbours ≤ MOST_NEIGHBOURS
+  pub few_neighbours : length c.neighbours ≤ GREATEST_NEIGHBOURS
   pub ascending_neighbours : IsAscending c.neighbours
   pub up : IsPart c.up c.neighbours
   pub views : AllByRecursion (IsViewOf c.me c.up) c.views

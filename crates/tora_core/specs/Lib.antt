@@ -2,6 +2,7 @@ pub mod Errors
 pub mod Numbers
 pub mod View
 pub mod Links
+pub mod Limits
 pub mod Heights
 pub mod Rules
 pub mod CoreRun

@@ -11,7 +11,7 @@ ghost use Rattle.tora_core.specs.declared.Input.{Input};
 ghost use Rattle.tora_core.specs.Kept.{IsKept, MakesPacket, MayCome};
 ghost use Rattle.tora_core.specs.Rules.{packet_of, packet_sent, view_after};
 
-use crate::MOST_NEIGHBOURS;
+use crate::GREATEST_NEIGHBOURS;
 use crate::links::Links;
 use crate::rows::{Row, entry_of};
 use std::alloc::{AllocError, Global};
@@ -68,7 +68,7 @@ impl Destination {
     ) -> Result<Destination, AllocError>
         requires me { 0 < me }
         requires destination { 0 < destination }
-        requires room { room ≤ MOST_NEIGHBOURS }
+        requires room { room ≤ GREATEST_NEIGHBOURS }
         ensures { IfOk result (λ first. first ≡ first_in room me destination) }
     {
         let own = if me == destination {

@@ -10,7 +10,8 @@ use thiserror::Error;
 pub enum CoreError {
     /// There is not enough memory.
     Memory,
-    /// There are more than `MOST_NEIGHBOURS` neighbours or more than `MOST_DESTINATIONS` destinations.
+    /// There are more than `MOST_NEIGHBOURS` neighbours or more than `MOST_DESTINATIONS` destinations, or more than the limits
+    /// allow that were given.
     TooMany,
     /// A neighbour or a destination is named twice.
     Repeated,

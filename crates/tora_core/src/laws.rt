@@ -5,7 +5,9 @@ ghost use Rattle.tora_packet.specs.PacketParts.{IsId};
 ghost use Rattle.tora_core.specs.declared.Input.{Input};
 ghost use Rattle.tora_core.specs.View.{View, first_view};
 ghost use Rattle.tora_core.specs.Rules.{outcome_of};
-ghost use Rattle.tora_core.specs.CoreRun.{core_after_all, core_refusal, first_core};
+ghost use Rattle.tora_core.specs.CoreRun.{core_after_all, core_refusal_within, first_core};
+ghost use Rattle.tora_core.specs.Limits.{most_destinations, most_neighbours};
+ghost use Rattle.tora_core.specs.declared.limits.CoreLimits.{CoreLimits};
 ghost use Rattle.tora_core.specs.Kept.{AreInputs, IsCore, IsKept, IsKeptOutcome, MayCome};
 
 /// Whatever comes in, a view keeps its laws: a route is required only where the height and every entry are NULL, and a
@@ -17,8 +19,8 @@ pub fn rules_are_kept()
 {}
 
 /// Every view of a core keeps the laws, over every run of inputs from the first core on, of any length, with any ticks,
-/// whatever is refused on the way.
+/// whatever is refused on the way, within whatever limits the core was made.
 pub fn runs_are_kept()
-    ensures { (me : ℕ) (neighbours destinations : List ℕ) (inputs : List (Input × ℕ)) → IsId me → AllByRecursion IsId neighbours → AllByRecursion IsId destinations
-        → core_refusal me neighbours destinations ≡ None → AreInputs inputs → IsCore (core_after_all (first_core me neighbours destinations) inputs) }
+    ensures { (limits : CoreLimits) (me : ℕ) (neighbours destinations : List ℕ) (inputs : List (Input × ℕ)) → IsId me → AllByRecursion IsId neighbours → AllByRecursion IsId destinations
+        → core_refusal_within (most_neighbours limits) (most_destinations limits) me neighbours destinations ≡ None → AreInputs inputs → IsCore (core_after_all (first_core me neighbours destinations) inputs) }
 {}

@@ -4,6 +4,7 @@
 //! heights that its neighbours told. It takes inputs, each with the tick of 100 ms at which it came, and answers the
 //! packets that go to every neighbour whose link is up (Park and Corson 1997, section 3; where a query is answered and
 //! which entries a clear takes are this project's own profile). Only a new core and its text take memory.
+//! A core has at most 32 neighbours, or up to 255 for who asks for them (`Core::with_limits`), and 64 destinations.
 //!
 //! ```rust
 //! let mut core = Core::new(alloc, 3, &[2, 4], &[4])?;
@@ -22,6 +23,7 @@ mod errors;
 mod facts;
 mod laws;
 mod levels;
+mod limits;
 mod links;
 mod node;
 pub mod numbers;
@@ -29,6 +31,7 @@ mod reactions;
 mod relation;
 mod rows;
 mod show;
+mod sorted_lists;
 mod table;
 
 use arrayvec::ArrayVec;
@@ -42,6 +45,7 @@ pub use facts::{
     other_views_stay, sends_ascend, tables_stay, up_links_are_of_neighbours,
 };
 pub use laws::{rules_are_kept, runs_are_kept};
+pub use limits::CoreLimits;
 pub use node::Core;
 pub use relation::{
     accepted_inputs_react, rules_are_the_relation, words_are_computed, worked_rows_hold,
@@ -50,8 +54,11 @@ use std::fmt;
 use tora_height::Id;
 use tora_packet::Packet;
 
-/// The most neighbours of a node. Own profile.
+/// The most neighbours of a node within the standard limits. Own profile.
 pub const MOST_NEIGHBOURS: usize = 32;
+
+/// The most neighbours of a node within any limits. Own profile.
+pub const GREATEST_NEIGHBOURS: usize = 255;
 
 /// The most destinations of a table. Own profile.
 pub const MOST_DESTINATIONS: usize = 64;

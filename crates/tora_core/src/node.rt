@@ -1,19 +1,20 @@
 //! The core of a node.
-ghost use Rattle.std.specs.Prelude.{◌≡◌, ◌==◌, ◌<◌, ℕ, All, find, IfErr, IfNone, IfOk, MatchOption, None, OnErr, [], OnOk, option_copied, option_map, IsOk, string_bytes};
-ghost use Rattle.tora_core.specs.CoreRun.{downstream_of, link_fault, core_after, core_refusal, entry_of, first_core, flag_of, has_destination, height_of, hop_of, refusal_of, sends_of, view_of};
+ghost use Rattle.std.specs.Prelude.{◌≡◌, ◌==◌, ◌<◌, ◌≤◌, length, ℕ, All, find, IfErr, IfNone, IfOk, MatchOption, None, OnErr, [], OnOk, option_copied, option_map, IsOk, string_bytes};
+ghost use Rattle.tora_core.specs.CoreRun.{downstream_of, link_fault, core_after, core_refusal, core_refusal_within, entry_of, first_core, flag_of, has_destination, height_of, hop_of, refusal_of, sends_of, view_of};
+ghost use Rattle.tora_core.specs.Limits.{most_destinations, most_neighbours};
 ghost use Rattle.tora_core.specs.Numbers.{has_number};
 ghost use Rattle.tora_core.specs.Kept.{IsCore, IsInput, destinations_of};
 ghost use Rattle.tora_core.specs.ShowText.{show_text};
-ghost use Rattle.tora_core.specs.CoreRun.{is_from, up_after};
-ghost use Rattle.arrayvec.specs.ArrayVec.{array_vec_len};
+ghost use Rattle.tora_core.specs.CoreRun.{is_from};
 ghost use Rattle.tora_packet.specs.AnyPacket.{IsPacket};
 
 use crate::destination::Destination;
 use crate::errors::{CoreError, StepError};
-use crate::numbers::{ascending, has_number, has_repeat, insert_number, remove_number};
+use crate::numbers::{ascending, has_number, has_repeat};
 use crate::show::text_of;
+use crate::sorted_lists::{note, sorted};
 use crate::table::{first_views, step};
-use crate::{Input, MOST_DESTINATIONS, MOST_NEIGHBOURS, Sends};
+use crate::{CoreLimits, GREATEST_NEIGHBOURS, Input, MOST_DESTINATIONS, Sends};
 use arrayvec::ArrayVec;
 use std::alloc::Global;
 use std::marker::Model;
@@ -28,14 +29,14 @@ use tora_packet::Packet;
 #[derive(Debug, Drop)]
 pub struct Core {
     me: Id,
-    neighbours: ArrayVec<Id, MOST_NEIGHBOURS>,
-    up: ArrayVec<Id, MOST_NEIGHBOURS>,
+    neighbours: Vec<Id>,
+    up: Vec<Id>,
     destinations: ArrayVec<Id, MOST_DESTINATIONS>,
     views: Vec<Destination>,
 }
 
 impl Model for Core {
-    ghost use Rattle.std.specs.Prelude.{◌≡◌, length};
+    ghost use Rattle.std.specs.Prelude.{◌≡◌, ◌≤◌, length, vec_capacity};
     ghost use Rattle.tora_core.specs.CoreRun.{CoreView};
     ghost use Rattle.tora_core.specs.Kept.{IsCore, destinations_of};
     ghost use Rattle.tora_core.specs.Table.{HaveRoom, views_in};
@@ -45,7 +46,7 @@ impl Model for Core {
     ghost view = { λ c. record { me = c.me; neighbours = c.neighbours.items; up = c.up.items; views = views_in c.views.items } };
 
     ghost invariant = { λ c. IsCore (record { me = c.me; neighbours = c.neighbours.items; up = c.up.items; views = views_in c.views.items })
-        × (c.destinations.items ≡ destinations_of (views_in c.views.items)) × HaveRoom (length c.neighbours.items) c.views.items };
+        × ((c.destinations.items ≡ destinations_of (views_in c.views.items)) × (length c.neighbours.items ≤ vec_capacity c.up)) × HaveRoom (length c.neighbours.items) c.views.items };
 }
 
 impl Core {
@@ -72,17 +73,48 @@ impl Core {
             (IfErr result (λ e. e ≡ CoreError.Memory)) (λ e. result ≡ Err e) }
         ensures memory { result ≡ Err CoreError.Memory → core_refusal me neighbours.now destinations.now ≡ None }
     {
-        if let Some(error) = core_refusal(me, neighbours, destinations) {
+        Core::with_limits(alloc, CoreLimits::STANDARD, me, neighbours, destinations)
+    }
+
+    /// The core of a node, as `new` makes it, but within these limits.
+    ///
+    /// # Errors
+    /// In this order: `TooMany` where there are more neighbours or more destinations than the limits allow, `Repeated` within
+    /// one list, `OwnId` where `me` is among the neighbours, `Memory`.
+    pub fn with_limits(
+        alloc: Global,
+        limits: CoreLimits,
+        me: Id,
+        neighbours: &[Id],
+        destinations: &[Id],
+    ) -> Result<Core, CoreError>
+        requires me { 0 < me }
+        requires neighbours { All (λ k. 0 < k) neighbours.now }
+        requires destinations { All (λ d. 0 < d) destinations.now }
+        ensures value { IfOk result (λ core. core ≡ first_core me neighbours.now destinations.now) }
+        ensures accepted { OnOk result (core_refusal_within (most_neighbours limits) (most_destinations limits) me neighbours.now destinations.now ≡ None) }
+        ensures refused { MatchOption (core_refusal_within (most_neighbours limits) (most_destinations limits) me neighbours.now destinations.now)
+            (IfErr result (λ e. e ≡ CoreError.Memory)) (λ e. result ≡ Err e) }
+        ensures memory { result ≡ Err CoreError.Memory
+            → core_refusal_within (most_neighbours limits) (most_destinations limits) me neighbours.now destinations.now ≡ None }
+    {
+        if let Some(error) = core_refusal(limits, me, neighbours, destinations) {
             return Err(error);
         }
         let table = ascending::<MOST_DESTINATIONS>(destinations);
         let Ok(views) = first_views(alloc, me, table.as_slice(), neighbours.len()) else {
             return Err(CoreError::Memory);
         };
+        let Ok(peers) = sorted(alloc, neighbours) else {
+            return Err(CoreError::Memory);
+        };
+        let Ok(up) = Vec::with_capacity(alloc, neighbours.len()) else {
+            return Err(CoreError::Memory);
+        };
         Ok(Core {
             me,
-            neighbours: ascending(neighbours),
-            up: ArrayVec::new(),
+            neighbours: peers,
+            up,
             destinations: table,
             views,
         })
@@ -302,24 +334,20 @@ fn view_of(d: Id, views: &[Destination]) -> Option<&Destination>
     views.iter().find(|view| view.destination() == d)
 }
 
-/// Notes a link that came up or went down.
-fn note(input: &Input, up: &mut ArrayVec<Id, MOST_NEIGHBOURS>)
-    requires { (k : ℕ) → input.now ≡ Input.LinkUp k → array_vec_len up.old < MOST_NEIGHBOURS }
-    ensures { up.new.items ≡ up_after up.old.items input.now }
+/// Why there is no core of these within the limits, but for want of memory.
+fn core_refusal(
+    limits: CoreLimits,
+    me: Id,
+    neighbours: &[Id],
+    destinations: &[Id],
+) -> Option<CoreError>
+    ensures value { result ≡ core_refusal_within (most_neighbours limits) (most_destinations limits) me neighbours.now destinations.now }
+    ensures few_neighbours { IfNone result (length neighbours.now ≤ GREATEST_NEIGHBOURS) }
+    ensures few_destinations { IfNone result (length destinations.now ≤ MOST_DESTINATIONS) }
 {
-    match input {
-        Input::LinkUp(k) => insert_number(up, *k),
-        Input::LinkDown(k) => remove_number(up, *k),
-        Input::Packet(_, _) => {}
-        Input::Need(_) => {}
-    }
-}
-
-/// Why there is no core of these, but for want of memory.
-fn core_refusal(me: Id, neighbours: &[Id], destinations: &[Id]) -> Option<CoreError>
-    ensures { result ≡ core_refusal me neighbours.now destinations.now }
-{
-    if neighbours.len() > MOST_NEIGHBOURS || destinations.len() > MOST_DESTINATIONS {
+    if neighbours.len() > limits.most_neighbours()
+        || destinations.len() > limits.most_destinations()
+    {
         return Some(CoreError::TooMany);
     }
     if has_repeat(neighbours) || has_repeat(destinations) {

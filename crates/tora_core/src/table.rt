@@ -12,7 +12,7 @@ ghost use Rattle.tora_packet.specs.PacketParts.{IsId};
 
 use crate::destination::Destination;
 use crate::numbers::{place_above, place_of};
-use crate::{Input, MOST_DESTINATIONS, MOST_NEIGHBOURS, Sends};
+use crate::{GREATEST_NEIGHBOURS, Input, MOST_DESTINATIONS, Sends};
 use std::alloc::{AllocError, Global};
 use tora_height::Id;
 use tora_packet::Packet;
@@ -26,7 +26,7 @@ pub fn first_views(
 ) -> Result<Vec<Destination>, AllocError>
     requires me { 0 < me }
     requires destinations { All (λ d. 0 < d) destinations.now }
-    requires room { room ≤ MOST_NEIGHBOURS }
+    requires room { room ≤ GREATEST_NEIGHBOURS }
     ensures { IfOk result (λ views. views.items ≡ map (first_in room me) destinations.now) }
 {
     let mut views = Vec::with_capacity(alloc, destinations.len())?;

@@ -184,7 +184,7 @@ module _ (t : Topology) (times : Times) (clock : ℕ) (nodes : List NodeView) (l
     rising_nodes = h.rising_nodes;
     rising_links = ordered_map Links.ComesBefore (armed_of n call) (λ x y b. by_case call x (λ z. Links.ComesBefore z (armed_of n call y)) (by_case call y (Links.ComesBefore x) b b) (by_case call y (Links.ComesBefore (after_arm x call)) b b)) links h.rising_links;
     each_node = h.each_node;
-    each_link = each_map (IsLinkOf t times) (armed_of n call) (λ x f. by_case call x (IsLinkOf t times) f (record { settings = f.settings; seat = f.seat; room = f.room; home = f.home; back = f.back; pulled = f.pulled })) links h.each_link;
+    each_link = each_map (IsLinkOf t times) (armed_of n call) (λ x f. by_case call x (IsLinkOf t times) f (record { settings = f.settings; seat = f.seat; home = f.home; back = f.back; pulled = f.pulled })) links h.each_link;
     each_ends = λ m y q. ends_map t links (armed_of n call) (λ x. by_case call x (λ z. IsSameLink x z) (record { node = refl; peer = refl; seat = refl; settings = refl; pulled = λ b. b }) (record { node = refl; peer = refl; seat = refl; settings = refl; pulled = λ b. b })) y (h.each_ends m y q);
     each_datagram = h.each_datagram;
   })

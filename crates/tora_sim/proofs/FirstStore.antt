@@ -3,7 +3,7 @@ use Rattle.std.proofs.Common.{◌≡◌, refl, sym, ap, ap₂, ◌∙◌, subst,
 use Rattle.tora_core.proofs.AfterInputs.{has-ascending}
 use Rattle.std.specs.Prelude.{option_map}
 use Rattle.std.proofs.lemmas.Bool.{and_parts}
-use Rattle.std.proofs.lemmas.List.{length-map}
+use Rattle.std.proofs.lemmas.List.{length-map, length-replicate}
 use Rattle.std.proofs.lemmas.Option.{slice_get-map}
 use mathlib.Core.Path.{fun_ext}
 use Rattle.tora_arq.specs.declared.Times.{Times}
@@ -25,7 +25,7 @@ use Rattle.tora_sim.specs.Links.{LinkView, is_at}
 use Rattle.tora_sim.specs.Nodes.{NodeView, is_of, sending_of}
 use Rattle.tora_sim.specs.Store.{SimState, IsStore, IsNodeOf, IsLinkOf, AreEndsOf, state_of, world_of, node_at, link_at, seat_in, items_in, inputs_in, counts_in, arms_in, end_in, file_in, lane_in, put_in, steps_in}
 use Rattle.tora_sim.specs.Firsts.{IsFirstLink, IsFirstNode, AreMade, key_of}
-use Rattle.tora_sim.proofs.Peers.{PutInOrder, StaysInOrder, neighbours-ascend, few-neighbours, nodes-ascend, stay-ascending, place-within}
+use Rattle.tora_sim.proofs.Peers.{PutInOrder, StaysInOrder, neighbours-ascend, nodes-ascend, stay-ascending}
 use Rattle.tora_sim.proofs.KeyLists.{has_key, AreOrdered, found-name, found-key, found-there, key-in, of-node, key-there, other-way, ends-ordered, links-rise, nodes-rise}
 
 -- ---- a seat at its start
@@ -82,8 +82,7 @@ module _ (order : PutInOrder) (stays : StaysInOrder) (t : Topology) (times : Tim
   node-kept : (x : NodeView) → IsFirstNode t x → IsNodeOf t x
   node-kept x f = record {
     count = f.count;
-    room = (let few = few-neighbours t h x.node in let c = f.count in omega arith);
-    seats = ap length f.counts;
+    seats = ap length f.counts ∙ length-replicate (suc x.count) 0;
     me = ap (λ (s : Rows.SeatView). s.core.me) f.seat;
     neighbours = ap (λ (s : Rows.SeatView). s.core.neighbours) f.seat ∙ stay-ascending (neighbours_of t x.node) (neighbours-ascend order t h x.node);
     destinations = ap (λ (s : Rows.SeatView). destinations_of s.core.views) f.seat ∙ same-destinations x.node (ascending t.destinations);
@@ -96,7 +95,6 @@ module _ (order : PutInOrder) (stays : StaysInOrder) (t : Topology) (times : Tim
       record {
         settings = f.settings;
         seat = f.seat;
-        room = (let few = few-neighbours t h x.node in let at = place-within x.peer (neighbours_of t x.node) in let s = f.seat in omega arith);
         home = both.0;
         back = has-ascending x.node (other_ends x.peer t.links) ∙ other-way x.peer x.node t.links ∙ sym (has-ascending x.peer (other_ends x.node t.links)) ∙ both.1;
         pulled = (let p = f.pulled in omega arith);
@@ -170,7 +168,7 @@ module _ (order : PutInOrder) (stays : StaysInOrder) (t : Topology) (times : Tim
       let e = fun_ext (λ (n : ℕ). fun_ext (link-read end_in first_end refl (λ x f. f.state) n)) in
       let d = fun_ext (λ (n : ℕ). fun_ext (file-read n)) in
       let w = fun_ext (node-read items_in [] refl (λ x f. f.items)) in
-      let c = fun_ext (node-read counts_in (λ seat. 0) refl (λ x f. fun_ext (λ (seat : ℕ). ap (λ (cs : List ℕ). slice_index cs seat) f.counts ∙ zeros 33 seat))) in
+      let c = fun_ext (node-read counts_in (λ seat. 0) refl (λ x f. fun_ext (λ (seat : ℕ). ap (λ (cs : List ℕ). slice_index cs seat) f.counts ∙ zeros (suc x.count) seat))) in
       let l = fun_ext (λ (n : ℕ). fun_ext (link-read lane_in [] refl (λ x f. ap₂ (λ p xs. drop p xs) f.pulled f.put) n)) in
       let a = fun_ext (node-read arms_in (record { sending = Goes; receive = false }) refl (λ x f. ap₂ (λ p q. record { sending = sending_of p; receive = q }) f.sending f.receive)) in
       let p = fun_ext (λ (n : ℕ). fun_ext (link-read put_in [] refl (λ x f. f.put) n)) in

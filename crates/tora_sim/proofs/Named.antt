@@ -96,8 +96,8 @@ ends-fewer n (x ∷ links) (suc i) =
 
 -- ---- how many of them are not the node itself
 
--- where there are more than 33, more than 32 are others, and so more than any smaller number
-pub many-above : (most n : ℕ) (links : List (ℕ × ℕ)) → most ≤ 32 → 33 < length (different (other_ends n (links_in links))) → nat_lt most (length (different_neighbours n (links_in links))) ≡ true
+-- where there are more than 256, more than 255 are others, and so more than any smaller number
+pub many-above : (most n : ℕ) (links : List (ℕ × ℕ)) → most ≤ 255 → 256 < length (different (other_ends n (links_in links))) → nat_lt most (length (different_neighbours n (links_in links))) ≡ true
 many-above most n links small more =
     let ns : List ℕ = different (other_ends n (links_in links)) in
     let e = split-different n (other_ends n (links_in links)) in
@@ -119,8 +119,8 @@ pub fresh_node : (k : ℕ) (ns : List ℕ) → has_number k ns ≡ false → len
 fresh_node k ns absent = ap (λ b. length (cond b ns (with_number k ns))) absent ∙ length-with_number k ns
 
 -- too many after a link are too many
-pub many-ends : (most n : ℕ) (links : List (ℕ × ℕ)) (left : ℕ) (items : List ℕ) (d : ℕ × ℕ) → most ≤ 32 → 0 < left → left ≤ length links → items ≡ ends_from n links left
-    → 33 < length (with_end n (link_in (get_or links (left - 1) d)) items) → nat_lt most (length (different_neighbours n (links_in links))) ≡ true
+pub many-ends : (most n : ℕ) (links : List (ℕ × ℕ)) (left : ℕ) (items : List ℕ) (d : ℕ × ℕ) → most ≤ 255 → 0 < left → left ≤ length links → items ≡ ends_from n links left
+    → 256 < length (with_end n (link_in (get_or links (left - 1) d)) items) → nat_lt most (length (different_neighbours n (links_in links))) ≡ true
 many-ends most n links left items d small some within is more =
     let i : ℕ = left - 1 in
     let next : i + 1 ≡ left = omega arith in

@@ -1,5 +1,5 @@
 -- An item more in the lane of a node.
-use Rattle.std.proofs.Common.{◌≡◌, ℕ, suc, ◌<◌, ◌⊎◌, inl, inr, Bool, true, false, ◌&&◌, List, [], ◌∷◌, ◌++◌, Some, None, refl, sym, ap, ap₂, ◌∙◌, subst, length, set, slice_get, is_some, nat_lt, nat_eq, if◌then◌else◌, eqb-true, eq-eqb, true≢false, Result, Ok, Err, MatchResult}
+use Rattle.std.proofs.Common.{◌≡◌, ℕ, suc, ◌<◌, ◌⊎◌, inl, inr, Bool, true, false, ◌&&◌, List, [], ◌∷◌, ◌++◌, Some, None, refl, sym, ap, ap₂, ◌∙◌, subst, length, set, slice_get, is_some, nat_lt, nat_eq, if◌then◌else◌, eqb-true, eq-eqb, true≢false, Result, Ok, Err, MatchResult, arith}
 use Rattle.std.proofs.lemmas.Bool.{cases_Bool}
 use Rattle.std.proofs.lemmas.Option.{slice_get_read}
 use Rattle.std.proofs.lemmas.List.{get_or-set_same, get_or-set_other, length-set, set-get_or}
@@ -58,11 +58,15 @@ module _ (t : Topology) (times : Times) (clock : ℕ) (nodes : List NodeView) (l
   pub named : x.node ≡ n
   named = eqb-true x.node n (subst (λ z. is_of n z ≡ true) (sym read) (first.here x))
 
+  -- the commands have a seat behind those of the neighbours
+  pub last_seat : x.count < length x.counts
+  last_seat = omega (arith, of_node.seats)
+
   pub room_is : (b : Bool) → nat_lt (length x.items) 1024 ≡ b → has_room w n ≡ b
   room_is b e = ap (λ o. nat_lt (length (items_in o)) 1024) is_there ∙ e
 
   -- an item of a seat of the node
-  module _ (seat : ℕ) (what : What) (lt : seat < 33) where
+  module _ (seat : ℕ) (what : What) (lt : seat < length x.counts) where
     abbrev new : NodeView
     new = after_item x seat clock what
 
@@ -83,7 +87,7 @@ module _ (t : Topology) (times : Times) (clock : ℕ) (nodes : List NodeView) (l
         go a b (inl p) (inl q) =
             ap (λ (z : Bool). (if z then counts_in (Some new) else counts_in (node_at nodes a)) b) p
             ∙ ap (λ m. slice_index (set x.counts seat (suc (slice_index x.counts seat))) m) (eqb-true b seat q)
-            ∙ get_or-set_same x.counts seat (suc (slice_index x.counts seat)) 0 (subst (λ m. seat < m) (sym of_node.seats) lt)
+            ∙ get_or-set_same x.counts seat (suc (slice_index x.counts seat)) 0 lt
             ∙ sym value
             ∙ sym (ap₂ (λ (y z : Bool). if y && z then suc (counts_in (node_at nodes n) seat) else counts_in (node_at nodes a) b) p q)
         go a b (inl p) (inr q) =
@@ -128,7 +132,7 @@ module _ (t : Topology) (times : Times) (clock : ℕ) (nodes : List NodeView) (l
   abbrev pub IsPut : ℕ → What → NodeView → Result (Unit {0}) SimError → Type 0
   IsPut seat what y r = MatchResult r (λ _. y ≡ after_item x seat clock what) (λ e. (e ≡ Refused.Memory) × (y ≡ x))
 
-  pub put_store : (seat : ℕ) (what : What) (y : NodeView) (r : Result (Unit {0}) SimError) → seat < 33 → IsPut seat what y r → IsStore (state_of t times clock (set nodes i y) links ds)
+  pub put_store : (seat : ℕ) (what : What) (y : NodeView) (r : Result (Unit {0}) SimError) → seat < length x.counts → IsPut seat what y r → IsStore (state_of t times clock (set nodes i y) links ds)
   put_store seat what y (Ok u) lt f = subst (λ z. IsStore (state_of t times clock (set nodes i z) links ds)) (sym f) (item_store seat what lt)
   put_store seat what y (Err e) lt f = subst (λ z. IsStore (state_of t times clock z links ds)) (sym (same_nodes y f.1)) h
 
@@ -138,7 +142,7 @@ module _ (t : Topology) (times : Times) (clock : ℕ) (nodes : List NodeView) (l
     accepted = need_accepted d e;
     world =
         ap (λ z. world_of (state_of t times clock (set nodes i z) links ds)) f
-        ∙ item_world x.count (Tells.Need d) of_node.room
+        ∙ item_world x.count (Tells.Need d) last_seat
         ∙ ap (λ m. with_item w n m clock (Tells.Need d)) (of_node.count ∙ ap (λ m. length (neighbours_of t m)) named)
         ∙ sym (effect_is w (Happens.Need n d) (need_accepted d e) ∙ need_effect d);
   }

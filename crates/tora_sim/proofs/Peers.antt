@@ -10,7 +10,7 @@ use Rattle.tora_world.specs.World.{place_of}
 use Rattle.tora_sim.specs.Topologies.{IsTopology}
 use Rattle.tora_world.proofs.SoundTopology.{length-with_number}
 use Rattle.tora_sim.proofs.Sound.{sorted_on}
-use Rattle.tora_world.proofs.SoundTopology.{sound, others-apart, others-once, few-ends, has-with_node}
+use Rattle.tora_world.proofs.SoundTopology.{sound, others-apart, others-once, has-with_node}
 
 -- what tora_core's law says of numbers that are put in order
 abbrev pub PutInOrder : Type 0
@@ -103,9 +103,6 @@ stay-ascending ns asc = stay-on [] ns asc (none-below ns)
 
 pub neighbours-ascend : PutInOrder → (t : Topology) → IsTopology t → (n : ℕ) → IsAscending (neighbours_of t n)
 neighbours-ascend order t h n = order (other_ends n t.links) (others-once n t.links (sound t (greatest_limits, h.sound)).links)
-
-pub few-neighbours : (t : Topology) → IsTopology t → (n : ℕ) → length (neighbours_of t n) ≤ 32
-few-neighbours t h n = let few = few-ends t (sound t (greatest_limits, h.sound)) n in omega (arith, length-ascending (other_ends n t.links))
 
 pub nodes-ascend : StaysInOrder → (links : List Link) → IsAscending (nodes_in links)
 nodes-ascend stays [] = tt

@@ -1,5 +1,5 @@
 -- An event of a link end goes into its node's lane.
-use Rattle.std.proofs.Common.{◌≡◌, ℕ, ◌<◌, inl, Bool, true, false, not, ◌&&◌, List, [], ◌∷◌, Some, None, refl, sym, ap, ap₂, ◌∙◌, subst, length, set, slice_get, nat_lt, eqb-true}
+use Rattle.std.proofs.Common.{◌≡◌, ℕ, ◌<◌, inl, Bool, true, false, not, ◌&&◌, List, [], ◌∷◌, Some, None, refl, sym, ap, ap₂, ◌∙◌, subst, length, set, slice_get, nat_lt, eqb-true, arith}
 use Rattle.std.proofs.lemmas.Bool.{and_parts}
 use Rattle.std.specs.Prelude.{slice_index_or}
 use Rattle.tora_frame.specs.FrameParts.{FrameParts}
@@ -19,7 +19,8 @@ use Rattle.tora_sim.specs.Store.{state_of, world_of, IsStore, link_at, end_in, f
 use Rattle.tora_sim.specs.Steps.{IsDone, IsRefused}
 use Rattle.tora_sim.proofs.Stores.{each_at, IsSameLink, link_changes, link_stays, store_set}
 use Rattle.tora_sim.proofs.Opens.{effect_is, refused_for, links_same, at_place, at_end, end_there}
-use Rattle.tora_sim.proofs.Needs.{room_is, item_world, item_store, same_nodes}
+use Rattle.tora_sim.proofs.Needs.{named, of_node, room_is, item_world, item_store, same_nodes}
+use Rattle.tora_sim.proofs.Peers.{place-within}
 
 has_first : (events : List LinkEvent) (event : LinkEvent) → slice_get events 0 ≡ Some event → is_empty events ≡ false
 has_first [] event e = absurd (let z : None ≡ Some event = e in cc)
@@ -79,8 +80,13 @@ module _ (t : Topology) (times : Times) (clock : ℕ) (nodes : List NodeView) (l
     seat_is : x.seat ≡ place_of k (neighbours_of t n)
     seat_is = (h.each_link i x at).seat ∙ ap₂ (λ p m. place_of p (neighbours_of t m)) ends_of_it.1 ends_of_it.0
 
-    pub seat_room : x.seat < 33
-    seat_room = (h.each_link i x at).room
+    -- the seat of the link is one of the node's neighbours
+    pub seat_room : x.seat < length y.counts
+    seat_room =
+        let node = of_node t times clock nodes links ds h n j y first' read' in
+        let within = place-within k (neighbours_of t n) in
+        let count = node.count ∙ ap (λ m. length (neighbours_of t m)) (named t times clock nodes links ds h n j y first' read') in
+        omega (arith, node.seats, within, count, seat_is)
 
     pumped_world : nat_lt (length y.items) 1024 ≡ true → world_of (state_of t times clock (set nodes j (after_item y x.seat clock (what_of event))) (set links i polled) ds) ≡ world_after w (Happens.Pump n k)
     pumped_world q =

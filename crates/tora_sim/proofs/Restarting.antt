@@ -1,9 +1,8 @@
 -- A node restarts.
 use Rattle.std.proofs.Common.{◌≡◌, ℕ, zero, suc, ◌<◌, ◌⊎◌, ◌&&◌, inl, inr, Bool, true, false, true≢false, List, [], ◌∷◌, ◌++◌, map, length, set, get_or, slice_get, Option, Some, None, refl, sym, ap, ap₂, ◌∙◌, subst, arith, is_some, if◌then◌else◌, nat_eq, nat_lt, eqb-true, option_map, append_assoc, append-nil, fold}
-use Rattle.tora_sim.specs.declared.nodes.TheConstants.{MOST_SEATS}
 use Rattle.std.proofs.lemmas.Bool.{cases_Bool, and_parts}
 use Rattle.std.proofs.lemmas.Bool.Decides.{nat_tests}
-use Rattle.std.proofs.lemmas.List.{drop_all}
+use Rattle.std.proofs.lemmas.List.{drop_all, length-replicate}
 use Rattle.std.specs.Prelude.{replicate, slice_index_or}
 use Rattle.std.specs.List.{AllByRecursion}
 use mathlib.Core.Path.{fun_ext}
@@ -209,7 +208,7 @@ module _ (t : Topology) (times : Times) (clock : ℕ) (nodes : List NodeView) (l
       me = refl;
       neighbours = sorted_stays x.seat.core.neighbours core_kept.ascending_neighbours;
       destinations = first_destinations x.seat.core.me (ascending (destinations_of x.seat.core.views)) ∙ sorted_stays (destinations_of x.seat.core.views) core_kept.ascending_destinations;
-      seats = sym kept.seats;
+      seats = length-replicate (length x.counts) 0;
     }
 
     seat_is : Rows.state_of seat ≡ first_seat t n
@@ -225,7 +224,7 @@ module _ (t : Topology) (times : Times) (clock : ℕ) (nodes : List NodeView) (l
         let inputs = node_changes n nodes i x y first at same inputs_in in
         let items = node_changes n nodes i x y first at same items_in in
         let counts = node_changes n nodes i x y first at same counts_in
-        ∙ ap (λ (f : ℕ → ℕ). put_one (λ a. counts_in (node_at nodes a)) n f) (fun_ext (λ seat. zeros MOST_SEATS seat)) in
+        ∙ ap (λ (f : ℕ → ℕ). put_one (λ a. counts_in (node_at nodes a)) n f) (fun_ext (λ seat. zeros (length x.counts) seat)) in
         let arms = node_stays n nodes i x y first at same arms_in refl in
         let u = world_of (state_of t times clock (set nodes i y) links ds) in
         links_same u ends_fresh files_reopen lanes_empty puts steps

@@ -89,7 +89,6 @@ link_same : (t : Topology) (times : Times) (x y : LinkView) → IsSameLink x y �
 link_same t times x y same h = record {
   settings = same.settings ∙ h.settings ∙ ap₂ (λ y z. settings_of (version_at t y) y z times) (sym same.node) (sym same.peer);
   seat = same.seat ∙ h.seat ∙ ap₂ (λ y z. place_of y (neighbours_of t z)) (sym same.peer) (sym same.node);
-  room = subst (λ m. m < 33) (sym same.seat) h.room;
   home = ap (is_node t) same.node ∙ h.home;
   back = ap₂ (λ y z. is_link t y z) same.peer same.node ∙ h.back;
   pulled = same.pulled h.pulled;

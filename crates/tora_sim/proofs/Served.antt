@@ -8,10 +8,10 @@ use Rattle.std.specs.Prelude.{⊤}
 use Rattle.std.specs.List.{AllByRecursion}
 use Rattle.tora_core.specs.declared.Input.{Input}
 use Rattle.tora_core.specs.Numbers.{has_number, has_repeat, IsAscending}
-use Rattle.tora_core.specs.CoreRun.{CoreView, core_after, core_after_all, core_refusal}
+use Rattle.tora_core.specs.CoreRun.{CoreView, core_after, core_after_all, core_refusal_within}
 use Rattle.tora_core.specs.Kept.{IsCore, IsNeighbour, destinations_of}
 use Rattle.tora_core.specs.declared.errors.CoreError.TheVariants as Refusal
-use Rattle.tora_core.specs.declared.TheConstants.{MOST_DESTINATIONS, MOST_NEIGHBOURS}
+use Rattle.tora_core.specs.declared.TheConstants.{GREATEST_NEIGHBOURS, MOST_DESTINATIONS}
 use Rattle.tora_seat.specs.declared.Item.{Item}
 use Rattle.tora_seat.specs.declared.Stepped.{Stepped}
 use Rattle.tora_seat.specs.Serving.{Answers, Offer, SeatState, serving_of}
@@ -85,7 +85,7 @@ seat_within before after lanes lanes_after item own le s (Some p) e =
         let lt = slice_get_within before.seat.core.neighbours item.seat k at in
         omega (arith, same, lt, le)
 
--- ---- a core is not refused of the lists of a core
+-- ---- a core is not refused of the lists of a core within the greatest limits
 
 no_number : (me : ℕ) (numbers : List ℕ) → AllByRecursion (IsNeighbour me) numbers → has_number me numbers ≡ false
 no_number me [] h = refl
@@ -94,11 +94,11 @@ no_number me (k ∷ numbers) h = ap₂ (λ (a b : Bool). a || b) (false_from_ne_
 not_above : (most count : ℕ) → count ≤ most → nat_lt most count ≡ false
 not_above most count le = grind (arith, nat_tests, le)
 
-pub not_refused : (core : CoreView) → IsCore core → core_refusal core.me core.neighbours (destinations_of core.views) ≡ None
+pub not_refused : (core : CoreView) → IsCore core → core_refusal_within GREATEST_NEIGHBOURS MOST_DESTINATIONS core.me core.neighbours (destinations_of core.views) ≡ None
 not_refused core h =
     let few : length (destinations_of core.views) ≤ MOST_DESTINATIONS = subst (λ m. m ≤ MOST_DESTINATIONS) (sym (length-map core.views (λ v. v.destination))) h.few_views in
     ap₂ (λ (a b : Bool). if a || b then Some Refusal.TooMany else if has_repeat core.neighbours || has_repeat (destinations_of core.views) then Some Refusal.Repeated else if has_number core.me core.neighbours then Some Refusal.OwnId else None)
-    (not_above MOST_NEIGHBOURS (length core.neighbours) h.few_neighbours) (not_above MOST_DESTINATIONS (length (destinations_of core.views)) few)
+    (not_above GREATEST_NEIGHBOURS (length core.neighbours) h.few_neighbours) (not_above MOST_DESTINATIONS (length (destinations_of core.views)) few)
     ∙ ap₂ (λ (a b : Bool). if a || b then Some Refusal.Repeated else if has_number core.me core.neighbours then Some Refusal.OwnId else None)
     (different core.neighbours h.ascending_neighbours) (different (destinations_of core.views) h.ascending_destinations)
     ∙ ap (λ (b : Bool). if b then Some Refusal.OwnId else None) (no_number core.me core.neighbours h.neighbours)

@@ -14,8 +14,8 @@ abbrev pub sorted_on : List ℕ → List ℕ → List ℕ
 sorted_on acc ns = fold (λ sorted n. with_number n sorted) acc ns
 
 -- one number more at its place, and one less behind it
-pub neighbour-put : (acc new rest whole all : List ℕ) (k : ℕ) → new ≡ with_number k acc → whole ≡ k ∷ rest → length acc + length whole ≤ 32 → sorted_on acc whole ≡ all
-    → (length new + length rest ≤ 32) × (sorted_on new rest ≡ all)
+pub neighbour-put : (acc new rest whole all : List ℕ) (k : ℕ) → new ≡ with_number k acc → whole ≡ k ∷ rest → length acc + length whole ≤ 255 → sorted_on acc whole ≡ all
+    → (length new + length rest ≤ 255) × (sorted_on new rest ≡ all)
 neighbour-put acc new rest whole all k put is room e =
     let a = ap length put in
     let b = ap length is in

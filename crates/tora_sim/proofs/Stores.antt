@@ -208,7 +208,6 @@ module _ (n k : ℕ) (links : List LinkView) (i : ℕ) (x new : LinkView) (first
   link_set t times h = record {
     settings = same.settings ∙ h.settings ∙ ap₂ (λ y z. settings_of (version_at t y) y z times) (sym same.node) (sym same.peer);
     seat = same.seat ∙ h.seat ∙ ap₂ (λ y z. place_of y (neighbours_of t z)) (sym same.peer) (sym same.node);
-    room = subst (λ m. m < 33) (sym same.seat) h.room;
     home = ap (is_node t) same.node ∙ h.home;
     back = ap₂ (λ y z. is_link t y z) same.peer same.node ∙ h.back;
     pulled = same.pulled h.pulled;
@@ -319,8 +318,7 @@ module _ (n : ℕ) (nodes : List NodeView) (i : ℕ) (x new : NodeView) (first :
   pub node_set : (t : Topology) → IsNodeOf t x → IsNodeOf t new
   node_set t h = record {
     count = same.count ∙ h.count ∙ ap (λ y. length (neighbours_of t y)) (sym same.node);
-    room = subst (λ m. m < 33) (sym same.count) h.room;
-    seats = same.seats ∙ h.seats;
+    seats = same.seats ∙ h.seats ∙ ap suc (sym same.count);
     me = same.me ∙ h.me ∙ sym same.node;
     neighbours = same.neighbours ∙ h.neighbours ∙ ap (neighbours_of t) (sym same.node);
     destinations = same.destinations ∙ h.destinations;

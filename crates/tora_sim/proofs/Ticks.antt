@@ -62,7 +62,7 @@ module _ (t : Topology) (times : Times) (clock : ℕ) (nodes : List NodeView) (l
     rising_nodes = h.rising_nodes;
     rising_links = ordered_map Links.ComesBefore (ticked (clock + 1)) (λ x y b. b) links h.rising_links;
     each_node = h.each_node;
-    each_link = each_map (IsLinkOf t times) (ticked (clock + 1)) (λ x f. record { settings = f.settings; seat = f.seat; room = f.room; home = f.home; back = f.back; pulled = f.pulled }) links h.each_link;
+    each_link = each_map (IsLinkOf t times) (ticked (clock + 1)) (λ x f. record { settings = f.settings; seat = f.seat; home = f.home; back = f.back; pulled = f.pulled }) links h.each_link;
     each_ends = λ m y q. ends_map t links (ticked (clock + 1)) (λ x. record { node = refl; peer = refl; seat = refl; settings = refl; pulled = λ b. b }) y (h.each_ends m y q);
     each_datagram = h.each_datagram;
   }

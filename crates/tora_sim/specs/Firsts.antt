@@ -1,5 +1,5 @@
 -- Nodes and link ends as they are at the start.
-use Rattle.std.specs.Prelude.{◌≡◌, ℕ, ◌+◌, ◌≤◌, false, List, [], ◌∷◌, ◌++◌, map, replicate, length, slice_get, Some}
+use Rattle.std.specs.Prelude.{◌≡◌, ℕ, suc, ◌+◌, ◌≤◌, false, List, [], ◌∷◌, ◌++◌, map, replicate, length, slice_get, Some}
 use Rattle.std.specs.List.{flat_map}
 use Rattle.tora_arq.specs.declared.Times.{Times}
 use Rattle.tora_frame.specs.declared.parts.Version.{Version}
@@ -10,7 +10,6 @@ use Rattle.tora_life.specs.LifeRun.{opened}
 use Rattle.tora_seat.specs.Rows.{first_seat}
 use Rattle.tora_world.specs.Topology.{Topology, version_at, neighbours_of, new_core}
 use Rattle.tora_world.specs.World.{place_of, owner_of}
-use Rattle.tora_sim.specs.declared.nodes.TheConstants.{MOST_SEATS}
 use Rattle.tora_sim.specs.declared.nodes.Sending.TheVariants.{Goes}
 use Rattle.tora_sim.specs.Links.{LinkView}
 use Rattle.tora_sim.specs.Nodes.{NodeView}
@@ -37,7 +36,7 @@ pub record IsFirstNode (t : Topology) (node : NodeView) : Type 0 where
   pub seat : node.seat ≡ first_seat (new_core t node.node)
   pub inputs : node.inputs ≡ []
   pub items : node.items ≡ []
-  pub counts : node.counts ≡ replicate MOST_SEATS 0
+  pub counts : node.counts ≡ replicate (suc node.count) 0
   pub sending : node.sending ≡ Goes
   pub receive : node.receive ≡ false
 

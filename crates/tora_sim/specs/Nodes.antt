@@ -17,7 +17,7 @@ pub record NodeView : Type 0 where
   pub seat : SeatView  -- its core's
   pub inputs : List (Input × ℕ)  -- those that its core accepted since the node's last restart
   pub items : List Item  -- the lane into the core
-  pub counts : List ℕ  -- how many items each seat has put
+  pub counts : List ℕ  -- how many items each seat has put: those of the neighbours, and that of the commands
   pub sending : Sending
   pub receive : Bool
 

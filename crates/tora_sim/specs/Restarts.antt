@@ -6,7 +6,6 @@ use Rattle.tora_core.specs.CoreRun.{CoreView, first_core}
 use Rattle.tora_core.specs.Kept.{destinations_of}
 use Rattle.tora_seat.specs.Rows.{SeatView}
 use Rattle.tora_world.specs.World.{reopened}
-use Rattle.tora_sim.specs.declared.nodes.TheConstants.{MOST_SEATS}
 use Rattle.tora_sim.specs.Links.{LinkView}
 use Rattle.tora_sim.specs.Nodes.{NodeView}
 
@@ -20,7 +19,7 @@ core_again core = first_core core.me core.neighbours (destinations_of core.views
 
 -- a node: its lane is empty, and its core has accepted nothing
 abbrev pub restarted_node : SeatView → NodeView → NodeView
-restarted_node seat node = record node { seat = seat; inputs = []; items = []; counts = replicate MOST_SEATS 0 }
+restarted_node seat node = record node { seat = seat; inputs = []; items = []; counts = replicate (length node.counts) 0 }
 
 -- there is a fresh end for each of so many link ends from a place on
 abbrev pub AreFresh : List LinkView → ℕ → ℕ → List LinkEndView → Type 0

@@ -1,5 +1,5 @@
 -- What the simulator stores, and the world that it is.
-use Rattle.std.specs.Prelude.{◌≡◌, ℕ, zero, suc, ◌<◌, ◌≤◌, ◌+◌, true, false, is_some, List, [], length, slice_get, slice_index, Option, Some, None, find}
+use Rattle.std.specs.Prelude.{◌≡◌, ℕ, zero, suc, ◌≤◌, ◌+◌, true, false, is_some, List, [], length, slice_get, slice_index, Option, Some, None, find}
 use Rattle.tora_frame.specs.FrameParts.{FrameParts}
 use Rattle.tora_arq.specs.declared.Times.{Times}
 use Rattle.tora_arq.specs.Settings.{settings_of}
@@ -17,7 +17,6 @@ use Rattle.tora_core.specs.Numbers.{ascending}
 use Rattle.tora_core.specs.Kept.{destinations_of}
 use Rattle.tora_seat.specs.Serving.{SeatState, Parcel}
 use Rattle.tora_seat.specs.Rows as Rows
-use Rattle.tora_sim.specs.declared.nodes.TheConstants.{MOST_SEATS}
 use Rattle.tora_world.specs.Topology.{Topology, version_at, is_node, is_link, neighbours_of}
 use Rattle.tora_world.specs.World.{World, Arms, first_seat, place_of, owner_of}
 use Rattle.tora_world.specs.World.Sending.{Goes}
@@ -109,7 +108,6 @@ world_of s = record {
 pub record IsLinkOf (t : Topology) (times : Times) (link : LinkView) : Type 0 where
   pub settings : link.settings ≡ settings_of (version_at t link.node) link.node link.peer times
   pub seat : link.seat ≡ place_of link.peer (neighbours_of t link.node)
-  pub room : link.seat < MOST_SEATS
   pub home : is_node t link.node ≡ true
   pub back : is_link t link.peer link.node ≡ true
   pub pulled : link.pulled ≤ length link.put
@@ -120,8 +118,7 @@ EachOf {A} P xs = (i : ℕ) (x : A) → slice_get xs i ≡ Some x → P x
 
 pub record IsNodeOf (t : Topology) (node : NodeView) : Type 0 where
   pub count : node.count ≡ length (neighbours_of t node.node)
-  pub room : node.count < MOST_SEATS
-  pub seats : length node.counts ≡ MOST_SEATS
+  pub seats : length node.counts ≡ suc node.count  -- one for each neighbour, and that of the commands
   pub me : node.seat.core.me ≡ node.node
   pub neighbours : node.seat.core.neighbours ≡ neighbours_of t node.node
   pub destinations : destinations_of node.seat.core.views ≡ ascending t.destinations

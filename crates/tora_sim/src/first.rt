@@ -13,13 +13,13 @@ use crate::datagrams::Datagrams;
 use crate::files::open;
 use crate::hints::Hints;
 use crate::links::{LinkSlot, end_of};
-use crate::nodes::{MOST_SEATS, NodeSlot, Sending};
+use crate::nodes::{NodeSlot, Sending, no_counts};
 use crate::sim::Sim;
 use crate::topology::Topology;
 use std::alloc::Global;
 use std::collections::VecDeque;
 use tora_arq::{Times, standard_times};
-use tora_core::{Core, numbers_are_put_in_order, numbers_come_and_go};
+use tora_core::{Core, CoreLimits, numbers_are_put_in_order, numbers_come_and_go};
 use tora_frame::Version;
 use tora_height::Id;
 use tora_life::{MemDisk, Owner};
@@ -94,6 +94,7 @@ fn add_node(
     let neighbours = topology.neighbours(n);
     let count = neighbours.len();
     let seat = new_seat(alloc, topology, n)?;
+    let counts = no_counts(alloc, count + 1)?;
     add_links(alloc, topology, times, n, links)?;
     let node = NodeSlot {
         node: n,
@@ -102,7 +103,7 @@ fn add_node(
         seat,
         inputs: Vec::new(alloc),
         items: VecDeque::new(alloc),
-        counts: [0; MOST_SEATS],
+        counts,
         sending: Sending::Goes,
         receive: false,
     };
@@ -118,7 +119,13 @@ fn new_seat(alloc: Global, topology: &Topology, n: Id) -> Result<CoreSeat, SimEr
     ensures { MatchResult result (λ seat. seat ≡ first_seat (new_core topology.now n)) (λ e. e ≡ SimError.Memory) }
 {
     let neighbours = topology.neighbours(n);
-    let Ok(core) = Core::new(alloc, n, neighbours.as_slice(), topology.destinations()) else {
+    let Ok(core) = Core::with_limits(
+        alloc,
+        CoreLimits::GREATEST,
+        n,
+        neighbours.as_slice(),
+        topology.destinations(),
+    ) else {
         return Err(SimError::Memory);
     };
     match CoreSeat::new(alloc, core) {

@@ -1,6 +1,6 @@
 //! The link ends of all nodes, one behind the other.
 ghost use Rattle.tora_arq.specs.Settings.{IsTimes, settings_of};
-ghost use Rattle.std.specs.Prelude.{◌≡◌, ◌≢◌, ◌<◌, ◌≤◌, ◌+◌, ◌++◌, ◌∷◌, [], ℕ, ⊤, false, IsTrue, IfSome, IfNone, OnOk, IfOk, IfErr, None, MatchOption, find, length, map, is_some, nat_lt, slice_get};
+ghost use Rattle.std.specs.Prelude.{◌≡◌, ◌==◌, ◌≢◌, ◌<◌, ◌≤◌, ◌+◌, ◌++◌, ◌∷◌, [], ℕ, ⊤, false, IsTrue, IfSome, IfNone, OnOk, IfOk, IfErr, None, MatchOption, find, length, map, is_some, nat_lt, slice_get};
 ghost use Rattle.tora_arq.specs.LinkEnd.{is_closed, after_frame, after_tick, frame_due, after_transmit, first_event, after_poll_event};
 ghost use Rattle.tora_sim.specs.Links.{with_state, after_open_at, after_arm, after_pull_at, is_at, AreRising, ticked, AreChanged};
 ghost use Rattle.tora_arq.specs.LinkEnd.{first_end};
@@ -16,12 +16,14 @@ use std::alloc::Global;
 use std::marker::Model;
 use std::mem;
 use tora_arq::{ArqError, Life, LinkEnd, LinkEvent, Times, lives_are_bound_once};
-use tora_core::MOST_NEIGHBOURS;
 use tora_frame::{BorrowedFrame, Packets, Version};
 use tora_height::Id;
 use tora_life::{DiskCall, MemDisk, Owner};
 use tora_packet::Packet;
 use tora_seat::{Cargo, MOST_CARGOES, hand_in};
+
+/// How many ends of a node are looked at one by one, before all are searched by halves.
+const MOST_TRIED: usize = 32;
 
 /// The end of a link at one node, with its life file and the lane from the node's core to it.
 #[derive(Drop)]
@@ -60,6 +62,13 @@ impl LinkSlot {
         ensures { result ≡ (self.now.node, self.now.peer) }
     {
         (self.node, self.peer)
+    }
+
+    /// Whether it is an end of node `n`.
+    pub fn is_of(&self, n: Id) -> bool
+        ensures { result ≡ (self.now.node == n) }
+    {
+        self.node == n
     }
 
     /// Whether it is the end of node `n` towards `k`.
@@ -284,17 +293,20 @@ pub fn place(links: &Vec<LinkSlot>, hints: &Hints, n: Id, k: Id) -> Option<usize
     }
 }
 
-/// The place of the end, where it is among those from the place `first` on, as many as a node may have.
+/// The place of the end, where it is among the first ends of its node, which stand from the place `first` on.
 fn near(links: &[LinkSlot], first: usize, n: Id, k: Id) -> Option<usize>
     requires { AreRising links.now }
     ensures { IfSome result (λ i. IsFirst (is_at n k) links.now i) }
 {
-    for seat in 0..MOST_NEIGHBOURS {
+    for seat in 0..MOST_TRIED {
         let at = first.saturating_add(seat);
         match links.get(at) {
             Some(link) => {
                 if link.is_end(n, k) {
                     return Some(at);
+                }
+                if !link.is_of(n) {
+                    return None;
                 }
             }
             None => return None,

@@ -1,6 +1,7 @@
 //! The nodes: the core of each, and the lane into it.
-ghost use Rattle.std.specs.Prelude.{◌≡◌, ◌<◌, ◌≤◌, ◌+◌, ◌++◌, ℕ, None, Some, IfSome, IfNone, IfOk, IfErr, OnErr, MatchResult, find, length, map, slice_index, vec_len, vec_capacity};
-ghost use Rattle.tora_core.specs.CoreRun.{core_refusal};
+ghost use Rattle.std.specs.Prelude.{◌≡◌, ◌<◌, ◌≤◌, ◌+◌, ◌++◌, ℕ, None, Some, IfSome, IfNone, IfOk, IfErr, OnErr, MatchResult, find, length, map, replicate, slice_index, vec_len, vec_capacity};
+ghost use Rattle.tora_core.specs.CoreRun.{core_refusal_within};
+ghost use Rattle.tora_core.specs.declared.TheConstants.{GREATEST_NEIGHBOURS, MOST_DESTINATIONS};
 ghost use Rattle.tora_core.specs.Kept.{IsCore, destinations_of};
 ghost use Rattle.tora_seat.specs.Rows.{first_seat};
 ghost use Rattle.tora_sim.specs.Restarts.{core_again, restarted_node};
@@ -14,15 +15,12 @@ use crate::lanes::NodeLanes;
 use std::alloc::Global;
 use std::collections::VecDeque;
 use std::marker::Model;
-use tora_core::{Core, Input, MOST_NEIGHBOURS, tables_stay};
+use tora_core::{Core, CoreLimits, Input, tables_stay};
 use tora_height::Id;
 use tora_seat::{
     CoreSeat, Item, Stepped, What, accepted_inputs_make_the_core, items_step_few_inputs,
     offers_are_their_own_answers,
 };
-
-/// The most seats of a node's core: one for each neighbour, and that of the commands.
-pub(crate) const MOST_SEATS: usize = MOST_NEIGHBOURS + 1;
 
 /// What becomes of the next datagram that a node sends.
 #[derive(Clone, Copy, Debug, PartialEq, Eq)]
@@ -46,8 +44,8 @@ pub struct NodeSlot {
     pub(crate) inputs: Vec<(Input, u64)>,
     /// The lane into its core.
     pub(crate) items: VecDeque<Item>,
-    /// How many items each seat has put since the node's last restart.
-    pub(crate) counts: [u64; MOST_SEATS],
+    /// How many items each seat has put since the node's last restart: those of the neighbours, and that of the commands.
+    pub(crate) counts: Vec<u64>,
     pub(crate) sending: Sending,
     /// Whether the next datagram for it is not handed over.
     pub(crate) receive: bool,
@@ -58,7 +56,7 @@ impl Model for NodeSlot {
 
     ghost Value = { NodeView };
 
-    ghost view = { λ s. node_of s.node s.first s.count s.seat s.inputs.items s.items.items s.counts s.sending s.receive };
+    ghost view = { λ s. node_of s.node s.first s.count s.seat s.inputs.items s.items.items s.counts.items s.sending s.receive };
 }
 
 impl NodeSlot {
@@ -123,7 +121,7 @@ impl NodeSlot {
     /// # Errors
     /// `Memory`, which changes nothing: also where the seat has put 2^64 - 1 items.
     pub fn put_item(&mut self, seat: usize, now: u64, what: What) -> Result<(), SimError>
-        requires { seat < MOST_SEATS }
+        requires { seat < length self.old.counts }
         ensures { MatchResult result (λ _. self.new ≡ after_item self.old seat now what) (λ e. (e ≡ SimError.Memory) × (self.new ≡ self.old)) }
     {
         let Some(number) = self.counts[seat].checked_add(1) else {
@@ -163,11 +161,17 @@ impl NodeSlot {
     pub fn new_seat(&self, alloc: Global) -> Result<CoreSeat, SimError>
         ensures made { IfOk result (λ seat. seat ≡ first_seat (core_again self.now.seat.core)) }
         ensures kept { IsCore self.now.seat.core }
-        ensures accepted { core_refusal self.now.seat.core.me self.now.seat.core.neighbours (destinations_of self.now.seat.core.views) ≡ None }
+        ensures accepted { core_refusal_within GREATEST_NEIGHBOURS MOST_DESTINATIONS self.now.seat.core.me self.now.seat.core.neighbours (destinations_of self.now.seat.core.views) ≡ None }
         ensures memory { IfErr result (λ e. e ≡ SimError.Memory) }
     {
         let core = self.seat.core();
-        match Core::new(alloc, core.me(), core.neighbours(), core.destinations()) {
+        match Core::with_limits(
+            alloc,
+            CoreLimits::GREATEST,
+            core.me(),
+            core.neighbours(),
+            core.destinations(),
+        ) {
             Ok(again) => match CoreSeat::new(alloc, again) {
                 Ok(seat) => Ok(seat),
                 Err(_) => Err(SimError::Memory),
@@ -184,7 +188,7 @@ impl NodeSlot {
         self.seat = seat;
         self.inputs.clear();
         self.items.clear();
-        self.counts = [0; MOST_SEATS];
+        self.counts.fill(0);
     }
 
     /// Serves the first item of the lane over the lanes to the neighbours, and notes the inputs that the core accepted.
@@ -216,6 +220,17 @@ impl NodeSlot {
             }
             None => unreachable!(),
         }
+    }
+}
+
+/// Counts of nothing, for so many seats.
+pub fn no_counts(alloc: Global, seats: usize) -> Result<Vec<u64>, SimError>
+    ensures { MatchResult result (λ counts. counts.items ≡ replicate seats 0) (λ e. e ≡ SimError.Memory) }
+{
+    let mut counts = Vec::new(alloc);
+    match counts.resize(seats, 0) {
+        Ok(()) => Ok(counts),
+        Err(_) => Err(SimError::Memory),
     }
 }
 

@@ -11,14 +11,14 @@ use arrayvec::ArrayVec;
 use std::alloc::{AllocError, Global};
 use std::marker::Model;
 use tora_core::numbers::{has_number, has_repeat, insert_number};
-use tora_core::{CoreError, MOST_NEIGHBOURS};
+use tora_core::{CoreError, GREATEST_NEIGHBOURS};
 use tora_frame::Version;
 use tora_height::Id;
 use tora_world::{GREATEST_NODES, Limits};
 
-/// The most nodes at the other ends of a node's links: one more than its neighbours, since a link of the node to itself
+/// The most nodes at the other ends of a node's links: one more than its neighbours within any limits, since a link of the node to itself
 /// names the node.
-const MOST_ENDS: usize = MOST_NEIGHBOURS + 1;
+const MOST_ENDS: usize = GREATEST_NEIGHBOURS + 1;
 
 /// The links of a world and the destinations that each node's table has.
 ///
@@ -166,7 +166,7 @@ impl Topology {
     }
 
     /// The neighbours of a node, in ascending order.
-    pub(crate) fn neighbours(&self, n: Id) -> ArrayVec<Id, MOST_NEIGHBOURS>
+    pub(crate) fn neighbours(&self, n: Id) -> ArrayVec<Id, GREATEST_NEIGHBOURS>
         ensures items { result.items ≡ neighbours_of self.now n }
         ensures kept { IsTopology self.now }
     {
@@ -203,8 +203,8 @@ impl Topology {
 }
 
 /// The neighbours that links give a node, in ascending order.
-fn neighbours_of(links: &[(Id, Id)], n: Id) -> ArrayVec<Id, MOST_NEIGHBOURS>
-    requires { length (other_ends n (links_in links.now)) ≤ MOST_NEIGHBOURS }
+fn neighbours_of(links: &[(Id, Id)], n: Id) -> ArrayVec<Id, GREATEST_NEIGHBOURS>
+    requires { length (other_ends n (links_in links.now)) ≤ GREATEST_NEIGHBOURS }
     ensures { result.items ≡ ascending (other_ends n (links_in links.now)) }
 {
     let mut neighbours = ArrayVec::new();
@@ -292,7 +292,7 @@ fn nodes_of(links: &[(Id, Id)]) -> Option<ArrayVec<Id, GREATEST_NODES>>
 
 /// Whether the links of a node name more than so many others.
 fn has_many_neighbours(most: usize, n: Id, links: &[(Id, Id)]) -> bool
-    requires { most ≤ MOST_NEIGHBOURS }
+    requires { most ≤ GREATEST_NEIGHBOURS }
     ensures { result ≡ nat_lt most (length (different_neighbours n (links_in links.now))) }
 {
     let mut ends: ArrayVec<Id, MOST_ENDS> = ArrayVec::new();

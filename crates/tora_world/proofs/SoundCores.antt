@@ -4,10 +4,11 @@ use Rattle.std.specs.List.{AllByRecursion}
 use Rattle.std.proofs.lemmas.Bool.{cond_both}
 use Rattle.std.proofs.lemmas.Bool.Decides.{nat_tests}
 use Rattle.tora_packet.specs.PacketParts.{IsId}
-use Rattle.tora_core.specs.declared.TheConstants.{MOST_DESTINATIONS, MOST_NEIGHBOURS}
+use Rattle.tora_core.specs.declared.TheConstants.{GREATEST_NEIGHBOURS, MOST_DESTINATIONS}
+use Rattle.tora_core.specs.Limits.{greatest_core_limits}
 use Rattle.tora_core.specs.declared.errors.CoreError.TheVariants as Refusal
 use Rattle.tora_core.specs.Numbers.{has_number, has_repeat, with_number}
-use Rattle.tora_core.specs.CoreRun.{core_refusal}
+use Rattle.tora_core.specs.CoreRun.{core_refusal_within}
 use Rattle.tora_core.proofs.NumberLemmas.{all-has, all-with_number, all-ascending, length-ascending}
 use Rattle.tora_world.specs.Topology.{Topology, Link, other_ends, neighbours_of, nodes_in, with_node, is_node, IsWithinLimits}
 use Rattle.tora_world.specs.Walks.{AreIds}
@@ -47,18 +48,18 @@ module _ (cores : CoreLaws) (rules : RuleLaws) (t : Topology) (accepted : IsWith
   near_ids : (n : ℕ) → AllByRecursion IsId (neighbours_of t n)
   near_ids n = all-ascending IsId (other_ends n t.links) (ends_ids n t.links ids.links)
 
-  -- no node's core is refused
-  not_refused : (n : ℕ) → core_refusal n (neighbours_of t n) t.destinations ≡ None
+  -- no node's core is refused within the greatest limits
+  not_refused : (n : ℕ) → core_refusal_within GREATEST_NEIGHBOURS MOST_DESTINATIONS n (neighbours_of t n) t.destinations ≡ None
   not_refused n =
-      let few : length (neighbours_of t n) ≤ MOST_NEIGHBOURS = let e = length-ascending (other_ends n t.links) in let f = few-ends t h n in omega arith in
+      let few : length (neighbours_of t n) ≤ GREATEST_NEIGHBOURS = let e = length-ascending (other_ends n t.links) in let f = few-ends t h n in omega arith in
       let apart : has_number n (neighbours_of t n) ≡ false = cores.members n (other_ends n t.links) ∙ others-apart n t.links h.others in
       ap₂ (λ (a b : Bool). if a || b then Some Refusal.TooMany else if has_repeat (neighbours_of t n) || has_repeat t.destinations then Some Refusal.Repeated else if has_number n (neighbours_of t n) then Some Refusal.OwnId else None)
-      (not_above MOST_NEIGHBOURS (length (neighbours_of t n)) few) (not_above MOST_DESTINATIONS (length t.destinations) h.few_destinations)
+      (not_above GREATEST_NEIGHBOURS (length (neighbours_of t n)) few) (not_above MOST_DESTINATIONS (length t.destinations) h.few_destinations)
       ∙ ap₂ (λ (a b : Bool). if a || b then Some Refusal.Repeated else if has_number n (neighbours_of t n) then Some Refusal.OwnId else None) (neighbours_apart cores t n accepted) h.destinations
       ∙ ap (λ (b : Bool). if b then Some Refusal.OwnId else None) apart
 
   pub keeping : IsKeeping t
   keeping = record {
-    laws = λ n id is ok. rules.kept n (neighbours_of t n) t.destinations is id (near_ids n) ids.destinations (not_refused n) ok;
+    laws = λ n id is ok. rules.kept greatest_core_limits n (neighbours_of t n) t.destinations is id (near_ids n) ids.destinations (not_refused n) ok;
     ids = λ n k there. all-has IsId k (neighbours_of t n) (near_ids n) there;
   }

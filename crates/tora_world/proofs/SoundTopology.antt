@@ -91,7 +91,7 @@ no-cause false false false e = (refl, refl, refl)
 
 pub record IsSound (t : Topology) : Type 0 where
   pub nodes : length (nodes_in t.links) ≤ 1024
-  pub neighbours : list_any (λ n. nat_lt 32 (length (different_neighbours n t.links))) (nodes_in t.links) ≡ false
+  pub neighbours : list_any (λ n. nat_lt 255 (length (different_neighbours n t.links))) (nodes_in t.links) ≡ false
   pub links : has_repeated_link t.links ≡ false
   pub few_destinations : length t.destinations ≤ 64
   pub destinations : has_repeat t.destinations ≡ false
@@ -135,7 +135,7 @@ sound t (limits, e) =
     let nodes = within-greatest 1024 limits.nodes (length (nodes_in t.links)) few.nodes in
     record {
       nodes = not-above 1024 (length (nodes_in t.links)) nodes;
-      neighbours = none-weaker _ _ (λ n. within-greatest 32 limits.neighbours (length (different_neighbours n t.links))) (nodes_in t.links) few.neighbours;
+      neighbours = none-weaker _ _ (λ n. within-greatest 255 limits.neighbours (length (different_neighbours n t.links))) (nodes_in t.links) few.neighbours;
       links = or-false-left _ (has_repeat t.destinations) h.1;
       few_destinations = not-above 64 (length t.destinations) table;
       destinations = or-false-right (has_repeated_link t.links) _ h.1;
@@ -151,7 +151,7 @@ within-all t limits e =
     let h = no-cause (has_too_many_within limits t) (has_repeated_link t.links || has_repeat t.destinations) (has_own_link t.links) e in
     let few = are-few limits t h.0 in
     let nodes = within-greatest 1024 limits.nodes (length (nodes_in t.links)) few.nodes in
-    let near = none-weaker _ _ (λ n. within-greatest 32 limits.neighbours (length (different_neighbours n t.links))) (nodes_in t.links) few.neighbours in
+    let near = none-weaker _ _ (λ n. within-greatest 255 limits.neighbours (length (different_neighbours n t.links))) (nodes_in t.links) few.neighbours in
     let table = within-greatest 64 limits.destinations (length t.destinations) few.destinations in
     let many : has_too_many_within greatest_limits t ≡ false = or_from _ _ (or_from _ _ nodes near) table in
     rw (many, h.1, h.2) refl
@@ -272,17 +272,17 @@ none-any p n (m ∷ ns) none there = go (none-any p n ns (or-false-right (p m) (
     go rest true e h = subst (λ k. p k ≡ false) (eqb-true m n e) (or-false-left (p m) (list_any p ns) none)
     go rest false e h = rest h
 
--- a node has at most 32 neighbours
-pub few-ends : (t : Topology) → IsSound t → (n : ℕ) → length (other_ends n t.links) ≤ 32
+-- a node has at most 255 neighbours
+pub few-ends : (t : Topology) → IsSound t → (n : ℕ) → length (other_ends n t.links) ≤ 255
 few-ends t h n = go (has_number n (nodes_in t.links)) refl
   where
-    go : (b : Bool) → has_number n (nodes_in t.links) ≡ b → length (other_ends n t.links) ≤ 32
-    go false e = subst (λ (ns : List ℕ). length ns ≤ 32) (sym (unnamed n t.links e)) (omega arith)
+    go : (b : Bool) → has_number n (nodes_in t.links) ≡ b → length (other_ends n t.links) ≤ 255
+    go false e = subst (λ (ns : List ℕ). length ns ≤ 255) (sym (unnamed n t.links e)) (omega arith)
     go true e =
-        let few = none-any (λ m. nat_lt 32 (length (different_neighbours m t.links))) n (nodes_in t.links) h.neighbours e in
+        let few = none-any (λ m. nat_lt 255 (length (different_neighbours m t.links))) n (nodes_in t.links) h.neighbours e in
         let size = length-different (other_ends n t.links) (others-once n t.links h.links) in
         let apart : has_number n (different (other_ends n t.links)) ≡ false = has-different n (other_ends n t.links) ∙ others-apart n t.links h.others in
         let split : length (without_number n (different (other_ends n t.links))) + one_if false ≡ length (different (other_ends n t.links)) =
         subst (λ b. length (without_number n (different (other_ends n t.links))) + one_if b ≡ length (different (other_ends n t.links))) apart (split-different n (other_ends n t.links)) in
-        let bound : length (different_neighbours n t.links) ≤ 32 = grind (arith, nat_tests) in
+        let bound : length (different_neighbours n t.links) ≤ 255 = grind (arith, nat_tests) in
         omega arith

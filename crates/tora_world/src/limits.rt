@@ -2,7 +2,7 @@
 ghost use Rattle.std.specs.Prelude.{◌≡◌, ◌≤◌};
 ghost use Rattle.tora_world.specs.Topology.{at_most, most_neighbours, most_destinations, most_nodes};
 
-use tora_core::{MOST_DESTINATIONS, MOST_NEIGHBOURS};
+use tora_core::{GREATEST_NEIGHBOURS, MOST_DESTINATIONS, MOST_NEIGHBOURS};
 
 /// The most nodes of a world within the standard limits. Own profile.
 pub const MOST_NODES: usize = 64;
@@ -12,7 +12,7 @@ pub const GREATEST_NODES: usize = 1024;
 
 /// The most neighbours of a node, destinations of a table and nodes of a world.
 ///
-/// A limit above the greatest, which is 32 neighbours, 64 destinations or 1,024 nodes, stands for the greatest. Own profile.
+/// A limit above the greatest, which is 255 neighbours, 64 destinations or 1,024 nodes, stands for the greatest. Own profile.
 #[derive(Clone, Copy, Debug, PartialEq, Eq)]
 pub struct Limits {
     pub neighbours: usize,
@@ -28,9 +28,9 @@ impl Limits {
         nodes: MOST_NODES,
     };
 
-    /// The greatest limits: 32 neighbours of a node, 64 destinations and 1,024 nodes.
+    /// The greatest limits: 255 neighbours of a node, 64 destinations and 1,024 nodes.
     pub const GREATEST: Limits = Limits {
-        neighbours: MOST_NEIGHBOURS,
+        neighbours: GREATEST_NEIGHBOURS,
         destinations: MOST_DESTINATIONS,
         nodes: GREATEST_NODES,
     };
@@ -38,9 +38,9 @@ impl Limits {
     /// How many neighbours a node may have.
     pub fn most_neighbours(self) -> usize
         ensures value { result ≡ most_neighbours self }
-        ensures bound { result ≤ MOST_NEIGHBOURS }
+        ensures bound { result ≤ GREATEST_NEIGHBOURS }
     {
-        at_most(MOST_NEIGHBOURS, self.neighbours)
+        at_most(GREATEST_NEIGHBOURS, self.neighbours)
     }
 
     /// How many destinations a table may have.

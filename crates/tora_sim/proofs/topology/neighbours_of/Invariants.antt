@@ -8,6 +8,6 @@ use Rattle.tora_sim.proofs.topology.neighbours_of.Given as goal
 -- the other ends of the rest, put to those so far, are all neighbours
 abbrev pub invariant-loop-link : goal.invariant-loop-link
 invariant-loop-link l = record {
-  room : length l.neighbours.items + length (other_ends l.n (links_in (drop l.link-index l.links))) ≤ 32;
+  room : length l.neighbours.items + length (other_ends l.n (links_in (drop l.link-index l.links))) ≤ 255;
   all : sorted_on l.neighbours.items (other_ends l.n (links_in (drop l.link-index l.links))) ≡ ascending (other_ends l.n (links_in l.links));
 }

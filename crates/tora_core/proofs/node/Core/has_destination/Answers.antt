@@ -12,5 +12,5 @@ named-views d (v ∷ views) = ap (λ (b : Bool). (v.destination == d) || b) (nam
 
 pub returns : goal.returns
 returns c =
-    c.has_number.ensures ∙ ap (has_number c.args.d) (c.as_slice.ensures.value ∙ c.self.invariant.1) ∙ named-views c.args.d (views_in c.self.inside.views.items)
+    c.has_number.ensures ∙ ap (has_number c.args.d) (c.as_slice.ensures.value ∙ c.self.invariant.1.0) ∙ named-views c.args.d (views_in c.self.inside.views.items)
     ∙ ap (λ (core : CoreView). has_destination c.args.d core.views) c.self.view_is

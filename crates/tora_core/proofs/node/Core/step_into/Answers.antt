@@ -9,7 +9,7 @@ use Rattle.tora_core.specs.declared.errors.StepError.{StepError}
 use Rattle.std.specs.Prelude.{if◌then◌else◌}
 use Rattle.tora_core.specs.Kept.{IsCore, CanTake, IsOver}
 use Rattle.tora_core.proofs.AfterInputs.{all-over, linked, part-ascending}
-use Rattle.tora_core.proofs.CoreLemmas.{all-can_take, all-roomy, core-kept, destinations_of-next, fewer-up, room-up}
+use Rattle.tora_core.proofs.CoreLemmas.{all-can_take, all-roomy, core-kept, destinations_of-next, fewer-up}
 use Rattle.tora_core.proofs.TableViews.{all-in, room-next, views_next}
 use Rattle.tora_core.proofs.node.Core.step_into.Goals as goal
 
@@ -24,7 +24,10 @@ note-requires c = λ k is.
     let core : CoreView = record { me = c.self.inside.me; neighbours = c.self.inside.neighbours.items; up = c.self.inside.up.items; views = views_in c.self.inside.views.items } in
     let free : refusal_of core c.args.input.now ≡ None = ap (λ (x : CoreView). refusal_of x c.args.input.now) c.self.view_is ∙ sym c.refusal.ensures.value ∙ c.in_default.is in
     let P : Input → Type 0 = λ i. refusal_of core i ≡ None in
-    room-up core k c.self.invariant.0 (subst P is free)
+    let fewer = fewer-up core k c.self.invariant.0 (subst P is free) in
+    let len = c.self.inside.up.ok.0 in
+    let wide = c.self.invariant.1.1 in
+    omega arith
 
 refill-same : (n : ℕ) (xs ws : List TableView) → length ws ≡ n → refill n xs ws ≡ ws
 refill-same n xs ws e = grind (arith, common_steps)
@@ -35,8 +38,8 @@ invariant_of-self c =
     let free : refusal_of core c.args.input.now ≡ None = ap (λ (x : CoreView). refusal_of x c.args.input.now) c.self.view_is ∙ sym c.refusal.ensures.value ∙ c.in_default.is in
     let kept : IsCore (core_taking core c.args.input.now c.args.now) = core-kept core c.args.input.now c.args.now c.self.invariant.0 c.in_default.ensures.valid free in
     let same = refill-same c.self.inside.views.len c.self.inside.views.items c.step.new.views (omega (arith, c.step.auto.views, c.deref_mut.ensures.len)) in
-    rw (same, c.note.ensures, c.step.ensures.views, c.deref_mut.ensures.value, views_next c.args.input.now c.args.now c.self.inside.views.items)
-    (kept, c.self.invariant.1 ∙ sym (destinations_of-next c.args.input.now c.args.now (views_in c.self.inside.views.items)), room-next c.args.input.now c.args.now (length c.self.inside.neighbours.items) c.self.inside.views.items c.self.invariant.2)
+    rw (same, c.note.ensures.items, c.step.ensures.views, c.deref_mut.ensures.value, views_next c.args.input.now c.args.now c.self.inside.views.items)
+    (kept, (c.self.invariant.1.0 ∙ sym (destinations_of-next c.args.input.now c.args.now (views_in c.self.inside.views.items)), (let same_room = c.note.ensures.capacity in let wide = c.self.invariant.1.1 in omega arith)), room-next c.args.input.now c.args.now (length c.self.inside.neighbours.items) c.self.inside.views.items c.self.invariant.2)
 
 pub step-requires-clause-room : goal.step-requires-clause-room
 step-requires-clause-room c = λ k is.
@@ -49,10 +52,10 @@ step-requires-clause-room c = λ k is.
     (all-roomy c.self.inside.me (length c.self.inside.neighbours.items) c.self.inside.up.items c.self.inside.views.items fewer c.self.invariant.0.views c.self.invariant.2))
 
 pub step-requires-clause-ascending : goal.step-requires-clause-ascending
-step-requires-clause-ascending c = rw (c.as_slice.ensures.value, c.self.invariant.1) c.self.invariant.0.ascending_destinations
+step-requires-clause-ascending c = rw (c.as_slice.ensures.value, c.self.invariant.1.0) c.self.invariant.0.ascending_destinations
 
 pub step-requires-clause-names : goal.step-requires-clause-names
-step-requires-clause-names c = rw (c.as_slice.ensures.value, c.deref_mut.ensures.value) c.self.invariant.1
+step-requires-clause-names c = rw (c.as_slice.ensures.value, c.deref_mut.ensures.value) c.self.invariant.1.0
 
 pub step-requires-clause-sorted : goal.step-requires-clause-sorted
 step-requires-clause-sorted c =
@@ -76,5 +79,5 @@ returns-clause-core c =
     let free : refusal_of core c.args.input.now ≡ None = ap (λ (x : CoreView). refusal_of x c.args.input.now) c.self.view_is ∙ sym c.refusal.ensures.value ∙ c.in_default.is in
     let same = refill-same c.self.inside.views.len c.self.inside.views.items c.step.new.views (omega (arith, c.step.auto.views, c.deref_mut.ensures.len)) in
     let taken : core_after core c.args.input.now c.args.now ≡ core_taking core c.args.input.now c.args.now = ap (λ (o : Option StepError). if is_some o then core else core_taking core c.args.input.now c.args.now) free in
-    rw (same, c.note.ensures, c.step.ensures.views, c.deref_mut.ensures.value, views_next c.args.input.now c.args.now c.self.inside.views.items)
+    rw (same, c.note.ensures.items, c.step.ensures.views, c.deref_mut.ensures.value, views_next c.args.input.now c.args.now c.self.inside.views.items)
     (sym taken ∙ ap (λ (x : CoreView). core_after x c.args.input.now c.args.now) c.self.view_is)

@@ -21,11 +21,11 @@ note_inputs-requires c =
 pub returns-clause-served : goal.returns-clause-served
 returns-clause-served c =
     let s = c.self.inside in
-    let before : NodeView = node_of s.node s.first s.count s.seat s.inputs.items s.items.items s.counts s.sending s.receive in
+    let before : NodeView = node_of s.node s.first s.count s.seat s.inputs.items s.items.items s.counts.items s.sending s.receive in
     let noted : c.note_inputs.new.inputs.items ≡ s.inputs.items ++ map (λ input. (input, c.in-Some.item.now)) c.serve.new.self.inputs =
     c.note_inputs.ensures
     ∙ ap₂ (λ (a : List (Input × ℕ)) (b : List Input). a ++ map (λ input. (input, c.in-Some.item.now)) b) c.reserve.ensures.items c.inputs.ensures in
-    subst (λ (v : NodeView). IsServed v c.args.lanes.now c.in-Some.item (node_of s.node s.first s.count c.serve.new.self c.note_inputs.new.inputs.items c.pop_front.new.self.items s.counts s.sending s.receive) c.serve.new.outs) c.self.view_is
+    subst (λ (v : NodeView). IsServed v c.args.lanes.now c.in-Some.item (node_of s.node s.first s.count c.serve.new.self c.note_inputs.new.inputs.items c.pop_front.new.self.items s.counts.items s.sending s.receive) c.serve.new.outs) c.self.view_is
     (record {
       items = c.in-Some.ensures.items;
       offers = c.serve.ensures.served.0;

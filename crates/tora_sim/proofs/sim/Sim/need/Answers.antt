@@ -8,7 +8,7 @@ use Rattle.tora_sim.specs.Nodes.{NodeView, after_item}
 use Rattle.tora_sim.specs.Store.{SimState, state_of, world_of}
 use Rattle.tora_sim.specs.Steps.{IsRefused, Does}
 use Rattle.tora_sim.proofs.Opens.{same_read}
-use Rattle.tora_sim.proofs.Needs.{need_refused, put_store, need_does, of_node, IsPut}
+use Rattle.tora_sim.proofs.Needs.{need_refused, put_store, need_does, last_seat, IsPut}
 use Rattle.tora_sim.proofs.sim.Sim.need.Goals as goal
 
 pub returns-then-waiting-ge-MOST_ITEMS : goal.returns-then-waiting-ge-MOST_ITEMS
@@ -22,8 +22,10 @@ returns-then-waiting-ge-MOST_ITEMS c =
 pub put_item-requires : goal.put_item-requires
 put_item-requires c =
     let s = c.self.inside in
-    subst (λ m. m < 33) (sym c.count-seat.ensures)
-    (of_node s.topology s.times s.clock s.nodes.items s.links.items s.datagrams.items c.self.invariant.0 c.args.n c.in-Some.home c.index-2.result.now c.in-Some.ensures.first c.index-2.ensures).room
+    let y = c.index_mut.result.now in
+    let same : c.index-2.result.now ≡ y = same_read s.nodes.items c.in-Some.home c.index-2.result.now y c.in-Some.ensures.first.within c.index-2.ensures c.index_mut.ensures.value in
+    subst (λ m. m < length y.counts) (sym (c.count-seat.ensures ∙ ap (λ (z : NodeView). z.count) same))
+    (last_seat s.topology s.times s.clock s.nodes.items s.links.items s.datagrams.items c.self.invariant.0 c.args.n c.in-Some.home y c.in-Some.ensures.first c.index_mut.ensures.value)
 
 module _ (c : goal.After-self-2-1) where
   abbrev x : NodeView
@@ -52,7 +54,7 @@ invariant_of-self c =
     let s = c.self.inside in (
       put_store s.topology s.times s.clock s.nodes.items s.links.items s.datagrams.items c.self.invariant.0 c.args.n c.in-Some.home (x c) c.in-Some.ensures.first c.index_mut.ensures.value
           (x c).count (Tells.Need c.args.d) c.put_item.new.self c.put_item.result
-          (of_node s.topology s.times s.clock s.nodes.items s.links.items s.datagrams.items c.self.invariant.0 c.args.n c.in-Some.home (x c) c.in-Some.ensures.first c.index_mut.ensures.value).room (is_put c),
+          (last_seat s.topology s.times s.clock s.nodes.items s.links.items s.datagrams.items c.self.invariant.0 c.args.n c.in-Some.home (x c) c.in-Some.ensures.first c.index_mut.ensures.value) (is_put c),
       λ none. absurd (omega (arith, none)),
     )
 

@@ -44,7 +44,7 @@ module _ (c : goal.After-what_of) where
 pub put_item-requires : goal.put_item-requires
 put_item-requires c =
     let s = c.self.inside in
-    subst (λ m. m < 33) (sym (seat_is c))
+    subst (λ m. m < length c.index_mut.result.now.counts) (sym (seat_is c))
     (seat_room s.topology s.times s.clock s.nodes.items s.links.items s.datagrams.items c.self.invariant.0 c.args.n c.args.k c.in-Some.at c.index.result.now c.in-Some.ensures.first c.index.ensures c.in-Some-next_event.event (sym c.next_event.ensures ∙ c.in-Some-next_event.is)
     c.in-Some-node_place.home c.index_mut.result.now c.in-Some-node_place.ensures.first c.index_mut.ensures.value)
 

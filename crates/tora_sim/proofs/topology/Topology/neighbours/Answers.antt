@@ -7,5 +7,5 @@ use Rattle.tora_sim.proofs.topology.Topology.neighbours.Goals as goal
 pub neighbours_of-requires : goal.neighbours_of-requires
 neighbours_of-requires c =
     let s = c.self.inside in
-    subst (λ (links : List (ℕ × ℕ)). length (other_ends c.args.n (links_in links)) ≤ 32) (sym c.deref.ensures.value)
+    subst (λ (links : List (ℕ × ℕ)). length (other_ends c.args.n (links_in links)) ≤ 255) (sym c.deref.ensures.value)
     (few-ends (topology_of s.links.items s.destinations.items) (sound (topology_of s.links.items s.destinations.items) (greatest_limits, c.self.invariant.sound)) c.args.n)

@@ -7,7 +7,7 @@ use Rattle.tora_core.proofs.NumberLemmas.{all-ascending, length-ascending}
 use Rattle.tora_core.specs.Table.{HaveRoom, first_in}
 use Rattle.tora_core.proofs.TableViews.{room-first, views_first}
 use Rattle.tora_core.proofs.CoreLemmas.{destinations_of-first, few-neighbours, first_core-kept}
-use Rattle.tora_core.proofs.node.Core.new.Goals as goal
+use Rattle.tora_core.proofs.node.Core.with_limits.Goals as goal
 
 pub first_views-requires-clause-destinations : goal.first_views-requires-clause-destinations
 first_views-requires-clause-destinations c =
@@ -21,19 +21,19 @@ invariant_of-result c =
     recursion_from_All IsId c.args.neighbours.now (All-from_get_or IsId c.args.neighbours.now 0 (λ k lt. (c.requires.neighbours k 0 lt, (c.type_inv.neighbours k).fits))) in
     let tos : AllByRecursion IsId c.args.destinations.now =
     recursion_from_All IsId c.args.destinations.now (All-from_get_or IsId c.args.destinations.now 0 (λ k lt. (c.requires.destinations k 0 lt, (c.type_inv.destinations k).fits))) in
-    let kept = first_core-kept c.args.me c.args.neighbours.now c.args.destinations.now (c.requires.me, c.ranges.me.fits) ids tos (sym c.core_refusal.ensures ∙ c.in_default.is) in
+    let kept = first_core-kept c.args.limits c.args.me c.args.neighbours.now c.args.destinations.now (c.requires.me, c.ranges.me.fits) ids tos (sym c.core_refusal.ensures.value ∙ c.in_default.is) in
     let room : ℕ → Type 0 = λ n. HaveRoom n (map (first_in (length c.args.neighbours.now) c.args.me) (ascending c.args.destinations.now)) in
-    rw (c.ascending.ensures, c.new.ensures, c.in-Ok.ensures, c.as_slice.ensures.value, c.ascending-table.ensures, views_first (length c.args.neighbours.now) c.args.me (ascending c.args.destinations.now)) (
+    rw (c.in-Ok-sorted.ensures, c.in-Ok-with_capacity.ensures.items, c.in-Ok.ensures, c.as_slice.ensures.value, c.ascending-table.ensures, views_first (length c.args.neighbours.now) c.args.me (ascending c.args.destinations.now)) (
       kept,
-      sym (destinations_of-first c.args.me (ascending c.args.destinations.now)),
+      (sym (destinations_of-first c.args.me (ascending c.args.destinations.now)), (let wide = c.in-Ok-with_capacity.ensures.exact in let e = length-ascending c.args.neighbours.now in omega arith)),
       subst room (sym (length-ascending c.args.neighbours.now)) (room-first (length c.args.neighbours.now) c.args.me (ascending c.args.destinations.now)),
     )
 
 pub first_views-requires-clause-room : goal.first_views-requires-clause-room
 first_views-requires-clause-room c =
-    let few = few-neighbours c.args.me c.args.neighbours.now c.args.destinations.now (sym c.core_refusal.ensures ∙ c.in_default.is) in
+    let few = few-neighbours c.args.limits c.args.me c.args.neighbours.now c.args.destinations.now (sym c.core_refusal.ensures.value ∙ c.in_default.is) in
     omega arith
 
 pub returns-clause-value : goal.returns-clause-value
 returns-clause-value c =
-    rw (c.ascending.ensures, c.new.ensures, c.in-Ok.ensures, c.as_slice.ensures.value, c.ascending-table.ensures, views_first (length c.args.neighbours.now) c.args.me (ascending c.args.destinations.now)) refl
+    rw (c.in-Ok-sorted.ensures, c.in-Ok-with_capacity.ensures.items, c.in-Ok.ensures, c.as_slice.ensures.value, c.ascending-table.ensures, views_first (length c.args.neighbours.now) c.args.me (ascending c.args.destinations.now)) refl
