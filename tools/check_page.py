@@ -117,7 +117,7 @@ def check_every_round(checks, page, scenario_path, trace):
         for clock, world in moments(scenario, trace, records(trace)):
             hops = world.hops[destination]
             shares.append(sum(follow(hops, world.near, *flow)[0] == WORKS for flow in flows) / len(flows))
-            looping = {node for ring in live_loops(hops, world.near) for node in ring}
+            looping = {node for ring in live_loops(hops, world.near, hops) for node in ring}
             loops += [clock] if looping else []
             stale = {node for node, hop in hops.items() if hop and tuple(sorted((node, hop))) not in world.links}
             kinds.append(sorted([node, "stale" if node in stale else "loop" if node in looping else "works"] for node, hop in hops.items() if hop))

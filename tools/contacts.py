@@ -1,64 +1,103 @@
 """Which nodes are within reach of each other, sample by sample, and which links a file declares of them."""
 import collections
 import itertools
-import math
+import operator
 
 SLACK = 1e-6  # metres that rounding may cost
+FEW = 64  # nodes of which every pair is looked at, where they stand close together
+CLOSE = 4  # reaches from the left to the right below which they do
+BITS = 20  # of the number of a node in the number of a pair
 
 
 class Contacts:
     """The pairs within reach, by what changes from sample to sample.
 
     `changes` has for each sample the pairs that come and those that go, `total` for each pair in how many samples it is within
-    reach, and `most` the most pairs of a node at once. A pair is looked at again only when both nodes may have moved as far as
-    its distance is from the reach.
+    reach, and `most` the most pairs of a node at once.
     """
 
     def __init__(self, positions, reach):
         """Those of the places of all nodes in each sample."""
-        self.positions, self.reach = positions, reach
-        self.step = max(itertools.starmap(farthest, zip(positions, positions[1:])), default=0)
         self.total, self.since, self.degree, self.most = collections.Counter(), {}, collections.Counter(), 0
-        self.due = [[] for _ in positions]
-        self.due[0] = list(itertools.combinations(range(len(positions[0])), 2))
-        self.changes = [self.look(at) for at in range(len(positions))]
+        self.changes = list((changes_by_pairs if is_dense(positions, reach) else changes_by_rows)(positions, reach))
+        for at, (came, gone) in enumerate(self.changes):
+            self.count(at, came, gone)
         for pair, since in self.since.items():
             self.total[pair] += len(positions) - since
 
-    def look(self, at):
-        """The pairs that come and those that go in a sample."""
-        places, since, due, reach, came, gone = self.positions[at], self.since, self.due, self.reach, [], []
-        square, samples, per_metre = reach * reach, len(due), 0.5 / self.step if self.step else 0
-        for pair in due[at]:
-            one, other = pair
-            (x, y), (p, q) = places[one], places[other]
-            length = (dx := x - p) * dx + (dy := y - q) * dy
-            if length <= square:
-                if (one + 1, other + 1) not in since:
-                    came.append((one + 1, other + 1))
-            elif (one + 1, other + 1) in since:
-                gone.append((one + 1, other + 1))
-            again = at + 1 + int((abs(math.sqrt(length) - reach) - SLACK) * per_metre)
-            if again < samples:
-                due[again].append(pair)
-        due[at] = None
-        self.count(at, came, gone)
-        return came, gone
-
     def count(self, at, came, gone):
         """Counts the pairs that come and go in a sample."""
+        degree = self.degree
         for pair in gone:
             self.total[pair] += at - self.since.pop(pair)
-            self.degree.subtract(pair)
+            a, b = pair
+            degree[a] -= 1
+            degree[b] -= 1
         for pair in came:
             self.since[pair] = at
-            self.degree.update(pair)
-        self.most = max(self.most, max((self.degree[node] for pair in came for node in pair), default=0))
+            a, b = pair
+            degree[a] += 1
+            degree[b] += 1
+            if degree[a] > self.most or degree[b] > self.most:
+                self.most = max(degree[a], degree[b])
 
 
-def farthest(before, now):
-    """How far the nodes move from one sample to the next, at most."""
-    return max(map(math.dist, before, now))
+def is_dense(positions, reach):
+    """Whether a node has most of the few others near it, by the sample in the middle."""
+    lefts = [x for x, _ in positions[len(positions) // 2]]
+    return len(lefts) <= FEW and max(lefts) - min(lefts) < CLOSE * reach
+
+
+def changes_by_pairs(positions, reach):
+    """Yields for each sample the pairs that come within reach and those that go. Every pair is looked at."""
+    pairs, square = list(itertools.combinations(range(1, len(positions[0]) + 1), 2)), reach * reach
+    before = bytes(len(pairs))
+    for places in positions:
+        near = []
+        for node, (x, y) in enumerate(places, 1):
+            for p, q in places[node:]:
+                p -= x
+                q -= y
+                near.append(p * p + q * q <= square)
+        now = bytes(near)
+        came, gone = [], []
+        for pair, is_near in itertools.compress(zip(pairs, now), map(operator.ne, before, now)):
+            (came if is_near else gone).append(pair)
+        yield came, gone
+        before = now
+
+
+def changes_by_rows(positions, reach):
+    """The same; of two nodes that stand further apart from the left to the right than the reach most are not looked at."""
+    before = set()
+    for places in positions:
+        now = numbers_within(places, reach)
+        yield [pair_of(number) for number in now - before], [pair_of(number) for number in before - now]
+        before = now
+
+
+def numbers_within(places, reach):
+    """The numbers of the pairs within reach of each other; nodes are told from 1, in the order of their places.
+
+    From the left to the right each node is compared with those that stand no further right of it than the reach.
+    """
+    row, found, square = sorted([(x, y, node) for node, (x, y) in enumerate(places, 1)]), set(), reach * reach
+    for at, (x, y, node) in enumerate(row, 1):
+        most = x + reach + SLACK
+        for behind in range(at, len(row)):
+            p, q, other = row[behind]
+            if p > most:
+                break
+            p -= x
+            q -= y
+            if p * p + q * q <= square:
+                found.add(node << BITS | other if node < other else other << BITS | node)
+    return found
+
+
+def pair_of(number):
+    """The pair of a number, the lower node first. Numbers in sets are compared faster than pairs."""
+    return number >> BITS, number & (1 << BITS) - 1
 
 
 def declared_links(total, limit):

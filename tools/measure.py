@@ -14,10 +14,11 @@ import sys
 
 import parameters
 import traffic
-from record import GRAMMAR, PARTS, Ends, records, until
+from record import PARTS, Ends, until
 from routes import Routes
 from scenario_file import load_scenario
 from study import Usage, at_least, run
+from tally import Counts, news
 from world import spans
 
 COLUMNS = (
@@ -33,45 +34,12 @@ CHANNEL = PARTS[4:]  # what the first record of a trace says of the channel
 MORE = ["until", "channel_file"]  # what it says behind these
 
 
-class Counts:
-    """Broadcasts, datagrams and link inputs by kind."""
-
-    BROADCASTS = {"qry": "query", "upd": "update", "clr": "clear"}
-    FRAMES = ("hello", "data", "acknowledgement", "undelivered")
-
-    def __init__(self, given):
-        """Counts the records as they are passed on."""
-        self.given = given
-        self.records, self.copies, self.frames = dict.fromkeys(GRAMMAR, 0), dict.fromkeys(self.BROADCASTS, 0), [0, 0, 0, 0]
-
-    def __iter__(self):
-        """Passes the records on."""
-        for record in self.given:
-            _, _, kind, words = record
-            self.records[kind] += 1
-            if kind in self.copies:
-                self.copies[kind] += words[2]
-            elif kind == "frames":
-                self.frames = [sum(pair) for pair in zip(self.frames, words)]
-            yield record
-
-    def control(self):
-        """Control packets that were broadcast, and their copies."""
-        return sum(self.records[kind] for kind in self.copies), sum(self.copies.values())
-
-    def columns(self):
-        """Their columns."""
-        row = {name: self.records[kind] for kind, name in self.BROADCASTS.items()} | dict(zip(self.FRAMES, self.frames))
-        row |= {name + "_copies": self.copies[kind] for kind, name in self.BROADCASTS.items()}
-        return row | {"links_" + kind: self.records[kind] for kind in ("up", "down")}
-
-
 def measure(scenario, path, load=None, version=""):
     """The routes and the row of a run, which a version of the simulator made; with a load the columns of its packets, too."""
     ends, scenario = Ends(path), until(scenario, path)
-    counts, routes = Counts(records(path, ends)), Routes(scenario)
+    counts, routes = Counts(), Routes(scenario)
     packets, linked = load and traffic.Traffic(scenario["flows"], load), 0
-    for first, last, world in spans(scenario, path, counts):
+    for first, last, world in spans(scenario, path, news(path, ends, counts)):
         linked += 2 * len(world.links) * (last - first + 1)
         routes.take(first, last, world)
         if packets:

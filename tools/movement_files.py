@@ -29,19 +29,27 @@ def parse_ns2(path):
     """The first positions by node, and the moves (time, line, node, x, y, speed), of a setdest file."""
     start, moves = {}, []
     for number, line in read_lines(path):
-        if "$god_" in line:  # hop counts that the generator foretells; nothing moves by them
+        if found := MOVE.match(line):
+            time, _, *to = numbers_of(path, number, found.groups())
+            moves.append((time, number, int(found[2]), *to))
+        elif "$god_" in line:  # hop counts that the generator foretells; nothing moves by them
             continue
-        if found := START.match(line):
-            start.setdefault(int(found[1]), {})[found[2]] = float(found[3])
-        elif found := MOVE.match(line):
-            moves.append((float(found[1]), number, int(found[2]), *(float(found[i]) for i in (3, 4, 5))))
+        elif found := START.match(line):
+            _, metres = numbers_of(path, number, (found[1], found[3]))
+            start.setdefault(int(found[1]), {})[found[2]] = metres
         else:
             raise refused(path, number, f"no line of a setdest file: {line}")
-        if not all(abs(float(word)) <= MOST_METRES for word in found.groups() if word not in "XYZ"):
-            raise refused(path, number, "a number is too large")
     if sorted(start) != list(range(len(start))) or not all({"X", "Y"} <= set(place) for place in start.values()):
         raise refused(path, None, "nodes have to be 0, 1, 2 .. without a gap, each with X_ and Y_")
     return start, moves
+
+
+def numbers_of(path, line, words):
+    """Words of a line as numbers, none of which is too large."""
+    values = tuple(map(float, words))
+    if max(values) > MOST_METRES or min(values) < -MOST_METRES:
+        raise refused(path, line, "a number is too large")
+    return values
 
 
 def read_ns2(path):

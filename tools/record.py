@@ -1,9 +1,10 @@
 """The records of a trace, as `docs/formats.md` ("Traces") has them: their grammar, and how they are read."""
 import collections
+import itertools
 import re
 from operator import getitem
 
-from study import refused
+from study import Refused, refused
 
 Record = collections.namedtuple("Record", "line clock kind words")
 Record.__doc__ = "One record of a trace: its line from 1, the clock, its word, and what follows (numbers, heights, None for `-`)."
@@ -31,7 +32,7 @@ def field(path, line, kind, word):
         found = HEIGHT.match(word)
         if not found:
             raise refused(path, line, f"`{word}` is no height")
-        return tuple(int(part) for part in found.groups())
+        return tuple(map(int, found.groups()))
     if not NUMBER.match(word) or (kind in "ik" and word == "0"):
         raise refused(path, line, f"`{word}` is no {'number' if kind == 'n' else 'id'}")
     return int(word)
@@ -109,7 +110,7 @@ class Ends:
 def last_round(path):
     """The round behind which nothing is done in the run of a trace, or None."""
     ends = Ends(path)
-    with open(path, encoding="ascii", errors="replace", newline="\n") as source:
+    with opened(path) as source:
         text = source.readline()
     if text.startswith(FIRST):
         ends.begin(text)
@@ -126,50 +127,99 @@ def until(scenario, path):
     return scenario | {"rounds": last}
 
 
+class Words(dict):
+    """What the words of one kind of field were read as; a word that is none of the kind is a KeyError."""
+
+    def __init__(self, kind):
+        """None yet."""
+        super().__init__()
+        self.kind = kind
+
+    def __missing__(self, word):
+        """Reads a word; what is kept is forgotten where it grows too large."""
+        try:
+            value = field("", 0, self.kind, word)
+        except Refused:
+            raise KeyError(word) from None
+        if len(self) >= MOST_KNOWN:
+            self.clear()
+        self[word] = value
+        return value
+
+
+class Reader:
+    """What the lines of a trace share: where it stands, what its ends say, the clock, and what was read before."""
+
+    def __init__(self, path, ends):
+        """Before the first line."""
+        self.path, self.ends, self.clock = path, ends, 0
+        known = {letter: Words(letter) for letter in "inhk"}
+        self.fields = {kind: [known[letter] for letter in letters] for kind, letters in GRAMMAR.items()}  # by the kind of record
+        self.between = {}  # texts behind the clock of records that stand between rounds, which come again and again
+
+    def lines(self, source):
+        """The numbered lines behind the first record; refuses a trace without any."""
+        lines = enumerate(source, 1)
+        first = next(lines, None)
+        if first is None:
+            self.ends.refuse_cut(0)
+        elif first[1].startswith(FIRST):
+            self.ends.begin(first[1])
+        else:
+            return itertools.chain([first], lines)
+        return lines
+
+    def go_to(self, clock, number, text):
+        """Takes the clock of a line that is spelled otherwise than the one before; refuses the line where it is none or goes back."""
+        if not NUMBER.match(clock) or int(clock) < self.clock:
+            self.refuse(number, text, ())
+        self.clock = int(clock)
+
+    def refuse(self, number, text, lines):
+        """Takes the last record; refuses every other line, which is no record by the grammar, and each line behind the last record."""
+        if text.partition(" ")[2].startswith("end ") and text.endswith("\n"):
+            self.ends.finish(number, text, self.clock)
+            for number, _ in lines:
+                raise refused(self.path, number, "the trace goes on behind its last record")
+        else:
+            read_record(self.path, number, text, self.clock)
+
+    def keep(self, rest, kind, values):
+        """Keeps a record that stands between rounds by its text behind the clock; what is kept is forgotten where it grows too large."""
+        if len(self.between) >= MOST_KNOWN:
+            self.between.clear()
+        self.between[rest] = kind, values
+
+
+def opened(path):
+    """A trace as a file of lines."""
+    return open(path, encoding="ascii", errors="replace", newline="\n")
+
+
 def records(path, ends=None):
     """Yields the records of a trace but for its first and its last one, which go to `ends`, and refuses one that is empty or cut.
 
     Behind a clock that was read before, what was read before is not read again."""
-    before, clock_before, new, ends, number = 0, None, tuple.__new__, ends or Ends(path), 0
-    known = {letter: {} for letter in "inhk"}  # by the kind of field the values of words
-    fields = {kind: [known[letter] for letter in letters] for kind, letters in GRAMMAR.items()}
-    between = {}  # texts behind the clock of records that stand between rounds, which come again and again
-    with open(path, encoding="ascii", errors="replace", newline="\n") as source:
-        for number, text in enumerate(source, 1):
-            if number == 1 and text.startswith(FIRST):
-                ends.begin(text)
-                continue
-            if ends.digest is not None:
-                raise refused(path, number, "the trace goes on behind its last record")
+    reader = Reader(path, ends or Ends(path))
+    fields, between, new, number, spelled = reader.fields, reader.between, tuple.__new__, 0, None
+    with opened(path) as source:
+        for number, text in (lines := reader.lines(source)):
             clock, _, rest = text.partition(" ")
-            if clock == clock_before and rest in between:
-                yield new(Record, (number, before, *between[rest]))
+            if clock != spelled:
+                reader.go_to(clock, number, text)
+                spelled = clock
+            if rest in between:
+                yield new(Record, (number, reader.clock, *between[rest]))
                 continue
-            words = rest[:-1].split(" ")
-            if clock == clock_before and rest[-1:] == "\n":
-                try:
-                    kind, *rest_words = words
-                    values = tuple(map(getitem, fields[kind], rest_words))
-                    if len(rest_words) == len(fields[kind]):
-                        yield new(Record, (number, before, kind, values))
-                        continue
-                except KeyError:
-                    pass
-            if rest.startswith("end ") and text.endswith("\n"):
-                ends.finish(number, text, before)
-                continue
-            record = read_record(path, number, text, before)
-            before, clock_before = record.clock, clock
-            if record.kind in BETWEEN:
-                keep(between, rest, record[2:])
-            for values, word, value in zip(fields[record.kind], words[1:], record.words):
-                keep(values, word, value)
-            yield record
-    ends.refuse_cut(number)
-
-
-def keep(known, text, value):
-    """Keeps what a text was read as; what is kept is forgotten where it grows too large."""
-    if len(known) >= MOST_KNOWN:
-        known.clear()
-    known[text] = value
+            kind, *words = rest[:-1].split(" ")
+            try:
+                values = tuple(map(getitem, fields[kind], words))
+                if len(words) == len(fields[kind]) and rest[-1] == "\n":
+                    if kind in BETWEEN:
+                        reader.keep(rest, kind, values)
+                    yield new(Record, (number, reader.clock, kind, values))
+                    continue
+            except KeyError:
+                pass
+            reader.refuse(number, text, lines)
+    reader.ends.refuse_cut(max(number, 1))

@@ -15,37 +15,37 @@ Outage = collections.namedtuple("Outage", "start by_break was_cut linked_since")
 
 
 def follow(hops, near, node, destination):
-    """How a route fares from a node, and after how many hops; `near` has the neighbours over links that are not parted."""
+    """How a route fares from a node, after how many hops, and its nodes; `near` has the neighbours over links that are not parted."""
     seen = {node}
     while node != destination:
         hop = hops[node]
         if hop is None:
-            return NO_HOP, 0
+            return NO_HOP, 0, seen
         if hop not in near[node]:
-            return STALE, 0
+            return STALE, 0, seen
         if hop in seen:
-            return LOOPING, 0
+            return LOOPING, 0, seen
         seen.add(hop)
         node = hop
-    return WORKS, len(seen) - 1
+    return WORKS, len(seen) - 1, seen
 
 
-def live_loops(hops, near):
-    """The cycles of next hops whose links are all not parted; each begins with its lowest node."""
-    met_from, loops = {None: None}, set()
-    for start in hops:
-        node = start
-        while node not in met_from:
-            met_from[node] = start
+def live_loops(hops, near, starts):
+    """The cycles of next hops over links that are not parted to which they lead from these nodes; each begins with its lowest node."""
+    met, loops = set(), set()
+    for node in starts:
+        walk = []
+        while node not in met:
+            met.add(node)
+            walk.append(node)
+            if hops[node] not in near[node]:
+                break
             node = hops[node]
-        if met_from[node] != start:
-            continue
-        ring = [node]
-        while hops[ring[-1]] != node:
-            ring.append(hops[ring[-1]])
-        if all(hops[one] in near[one] for one in ring):
-            at = ring.index(min(ring))
-            loops.add(tuple(ring[at:] + ring[:at]))
+        else:
+            if node in walk:
+                ring = walk[walk.index(node):]
+                at = ring.index(min(ring))
+                loops.add(tuple(ring[at:] + ring[:at]))
     return loops
 
 
@@ -137,13 +137,19 @@ class Outages:
 
 
 class Routes:
-    """How the routes of the flows fare. Rounds without a change are counted when something changes, or in the end."""
+    """How the routes of the flows fare. Rounds without a change are counted when something changes, or in the end.
+
+    A route is followed again only where a node on it has another next hop, or the link to it was parted or mended; then loops are
+    looked for that such nodes lead to.
+    """
 
     def __init__(self, scenario):
         """Before the first round."""
         self.flows = {d: [flow for flow in scenario["flows"] if flow[1] == d] for d in scenario["destinations"]}
-        self.fares = {d: [] for d in self.flows}  # by destination how each flow fares since the last look
-        self.since = dict.fromkeys(self.flows, 1)  # by destination the round of the last look
+        # by destination and flow: how it fares, since which round, and the nodes of its route
+        self.fares = {d: [(None, 0, None)] * len(flows) for d, flows in self.flows.items()}
+        self.since = {d: [1] * len(flows) for d, flows in self.flows.items()}
+        self.nodes = {d: [{source} for source, _ in flows] for d, flows in self.flows.items()}
         self.count, self.linked, self.rounds = collections.Counter(), 0, 0
         self.lengths, self.stretches = collections.Counter(), collections.Counter()
         self.outages, self.loops = Outages(), Loops()
@@ -161,34 +167,40 @@ class Routes:
 
     def look(self, clock, world, destination):
         """Looks at a destination whose next hops or links are others in this round than before."""
-        self.settle(destination, clock)
-        hops, far, before = world.hops[destination], self.far[destination], self.fares[destination]
-        fares = [(*follow(hops, world.near, *flow), far.get(flow[0])) for flow in self.flows[destination]]
-        for at, (flow, fare) in enumerate(zip(self.flows[destination], fares)):
-            if not before or fare != before[at]:
-                self.outages.take(clock, flow, fare[0], fare[2] is not None)
-        self.fares[destination] = fares
-        self.loops.take(clock, destination, live_loops(hops, world.near), world.heights[destination])
+        hops, near, far, moved = world.hops[destination], world.near, self.far[destination], world.moved(destination)
+        fares, nodes = self.fares[destination], self.nodes[destination]
+        for at, flow in enumerate(self.flows[destination]):
+            status, length, least = fares[at]
+            if not moved.isdisjoint(nodes[at]):
+                status, length, nodes[at] = follow(hops, near, *flow)
+            fare = status, length, far.get(flow[0])
+            if fare != fares[at]:
+                self.settle(clock, destination, at)
+                fares[at] = fare
+                self.outages.take(clock, flow, status, fare[2] is not None)
+        rings = {ring for of, ring in self.loops.open if of == destination and moved.isdisjoint(ring)}
+        self.loops.take(clock, destination, rings | live_loops(hops, near, moved), world.heights[destination])
 
-    def settle(self, destination, clock):
-        """Counts the rounds from the last look at a destination to the one before this."""
-        rounds = clock - self.since[destination]
-        self.since[destination] = clock
+    def settle(self, clock, destination, at):
+        """Counts the rounds from the last one in which a flow began to fare as it does to the one before this."""
+        rounds = clock - self.since[destination][at]
+        self.since[destination][at] = clock
         if not rounds:
             return
-        for status, length, least in self.fares[destination]:
-            self.rounds += rounds
-            if least is not None:
-                self.linked += rounds
-                self.count[status] += rounds
-            if status == WORKS:
-                self.lengths[length] += rounds
-                self.stretches[length / least] += rounds
+        status, length, least = self.fares[destination][at]
+        self.rounds += rounds
+        if least is not None:
+            self.linked += rounds
+            self.count[status] += rounds
+        if status == WORKS:
+            self.lengths[length] += rounds
+            self.stretches[length / least] += rounds
 
     def end(self, rounds):
         """Counts what stands at the end of the run."""
-        for destination in self.flows:
-            self.settle(destination, rounds + 1)
+        for destination, flows in self.flows.items():
+            for at in range(len(flows)):
+                self.settle(rounds + 1, destination, at)
         self.loops.end(rounds + 1)
 
     def columns(self):

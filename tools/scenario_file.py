@@ -1,4 +1,5 @@
 """Reads scenarios: the file PREFIX.json that `scenario.py` writes beside PREFIX.sim. `KEYS` has its keys."""
+import itertools
 import json
 import math
 
@@ -94,11 +95,24 @@ def check_shape(path, scenario):
 
 def check_positions(path, scenario):
     """Refuses positions that are not of all nodes in all samples."""
-    if scenario["sample"] < 1 or len(scenario["positions"]) * scenario["sample"] < scenario["rounds"]:
+    positions = scenario["positions"]
+    if scenario["sample"] < 1 or len(positions) * scenario["sample"] < scenario["rounds"]:
         raise refused(path, None, "no scenario: too few positions for its rounds")
-
-    def is_place(place):
-        return isinstance(place, list) and len(place) == 2 and all(map(is_number, place))
-
-    if not all(isinstance(places, list) and len(places) == scenario["nodes"] and all(map(is_place, places)) for places in scenario["positions"]):
+    if not (are_lists(positions, scenario["nodes"]) and are_places(list(itertools.chain.from_iterable(positions)))):
         raise refused(path, None, "no scenario: `positions` are not those of its nodes")
+
+
+def are_lists(values, length):
+    """Whether all values are lists of a length."""
+    return set(map(type, values)) <= {list} and set(map(len, values)) <= {length}
+
+
+def are_places(values):
+    """Whether all values are lists of two numbers."""
+    if not are_lists(values, 2):
+        return False
+    numbers = list(itertools.chain.from_iterable(values))
+    try:
+        return set(map(type, numbers)) <= {int, float} and all(map(math.isfinite, numbers))
+    except OverflowError:
+        return False

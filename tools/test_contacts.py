@@ -3,7 +3,9 @@ import itertools
 import math
 import random
 import unittest
+import unittest.mock
 
+import contacts
 from contacts import Contacts, declared_links
 
 
@@ -16,21 +18,43 @@ def walk(source, nodes, samples, step):
 
 
 class ContactsTest(unittest.TestCase):
-    """What is looked at seldom is as what is looked at always."""
+    """Both ways to find them, compared with the definition."""
+
+    def forced(self, dense):
+        """One of both ways, whatever the places are."""
+        return unittest.mock.patch.object(contacts, "is_dense", lambda *_: dense)
+
+    def test_which_way(self):
+        """Every pair is looked at where at most 64 nodes stand within four reaches from the left to the right."""
+        for nodes, width, dense in ((64, 399, True), (64, 400, False), (65, 399, False)):
+            places = [[(width * node / (nodes - 1), 0) for node in range(nodes)]]
+            self.assertEqual(contacts.is_dense(places, 100), dense)
 
     def test_as_every_pair(self):
-        """Slow, fast and resting nodes."""
-        for step in (0, 0.5, 5, 80):
-            places = walk(random.Random(step), 9, 60, step)
-            found, near, most = Contacts(places, 100), set(), 0
-            for now, (came, gone) in zip(places, found.changes):
-                wanted = {(a + 1, b + 1) for a, b in itertools.combinations(range(9), 2) if math.dist(now[a], now[b]) <= 100}
-                self.assertEqual((set(came), set(gone)), (wanted - near, near - wanted))
-                near = wanted
-                most = max(most, *(sum(node in pair for pair in near) for node in range(1, 10)))
-            self.assertEqual(found.most, most)
-            self.assertEqual(found.total.total(), sum(
-                math.dist(now[a], now[b]) <= 100 for now in places for a, b in itertools.combinations(range(9), 2)))
+        """Slow, fast and resting nodes, each in both ways."""
+        for step, dense in itertools.product((0, 0.5, 5, 80), (True, False)):
+            with self.subTest(step=step, dense=dense), self.forced(dense):
+                self.compare(walk(random.Random(step), 9, 60, step))
+
+    def test_at_the_reach(self):
+        """Pairs that are just at the reach, one above the other, beside each other and askew, are within it."""
+        for a, b in (((0.1, 0.3), (100.1, 0.3)), ((7.3, 1.1), (7.3, 101.1)), ((5, 6), (65, 86)), ((1.005, 2), (-98.995, 2))):
+            for dense in (True, False):
+                with self.subTest(a=a, b=b, dense=dense), self.forced(dense):
+                    dx, dy = a[0] - b[0], a[1] - b[1]
+                    self.assertEqual(Contacts([[a, b]], 100).changes[0][0], [(1, 2)] * (dx * dx + dy * dy <= 10_000))
+
+    def compare(self, places):
+        """Compares what is found of places with the definition."""
+        found, near, most = Contacts(places, 100), set(), 0
+        for now, (came, gone) in zip(places, found.changes):
+            wanted = {(a + 1, b + 1) for a, b in itertools.combinations(range(9), 2) if math.dist(now[a], now[b]) <= 100}
+            self.assertEqual((set(came), set(gone)), (wanted - near, near - wanted))
+            near = wanted
+            most = max(most, *(sum(node in pair for pair in near) for node in range(1, 10)))
+        self.assertEqual(found.most, most)
+        self.assertEqual(found.total.total(), sum(
+            math.dist(now[a], now[b]) <= 100 for now in places for a, b in itertools.combinations(range(9), 2)))
 
     def test_limit(self):
         """The longest contacts come first while both ends have room; ties go by ids."""

@@ -18,7 +18,7 @@ def position(way, time):
         return way[0][1:]
     if time >= way[-1][0]:
         return way[-1][1:]
-    high = bisect.bisect_right(way, time, key=TIME_OF)
+    high = len(way) - 1 if way[-2][0] <= time else bisect.bisect_right(way, time, key=TIME_OF)
     return place_between(way[high - 1], way[high], time)
 
 

@@ -77,43 +77,55 @@ class World:
             self.near[b].add(a)
         self.hops = {d: dict.fromkeys(self.nodes) for d in scenario["destinations"]}
         self.heights = {d: {n: (0, 0, 0, 0, d) if n == d else None for n in self.nodes} for d in self.hops}
-        self.changed, self.rerouted, self.relinked = set(self.hops), set(self.hops), True
+        self.changed, self.rerouted, self.relinked = set(self.hops), {d: set(self.nodes) for d in self.hops}, set(self.links)
 
     def settle(self):
         """What changed until now is no news any more."""
-        self.changed, self.rerouted, self.relinked = set(), set(), False
+        self.changed, self.rerouted, self.relinked = set(), {}, set()
+
+    def moved(self, destination):
+        """The nodes whose next hop for a destination, or the link to it, is not as in the rounds before."""
+        hops, found = self.hops[destination], set(self.rerouted.get(destination, ()))
+        for a, b in self.relinked:
+            if hops[a] == b:
+                found.add(a)
+            if hops[b] == a:
+                found.add(b)
+        return found
 
     def take(self, path, record):
         """Takes a record of `CHANGES` in; refuses one of another world."""
-        known = record.words[:2] in self.fit.known[record.kind]
+        _, _, kind, words = record
+        known = words[:2] in self.fit.known[kind]
         if not known:
             self.fit.check(path, record)
-        if record.kind == "route":
-            node, destination, height, hop = record.words
+        if kind == "route":
+            node, destination, height, hop = words
             if self.hops[destination][node] != hop:
                 if known:
                     self.fit.check_hop(path, record)
-                self.rerouted.add(destination)
+                self.rerouted.setdefault(destination, set()).add(node)
                 self.hops[destination][node] = hop
             self.heights[destination][node] = height
             self.changed.add(destination)
         else:
-            self.take_link(record.kind == "mend", *record.words)
+            self.take_link(kind == "mend", *words)
 
     def take_link(self, is_mended, a, b):
         """A link is mended or parted."""
-        (self.links.add if is_mended else self.links.discard)(ordered(a, b))
+        link = ordered(a, b)
+        (self.links.add if is_mended else self.links.discard)(link)
         for node, other in ((a, b), (b, a)):
             (self.near[node].add if is_mended else self.near[node].discard)(other)
         self.changed.update(self.hops)
-        self.relinked = True
+        self.relinked.add(link)
 
 
 def spans(scenario, path, given):
     """Yields the first and the last of rounds at whose ends the world is the same, and the world.
 
-    `changed` are the destinations with a height or a next hop that is not as in the rounds before, `rerouted` those with a
-    next hop that is not, and `relinked` tells whether links are not.
+    `changed` are the destinations with a height or a next hop that is not as in the rounds before, `rerouted` has by destination
+    the nodes whose next hop is not, and `relinked` the links that were parted or mended.
     """
     world, rounds, ended, last, record = World(scenario), Rounds(), 0, scenario["rounds"], None
     known = world.fit.known

@@ -1,0 +1,112 @@
+"""What is counted and what is looked at seldom, compared with every record and every round, on random traces."""
+import collections
+import random
+import unittest
+
+from measure import measure
+from record import Ends, records
+from routes import WORKS, Routes, follow, live_loops
+from study import Refused
+from tally import Counts, news
+from testing import scenario_of, written
+from world import distances, moments, spans
+
+LINKS = [(1, 2), (1, 3), (2, 3), (2, 4), (3, 4), (4, 5), (3, 5), (5, 6)]
+FLOWS = [(1, 5), (2, 5), (3, 5), (4, 5), (6, 5), (1, 6), (2, 6), (4, 6)]
+ROUNDS = 60
+
+
+def random_trace(source):
+    """A trace of 60 rounds, in which anything may happen that the grammar has; few next hops lead anywhere for long."""
+    lines, height = [], lambda node: source.choice(("-", f"(0,0,0,{source.randint(-2, 3)},{node})"))
+    for clock in range(ROUNDS):
+        for _ in range(source.choice((0, 0, 1, 2))):
+            lines.append(f"{clock} {source.choice(('part', 'mend'))} %d %d" % source.choice(LINKS))
+        lines += [f"{clock} need {a} {d}" for a, d in FLOWS * (clock % 5 == 0)]
+        for _ in range(source.choice((0, 0, 2, 4))):
+            a, b = source.choice(LINKS)[:: source.choice((1, -1))]
+            d, kind = source.choice((5, 6)), source.choice(("route", "route", "qry", "upd", "clr", "up", "down"))
+            behind = {"route": f"{d} {height(a)} {b if source.random() < 0.8 else '-'}", "qry": f"{d} 3", "upd": f"{d} 2 {height(a)}", "clr": f"{d} 1 0 4"}
+            lines.append(f"{clock + 1} {kind} {a} {behind.get(kind, f'{b} 7 8')}")
+        if source.random() < 0.8:
+            lines.append(f"{clock + 1} frames {source.randint(0, 9)} 1 2 0")
+    return "\n".join(lines + [f"{ROUNDS} frames 1 0 0 0"]) + "\n"
+
+
+def state(first, last, world):
+    """What a span says, as values that stay."""
+    return first, last, sorted(world.links), {d: dict(hops) for d, hops in world.hops.items()}, set(world.changed), set(world.relinked), {
+        d: dict(heights) for d, heights in world.heights.items()}, {d: set(nodes) for d, nodes in world.rerouted.items()}
+
+
+class PlainRoutes(Routes):
+    """How routes fare by their definition: each flow, and all loops, in each round."""
+
+    def take(self, first, last, world):
+        """One round."""
+        for destination, flows in self.flows.items():
+            far = distances(world.near, destination)
+            for flow in flows:
+                status, length, _ = follow(world.hops[destination], world.near, *flow)
+                linked = flow[0] in far
+                self.outages.take(first, flow, status, linked)
+                self.rounds += 1
+                self.linked += linked
+                self.count[status] += linked
+                if status == WORKS:
+                    self.lengths[length] += 1
+                    self.stretches[length / far[flow[0]]] += 1
+            self.loops.take(first, destination, live_loops(world.hops[destination], world.near, world.nodes), world.heights[destination])
+
+    def end(self, rounds):
+        """The run ends."""
+        self.loops.end(rounds + 1)
+
+
+class TallyTest(unittest.TestCase):
+    """Sixty random traces of six nodes."""
+
+    def cases(self):
+        """Each trace, written, with its scenario."""
+        for seed in range(60):
+            with self.subTest(seed=seed), written(random_trace(random.Random(seed))) as path:
+                yield path, scenario_of(links=LINKS, flows=FLOWS, rounds=ROUNDS)
+
+    def test_news(self):
+        """Spans are the same by news as by all records, and counts are those of the records one by one."""
+        for path, scenario in self.cases():
+            counts, all_records = Counts(), list(records(path))
+            by_news = [state(*span) for span in spans(scenario, path, news(path, Ends(path), counts))]
+            self.assertEqual(by_news, [state(*span) for span in spans(scenario, path, all_records)])
+            kinds = collections.Counter(record.kind for record in all_records)
+            self.assertEqual({kind: count for kind, count in counts.records.items() if count}, dict(kinds))
+            for kind, copies in counts.copies.items():
+                self.assertEqual(copies, sum(record.words[2] for record in all_records if record.kind == kind))
+            frames = [record.words for record in all_records if record.kind == "frames"]
+            self.assertEqual(counts.frames, [sum(column) for column in zip(*frames)])
+
+    def test_routes(self):
+        """Routes that are followed again only where something on them changed fare as those of each round."""
+        for path, scenario in self.cases():
+            plain = PlainRoutes(scenario)
+            for clock, world in moments(scenario, path, records(path)):
+                plain.take(clock, clock, world)
+            plain.end(ROUNDS)
+            routes, _ = measure(scenario, path)
+            self.assertEqual(routes.columns(), plain.columns())
+            self.assertEqual(*(sorted(sorted(loop.items()) for loop in found.loops.all) for found in (routes, plain)))
+
+    def test_refusals(self):
+        """A record that is refused is refused with the same words by both."""
+        for bad in ("60 need 9 5", "60 up 1 6 1 1", "60 route 1 5 - 4", "60 frames 1 2", "60 part 1 6", "60 qry 1 4 2", "59 need 1 5", "60 need 1 05"):
+            with written(random_trace(random.Random(1)) + bad + "\n60 need 1 5\n") as path:
+                told, scenario = [], scenario_of(links=LINKS, flows=FLOWS, rounds=ROUNDS)
+                for given in (records(path), news(path, Ends(path), Counts())):
+                    with self.subTest(bad=bad), self.assertRaises(Refused) as caught:
+                        list(spans(scenario, path, given))
+                    told.append(str(caught.exception))
+                self.assertEqual(*told)
+
+
+if __name__ == "__main__":
+    unittest.main()
