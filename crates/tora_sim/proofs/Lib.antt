@@ -4,6 +4,7 @@ pub mod Stores
 pub mod Ticks
 pub mod Opens
 pub mod Needs
+pub mod AtNode
 pub mod Sends
 pub mod Receives
 pub mod Pumps

@@ -9,8 +9,8 @@ use Rattle.tora_world.specs.Topology.{Topology, neighbours_of}
 use Rattle.tora_sim.specs.Keyed.{IsFirst}
 use Rattle.tora_sim.specs.Links.{LinkView, at_node, AreChanged}
 use Rattle.tora_sim.specs.Nodes.{NodeView, is_of}
-use Rattle.tora_sim.specs.Store.{state_of, IsStore, IsNodeOf, AreEndsOf, link_at}
-use Rattle.tora_sim.proofs.Needs.{node_place, of_node, named}
+use Rattle.tora_sim.specs.Store.{state_of, IsStore, link_at}
+use Rattle.tora_sim.proofs.AtNode.{IsAt, is_at_place}
 use Rattle.tora_sim.proofs.Offering.{one_place, found_at}
 use Rattle.tora_sim.proofs.FreshEnds.{item_at, same_item}
 
@@ -37,32 +37,24 @@ within_list (j ∷ ks) (suc i) k e = let again = within_list ks i k e in omega (
 
 module _ (t : Topology) (times : Times) (clock : ℕ) (nodes : List NodeView) (links : List LinkView) (ds : List FrameParts) (h : IsStore (state_of t times clock nodes links ds))
     (n i : ℕ) (x : NodeView) (first : IsFirst (is_of n) nodes i) (read : x ≡ slice_index_or nodes i x) where
-  is_named : x.node ≡ n
-  is_named = named t times clock nodes links ds h n i x first read
-
-  kept : IsNodeOf t x
-  kept = of_node t times clock nodes links ds h n i x first read
-
-  ends : AreEndsOf t links x
-  ends = h.each_ends i x (node_place t times clock nodes links ds h n i x first read)
+  here : IsAt t nodes links n i x
+  here = is_at_place t times clock nodes links ds h n i x first read
 
   pub ends_within : x.first + x.count ≤ length links
-  ends_within = ends.within
-
-  count_is : x.count ≡ length (neighbours_of t n)
-  count_is = kept.count ∙ ap (λ m. length (neighbours_of t m)) is_named
+  ends_within = here.ends.within
 
   in_place : (j place : ℕ) (link : LinkView) → slice_get links j ≡ Some link → link.node ≡ n → slice_get (neighbours_of t n) place ≡ Some link.peer
       → (other : LinkView) → slice_get links (x.first + place) ≡ Some other → j ≡ x.first + place
   in_place j place link e q at other there =
-      let is = ends.at place link.peer other (ap (λ m. slice_get (neighbours_of t m) place) is_named ∙ at) there in
-      one_place links h.rising_links j (x.first + place) link other e there (q ∙ sym (is.0 ∙ is_named)) (sym is.1)
+      let is = here.ends.at place link.peer other (ap (λ m. slice_get (neighbours_of t m) place) here.node ∙ at) there in
+      one_place links h.rising_links j (x.first + place) link other e there (q ∙ sym (is.0 ∙ here.node)) (sym is.1)
 
   placed : (j place : ℕ) (link : LinkView) → slice_get links j ≡ Some link → link.node ≡ n → slice_get (neighbours_of t n) place ≡ Some link.peer → (place < x.count) × (j ≡ x.first + place)
   placed j place link e q at =
       let less = within_list (neighbours_of t n) place link.peer at in
-      let lt : place < x.count = omega (arith, less, count_is) in
-      let other = item_at links (x.first + place) (let within = ends.within in omega (arith, lt, within)) in
+      let count = here.count in
+      let lt : place < x.count = omega (arith, less, count) in
+      let other = item_at links (x.first + place) (let within = here.ends.within in omega (arith, lt, within)) in
       (lt, in_place j place link e q at other.0 other.1)
 
   pub has_place : (j : ℕ) (link : LinkView) → slice_get links j ≡ Some link → link.node ≡ n → (place : ℕ) × ((place < x.count) × (j ≡ x.first + place))
@@ -73,8 +65,8 @@ module _ (t : Topology) (times : Times) (clock : ℕ) (nodes : List NodeView) (l
 
   at_home : (place : ℕ) (link : LinkView) → place < x.count → slice_get links (x.first + place) ≡ Some link → link.node ≡ n
   at_home place link lt e =
-      let k = item_at (neighbours_of t x.node) place (let c = kept.count in omega (arith, lt, c)) in
-      (ends.at place k.0 link k.1 e).0 ∙ is_named
+      let k = item_at (neighbours_of t x.node) place (let c = here.kept.count in omega (arith, lt, c)) in
+      (here.ends.at place k.0 link k.1 e).0 ∙ here.node
 
   pub changed_is : (change : LinkView → LinkView) (links' : List LinkView) → AreChanged change links links' x.first x.count → links' ≡ map (at_node n change) links
   changed_is change links' d = by_places (at_node n change) links links' d.as_many (λ j link e. go j link e (cases_Bool (nat_eq link.node n)))

@@ -27,12 +27,13 @@ use Rattle.tora_sim.specs.Keyed.{IsFirst}
 use Rattle.tora_sim.specs.Links.{LinkView, is_at, at_node, AreChanged}
 use Rattle.tora_sim.specs.Nodes.{NodeView, is_of}
 use Rattle.tora_sim.specs.Restarts.{restarted, restarted_node, core_again}
-use Rattle.tora_sim.specs.Store.{state_of, world_of, IsStore, IsNodeOf, AreEndsOf, link_at, end_in, file_in, lane_in, put_in, steps_in, node_at, seat_in, items_in, inputs_in, counts_in, arms_in}
+use Rattle.tora_sim.specs.Store.{state_of, world_of, IsStore, link_at, end_in, file_in, lane_in, put_in, steps_in, node_at, seat_in, items_in, inputs_in, counts_in, arms_in}
 use Rattle.tora_sim.specs.Steps.{IsDone, IsRefused}
 use Rattle.tora_sim.proofs.Stores.{is_found, IsSameLink, IsSameNode, node_changes, node_changes_by, node_stays, store_set_node}
 use Rattle.tora_sim.proofs.SameLinks.{same_map, store_same, map_found}
 use Rattle.tora_sim.proofs.Opens.{effect_is, links_same}
-use Rattle.tora_sim.proofs.Needs.{nodes_same, node_place, is_there, at_there, of_node, named}
+use Rattle.tora_sim.proofs.Needs.{nodes_same, at_there}
+use Rattle.tora_sim.proofs.AtNode.{IsAt, is_at_place}
 use Rattle.tora_sim.proofs.NodeEnds.{changed_is}
 
 -- ---- numbers in ascending order
@@ -99,23 +100,8 @@ module _ (t : Topology) (times : Times) (clock : ℕ) (nodes : List NodeView) (l
   abbrev w : World
   w = world_of (state_of t times clock nodes links ds)
 
-  at : slice_get nodes i ≡ Some x
-  at = node_place t times clock nodes links ds h n i x first read
-
-  there : node_at nodes n ≡ Some x
-  there = is_there t times clock nodes links ds h n i x first read
-
-  is_named : x.node ≡ n
-  is_named = named t times clock nodes links ds h n i x first read
-
-  kept : IsNodeOf t x
-  kept = of_node t times clock nodes links ds h n i x first read
-
-  ends : AreEndsOf t links x
-  ends = h.each_ends i x at
-
-  count_is : x.count ≡ length (neighbours_of t n)
-  count_is = kept.count ∙ ap (λ m. length (neighbours_of t m)) is_named
+  at : IsAt t nodes links n i x
+  at = is_at_place t times clock nodes links ds h n i x first read
 
   possible : refusal_of w (Restart n torn) ≡ None
   possible = at_there t times clock nodes links ds h n i x first read true true refl
@@ -197,8 +183,8 @@ module _ (t : Topology) (times : Times) (clock : ℕ) (nodes : List NodeView) (l
 
     core_is : core_again x.seat.core ≡ new_core t n
     core_is =
-        ap₂ (λ me ks. first_core me ks (destinations_of x.seat.core.views)) (kept.me ∙ is_named) (kept.neighbours ∙ ap (neighbours_of t) is_named)
-        ∙ ap (λ sorted. record { me = n; neighbours = ascending (neighbours_of t n); up = []; views = map (first_view n) sorted }) (sorted_stays (destinations_of x.seat.core.views) core_kept.ascending_destinations ∙ kept.destinations)
+        ap₂ (λ me ks. first_core me ks (destinations_of x.seat.core.views)) (at.kept.me ∙ at.node) at.neighbours
+        ∙ ap (λ sorted. record { me = n; neighbours = ascending (neighbours_of t n); up = []; views = map (first_view n) sorted }) (sorted_stays (destinations_of x.seat.core.views) core_kept.ascending_destinations ∙ at.kept.destinations)
 
     same : IsSameNode x y
     same = record {
@@ -220,12 +206,12 @@ module _ (t : Topology) (times : Times) (clock : ℕ) (nodes : List NodeView) (l
         let lanes_empty = changes lane_in [] (λ link. drop_all (length link.put) link.put (omega arith)) refl ∙ lanes_as_put in
         let puts = stays put_in (λ link. refl) in
         let steps = stays steps_in (λ link. refl) in
-        let seats = node_changes_by n nodes i x y first at same (seat_in t) ∙ ap (λ s. put_one (λ a. seat_in t a (node_at nodes a)) n s) seat_is in
-        let inputs = node_changes n nodes i x y first at same inputs_in in
-        let items = node_changes n nodes i x y first at same items_in in
-        let counts = node_changes n nodes i x y first at same counts_in
+        let seats = node_changes_by n nodes i x y first at.place same (seat_in t) ∙ ap (λ s. put_one (λ a. seat_in t a (node_at nodes a)) n s) seat_is in
+        let inputs = node_changes n nodes i x y first at.place same inputs_in in
+        let items = node_changes n nodes i x y first at.place same items_in in
+        let counts = node_changes n nodes i x y first at.place same counts_in
         ∙ ap (λ (f : ℕ → ℕ). put_one (λ a. counts_in (node_at nodes a)) n f) (fun_ext (λ seat. zeros (length x.counts) seat)) in
-        let arms = node_stays n nodes i x y first at same arms_in refl in
+        let arms = node_stays n nodes i x y first at.place same arms_in refl in
         let u = world_of (state_of t times clock (set nodes i y) links ds) in
         links_same u ends_fresh files_reopen lanes_empty puts steps
         ∙ nodes_same (record w {
@@ -255,5 +241,5 @@ module _ (t : Topology) (times : Times) (clock : ℕ) (nodes : List NodeView) (l
     restart_store made node links' a b d =
         subst (λ z. IsStore (state_of t times clock (set nodes i z) links' ds)) (sym (b ∙ ap (λ s. restarted_node s x) a))
         (subst (λ xs. IsStore (state_of t times clock (set nodes i y) xs ds)) (sym (changed_is t times clock nodes links ds h n i x first read (restarted torn) links' d))
-        (store_set_node n nodes i x y first at same t times clock after ds
+        (store_set_node n nodes i x y first at.place same t times clock after ds
         (store_same t times clock nodes links after ds (same_map (at_node n (restarted torn)) same_end links) h)))

@@ -23,12 +23,13 @@ use Rattle.tora_sim.specs.Links.{LinkView}
 use Rattle.tora_sim.specs.Nodes.{NodeView, is_of}
 use Rattle.tora_sim.specs.Lanes.{LanesView, lanes_of, DidOffer, AreAlike, bare}
 use Rattle.tora_sim.specs.Turns.{IsServed, IsTurned, Turns, IsNoted}
-use Rattle.tora_sim.specs.Store.{state_of, world_of, IsStore, IsNodeOf, AreEndsOf, link_at, end_in, file_in, lane_in, put_in, steps_in, node_at, seat_in, items_in, inputs_in, counts_in, arms_in}
+use Rattle.tora_sim.specs.Store.{state_of, world_of, IsStore, link_at, end_in, file_in, lane_in, put_in, steps_in, node_at, seat_in, items_in, inputs_in, counts_in, arms_in}
 use Rattle.tora_sim.specs.Steps.{IsDone, IsRefused, Does}
 use Rattle.tora_sim.proofs.Stores.{each_at, IsSameNode, node_changes, node_changes_by, node_stays, store_set_node}
 use Rattle.tora_sim.proofs.SameLinks.{same_alike, store_same, world_alike}
 use Rattle.tora_sim.proofs.Opens.{effect_is, refused_for, links_same}
-use Rattle.tora_sim.proofs.Needs.{nodes_same, node_place, is_there, at_there, of_node, named, same_nodes}
+use Rattle.tora_sim.proofs.Needs.{nodes_same, at_there, same_nodes}
+use Rattle.tora_sim.proofs.AtNode.{IsAt, is_at_place}
 use Rattle.tora_sim.proofs.ItemSteps.{AreStepsAt, steps_at}
 use Rattle.tora_sim.proofs.Offering.{given, Offered, all_offered, nothing_offered, noted, given_store, given_stays, given_grows}
 
@@ -59,41 +60,23 @@ module _ (t : Topology) (times : Times) (clock : ℕ) (nodes : List NodeView) (l
   abbrev w : World
   w = world_of (state_of t times clock nodes links ds)
 
-  at : slice_get nodes i ≡ Some x
-  at = node_place t times clock nodes links ds h n i x first read
-
-  there : node_at nodes n ≡ Some x
-  there = is_there t times clock nodes links ds h n i x first read
-
-  is_named : x.node ≡ n
-  is_named = named t times clock nodes links ds h n i x first read
-
-  kept : IsNodeOf t x
-  kept = of_node t times clock nodes links ds h n i x first read
-
-  ends : AreEndsOf t links x
-  ends = h.each_ends i x at
+  at : IsAt t nodes links n i x
+  at = is_at_place t times clock nodes links ds h n i x first read
 
   abbrev ks : List ℕ
   ks = neighbours_of t n
-
-  ks_is : x.seat.core.neighbours ≡ ks
-  ks_is = kept.neighbours ∙ ap (neighbours_of t) is_named
-
-  count_is : x.count ≡ length ks
-  count_is = kept.count ∙ ap (λ m. length (neighbours_of t m)) is_named
 
   linked : (k place : ℕ) → slice_get ks place ≡ Some k → is_some (link_at links n k) ≡ true
   linked k place e = sym (h.links n k) ∙ has_at ks place k e
 
   pub ends_within : x.first + x.count ≤ length links
-  ends_within = ends.within
+  ends_within = at.ends.within
 
   pub as_many : length x.seat.core.neighbours ≡ x.count
-  as_many = ap length ks_is ∙ sym count_is
+  as_many = ap length at.neighbours ∙ sym at.count
 
   possible : (b : Bool) → not (is_empty x.items) ≡ b → refusal_of w (CoreTurn n) ≡ unless_possible b
-  possible b e = at_there t times clock nodes links ds h n i x first read (not (is_empty (items_in (node_at nodes n)))) b (ap (λ o. not (is_empty (items_in o))) there ∙ e)
+  possible b e = at_there t times clock nodes links ds h n i x first read (not (is_empty (items_in (node_at nodes n)))) b (ap (λ o. not (is_empty (items_in o))) at.there ∙ e)
 
   pub turn_refused : length x.items ≡ 0 → IsRefused w (CoreTurn n) Refused.NotPossible w
   turn_refused e = refused_for w (CoreTurn n) Refused.NotPossible (possible false (ap not (no_items x.items e)))
@@ -107,32 +90,32 @@ module _ (t : Topology) (times : Times) (clock : ℕ) (nodes : List NodeView) (l
     abbrev s : IsServed x (lanes_of links x.first x.count) d.item y d.lanes
     s = d.served
 
-    offered : Offered t times clock nodes links ds h n x is_named ends count_is [] s.offers d.lanes
-    offered = all_offered t times clock nodes links ds h n x is_named ends count_is [] s.offers d.lanes
-        (subst (λ js. AreOffered DidOffer js (lanes_of (given t times clock nodes links ds h n x is_named ends count_is [] []) x.first x.count) s.offers d.lanes) ks_is
-        (subst (λ v. AreOffered DidOffer x.seat.core.neighbours v s.offers d.lanes) (sym (nothing_offered t times clock nodes links ds h n x is_named ends count_is)) s.offered))
+    offered : Offered t times clock nodes links ds h n x at.node at.ends at.count [] s.offers d.lanes
+    offered = all_offered t times clock nodes links ds h n x at.node at.ends at.count [] s.offers d.lanes
+        (subst (λ js. AreOffered DidOffer js (lanes_of (given t times clock nodes links ds h n x at.node at.ends at.count [] []) x.first x.count) s.offers d.lanes) at.neighbours
+        (subst (λ v. AreOffered DidOffer x.seat.core.neighbours v s.offers d.lanes) (sym (nothing_offered t times clock nodes links ds h n x at.node at.ends at.count)) s.offered))
 
     serving : serving_of (own_answers w n) ks (Rows.state_of x.seat) d.item ≡ serving_at d.item.now y.seat s.offers
-    serving = ap (λ js. serving_of (own_answers w n) js (Rows.state_of x.seat) d.item) (sym ks_is) ∙ s.serving (own_answers w n) offered.follows
+    serving = ap (λ js. serving_of (own_answers w n) js (Rows.state_of x.seat) d.item) (sym at.neighbours) ∙ s.serving (own_answers w n) offered.follows
 
     abbrev steps : List Step
     steps = steps_of y.seat.stepped
 
     abbrev after : List LinkView
-    after = given t times clock nodes links ds h n x is_named ends count_is s.offers (steps_of y.seat.stepped)
+    after = given t times clock nodes links ds h n x at.node at.ends at.count s.offers (steps_of y.seat.stepped)
 
     links_is : links' ≡ after
     links_is = go y.seat.stepped (subst (AreStepsAt ks d.item.seat) (ap (λ (v : Serving). v.steps) serving) (steps_at (own_answers w n) ks (Rows.state_of x.seat) d.item)) d.noted
       where
-        go : (o : Option Stepped) → AreStepsAt ks d.item.seat (steps_of o) → IsNoted d.lanes d.item.seat o links' → links' ≡ given t times clock nodes links ds h n x is_named ends count_is s.offers (steps_of o)
+        go : (o : Option Stepped) → AreStepsAt ks d.item.seat (steps_of o) → IsNoted d.lanes d.item.seat o links' → links' ≡ given t times clock nodes links ds h n x at.node at.ends at.count s.offers (steps_of o)
         go None a e = e ∙ ap (λ (v : LanesView). v.links) offered.lanes
         go (Some p) (inl none) e = absurd (let z : step_of p ∷ [] ≡ [] = none in cc)
         go (Some p) (inr (k, from, parcel, is)) (link, read_it, e) =
             let same : k ≡ p.from = sym (ap first_from is) in
-            let there_it : slice_get (given t times clock nodes links ds h n x is_named ends count_is s.offers []) (x.first + d.item.seat) ≡ Some link =
+            let there_it : slice_get (given t times clock nodes links ds h n x at.node at.ends at.count s.offers []) (x.first + d.item.seat) ≡ Some link =
             subst (λ (v : LanesView). slice_get v.links (v.first + d.item.seat) ≡ Some link) offered.lanes read_it in
             e ∙ ap (λ (v : LanesView). set v.links (v.first + d.item.seat) (record link { steps = link.steps ++ record { life = p.life; packet = p.packet } ∷ [] })) offered.lanes
-            ∙ noted t times clock nodes links ds h n x is_named ends count_is s.offers d.item.seat p (from ∙ ap Some same) link there_it
+            ∙ noted t times clock nodes links ds h n x at.node at.ends at.count s.offers d.item.seat p (from ∙ ap Some same) link there_it
 
     same : IsSameNode x y
     same = record {
@@ -147,18 +130,18 @@ module _ (t : Topology) (times : Times) (clock : ℕ) (nodes : List NodeView) (l
 
     turned_world : world_of (state_of t times clock (set nodes i y) after ds) ≡ after_serving w n y.items (serving_at d.item.now y.seat s.offers)
     turned_world =
-        let ends_stay = given_stays t times clock nodes links ds h n x is_named ends count_is s.offers steps end_in (λ link put ps. refl) in
-        let files_stay = each_at file_in (link_at after) (link_at links) (λ a b. given_stays t times clock nodes links ds h n x is_named ends count_is s.offers steps (file_in a b) (λ link put ps. refl)) in
-        let lanes_grow = given_grows t times clock nodes links ds h n x is_named ends count_is s.offers steps lane_in (λ k. put_to k s.offers) (λ link within. drop-append-le link.pulled link.put (put_to link.peer s.offers) within) refl offered.linked in
-        let puts_grow = given_grows t times clock nodes links ds h n x is_named ends count_is s.offers steps put_in (λ k. put_to k s.offers) (λ link within. refl) refl offered.linked in
-        let steps_grow = given_grows t times clock nodes links ds h n x is_named ends count_is s.offers steps steps_in (λ k. stepped_from k steps) (λ link within. refl) refl steps_linked in
-        let seats = node_changes_by n nodes i x y first at same (seat_in t) in
-        let inputs = node_changes n nodes i x y first at same inputs_in
+        let ends_stay = given_stays t times clock nodes links ds h n x at.node at.ends at.count s.offers steps end_in (λ link put ps. refl) in
+        let files_stay = each_at file_in (link_at after) (link_at links) (λ a b. given_stays t times clock nodes links ds h n x at.node at.ends at.count s.offers steps (file_in a b) (λ link put ps. refl)) in
+        let lanes_grow = given_grows t times clock nodes links ds h n x at.node at.ends at.count s.offers steps lane_in (λ k. put_to k s.offers) (λ link within. drop-append-le link.pulled link.put (put_to link.peer s.offers) within) refl offered.linked in
+        let puts_grow = given_grows t times clock nodes links ds h n x at.node at.ends at.count s.offers steps put_in (λ k. put_to k s.offers) (λ link within. refl) refl offered.linked in
+        let steps_grow = given_grows t times clock nodes links ds h n x at.node at.ends at.count s.offers steps steps_in (λ k. stepped_from k steps) (λ link within. refl) refl steps_linked in
+        let seats = node_changes_by n nodes i x y first at.place same (seat_in t) in
+        let inputs = node_changes n nodes i x y first at.place same inputs_in
         ∙ ap (λ (is : List (Input × ℕ)). put_one (λ a. inputs_in (node_at nodes a)) n is) (ap (λ (z : NodeView). z.inputs) s.node)
-        ∙ ap (λ o. put_one (λ a. inputs_in (node_at nodes a)) n (inputs_in o ++ map (λ input. (input, d.item.now)) y.seat.inputs)) (sym there) in
-        let items = node_changes n nodes i x y first at same items_in in
-        let counts = node_stays n nodes i x y first at same counts_in (ap (λ (z : NodeView). counts_in (Some z)) s.node) in
-        let arms = node_stays n nodes i x y first at same arms_in (ap (λ (z : NodeView). arms_in (Some z)) s.node) in
+        ∙ ap (λ o. put_one (λ a. inputs_in (node_at nodes a)) n (inputs_in o ++ map (λ input. (input, d.item.now)) y.seat.inputs)) (sym at.there) in
+        let items = node_changes n nodes i x y first at.place same items_in in
+        let counts = node_stays n nodes i x y first at.place same counts_in (ap (λ (z : NodeView). counts_in (Some z)) s.node) in
+        let arms = node_stays n nodes i x y first at.place same arms_in (ap (λ (z : NodeView). arms_in (Some z)) s.node) in
         let u = world_of (state_of t times clock (set nodes i y) links ds) in
         links_same u ends_stay files_stay lanes_grow puts_grow steps_grow
         ∙ nodes_same (record w {
@@ -182,7 +165,7 @@ module _ (t : Topology) (times : Times) (clock : ℕ) (nodes : List NodeView) (l
                 off p (inr e) present = ap (λ (b : Bool). (if b then record { life = p.life; packet = p.packet } ∷ [] else []) ++ []) e
 
     items_are : items_in (node_at nodes n) ≡ d.item ∷ y.items
-    items_are = ap items_in there ∙ s.items
+    items_are = ap items_in at.there ∙ s.items
 
     accepted : refusal_of w (CoreTurn n) ≡ None
     accepted = possible true (ap (λ (items : List Item). not (is_empty items)) s.items)
@@ -192,7 +175,7 @@ module _ (t : Topology) (times : Times) (clock : ℕ) (nodes : List NodeView) (l
     effect =
         effect_is w (CoreTurn n) accepted
         ∙ ap (after_turn w (own_choice w (CoreTurn n)) n) items_are
-        ∙ ap (λ o. after_serving w n y.items (serving_of (own_answers w n) ks (seat_in t n o) d.item)) there
+        ∙ ap (λ o. after_serving w n y.items (serving_of (own_answers w n) ks (seat_in t n o) d.item)) at.there
         ∙ ap (after_serving w n y.items) serving
 
     pub turned_done : IsDone w (CoreTurn n) (world_of (state_of t times clock (set nodes i y) links' ds))
@@ -201,7 +184,7 @@ module _ (t : Topology) (times : Times) (clock : ℕ) (nodes : List NodeView) (l
     pub turned_store : IsStore (state_of t times clock (set nodes i y) links' ds)
     turned_store =
         subst (λ xs. IsStore (state_of t times clock (set nodes i y) xs ds)) (sym links_is)
-        (store_set_node n nodes i x y first at same t times clock after ds (given_store t times clock nodes links ds h n x is_named ends count_is s.offers steps))
+        (store_set_node n nodes i x y first at.place same t times clock after ds (given_store t times clock nodes links ds h n x at.node at.ends at.count s.offers steps))
 
 -- ---- a turn, with the memory for it taken before
 
