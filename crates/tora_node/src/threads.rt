@@ -58,14 +58,8 @@ pub(crate) fn run_threads<
                 × CommandsFrom (C.did_tell clock.entry.now) (Rd.remaining reader.entry.now) command rests.command rests.end) }
         {
             let mut command = command;
-            let mut handles = Vec::new(alloc);
-            let mut rests = Vec::new(alloc);
-            let Ok(()) = handles.reserve(tasks.len()) else {
-                return None;
-            };
-            let Ok(()) = rests.reserve(tasks.len()) else {
-                return None;
-            };
+            let mut handles = room_for(alloc, tasks.len())?;
+            let rests = room_for(alloc, tasks.len())?;
             let promise = Does(Snapshot::of(&core_task));
             let Ok(core_thread) = scope.spawn_with(promise, move || core_task.run(rt)) else {
                 return None;
@@ -102,6 +96,17 @@ pub(crate) fn run_threads<
             }
         },
     )
+}
+
+/// Room for so many. `None` where memory is gone.
+fn room_for<X: Drop>(alloc: Global, count: usize) -> Option<Vec<X>>
+    ensures { IfSome result (λ room. room.items ≡ []) }
+{
+    let mut room = Vec::new(alloc);
+    match room.reserve(count) {
+        Err(_) => None,
+        Ok(()) => Some(room),
+    }
 }
 
 /// Joins threads, in order, behind no results. `None` where memory is gone; the scope of the threads waits for those left.
