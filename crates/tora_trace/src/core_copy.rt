@@ -63,13 +63,7 @@ impl CoreCopy {
         if me == 0 || !are_ids(neighbours) || !are_ids(destinations) {
             return Err(CoreError::OwnId);
         }
-        let core = Core::with_limits(
-            alloc,
-            CoreLimits::GREATEST,
-            me,
-            neighbours,
-            destinations,
-        )?;
+        let core = Core::with_limits(alloc, CoreLimits::GREATEST, me, neighbours, destinations)?;
         let Ok(routes) = routes_to(alloc, &core, core.destinations()) else {
             return Err(CoreError::Memory);
         };
