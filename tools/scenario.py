@@ -31,6 +31,7 @@ TICK = 1 / TICKS_A_SECOND  # seconds of a round
 MOST_NODES = 64
 GREATEST_NODES = 1024  # with --large
 MOST_NEIGHBOURS = 32
+GREATEST_NEIGHBOURS = 255  # with --large
 MOST_DESTINATIONS = 64
 LOSS_STEP = 10_000  # millionths to which a loss by distance is rounded
 EDGE_LOSS = 0.5  # without --edge-loss
@@ -226,8 +227,10 @@ def options_of(words):
     files.add_argument("--ns2", metavar="FILE", help="read a setdest file; its node 0 becomes node 1")
     files.add_argument("--bonnmotion", metavar="FILE", help="read a BonnMotion file; its first line becomes node 1")
     add("--coordinates", type=int, choices=(2, 3), default=2, help="of a BonnMotion file (2)")
-    add("--large", action="store_true", help=f"up to {GREATEST_NODES} nodes, for `tora sim --large`")
-    add("--nodes", type=at_least(2, GREATEST_NODES if "--large" in words else MOST_NODES), default=20, help="nodes of random waypoint (20)")
+    large = "--large" in words
+    nodes, neighbours = (GREATEST_NODES, GREATEST_NEIGHBOURS) if large else (MOST_NODES, MOST_NEIGHBOURS)
+    add("--large", action="store_true", help=f"up to {GREATEST_NODES} nodes and {GREATEST_NEIGHBOURS} links of one, for `tora sim --large`")
+    add("--nodes", type=at_least(2, nodes), default=20, help="nodes of random waypoint (20)")
     add("--seed", type=at_least(0), default=1, help="seed of motion, destinations and flows (1)")
     add("--area", default="", metavar="WxH", help="metres; else a square with about --degree neighbours a node")
     add("--degree", type=float, default=6.0, help="neighbours a node in the mean, where no --area is given (6)")
@@ -239,7 +242,7 @@ def options_of(words):
     add("--sample", type=at_least(1, 10_000), default=10, help="rounds between looks at the positions (10)")
     add("--heights", type=at_least(0), default=0, help="rounds between `heights` lines; 0: none, as a trace has them (0)")
     add("--need", type=at_least(1), default=10, help="rounds between the needs of every flow (10)")
-    add("--limit", type=at_least(1, MOST_NEIGHBOURS), default=MOST_NEIGHBOURS, help="links of a node (32)")
+    add("--limit", type=at_least(1, neighbours), default=neighbours, help="links of a node (32; 255 with --large)")
     add("--destinations", type=at_least(1, MOST_DESTINATIONS), default=4, help="destinations, drawn by the seed (4)")
     add("--flows", type=at_least(0), default=0, help="flows, drawn by the seed; 0: as many as nodes (0)")
     add("--times", default="10,50,5,8", metavar="HELLO,SILENCE,RETRY,TRIES", help="times of a link end (10,50,5,8)")

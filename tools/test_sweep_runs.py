@@ -1,8 +1,10 @@
 """The runs of a study: their names, their order, and what is refused before any of them starts."""
+import collections
 import contextlib
 import io
 import unittest
 
+from scenario import make, options_of
 from study import Usage
 from sweep_runs import runs
 
@@ -38,9 +40,23 @@ class RunsTest(unittest.TestCase):
                 list(runs([5], 1, vary, options))
 
     def test_large(self):
-        """With --large there may be 1,024 nodes."""
+        """With --large there may be 1,024 nodes, and 255 links of one."""
         self.assertEqual([size for _, size, *_ in runs([64], 1, [], [])], [64])
         self.assertEqual([size for _, size, *_ in runs([65, 1024], 1, [], ["--large"])], [65, 1024])
+        for most, options in ((32, []), (255, ["--large"])):
+            self.assertEqual([limit for *_, limit in runs([5], 1, [f"limit={most - 1},{most}"], options)], [f"--limit {most - 1}", f"--limit {most}"])
+            with self.assertRaises(SystemExit), contextlib.redirect_stderr(io.StringIO()):
+                list(runs([5], 1, [f"limit={most + 1}"], options))
+
+    def test_links_of_a_crowd(self):
+        """Of 40 nodes within reach of each other each has 39 links with --large, and 32 without it."""
+        for most, options in ((32, []), (39, ["--large"])):
+            words = ["x", "--nodes", "40", "--area", "50x50", "--settle", "0", "--rounds", "10", *options]
+            scenario, lines = make(options_of(words))
+            degree = collections.Counter(node for link in scenario["links"] for node in link)
+            self.assertEqual((max(degree.values()), scenario["most_met"]), (most, 39))
+            self.assertEqual(sum(line.startswith("link ") for line in lines), len(scenario["links"]))
+            self.assertEqual(scenario["contact_kept"] == 1, most == 39)
 
 
 if __name__ == "__main__":

@@ -67,9 +67,9 @@ impl SimulationCause {
             Self::TooMany =>
                 "the links and destinations are refused: there are more than 64 nodes, 32 neighbours of a node or 64 destinations",
             Self::TooManyStandard =>
-                "the links and destinations are refused: there are more than 64 nodes, 32 neighbours of a node or 64 destinations; with `--large` there may be 1024 nodes",
+                "the links and destinations are refused: there are more than 64 nodes, 32 neighbours of a node or 64 destinations; with `--large` there may be 1024 nodes and 255 neighbours of a node",
             Self::TooManyAtAll =>
-                "the links and destinations are refused: there are more than 1024 nodes, 32 neighbours of a node or 64 destinations",
+                "the links and destinations are refused: there are more than 1024 nodes, 255 neighbours of a node or 64 destinations",
             Self::Repeated =>
                 "the links and destinations are refused: a link, either way round, or a destination stands twice",
             Self::RepeatedLink(_, _) => "the links and destinations are refused: ",

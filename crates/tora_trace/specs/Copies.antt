@@ -9,9 +9,10 @@ use Rattle.tora_arq.specs.declared.Life.{Life}
 use Rattle.tora_core.specs.declared.Input.{Input}
 use Rattle.tora_core.specs.declared.Input.TheVariants as In
 use Rattle.tora_core.specs.Kept.{destinations_of}
+use Rattle.tora_core.specs.declared.TheConstants.{GREATEST_NEIGHBOURS, MOST_DESTINATIONS}
 use Rattle.tora_core.specs.declared.errors.CoreError.{CoreError}
 use Rattle.tora_core.specs.declared.errors.CoreError.TheVariants.{OwnId}
-use Rattle.tora_core.specs.CoreRun.{CoreView, core_refusal, first_core, core_after, sends_of, height_of, hop_of}
+use Rattle.tora_core.specs.CoreRun.{CoreView, core_refusal_within, first_core, core_after, sends_of, height_of, hop_of}
 use Rattle.tora_trace.specs.declared.route.Route.{Route}
 use Rattle.tora_trace.specs.Records.{up_record, down_record, packet_record, route_record}
 
@@ -152,9 +153,9 @@ TakesInputs life old inputs new before after = (new, after) ≡ after_inputs lif
 abbrev pub are_ids : List ℕ → Bool
 are_ids numbers = list_all (λ n. nat_lt 0 n) numbers
 
--- why there is no copy of a core: a number is 0, or what refuses a new core
+-- why there is no copy of a core: a number is 0, or what refuses a new core within the greatest limits
 abbrev pub copy_refusal : ℕ → List ℕ → List ℕ → Option CoreError
-copy_refusal me neighbours destinations = if nat_lt 0 me && are_ids neighbours && are_ids destinations then core_refusal me neighbours destinations else Some OwnId
+copy_refusal me neighbours destinations = if nat_lt 0 me && are_ids neighbours && are_ids destinations then core_refusal_within GREATEST_NEIGHBOURS MOST_DESTINATIONS me neighbours destinations else Some OwnId
 
 abbrev pub first_copy : ℕ → List ℕ → List ℕ → CopyState
 first_copy me neighbours destinations = record {

@@ -9,7 +9,7 @@ use crate::route::{Route, note_routes, routes_to, write_routes};
 use std::alloc::{AllocError, Global};
 use std::marker::Model;
 use tora_arq::Life;
-use tora_core::{Core, CoreError, Input, Sends};
+use tora_core::{Core, CoreError, CoreLimits, Input, Sends};
 use tora_height::Id;
 
 /// A copy of a node's core, the life in which each of its links came up last, and what was told last of each destination.
@@ -47,7 +47,8 @@ impl CoreCopy {
     /// The copy of a new core; of each destination its first route counts as told.
     ///
     /// # Errors
-    /// `OwnId` where a number is 0, and those of a new core.
+    /// `OwnId` where a number is 0, and those of a new core within the greatest limits: the limits of a simulated world are
+    /// those of its topology.
     pub fn new(
         alloc: Global,
         me: Id,
@@ -62,7 +63,7 @@ impl CoreCopy {
         if me == 0 || !are_ids(neighbours) || !are_ids(destinations) {
             return Err(CoreError::OwnId);
         }
-        let core = Core::new(alloc, me, neighbours, destinations)?;
+        let core = Core::with_limits(alloc, CoreLimits::GREATEST, me, neighbours, destinations)?;
         let Ok(routes) = routes_to(alloc, &core, core.destinations()) else {
             return Err(CoreError::Memory);
         };
@@ -126,7 +127,13 @@ impl CoreCopy {
         ensures { OnOk result (Restarts now self.old self.new (string_bytes out.old) (string_bytes out.new)) }
     {
         let core = &self.core;
-        let Ok(core) = Core::new(alloc, core.me(), core.neighbours(), core.destinations()) else {
+        let Ok(core) = Core::with_limits(
+            alloc,
+            CoreLimits::GREATEST,
+            core.me(),
+            core.neighbours(),
+            core.destinations(),
+        ) else {
             return Err(AllocError);
         };
         self.core = core;

@@ -82,7 +82,7 @@ impl Trace {
     /// and `destinations` those of every node's table.
     ///
     /// # Errors
-    /// `OwnId` where a number is 0, those of a new core, and `Memory`.
+    /// `OwnId` where a number is 0, those of a new core within the greatest limits, and `Memory`.
     #[tactic(auto, using(crate::proofs::Refusals::first_on, crate::proofs::Refusals::first_none, crate::proofs::Refusals::first_here))]
     pub fn new(
         alloc: Global,

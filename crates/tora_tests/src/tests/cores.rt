@@ -12,6 +12,7 @@ use tora_core::CoreError::{OwnId, Repeated, TooMany};
 use tora_core::{Core, CoreError, Input, StepError};
 use tora_height::Id;
 
+mod limits;
 mod random;
 mod steps;
 mod tables;

@@ -3,7 +3,7 @@ ghost use Rattle.std.specs.Prelude.{◌≡◌, ◌<◌, true, All};
 
 use std::alloc::{AllocError, Global};
 use std::process::Abort;
-use tora_core::{Core, CoreError};
+use tora_core::{Core, CoreError, CoreLimits};
 use tora_height::{Entry, Height, Id};
 use tora_packet::{Clear, Packet, Update};
 
@@ -86,4 +86,19 @@ pub fn core_of(
     let destinations_are = are_numbers(destinations);
     assert!(rt; me > 0 && neighbours_are && destinations_are);
     Core::new(alloc, me, neighbours, destinations)
+}
+
+/// The core of a node with these neighbours and destinations, none of which is 0, within these limits.
+pub fn core_within(
+    rt: &impl Abort,
+    alloc: Global,
+    limits: CoreLimits,
+    me: Id,
+    neighbours: &[Id],
+    destinations: &[Id],
+) -> Result<Core, CoreError> {
+    let neighbours_are = are_numbers(neighbours);
+    let destinations_are = are_numbers(destinations);
+    assert!(rt; me > 0 && neighbours_are && destinations_are);
+    Core::with_limits(alloc, limits, me, neighbours, destinations)
 }

@@ -119,6 +119,32 @@ pub const STAR: &str =
     link 1 18\nlink 1 19\nlink 1 20\nlink 1 21\nlink 1 22\nlink 1 23\nlink 1 24\nlink 1 25\n\
     link 1 26\nlink 1 27\nlink 1 28\nlink 1 29\nlink 1 30\nlink 1 31\nlink 1 32\nlink 1 33\n";
 
+/// A node with 255 neighbours.
+pub const STAR_OF_255: &str =
+    "link 1 2\nlink 1 3\nlink 1 4\nlink 1 5\nlink 1 6\nlink 1 7\nlink 1 8\nlink 1 9\nlink 1 10\nlink 1 11\nlink 1 12\nlink 1 13\nlink 1 14\n\
+    link 1 15\nlink 1 16\nlink 1 17\nlink 1 18\nlink 1 19\nlink 1 20\nlink 1 21\nlink 1 22\nlink 1 23\nlink 1 24\nlink 1 25\nlink 1 26\n\
+    link 1 27\nlink 1 28\nlink 1 29\nlink 1 30\nlink 1 31\nlink 1 32\nlink 1 33\nlink 1 34\nlink 1 35\nlink 1 36\nlink 1 37\nlink 1 38\n\
+    link 1 39\nlink 1 40\nlink 1 41\nlink 1 42\nlink 1 43\nlink 1 44\nlink 1 45\nlink 1 46\nlink 1 47\nlink 1 48\nlink 1 49\nlink 1 50\n\
+    link 1 51\nlink 1 52\nlink 1 53\nlink 1 54\nlink 1 55\nlink 1 56\nlink 1 57\nlink 1 58\nlink 1 59\nlink 1 60\nlink 1 61\nlink 1 62\n\
+    link 1 63\nlink 1 64\nlink 1 65\nlink 1 66\nlink 1 67\nlink 1 68\nlink 1 69\nlink 1 70\nlink 1 71\nlink 1 72\nlink 1 73\nlink 1 74\n\
+    link 1 75\nlink 1 76\nlink 1 77\nlink 1 78\nlink 1 79\nlink 1 80\nlink 1 81\nlink 1 82\nlink 1 83\nlink 1 84\nlink 1 85\nlink 1 86\n\
+    link 1 87\nlink 1 88\nlink 1 89\nlink 1 90\nlink 1 91\nlink 1 92\nlink 1 93\nlink 1 94\nlink 1 95\nlink 1 96\nlink 1 97\nlink 1 98\n\
+    link 1 99\nlink 1 100\nlink 1 101\nlink 1 102\nlink 1 103\nlink 1 104\nlink 1 105\nlink 1 106\nlink 1 107\nlink 1 108\nlink 1 109\n\
+    link 1 110\nlink 1 111\nlink 1 112\nlink 1 113\nlink 1 114\nlink 1 115\nlink 1 116\nlink 1 117\nlink 1 118\nlink 1 119\nlink 1 120\n\
+    link 1 121\nlink 1 122\nlink 1 123\nlink 1 124\nlink 1 125\nlink 1 126\nlink 1 127\nlink 1 128\nlink 1 129\nlink 1 130\nlink 1 131\n\
+    link 1 132\nlink 1 133\nlink 1 134\nlink 1 135\nlink 1 136\nlink 1 137\nlink 1 138\nlink 1 139\nlink 1 140\nlink 1 141\nlink 1 142\n\
+    link 1 143\nlink 1 144\nlink 1 145\nlink 1 146\nlink 1 147\nlink 1 148\nlink 1 149\nlink 1 150\nlink 1 151\nlink 1 152\nlink 1 153\n\
+    link 1 154\nlink 1 155\nlink 1 156\nlink 1 157\nlink 1 158\nlink 1 159\nlink 1 160\nlink 1 161\nlink 1 162\nlink 1 163\nlink 1 164\n\
+    link 1 165\nlink 1 166\nlink 1 167\nlink 1 168\nlink 1 169\nlink 1 170\nlink 1 171\nlink 1 172\nlink 1 173\nlink 1 174\nlink 1 175\n\
+    link 1 176\nlink 1 177\nlink 1 178\nlink 1 179\nlink 1 180\nlink 1 181\nlink 1 182\nlink 1 183\nlink 1 184\nlink 1 185\nlink 1 186\n\
+    link 1 187\nlink 1 188\nlink 1 189\nlink 1 190\nlink 1 191\nlink 1 192\nlink 1 193\nlink 1 194\nlink 1 195\nlink 1 196\nlink 1 197\n\
+    link 1 198\nlink 1 199\nlink 1 200\nlink 1 201\nlink 1 202\nlink 1 203\nlink 1 204\nlink 1 205\nlink 1 206\nlink 1 207\nlink 1 208\n\
+    link 1 209\nlink 1 210\nlink 1 211\nlink 1 212\nlink 1 213\nlink 1 214\nlink 1 215\nlink 1 216\nlink 1 217\nlink 1 218\nlink 1 219\n\
+    link 1 220\nlink 1 221\nlink 1 222\nlink 1 223\nlink 1 224\nlink 1 225\nlink 1 226\nlink 1 227\nlink 1 228\nlink 1 229\nlink 1 230\n\
+    link 1 231\nlink 1 232\nlink 1 233\nlink 1 234\nlink 1 235\nlink 1 236\nlink 1 237\nlink 1 238\nlink 1 239\nlink 1 240\nlink 1 241\n\
+    link 1 242\nlink 1 243\nlink 1 244\nlink 1 245\nlink 1 246\nlink 1 247\nlink 1 248\nlink 1 249\nlink 1 250\nlink 1 251\nlink 1 252\n\
+    link 1 253\nlink 1 254\nlink 1 255\nlink 1 256\n";
+
 pub const STAR_FOUND: &str = "node 1 (0,0,0,1,1) hop 2\nnode 2 (0,0,0,0,2) hop -\n\
     node 3 - hop 1\nnode 4 - hop 1\nnode 5 - hop 1\nnode 6 - hop 1\nnode 7 - hop 1\n\
     node 8 - hop 1\nnode 9 - hop 1\nnode 10 - hop 1\nnode 11 - hop 1\nnode 12 - hop 1\n\

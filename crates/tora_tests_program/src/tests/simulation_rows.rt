@@ -1,5 +1,5 @@
 //! Lines of simulation files that are taken or faults, and what is printed for them.
-use super::route_rows::{FOUR, STAR};
+use super::route_rows::{FOUR, STAR, STAR_OF_255};
 use super::runs::{Files, NOTHING, Row};
 use tora_lines::Ended;
 
@@ -120,7 +120,7 @@ pub const LINES_OF_NODES: &[Files] = &[
     },
 ];
 
-/// A line of 65 nodes and a star of 34 in a large world.
+/// A line of 65 nodes, and stars with 33, 255 and 256 leaves, in a large world.
 pub const LARGE_WORLDS: &[Files] = &[
     Files {
         front: "dests 4\n",
@@ -131,12 +131,28 @@ pub const LARGE_WORLDS: &[Files] = &[
         ended: Ended::Fault(68),
     },
     Files {
-        front: "dests 4\n",
+        front: "dests 2\n",
         middles: &[STAR],
         times: 1,
-        end: "link 34 1\n",
-        text: "fault 34\n",
-        ended: Ended::Fault(34),
+        end: "link 34 1\nrounds 1\nneed 34 2\nrounds 3\nwalk 34 2\n",
+        text: "walk 34,1,2\n",
+        ended: Ended::Whole,
+    },
+    Files {
+        front: "dests 2\n",
+        middles: &[STAR_OF_255],
+        times: 1,
+        end: "rounds 1\nneed 256 2\nrounds 3\nwalk 256 2\n",
+        text: "walk 256,1,2\n",
+        ended: Ended::Whole,
+    },
+    Files {
+        front: "dests 2\n",
+        middles: &[STAR_OF_255],
+        times: 1,
+        end: "link 257 1\n",
+        text: "fault 257\n",
+        ended: Ended::Fault(257),
     },
 ];
 

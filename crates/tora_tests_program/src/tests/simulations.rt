@@ -63,7 +63,7 @@ fn nodes_are_counted(rt: HostRuntime) {
     expect_files(&rt, Way::Simulation, LINES_OF_NODES);
 }
 
-/// More than 64 nodes are taken in a large world, and more than 32 neighbours are not.
+/// More than 64 nodes and more than 32 neighbours are taken in a large world, and more than 255 neighbours are not.
 #[test]
 fn large_worlds_are_taken(rt: HostRuntime) {
     expect_files(&rt, Way::LargeSimulation, LARGE_WORLDS);

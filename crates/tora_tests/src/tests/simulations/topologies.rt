@@ -174,10 +174,26 @@ const LIMITS_ASKED: &[RowWithin] = &[
         Limits::GREATEST,
         (Links::Chain(1025), These(&[1]), Some(TooMany)),
     ),
-    (Limits::GREATEST, (Links::Star(32, &[]), These(&[1]), None)),
+    (Limits::STANDARD, (Links::Star(31, &[]), These(&[1]), None)),
+    (Limits::STANDARD, (Links::Star(32, &[]), These(&[1]), None)),
+    (
+        Limits::STANDARD,
+        (Links::Star(33, &[]), These(&[1]), Some(TooMany)),
+    ),
+    (Limits::GREATEST, (Links::Star(33, &[]), These(&[1]), None)),
+    (Limits::GREATEST, (Links::Star(254, &[]), These(&[1]), None)),
+    (Limits::GREATEST, (Links::Star(255, &[]), These(&[1]), None)),
     (
         Limits::GREATEST,
-        (Links::Star(33, &[]), These(&[1]), Some(TooMany)),
+        (Links::Star(256, &[]), These(&[1]), Some(TooMany)),
+    ),
+    (
+        Limits::GREATEST,
+        (Links::Star(255, &[(1, 1)]), These(&[1]), Some(OwnId)),
+    ),
+    (
+        Limits::GREATEST,
+        (Links::Star(257, &[(1, 1)]), These(&[1]), Some(TooMany)),
     ),
     (
         Limits::GREATEST,
@@ -189,7 +205,8 @@ const LIMITS_ASKED: &[RowWithin] = &[
     ),
     (ABOVE, (Links::Chain(1024), These(&[1]), None)),
     (ABOVE, (Links::Chain(1025), These(&[1]), Some(TooMany))),
-    (ABOVE, (Links::Star(33, &[]), These(&[1]), Some(TooMany))),
+    (ABOVE, (Links::Star(255, &[]), These(&[1]), None)),
+    (ABOVE, (Links::Star(256, &[]), These(&[1]), Some(TooMany))),
 ];
 
 #[test]
