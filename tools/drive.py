@@ -9,11 +9,12 @@ usage: tools/drive.py [--ticks N] [--loss P] [--seed S] [--need N,D ..] [--keep 
   --loss P        a datagram is lost with this probability, from 0 to 1 (0)
   --seed S        of the losses (1)
   --need N,D      a need that is put before the first step; any number of them
-  --keep FOLDER   keeps there driven.txt, the lines that were said, and driven.sim, the simulation file of the same events
+  --keep FOLDER   keeps there driven.txt, the lines that were said, driven.sim, the simulation file of the same events, and record.sim,
+                  what `tora drive --record` wrote
 
 Each datagram that is not lost is delivered right behind the step that put it under way. A step is a round in which every
 link is parted: so the same events are a simulation file of `part` lines, `rounds 1` and `deliver` lines. It says whether
-the heights of both are the same at the end, whether next hops as they were told are those at the end, and what was counted.
+the heights of both are the same at the end, and those of the record, whether next hops as they were told are those at the end, and what was counted.
 """
 import argparse
 import pathlib
@@ -26,8 +27,8 @@ import tempfile
 class Drive:
     """A running `tora drive`, the lines said to it, and the next hops that it told."""
 
-    def __init__(self, program):
-        self.process = subprocess.Popen([program, "drive"], stdin=subprocess.PIPE, stdout=subprocess.PIPE, text=True)
+    def __init__(self, program, record):
+        self.process = subprocess.Popen([program, "drive", "--record", record], stdin=subprocess.PIPE, stdout=subprocess.PIPE, text=True)
         self.said = []
         self.hops = {}
         greeting = self.process.stdout.readline()
@@ -78,13 +79,9 @@ def arguments():
     return asked
 
 
-def main():
-    asked = arguments()
-    first = [line for line in pathlib.Path(asked.file).read_text().splitlines() if line.split(" ")[0] in ("dests", "link", "old")]
-    dests = [d for d in first[0].split(" ")[1].split(",") if d != "-"]
-    parts = ["part" + line[4:] for line in first if line.startswith("link ")]
+def drive_all(drive, asked, first, dests):
+    """Says all lines: how many datagrams were sent and delivered, and the heights at the end."""
     chance = random.Random(asked.seed)
-    drive = Drive(asked.program)
     for line in first + ["need " + need.replace(",", " ") for need in asked.need]:
         drive.say(line)
     sent = delivered = 0
@@ -95,19 +92,39 @@ def main():
                 delivered += 1
                 # what a delivery leads to comes in the next step
                 drive.say(f"deliver {words[3]}")
-    ends = {d: heights(drive.say(f"heights {d}")) for d in dests}
+    return sent, delivered, {d: heights(drive.say(f"heights {d}")) for d in dests}
+
+
+def simulated(program, path):
+    return subprocess.run([program, "sim", path], stdout=subprocess.PIPE, text=True, check=True).stdout.splitlines()
+
+
+def compare(asked, folder):
+    first = [line for line in pathlib.Path(asked.file).read_text().splitlines() if line.split(" ")[0] in ("dests", "link", "old")]
+    dests = [d for d in first[0].split(" ")[1].split(",") if d != "-"]
+    parts = ["part" + line[4:] for line in first if line.startswith("link ")]
+    drive = Drive(asked.program, folder / "record.sim")
+    sent, delivered, ends = drive_all(drive, asked, first, dests)
     status = drive.end()
     script = first + parts + ["rounds 1" if line == "step" else line for line in drive.said[len(first):]]
-    with tempfile.TemporaryDirectory(prefix="drive-") as work:
-        folder = pathlib.Path(asked.keep or work)
-        (folder / "driven.txt").write_text("\n".join(drive.said) + "\n")
-        (folder / "driven.sim").write_text("\n".join(script) + "\n")
-        ran = subprocess.run([asked.program, "sim", folder / "driven.sim"], stdout=subprocess.PIPE, text=True, check=True)
-    same = ran.stdout.splitlines() == [line for d in dests for line in ends[d][0]]
+    (folder / "driven.txt").write_text("\n".join(drive.said) + "\n")
+    (folder / "driven.sim").write_text("\n".join(script) + "\n")
+    wanted = [line for d in dests for line in ends[d][0]]
+    same = simulated(asked.program, folder / "driven.sim") == wanted
+    recorded = simulated(asked.program, folder / "record.sim") == wanted
     told = all(drive.hops.get((n, d), "-") == hop for d in dests for n, hop in ends[d][1].items())
+    word = {True: "the same", False: "others"}
     print(f"{asked.ticks} steps, {sent} datagrams, {delivered} delivered, status {status}")
-    print(f"heights of `tora sim`: {'the same' if same else 'others'}; next hops as told: {'the same' if told else 'others'}")
-    return 0 if same and told and status == 0 else 1
+    print(f"heights of `tora sim`: {word[same]}, and of the record: {word[recorded]}; next hops as told: {word[told]}")
+    return 0 if same and recorded and told and status == 0 else 1
+
+
+def main():
+    asked = arguments()
+    if asked.keep:
+        return compare(asked, pathlib.Path(asked.keep))
+    with tempfile.TemporaryDirectory(prefix="drive-") as work:
+        return compare(asked, pathlib.Path(work))
 
 
 if __name__ == "__main__":

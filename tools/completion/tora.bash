@@ -22,7 +22,7 @@ _tora() {
       if [ -f "$(dirname "${COMP_WORDS[0]}")/tools/build.py" ]; then words+=' build test install uninstall'; fi
       ;;
     sim) words+=' --times --channel --seed --channel-file --notice --large --until --progress --trace' files='*.sim' ;;
-    drive) words+=' --times --large' ;;
+    drive) words+=' --times --large --record' ;;
     node) words+=' --check --log --log-time' files='*.toml' ;;
     help) words='replay sim drive node key' ;;
     install | uninstall) words='-h --help' files='*/' ;;

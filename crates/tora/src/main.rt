@@ -10,8 +10,8 @@ use std::io;
 use std::io::{BufWriter, IsTerminal};
 use std::process::ExitCode;
 use tora_commands::{
-    MEMORY, SetupWords, USAGE, command, drive_command, key_command, node_command, replay_command,
-    simulate_file, stop, usage,
+    MEMORY, SetupWords, USAGE, command, drive_command, key_command, node_command, record_command,
+    replay_command, simulate_file, stop, usage,
 };
 pub use tora_lines::{Ended, ReplayError, numbers_are_read_as_printed};
 use tora_log::LogLines;
@@ -43,6 +43,16 @@ fn simulate_to_output(
         return stop(rt, MEMORY, "memory");
     };
     simulate_file(rt, words, path, trace, shown, &mut writer)
+}
+
+/// Drives a world by the lines of standard input, and records it where a path is given for that.
+fn drive_input(rt: &HostRuntime, drive: &ArgMatches<'_>) -> ExitCode {
+    let mut writer = io::writer(rt);
+    let (times, is_large) = (drive.get_str("times"), drive.get_flag("large"));
+    match drive.get_str("record") {
+        None => drive_command::run(rt, times, is_large, rt.stdin(), &mut writer),
+        Some(path) => record_command::run(rt, times, is_large, path, rt.stdin(), &mut writer),
+    }
 }
 
 /// The runtime with the log of a node: up to which level, and whether with the time, its options say. It has no sockets.
@@ -101,11 +111,7 @@ fn main(rt: HostRuntime) -> ExitCode {
                     let (trace, shown) = (sim.get_str("trace"), (is_verbose, has_bar));
                     simulate_to_output(&rt, words, path, trace, shown)
                 }
-                Some(("drive", drive)) => {
-                    let mut writer = io::writer(&rt);
-                    let (times, is_large) = (drive.get_str("times"), drive.get_flag("large"));
-                    drive_command::run(&rt, times, is_large, rt.stdin(), &mut writer)
-                }
+                Some(("drive", drive)) => drive_input(&rt, drive),
                 Some(("key", _)) => key_command::run(&rt, &mut io::writer(&rt)),
                 _ => replay_input(&rt, is_verbose),
             }

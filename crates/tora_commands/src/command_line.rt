@@ -243,6 +243,14 @@ fn sim<'a>(alloc: Global) -> Result<Command<'a>, AllocError> {
         .arg(file)
 }
 
+/// `--record` of `drive`.
+fn record<'a>(alloc: Global) -> Arg<'a> {
+    Arg::new(alloc, "record")
+        .long("record")
+        .value_name("PATH")
+        .help("Writes to this file the lines of a simulation file that stand for what is driven")
+}
+
 /// What `--help` of `drive` says of its lines.
 const DRIVE: &str = "\
 It prints `tora drive 1`, and then reads lines of a simulation file (`tora sim
@@ -271,9 +279,13 @@ Lines of its own, behind the links:
                       datagram of these bytes
   forget ID           datagrams up to ID can't be named any more
 
+With --record PATH, `tora sim PATH`, with the same --times and --large, comes to
+the same world: PATH has the lines that did what they say, and the events of
+each step. `notice` is a fault then, as no line of a file stands for it.
+
 Exit statuses:
   0  the input ended
-  1  a line is too long, or input or output failed
+  1  a line is too long, input or output failed, or the record can't be written
   2  usage
   5  memory was refused";
 
@@ -283,7 +295,8 @@ fn drive<'a>(alloc: Global) -> Result<Command<'a>, AllocError> {
         .about("Simulates a world that another program drives, a line of standard input at a time")
         .after_help(DRIVE)
         .arg(times(alloc))?
-        .arg(large(alloc))
+        .arg(large(alloc))?
+        .arg(record(alloc))
 }
 
 /// The levels of `--log`, from the one that logs nothing on.

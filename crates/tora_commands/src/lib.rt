@@ -27,6 +27,7 @@ mod key_file;
 mod link_wires;
 pub mod node_command;
 mod progress;
+pub mod record_command;
 pub mod replay_command;
 mod setup_words;
 mod times_word;

@@ -28,8 +28,8 @@ use tora_script::Setup;
 use tora_simulate::tell_at;
 use tora_traced::{TraceOut, Watched, simulate_traced};
 
-/// Says which path can't be the trace's, and why, and ends with the status of the cause.
-fn refuse_trace<T: Eprint>(rt: &T, path: &str, error: &io::Error) -> ExitCode
+/// Says which path can't be the trace's or the record's, and why, and ends with the status of the cause.
+pub fn refuse_trace<T: Eprint>(rt: &T, path: &str, error: &io::Error) -> ExitCode
     ensures { (exit_status result ≡ 1) ⊎ (exit_status result ≡ 5) }
 {
     if error.kind() == ErrorKind::OutOfMemory {
@@ -40,8 +40,8 @@ fn refuse_trace<T: Eprint>(rt: &T, path: &str, error: &io::Error) -> ExitCode
     code
 }
 
-/// Ends with the status of the simulation, or with 1 where that is 0 and the trace could not be written.
-fn traced_status<T: Eprint, V: Output>(
+/// Ends with the status of the simulation, or with 1 where that is 0 and the trace or the record could not be written.
+pub fn traced_status<T: Eprint, V: Output>(
     rt: &T,
     ended: Result<Ended, ReplayError>,
     out: &TraceOut<V>,

@@ -1,22 +1,32 @@
 -- An answer, as the text that goes on.
-use Rattle.std.proofs.Common.{◌≡◌, ℕ, ◌+◌, ◌≤◌, List, length, Some, None, refl}
+use Rattle.std.proofs.Common.{◌≡◌, ℕ, ◌+◌, ◌≤◌, List, ◌∷◌, length, true, false, Some, refl, sym, ap, ◌∙◌}
 use Rattle.tora_arq.specs.declared.Times.{Times}
 use Rattle.tora_world.specs.declared.limits.Limits.{Limits}
-use Rattle.tora_lines.specs.Engine.{GoesOnIn}
-use Rattle.tora_lines.specs.LineText.{text_from}
+use Rattle.tora_lines.specs.LineText.{prepend, text_from}
 use Rattle.tora_lines.proofs.KindLaws.{goes_on}
-use Rattle.tora_script.specs.SimulationText.{Progress}
-use Rattle.tora_drive.specs.DriveText.{OwnView, DriveView, place_reply, placed, cause_of, fault_line, drive_rules}
+use Rattle.tora_drive.specs.DriveText.{DriveView, drive_reply, drive_rules}
+use Rattle.tora_drive.specs.Recording.{says_notice, unrecorded, recorded_reply, recorded_rules}
 
-abbrev drive_at : ℕ → Progress → OwnView → DriveView
-drive_at n progress o = record { lines = n; place = record { progress = progress; own = o } }
+pub goes : (limits next_limits : Limits) (times next_times : Times) (v next : DriveView) (line out : List ℕ) → length line ≤ 4096 → next_limits ≡ limits → next_times ≡ times → (next, out) ≡ drive_reply limits times v line
+    → (n : ℕ) (lines : List (List ℕ)) → text_from (drive_rules limits times) v n (line ∷ lines) ≡ prepend out (text_from (drive_rules next_limits next_times) next (n + 1) lines)
+goes limits next_limits times next_times v next line out short same_limits same_times h n lines =
+    rw (same_limits, same_times) (goes_on (drive_rules limits times) v line next out short (ap (λ (x : DriveView × List ℕ). Some x) (sym h)) n lines)
 
--- a line that is no fault
-pub goes : (limits : Limits) (times : Times) (n m : ℕ) (old new : Progress) (o p : OwnView) (line out : List ℕ) → length line ≤ 4096 → m ≡ n + 1 → place_reply limits times o old line ≡ Some (placed new p out)
-    → GoesOnIn (text_from (drive_rules limits times)) (drive_at n old o) line (drive_at m new p) out
-goes limits times n m old new o p line out short count h = goes_on (drive_rules limits times) (drive_at n old o) line (drive_at m new p) out short (rw (h, count) refl)
+recorded_goes : (limits next_limits : Limits) (times next_times : Times) (v next : DriveView) (line out : List ℕ) → length line ≤ 4096 → next_limits ≡ limits → next_times ≡ times → (next, out) ≡ recorded_reply limits times v line
+    → (n : ℕ) (lines : List (List ℕ)) → text_from (recorded_rules limits times) v n (line ∷ lines) ≡ prepend out (text_from (recorded_rules next_limits next_times) next (n + 1) lines)
+recorded_goes limits next_limits times next_times v next line out short same_limits same_times h n lines =
+    rw (same_limits, same_times) (goes_on (recorded_rules limits times) v line next out short (ap (λ (x : DriveView × List ℕ). Some x) (sym h)) n lines)
 
--- a fault
-pub faults : (limits : Limits) (times : Times) (n m : ℕ) (old new : Progress) (o p : OwnView) (line out : List ℕ) → length line ≤ 4096 → m ≡ n + 1 → place_reply limits times o old line ≡ None → new ≡ old → p ≡ o → out ≡ fault_line m (cause_of limits old line)
-    → GoesOnIn (text_from (drive_rules limits times)) (drive_at n old o) line (drive_at m new p) out
-faults limits times n m old new o p line out short count h kept same told = goes_on (drive_rules limits times) (drive_at n old o) line (drive_at m new p) out short (rw (h, kept, same, told, count) refl)
+-- a line that cuts a life
+pub notice_goes : (limits next_limits : Limits) (times next_times : Times) (v next : DriveView) (line out : List ℕ) → length line ≤ 4096 → next_limits ≡ limits → next_times ≡ times → says_notice line ≡ true → (next, out) ≡ unrecorded v
+    → (n : ℕ) (lines : List (List ℕ)) → text_from (recorded_rules limits times) v n (line ∷ lines) ≡ prepend out (text_from (recorded_rules next_limits next_times) next (n + 1) lines)
+notice_goes limits next_limits times next_times v next line out short same_limits same_times says h n lines =
+    let is : recorded_reply limits times v line ≡ unrecorded v = rw says refl in
+    recorded_goes limits next_limits times next_times v next line out short same_limits same_times (h ∙ sym is) n lines
+
+-- any other line
+pub other_goes : (limits next_limits : Limits) (times next_times : Times) (v next : DriveView) (line out : List ℕ) → length line ≤ 4096 → next_limits ≡ limits → next_times ≡ times → says_notice line ≡ false → (next, out) ≡ drive_reply limits times v line
+    → (n : ℕ) (lines : List (List ℕ)) → text_from (recorded_rules limits times) v n (line ∷ lines) ≡ prepend out (text_from (recorded_rules next_limits next_times) next (n + 1) lines)
+other_goes limits next_limits times next_times v next line out short same_limits same_times says h n lines =
+    let is : recorded_reply limits times v line ≡ drive_reply limits times v line = rw says refl in
+    recorded_goes limits next_limits times next_times v next line out short same_limits same_times (h ∙ sym is) n lines

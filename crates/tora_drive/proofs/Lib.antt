@@ -1,8 +1,13 @@
 pub mod AnswerLaws
+pub mod DigitLaws
 pub mod DriveLaws
 pub mod HopLaws
 pub mod RecordLaws
+pub mod RecordedLaws
 pub mod RunLaws
 pub mod ScheduleLaws
+pub mod ScriptLaws
+pub mod SimulatedLaws
 pub mod StepLaws
 pub mod TakenLaws
+pub mod TellLaws

@@ -1,7 +1,9 @@
 -- The lines of datagrams, one after the other.
-use Rattle.std.proofs.Common.{◌≡◌, ℕ, suc, ◌+◌, ◌-◌, ◌≤◌, List, ◌++◌, sym, arith, append_assoc}
+use Rattle.std.proofs.Common.{◌≡◌, ℕ, suc, ◌+◌, ◌-◌, ◌≤◌, Bool, if◌then◌else◌, List, [], ◌++◌, Option, Some, None, is_some, refl, sym, arith, append_assoc}
+use Rattle.std.specs.Prelude.{option_map}
 use Rattle.std.proofs.lemmas.List.{append-nil}
 use Rattle.tora_world.specs.World.{World}
+use Rattle.tora_drive.specs.Recording.{cleared}
 use Rattle.tora_drive.specs.Records.{sent_of, sent_from}
 
 pub none_sent : (w : World) (first : ℕ) (text : List ℕ) → text ≡ text ++ sent_from w first (first - first)
@@ -14,3 +16,8 @@ next_sent w first i old text new above so_far more =
     let k : i + 1 - first ≡ suc (i - first) = omega arith in
     let n : first + suc (i - first) ≡ i + 1 = omega arith in
     rw (k, n, more, so_far) (append_assoc old (sent_from w first (i - first)) (sent_of w (i + 1)))
+
+-- a record that begins anew where there is one
+pub cleared_so : {V : Type 0} (items : V → List ℕ) (o : Option V) (is : Bool) → is ≡ is_some o → (if is then Some [] else None) ≡ cleared (option_map items o)
+cleared_so items None is h = rw h refl
+cleared_so items (Some v) is h = rw h refl

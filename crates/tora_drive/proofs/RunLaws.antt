@@ -41,7 +41,7 @@ use Rattle.tora_drive.specs.Taking.{taking, line_in}
 -- ---- a line
 
 -- events of the simulator alone lead where they lead
-happened_all : (w : World) (events : List Event) → after_all_driven w (happening events) ≡ world_after_all w events
+pub happened_all : (w : World) (events : List Event) → after_all_driven w (happening events) ≡ world_after_all w events
 happened_all w [] = refl
 happened_all w (event ∷ events) = happened_all (world_after w event) events
 
@@ -160,7 +160,7 @@ not_taken : (w : World) (forgotten n k : ℕ) (text : List ℕ) (rest : Option (
 not_taken w forgotten n k text None other e = e
 not_taken w forgotten n k text (Some rest) other e = absurd (taken_in w forgotten n k rest e)
 
-is_notice : (w : World) (forgotten n k : ℕ) (text : List ℕ) → line_in w forgotten text ≡ Some (Notice n k) → IsNotice text
+pub is_notice : (w : World) (forgotten n k : ℕ) (text : List ℕ) → line_in w forgotten text ≡ Some (Notice n k) → IsNotice text
 unfolding line_in
 is_notice w forgotten n k text e = (n, k, not_taken w forgotten n k text (after (codes "take ") text) (drive_line_of text) e)
 

@@ -24,7 +24,7 @@ use Rattle.tora_script.specs.Setup.{plain}
 use Rattle.tora_script.specs.SimulationLines.{link_of, old_of}
 use Rattle.tora_script.specs.SimulationText.{RunningView, Progress, Reply, begun_in, has_end, refusal_text, event_reply, running_reply, first_progress, with_link, with_old_line}
 use Rattle.tora_drive.specs.declared.cause.Cause.{Cause}
-use Rattle.tora_drive.specs.declared.cause.Cause.TheVariants.{Dests, NoLink, Topology, Name, Word}
+use Rattle.tora_drive.specs.declared.cause.Cause.TheVariants.{Dests, NoLink, Topology, Name, Word, Recorded}
 use Rattle.tora_drive.specs.declared.line.DriveLine.{DriveLine}
 use Rattle.tora_drive.specs.declared.line.DriveLine.TheVariants.{Script, Step, Needs, Near, Far, Notice, Bytes, Forget}
 use Rattle.tora_drive.specs.DriveLines.{drive_line_of}
@@ -243,6 +243,7 @@ cause_words NoLink = codes "behind the first line a line `link A B` is required"
 cause_words Topology = codes "the links and destinations are refused"
 cause_words Name = codes "it names a node, a link or a destination that there is not"
 cause_words Word = codes "it is no line that may stand here"
+cause_words Recorded = codes "a record has no line that stands for it"
 
 -- `fault N CAUSE`
 unfoldable pub fault_line : ℕ → Cause → List ℕ

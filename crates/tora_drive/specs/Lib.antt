@@ -1,7 +1,10 @@
 pub mod DriveLines
 pub mod DriveText
 pub mod DriveView
+pub mod RecordedRuns
+pub mod Recording
 pub mod Records
 pub mod Runs
+pub mod Scripts
 pub mod Steps
 pub mod Taking

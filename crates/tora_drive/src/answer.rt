@@ -8,8 +8,10 @@ ghost use Rattle.tora_world.specs.World.{refusal_of};
 ghost use Rattle.tora_script.specs.RunningView.{running_view};
 ghost use Rattle.tora_script.specs.SimulationText.{refusal_text, event_reply, has_end};
 ghost use Rattle.tora_drive.specs.DriveText.{named, with_far, without_far, outcome, shown, unnamed, is_forgotten, event_outcome, after_step, need_line, needs_text, bytes_line, silenced, noticed, forgetting, outcome_of, may_change_hops, closing, answer_to};
-ghost use Rattle.tora_drive.specs.DriveView.{own_view};
+ghost use Rattle.tora_drive.specs.DriveView.{own_view, record_view};
 ghost use Rattle.tora_drive.specs.Records.{routes_of};
+ghost use Rattle.tora_drive.specs.Recording.{events_text, with_record, step_recorded, line_recorded, answer_recorded};
+ghost use Rattle.tora_drive.specs.Steps.{step};
 
 use crate::driven::Driven;
 use crate::line::DriveLine;
@@ -17,6 +19,7 @@ use crate::own::Own;
 use crate::records::{Route, routes, write_frame, write_hops, write_sent};
 use crate::stepping::make_step;
 use crate::taken::line_in;
+use crate::telling::make_step_told;
 use std::alloc::{AllocError, Global};
 use tora_height::Id;
 use tora_lines::numbered;
@@ -118,11 +121,19 @@ fn event<S: Driven>(
     happen(running, event, out)
 }
 
-/// A round in which nothing is delivered.
-fn step<S: Driven>(running: &mut Running<S>, own: &Own) -> Result<(), AllocError>
-    ensures { OnOk result (running_view S.world running.new ≡ record (running_view S.world running.old) { world = after_step (running_view S.world running.old) (own_view own.now) }) }
+/// A round in which nothing is delivered; its events are recorded.
+fn step<S: Driven>(alloc: Global, running: &mut Running<S>, own: &mut Own) -> Result<(), AllocError>
+    ensures view { OnOk result (running_view S.world running.new ≡ record (running_view S.world running.old) { world = after_step (running_view S.world running.old) (own_view own.old) }) }
+    ensures own { own_view own.new ≡ own_view own.old }
+    ensures record { OnOk result (record_view own.new ≡ with_record (record_view own.old) (events_text (step (running_view S.world running.old).nodes (running_view S.world running.old).ends (own_view own.old).far (S.world running.old.sim)))) }
 {
-    make_step(&mut running.sim, &running.nodes, &running.ends, &own.far)
+    if own.recorded.is_none() {
+        return make_step(&mut running.sim, &running.nodes, &running.ends, &own.far);
+    }
+    let mut text = String::new(alloc);
+    let (nodes, ends) = (&running.nodes, &running.ends);
+    make_step_told(&mut running.sim, nodes, ends, &own.far, &mut text)?;
+    own.put(text.as_bytes())
 }
 
 /// Makes an end silent, or no longer so; a fault where there is no such end.
@@ -135,6 +146,7 @@ fn silence<S: Driven>(
     ensures gives { Gives (λ _. shown (running_view S.world running.now) (own_view own.new) []) result
         (silenced (running_view S.world running.now) (own_view own.old) end.0 end.1 (if is_far then with_far end (own_view own.old).far else without_far end (own_view own.old).far)) }
     ensures kept { result ≡ Err LineError.Fault → own_view own.new ≡ own_view own.old }
+    ensures record { record_view own.new ≡ record_view own.old }
 {
     if !has_end(end.0, end.1, &running.ends) {
         return Err(LineError::Fault);
@@ -206,7 +218,8 @@ fn forget<S: Driven>(
     out: &mut String,
 ) -> Result<bool, AllocError>
     requires { string_bytes out.old ≡ [] }
-    ensures { IfOk result (λ r. outcome (running_view S.world running.now) (own_view own.new) (string_bytes out.new) r ≡ forgetting (running_view S.world running.now) (own_view own.old) i) }
+    ensures view { IfOk result (λ r. outcome (running_view S.world running.now) (own_view own.new) (string_bytes out.new) r ≡ forgetting (running_view S.world running.now) (own_view own.old) i) }
+    ensures record { record_view own.new ≡ record_view own.old }
 {
     if i > running.sim.datagrams() {
         refuse(out, SimError::NoDatagram)?;
@@ -221,6 +234,7 @@ fn forget<S: Driven>(
 /// Does what a line asks for, puts what is printed first behind an empty text, and says whether it was refused.
 #[tactic(auto, unfolding(crate::specs::DriveText::outcome_of))]
 fn perform<S: Driven>(
+    alloc: Global,
     running: &mut Running<S>,
     own: &mut Own,
     line: DriveLine,
@@ -230,6 +244,7 @@ fn perform<S: Driven>(
     ensures gives { Gives (λ r. outcome (running_view S.world running.new) (own_view own.new) (string_bytes out.new) r) result (outcome_of (running_view S.world running.old) (own_view own.old) line) }
     ensures kept { result ≡ Err LineError.Fault → running_view S.world running.new ≡ running_view S.world running.old }
     ensures own { result ≡ Err LineError.Fault → own_view own.new ≡ own_view own.old }
+    ensures record { IfOk result (λ r. record_view own.new ≡ step_recorded (record_view own.old) (running_view S.world running.old) (own_view own.old) line) }
 {
     match line {
         DriveLine::Script(SimulationLine::Happens(happens)) => {
@@ -241,7 +256,7 @@ fn perform<S: Driven>(
             Ok(false)
         }
         DriveLine::Step => {
-            step(running, own)?;
+            step(alloc, running, own)?;
             Ok(false)
         }
         DriveLine::Needs => {
@@ -299,6 +314,29 @@ fn routes_before<S: Driven>(
     }
 }
 
+/// Records a line that was taken, if lines are recorded; the events of a step are recorded as they happen.
+fn record_line(
+    alloc: Global,
+    own: &mut Own,
+    line: &DriveLine,
+    text: &[u8],
+    was_refused: bool,
+) -> Result<(), AllocError>
+    ensures view { own_view own.new ≡ own_view own.old }
+    ensures record { OnOk result (record_view own.new ≡ line_recorded (record_view own.old) line.now text.now was_refused) }
+{
+    match line {
+        DriveLine::Script(SimulationLine::Happens(event)) => {
+            if was_refused {
+                return Ok(());
+            }
+            own.put_event(alloc, event)
+        }
+        DriveLine::Script(_) => own.put_line(text),
+        _ => Ok(()),
+    }
+}
+
 /// Puts `ok` behind a text, unless the line was refused.
 fn close(out: &mut String, is_refused: bool) -> Result<(), AllocError>
     ensures { OnOk result (string_bytes out.new ≡ string_bytes out.old ++ closing is_refused) }
@@ -310,24 +348,27 @@ fn close(out: &mut String, is_refused: bool) -> Result<(), AllocError>
     }
 }
 
-/// Takes a line of a running simulation, and puts the answer behind an empty text. A line that is a fault changes nothing.
+/// Takes a line of a running simulation, puts the answer behind an empty text, and what stands for the line behind the record, if there
+/// is one. A line that is a fault changes nothing.
 #[tactic(auto, unfolding(crate::specs::DriveText::answer_to))]
 pub fn answer<S: Driven>(
     alloc: Global,
     running: &mut Running<S>,
     own: &mut Own,
-    line: &[u8],
+    text: &[u8],
     out: &mut String,
 ) -> Result<(), LineError>
     requires { string_bytes out.old ≡ [] }
-    ensures gives { Gives (λ _. (running_view S.world running.new, own_view own.new, string_bytes out.new)) result (answer_to (running_view S.world running.old) (own_view own.old) line.now) }
+    ensures gives { Gives (λ _. (running_view S.world running.new, own_view own.new, string_bytes out.new)) result (answer_to (running_view S.world running.old) (own_view own.old) text.now) }
     ensures kept { result ≡ Err LineError.Fault → running_view S.world running.new ≡ running_view S.world running.old }
     ensures own { result ≡ Err LineError.Fault → own_view own.new ≡ own_view own.old }
+    ensures record { OnOk result (record_view own.new ≡ answer_recorded (record_view own.old) (running_view S.world running.old) (own_view own.old) text.now) }
 {
-    let line = line_in(alloc, &running.sim, own.forgotten, line)?;
+    let line = line_in(alloc, &running.sim, own.forgotten, text)?;
     let first = running.sim.datagrams();
     let before = routes_before(alloc, running, &line)?;
-    let is_refused = perform(running, own, line, out)?;
+    let is_refused = perform(alloc, running, own, line, out)?;
+    record_line(alloc, own, &line, text, is_refused)?;
     write_sent(out, &running.sim, first)?;
     write_hops(out, &running.sim, &before)?;
     close(out, is_refused)?;

@@ -22,6 +22,8 @@ pub enum Cause {
     Name,
     /// It is of no such form.
     Word,
+    /// The drive is recorded, and no line of a simulation file stands for it.
+    Recorded,
 }
 
 impl Cause {
@@ -35,6 +37,7 @@ impl Cause {
             Cause::Topology => "the links and destinations are refused",
             Cause::Name => "it names a node, a link or a destination that there is not",
             Cause::Word => "it is no line that may stand here",
+            Cause::Recorded => "a record has no line that stands for it",
         }
     }
 }

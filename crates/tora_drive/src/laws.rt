@@ -1,9 +1,11 @@
-//! The law of drives.
+//! The laws of drives.
 ghost use Rattle.std.specs.Prelude.{◌≡◌, ℕ, Some};
 ghost use Rattle.tora_height.specs.Height.{Quintuple};
 ghost use Rattle.tora_world.specs.Law.{TakenBeginsSent};
 ghost use Rattle.tora_world.specs.Walks.{height_at, IsExact, Arrives};
 ghost use Rattle.tora_drive.specs.Runs.{DrivesAreRuns, AreSchedules, EveryDrive, HasNoGaps};
+ghost use Rattle.tora_drive.specs.Scripts.{ScriptsStandForLines, RecordsAreSimulated, EventsAreRead};
+ghost use Rattle.tora_drive.specs.RecordedRuns.{IsOfHappened, RecordedAreDrives, RecordedSaysNoNotice, EveryRecordedDrive};
 
 use tora_world::{exact_entries_give_walks, no_gap_law, prefix_law};
 
@@ -26,3 +28,20 @@ pub fn drives_are_runs_of_events()
     no_gap_law();
     exact_entries_give_walks();
 }
+
+/// A drive that is recorded is a drive, in which no line says `notice N K`: such a line leaves there what an empty line leaves, which is
+/// a fault. So all that holds of every drive holds of it, and its world is the world behind some events, without a cut.
+pub fn recorded_drives_are_drives()
+    ensures drives { RecordedAreDrives }
+    ensures silent { RecordedSaysNoNotice }
+    ensures events { EveryRecordedDrive (λ limits times w. IsOfHappened limits times w) }
+{}
+
+/// The lines of a simulation file that a record has for a line of a drive leave of the simulation what that line leaves of it; and the
+/// line of an event says that event.
+pub fn recorded_lines_stand_for_lines()
+    ensures stands { ScriptsStandForLines }
+    // The same of all lines: the simulation behind them is what the lines that stand for them leave.
+    ensures simulated { RecordsAreSimulated }
+    ensures read { EventsAreRead }
+{}

@@ -13,18 +13,24 @@ mod cause;
 mod drive;
 mod driven;
 mod driving;
+mod event_lines;
 mod laws;
 mod line;
 mod own;
+mod recorded;
 mod records;
 mod stepping;
 mod taken;
 mod taking;
+mod telling;
 
 pub use cause::Cause;
 pub use drive::Drive;
 pub use driven::Driven;
 pub use driving::{drive_in, greet};
-pub use laws::drives_are_runs_of_events;
-pub use line::{DriveLine, drive_line};
+pub use laws::{
+    drives_are_runs_of_events, recorded_drives_are_drives, recorded_lines_stand_for_lines,
+};
+pub use line::{DriveLine, drive_line, says_notice};
+pub use recorded::{Recording, drive_recorded};
 pub use records::Route;

@@ -1,6 +1,7 @@
 //! The lines of a drive behind the links.
 ghost use Rattle.std.specs.Prelude.{◌≡◌};
 ghost use Rattle.tora_drive.specs.DriveLines.{own_line_of, drive_line_of};
+ghost use Rattle.tora_drive.specs.Recording.{says_notice};
 
 use tora_height::Id;
 use tora_lines::{after, words};
@@ -67,5 +68,15 @@ pub fn drive_line(text: &[u8]) -> Option<DriveLine>
     match simulation_line(text) {
         Some(line) => Some(DriveLine::Script(line)),
         None => own_line(text),
+    }
+}
+
+/// Whether a line says `notice N K`.
+pub fn says_notice(text: &[u8]) -> bool
+    ensures { result ≡ says_notice text.now }
+{
+    match drive_line(text) {
+        Some(DriveLine::Notice(_, _)) => true,
+        _ => false,
     }
 }

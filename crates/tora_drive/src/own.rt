@@ -1,17 +1,23 @@
 //! What a drive keeps beside the simulation.
-ghost use Rattle.std.specs.Prelude.{◌≡◌, OnOk, Some, None};
+ghost use Rattle.std.specs.Prelude.{◌≡◌, [], OnOk, Some, None, if◌then◌else◌};
 ghost use Rattle.tora_drive.specs.DriveText.{first_own, with_far, without_far};
-ghost use Rattle.tora_drive.specs.DriveView.{own_view};
+ghost use Rattle.tora_drive.specs.DriveView.{own_view, record_view};
+ghost use Rattle.tora_drive.specs.Recording.{event_line, with_record, with_line, cleared};
 
+use crate::event_lines::tell_event;
 use crate::stepping::is_far;
 use std::alloc::{AllocError, Global};
 use tora_height::Id;
+use tora_world::Event;
 
-/// The ends that are silent, each as its node and its neighbour, and the number up to which datagrams can't be named any more.
+/// The ends that are silent, each as its node and its neighbour, the number up to which datagrams can't be named any more, and the
+/// lines of a simulation file that stand for the last line.
 #[derive(Drop)]
 pub struct Own {
     pub far: Vec<(Id, Id)>,
     pub forgotten: u64,
+    /// None where nothing is recorded.
+    pub recorded: Option<Vec<u8>>,
 }
 
 /// Takes an end away from silent ones.
@@ -22,19 +28,86 @@ fn take_away(far: &mut Vec<(Id, Id)>, end: (Id, Id))
 }
 
 impl Own {
-    /// No end is silent, and nothing is forgotten.
+    /// No end is silent, nothing is forgotten, and nothing is recorded.
     pub fn new(alloc: Global) -> Own
-        ensures { own_view result ≡ first_own }
+        ensures view { own_view result ≡ first_own }
+        ensures record { record_view result ≡ None }
     {
         Own {
             far: Vec::new(alloc),
             forgotten: 0,
+            recorded: None,
         }
+    }
+
+    /// The same with a record, which is empty.
+    pub fn recorded(alloc: Global) -> Own
+        ensures view { own_view result ≡ first_own }
+        ensures record { record_view result ≡ Some [] }
+    {
+        Own {
+            far: Vec::new(alloc),
+            forgotten: 0,
+            recorded: Some(Vec::new(alloc)),
+        }
+    }
+
+    /// Takes all out of the record, if there is one.
+    pub fn clear_record(&mut self)
+        ensures view { own_view self.new ≡ own_view self.old }
+        ensures record { record_view self.new ≡ cleared (record_view self.old) }
+    {
+        if let Some(bytes) = &mut self.recorded {
+            bytes.clear();
+        }
+    }
+
+    /// Begins the record anew, where there is to be one.
+    pub fn renew_record(&mut self, alloc: Global, is_recorded: bool)
+        ensures view { own_view self.new ≡ own_view self.old }
+        ensures record { record_view self.new ≡ (if is_recorded then Some [] else None) }
+    {
+        self.recorded = if is_recorded {
+            Some(Vec::new(alloc))
+        } else {
+            None
+        };
+    }
+
+    /// Puts bytes behind the record, if there is one.
+    pub fn put(&mut self, bytes: &[u8]) -> Result<(), AllocError>
+        ensures view { own_view self.new ≡ own_view self.old }
+        ensures record { OnOk result (record_view self.new ≡ with_record (record_view self.old) bytes.now) }
+    {
+        if let Some(recorded) = &mut self.recorded {
+            recorded.extend_from_slice(bytes)?;
+        }
+        Ok(())
+    }
+
+    /// Puts a line and its end behind the record, if there is one.
+    pub fn put_line(&mut self, line: &[u8]) -> Result<(), AllocError>
+        ensures view { own_view self.new ≡ own_view self.old }
+        ensures record { OnOk result (record_view self.new ≡ with_line (record_view self.old) line.now) }
+    {
+        self.put(line)?;
+        self.put(b"\n")
+    }
+
+    /// Puts the line of an event behind the record, if there is one.
+    pub fn put_event(&mut self, alloc: Global, event: &Event) -> Result<(), AllocError>
+        ensures view { own_view self.new ≡ own_view self.old }
+        ensures record { OnOk result (record_view self.new ≡ with_record (record_view self.old) (event_line event.now)) }
+    {
+        let mut line = String::new(alloc);
+        tell_event(&mut line, event)?;
+        self.put(line.as_bytes())
     }
 
     /// Makes an end silent.
     pub fn silence(&mut self, end: (Id, Id)) -> Result<(), AllocError>
-        ensures { OnOk result (own_view self.new ≡ record (own_view self.old) { far = with_far end (own_view self.old).far }) }
+        ensures view { OnOk result (own_view self.new ≡ record (own_view self.old) { far = with_far end (own_view self.old).far }) }
+        ensures record { record_view self.new ≡ record_view self.old }
     {
         if is_far(&self.far, end) {
             return Ok(());
@@ -45,7 +118,8 @@ impl Own {
 
     /// Makes an end silent no longer.
     pub fn wake(&mut self, end: (Id, Id))
-        ensures { own_view self.new ≡ record (own_view self.old) { far = without_far end (own_view self.old).far } }
+        ensures view { own_view self.new ≡ record (own_view self.old) { far = without_far end (own_view self.old).far } }
+        ensures record { record_view self.new ≡ record_view self.old }
     {
         take_away(&mut self.far, end);
     }

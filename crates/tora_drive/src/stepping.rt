@@ -10,10 +10,10 @@ use tora_script::{EndTurn, Simulator, repeat, turn_cores, turn_end, turn_ends};
 use tora_world::Event;
 
 /// The most times that an event is made to happen on end, as in a round.
-const MOST_TIMES: u64 = 1024;
+pub const MOST_TIMES: u64 = 1024;
 
 /// The most passes of a step, as of a round.
-const MOST_PASSES: u64 = 1000;
+pub const MOST_PASSES: u64 = 1000;
 
 /// Whether an end is silent.
 pub fn is_far(far: &[(Id, Id)], end: (Id, Id)) -> bool
@@ -22,7 +22,8 @@ pub fn is_far(far: &[(Id, Id)], end: (Id, Id)) -> bool
     far.iter().any(|e| end.0 == e.0 && end.1 == e.1)
 }
 
-fn either(a: bool, b: bool) -> bool
+/// Either of the two.
+pub fn either(a: bool, b: bool) -> bool
     ensures { result ≡ (a || b) }
 {
     a || b

@@ -1,14 +1,15 @@
 //! A drive takes a line.
-ghost use Rattle.std.specs.Prelude.{◌≡◌, ◌++◌, [], false, OnOk, Err, string_bytes};
+ghost use Rattle.std.specs.Prelude.{◌≡◌, ◌++◌, [], false, OnOk, IfOk, Err, string_bytes};
 ghost use Rattle.tora_arq.specs.Settings.{IsTimes};
 ghost use Rattle.tora_lines.specs.Gives.{Gives};
 ghost use Rattle.tora_script.specs.RunningView.{running_view};
 ghost use Rattle.tora_script.specs.SimulationView.{progress_of};
-ghost use Rattle.tora_drive.specs.DriveText.{closing, first_answer, placed, place_reply};
-ghost use Rattle.tora_drive.specs.DriveView.{own_view, drive_kind};
+ghost use Rattle.tora_drive.specs.DriveText.{closing, first_answer, placed, place_reply, drive_reply};
+ghost use Rattle.tora_drive.specs.DriveView.{own_view, record_view, view_of, drive_kind};
+ghost use Rattle.tora_drive.specs.Recording.{with_line, first_recorded, place_recorded, drive_recorded, unrecorded};
 
 use crate::answer::answer;
-use crate::cause::{fault_cause, write_fault};
+use crate::cause::{Cause, fault_cause, write_fault};
 use crate::drive::Drive;
 use crate::driven::Driven;
 use crate::own::Own;
@@ -34,6 +35,7 @@ fn begin<S: Driven>(
     requires empty { string_bytes text.old ≡ [] }
     ensures gives { Gives (λ s. (running_view S.world s, own_view own.new, string_bytes text.new)) result (first_answer limits times (own_view own.old) lines.now.dests.items lines.now.links.items lines.now.olds.items line.now) }
     ensures own { result ≡ Err LineError.Fault → own_view own.new ≡ own_view own.old }
+    ensures record { IfOk result (λ _. record_view own.new ≡ first_recorded (record_view own.old) limits times (own_view own.old) lines.now.dests.items lines.now.links.items lines.now.olds.items line.now) }
 {
     if lines.links.is_empty() {
         return Err(LineError::Fault);
@@ -54,8 +56,19 @@ fn acknowledge(text: &mut String) -> Result<(), AllocError>
     writeln!(text, "ok")
 }
 
-/// Takes a line, and puts the answer behind an empty text. A line that is a fault changes nothing.
-#[tactic(auto, unfolding(crate::specs::DriveText::place_reply))]
+/// Puts `ok` behind a text, and a line behind the record, if there is one.
+fn take_in(own: &mut Own, line: &[u8], text: &mut String) -> Result<(), AllocError>
+    ensures text { OnOk result (string_bytes text.new ≡ string_bytes text.old ++ closing false) }
+    ensures view { own_view own.new ≡ own_view own.old }
+    ensures record { OnOk result (record_view own.new ≡ with_line (record_view own.old) line.now) }
+{
+    own.put_line(line)?;
+    acknowledge(text)
+}
+
+/// Takes a line, puts the answer behind an empty text, and what stands for the line behind the record, if there is one. A line that is
+/// a fault changes nothing.
+#[tactic(auto, unfolding(crate::specs::DriveText::place_reply, crate::specs::Recording::place_recorded))]
 fn take_line<S: Driven>(
     stage: &mut Stage<S>,
     own: &mut Own,
@@ -70,22 +83,23 @@ fn take_line<S: Driven>(
     ensures gives { Gives (λ _. placed (progress_of S.world stage.new) (own_view own.new) (string_bytes text.new)) result (place_reply limits times (own_view own.old) (progress_of S.world stage.old) line.now) }
     ensures kept { result ≡ Err LineError.Fault → progress_of S.world stage.new ≡ progress_of S.world stage.old }
     ensures own { result ≡ Err LineError.Fault → own_view own.new ≡ own_view own.old }
+    ensures record { OnOk result (record_view own.new ≡ place_recorded (record_view own.old) limits times (own_view own.old) (progress_of S.world stage.old) line.now) }
 {
     match stage {
         Stage::First => {
             *stage = Stage::Links(first_line(alloc, line)?);
-            acknowledge(text)?;
+            take_in(own, line, text)?;
             Ok(())
         }
         Stage::Links(lines) => {
             if let Some(link) = link(line) {
                 take_link(lines, link)?;
-                acknowledge(text)?;
+                take_in(own, line, text)?;
                 return Ok(());
             }
             if let Some(n) = old(line) {
                 take_old(limits, lines, n)?;
-                acknowledge(text)?;
+                take_in(own, line, text)?;
                 return Ok(());
             }
             *stage = Stage::Runs(begin(alloc, limits, times, lines, own, line, text)?);
@@ -95,14 +109,21 @@ fn take_line<S: Driven>(
     }
 }
 
-impl<S: Driven> FileKind for Drive<S> {
-    ghost kind = { drive_kind S.world };
-
-    fn take(&mut self, alloc: Global, line: &[u8], text: &mut String) -> Result<(), LineError> {
+impl<S: Driven> Drive<S> {
+    /// Takes a line, and puts the answer behind an empty text; the record, if there is one, is then that of this line alone.
+    pub fn reply(&mut self, alloc: Global, line: &[u8], text: &mut String) -> Result<(), AllocError>
+        requires { string_bytes text.old ≡ [] }
+        ensures answer { OnOk result ((view_of S.world self.new, string_bytes text.new) ≡ drive_reply self.old.limits self.old.times (view_of S.world self.old) line.now) }
+        ensures record { OnOk result (record_view self.new.own ≡ drive_recorded (record_view self.old.own) self.old.limits self.old.times (view_of S.world self.old) line.now) }
+        ensures limits { self.new.limits ≡ self.old.limits }
+        ensures times { self.new.times ≡ self.old.times }
+    {
         let Some(number) = self.lines.checked_add(1) else {
-            return Err(LineError::Memory);
+            return Err(AllocError);
         };
         let (limits, times) = (self.limits, self.times);
+        let is_recorded = self.own.recorded.is_some();
+        self.own.clear_record();
         let taken = take_line(
             &mut self.stage,
             &mut self.own,
@@ -116,14 +137,38 @@ impl<S: Driven> FileKind for Drive<S> {
         match taken {
             Ok(()) => Ok(()),
             Err(error) => match error {
-                LineError::Memory => Err(LineError::Memory),
+                LineError::Memory => Err(AllocError),
                 LineError::Fault => {
+                    self.own.renew_record(alloc, is_recorded);
                     text.clear();
                     write_fault(text, number, fault_cause(limits, &self.stage, line))?;
                     Ok(())
                 }
             },
         }
+    }
+
+    /// Takes a line that no line of a record stands for, as a fault: it puts the answer behind an empty text.
+    pub fn refuse(&mut self, text: &mut String) -> Result<(), AllocError>
+        requires { string_bytes text.old ≡ [] }
+        ensures answer { OnOk result ((view_of S.world self.new, string_bytes text.new) ≡ unrecorded (view_of S.world self.old)) }
+        ensures limits { self.new.limits ≡ self.old.limits }
+        ensures times { self.new.times ≡ self.old.times }
+    {
+        let Some(number) = self.lines.checked_add(1) else {
+            return Err(AllocError);
+        };
+        self.lines = number;
+        write_fault(text, number, Cause::Recorded)
+    }
+}
+
+impl<S: Driven> FileKind for Drive<S> {
+    ghost kind = { drive_kind S.world };
+
+    fn take(&mut self, alloc: Global, line: &[u8], text: &mut String) -> Result<(), LineError> {
+        self.reply(alloc, line, text)?;
+        Ok(())
     }
 
     #[tactic(auto, unfolding(tora_lines::specs::LineText::text_from))]

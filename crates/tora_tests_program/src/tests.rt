@@ -10,6 +10,7 @@ mod keyed_wires;
 mod log_lines;
 mod mixed_networks;
 mod progress;
+mod recorded_drives;
 mod replay_rows;
 mod replays;
 mod route_rows;

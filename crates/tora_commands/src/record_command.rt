@@ -1,0 +1,118 @@
+//! `tora drive --record PATH [--times HELLO,SILENCE,RETRY,TRIES] [--large]`: a simulated world that another program drives, and its record.
+ghost use Rattle.std.specs.Prelude.{◌≡◌, ◌≢◌, is_some, Ok, None, IfOk, IfErr, IfSome, option_map};
+ghost use Rattle.std.specs.Io.KnownBytes.{IsAtEnd};
+ghost use Rattle.std.specs.Process.{exit_status};
+ghost use Rattle.tora_arq.specs.Settings.{IsTimes};
+ghost use Rattle.tora_lines.specs.Flushing.{IsFlushed};
+ghost use Rattle.tora_traced.specs.TraceOuts.{IsHandedOn};
+ghost use Rattle.tora_drive.specs.Recording.{DrivesRecorded, IsRecordedBegun};
+ghost use Rattle.tora_commands.specs.Driving.{EndsRecorded, EndsRecordedTo};
+ghost use Rattle.tora_commands.specs.SetupWords.{asked_limits};
+ghost use Rattle.tora_commands.specs.TimesWord.{asked_times};
+
+use crate::setup_words::limits;
+use crate::sim_command::tell;
+use crate::traced_command::{refuse_trace, traced_status};
+use crate::{INPUT, MEMORY, SetupFault, USAGE, asked_times, stop};
+use std::alloc::Global;
+use std::fs;
+use std::io::{BufWriter, Read};
+use std::process::ExitCode;
+use std::rt::Files;
+use tora_arq::Times;
+use tora_drive::{Driven, drive_recorded, greet};
+use tora_lines::{Ended, Output, Recent, ReplayError, flushed};
+use tora_sim::{Limits, Sim};
+use tora_traced::TraceOut;
+
+/// Drives a world, writes its record, and flushes the writer: `Write` where that alone fails.
+fn drive_and_flush<S: Driven, R: Read, W: Output, V: Output>(
+    alloc: Global,
+    limits: Limits,
+    times: Times,
+    reader: &mut R,
+    writer: &mut W,
+    out: &mut TraceOut<V>,
+) -> Result<Ended, ReplayError>
+    requires { IsTimes times }
+    ensures whole { IfOk result (λ ended. IfSome (R.remaining reader.old) (λ input.
+        DrivesRecorded limits times input (W.contents writer.old) (W.contents writer.new) ended)) }
+    ensures at_end { result ≡ Ok Ended.Whole → IsAtEnd (R.remaining reader.new) }
+    ensures begun { IfErr result (λ e. e ≢ ReplayError.Write →
+        IsRecordedBegun limits times (R.remaining reader.old) (R.remaining reader.new) (W.contents writer.old) (W.contents writer.new)) }
+    ensures flushed { IsFlushed W.did_flush result writer.new }
+{
+    let result = drive_recorded::<S, R, W, V>(alloc, limits, times, reader, writer, out);
+    flushed(writer, result)
+}
+
+/// Drives a world within the limits, whose link ends have these times, writes the record to what goes to the file at a path, and hands
+/// both on.
+pub fn run_over<T: AllocGlobal + Eprint, R: Read + Drop, W: Output, V: Output>(
+    rt: &T,
+    limits: Limits,
+    times: Times,
+    reader: R,
+    writer: &mut W,
+    path: &str,
+    out: &mut TraceOut<V>,
+) -> ExitCode
+    requires { IsTimes times }
+    ensures { EndsRecorded limits times W.contents W.did_flush (R.remaining reader) writer.old writer.new (is_some out.new.failure) (exit_status result) }
+{
+    let Ok(()) = greet(writer) else {
+        return stop(rt, INPUT, "input");
+    };
+    let alloc = rt.alloc();
+    let mut reader = Recent::new(alloc, reader);
+    let result =
+        drive_and_flush::<Sim, Recent<R>, W, V>(alloc, limits, times, &mut reader, writer, out);
+    tell(rt, &reader, result);
+    out.flush();
+    traced_status(rt, result, out, path)
+}
+
+/// Drives a world within the limits, whose link ends have these times, and writes the record to the file at a path.
+fn run_with<T: Files + AllocGlobal + Eprint, R: Read + Drop, W: Output>(
+    rt: &T,
+    limits: Limits,
+    times: Times,
+    path: &str,
+    reader: R,
+    writer: &mut W,
+) -> ExitCode
+    requires { IsTimes times }
+    ensures { EndsRecordedTo limits times W.contents W.did_flush (R.remaining reader) writer.old writer.new (exit_status result) }
+{
+    let made = match fs::create(rt, path) {
+        Ok(made) => made,
+        Err(error) => return refuse_trace(rt, path, &error),
+    };
+    let Ok(lines) = BufWriter::new(rt.alloc(), made) else {
+        return stop(rt, MEMORY, "memory");
+    };
+    let mut out = TraceOut::new(lines);
+    run_over::<T, R, W, BufWriter<T::File>>(rt, limits, times, reader, writer, path, &mut out)
+}
+
+/// Drives a world by the lines that a reader gives, as `drive_command::run` does, and writes its record to the file at a path, which is
+/// made anew first.
+///
+/// It ends with the status of the drive, or with 1 where that is 0 and the record could not be written; with 1, before anything is
+/// written, where its file can't be made; and with 5 where memory was refused. A word that gives no times is a fault of usage.
+pub fn run<T: Files + AllocGlobal + Eprint, R: Read + Drop, W: Output>(
+    rt: &T,
+    times: Option<&str>,
+    is_large: bool,
+    path: &str,
+    reader: R,
+    writer: &mut W,
+) -> ExitCode
+    ensures usage { asked_times (option_map (λ w. w.now) times.entry) ≡ None → (exit_status result ≡ 2) × (writer.new ≡ writer.old) }
+    ensures ends { IfSome (asked_times (option_map (λ w. w.now) times.entry)) (λ t. EndsRecordedTo (asked_limits is_large) t W.contents W.did_flush (R.remaining reader) writer.old writer.new (exit_status result)) }
+{
+    let Some(times) = asked_times(times) else {
+        return stop(rt, USAGE, SetupFault::Times.cause());
+    };
+    run_with(rt, limits(is_large), times, path, reader, writer)
+}

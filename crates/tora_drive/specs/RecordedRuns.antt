@@ -1,0 +1,44 @@
+-- Which worlds a drive has that is recorded.
+use Rattle.std.specs.Prelude.{◌≡◌, ℕ, if◌then◌else◌, List, [], map, Some}
+use Rattle.tora_arq.specs.declared.Times.{Times}
+use Rattle.tora_lines.specs.LineText.{state_behind}
+use Rattle.tora_world.specs.declared.Event.{Event}
+use Rattle.tora_world.specs.declared.limits.Limits.{Limits}
+use Rattle.tora_world.specs.World.{World, world_after_all}
+use Rattle.tora_world.specs.Walks.{AreIds}
+use Rattle.tora_sim.specs.Topologies.{topology_of}
+use Rattle.tora_script.specs.Simulator.{started}
+use Rattle.tora_script.specs.SimulationText.{RunningView, Progress}
+use Rattle.tora_drive.specs.DriveText.{DriveView, drive_rules}
+use Rattle.tora_drive.specs.Recording.{says_notice, recorded_rules}
+use Rattle.tora_drive.specs.Runs.{SaysNoNotice}
+
+-- a line that says `notice N K` is an empty one, which is a fault wherever it stands
+abbrev pub unnoticed : List ℕ → List ℕ
+unnoticed line = if says_notice line then [] else line
+
+-- what lines leave in a recorded drive they leave in a drive, where no line says `notice N K`
+abbrev pub RecordedAreDrives : Type 0
+RecordedAreDrives =
+    (limits : Limits) (times : Times) (lines : List (List ℕ)) (v : DriveView)
+    → state_behind (recorded_rules limits times) (recorded_rules limits times).start lines ≡ Some v → state_behind (drive_rules limits times) (drive_rules limits times).start (map unnoticed lines) ≡ Some v
+
+abbrev pub RecordedSaysNoNotice : Type 0
+RecordedSaysNoNotice = (lines : List (List ℕ)) → SaysNoNotice (map unnoticed lines)
+
+-- a world is the one behind some events, from the first world of some links, destinations and old nodes within the limits
+pub record IsOfHappened (limits : Limits) (times : Times) (w : World) : Type 0 where
+  pub links : List (ℕ × ℕ)
+  pub dests : List ℕ
+  pub olds : List ℕ
+  pub ids : AreIds (topology_of links dests)
+  pub first : World
+  pub begins : started limits links dests olds times ≡ Some first
+  pub events : List Event
+  pub world_is : w ≡ world_after_all first events
+
+-- this holds of the world behind any lines of a recorded drive, once it has one
+abbrev pub EveryRecordedDrive : (Limits → Times → World → Type 0) → Type 0
+EveryRecordedDrive Holds =
+    (limits : Limits) (times : Times) (lines : List (List ℕ)) (v : DriveView) (s : RunningView)
+    → state_behind (recorded_rules limits times) (recorded_rules limits times).start lines ≡ Some v → v.place.progress ≡ Progress.Runs s → Holds limits times s.world

@@ -1,0 +1,183 @@
+-- What a record of a drive has: the lines of a simulation file that stand for what was driven.
+use Rattle.std.specs.Prelude.{◌≡◌, ℕ, ◌+◌, Bool, true, false, if◌then◌else◌, codes, List, [], ◌∷◌, ◌++◌, Option, Some, None}
+use Rattle.std.specs.List.{flat_map}
+use Rattle.std.specs.Option.{option_map_or}
+use Rattle.std.specs.Fmt.{decimal}
+use Rattle.hex.specs.Hex.{encode_lower}
+use Rattle.tora_arq.specs.declared.Times.{Times}
+use Rattle.tora_lines.specs.declared.ended.Ended.{Ended}
+use Rattle.tora_lines.specs.LineText.{Rules, whole_text}
+use Rattle.tora_lines.specs.Engine.{IsWholeText, IsFrontOfText}
+use Rattle.tora_world.specs.declared.Event.{Event}
+use Rattle.tora_world.specs.declared.Event.TheVariants as Happen
+use Rattle.tora_world.specs.declared.limits.Limits.{Limits}
+use Rattle.tora_world.specs.World.{World, world_after_all}
+use Rattle.tora_script.specs.declared.script_line.SimulationLine.TheVariants.{Happens, Rounds, Part, Mend, Heights, Sent, Taken, Exact, Walk, Rest}
+use Rattle.tora_script.specs.declared.rounds.EndTurn.{EndTurn}
+use Rattle.tora_script.specs.Rounds.{Plan, repeats, end_event, Happened}
+use Rattle.tora_script.specs.Setup.{plain}
+use Rattle.tora_script.specs.Simulator.{started}
+use Rattle.tora_script.specs.SimulationGrammar.{call_text}
+use Rattle.tora_script.specs.SimulationLines.{link_of, old_of}
+use Rattle.tora_script.specs.SimulationText.{RunningView, Progress, begun_in}
+use Rattle.tora_drive.specs.declared.cause.Cause.TheVariants.{Recorded}
+use Rattle.tora_drive.specs.declared.line.DriveLine.{DriveLine}
+use Rattle.tora_drive.specs.declared.line.DriveLine.TheVariants.{Script, Step, Needs, Near, Far, Notice, Bytes, Forget}
+use Rattle.tora_drive.specs.DriveLines.{drive_line_of}
+use Rattle.tora_drive.specs.DriveText.{OwnView, outcome_of, place_reply, DriveView, drive_reply, drive_rules, fault_line}
+use Rattle.tora_drive.specs.Steps.{is_far, step}
+use Rattle.tora_drive.specs.Taking.{line_in}
+
+-- ---- the line of an event
+
+-- `-` for none, or 32 hexadecimal digits
+abbrev pub torn_text : Option (List ℕ) → List ℕ
+torn_text None = codes "-"
+torn_text (Some bytes) = encode_lower bytes
+
+abbrev pub pair_text : List ℕ → ℕ → ℕ → List ℕ
+pair_text word n k = word ++ decimal n ++ codes " " ++ decimal k
+
+-- without its end
+unfoldable pub event_text : Event → List ℕ
+event_text (Happen.Need n d) = pair_text (codes "need ") n d
+event_text Happen.Tick = codes "tick"
+event_text (Happen.Open n k) = pair_text (codes "open ") n k
+event_text (Happen.Pull n k) = pair_text (codes "pull ") n k
+event_text (Happen.Transmit n k) = pair_text (codes "transmit ") n k
+event_text (Happen.Deliver i) = codes "deliver " ++ decimal i
+event_text (Happen.Pump n k) = pair_text (codes "pump ") n k
+event_text (Happen.CoreTurn n) = codes "turn " ++ decimal n
+event_text (Happen.Arm n call) = codes "arm " ++ decimal n ++ codes " " ++ call_text call
+event_text (Happen.Restart n torn) = codes "restart " ++ decimal n ++ codes " " ++ torn_text torn
+
+abbrev pub event_line : Event → List ℕ
+event_line event = event_text event ++ 10 ∷ []
+
+abbrev pub events_text : List Event → List ℕ
+events_text events = flat_map event_line events
+
+-- an end has its turn, so many times at most, unless it is left out
+abbrev pub turns_of : List (ℕ × ℕ) → EndTurn → ℕ → ℕ × ℕ → Plan
+turns_of left_out kind most e w = if is_far left_out e then [] else repeats most (end_event kind e) w
+
+-- Events led from a world to another, some or none, and their lines went behind a text.
+pub record HappenedTold (before : World) (events : List Event) (after : World) (some : Bool) (old new : List ℕ) : Type 0 where
+  pub happened : Happened before events after some
+  pub told : new ≡ old ++ events_text events
+
+-- the same, whether there were any or not
+pub record Told (before : World) (events : List Event) (after : World) (old new : List ℕ) : Type 0 where
+  pub after_is : after ≡ world_after_all before events
+  pub told : new ≡ old ++ events_text events
+
+-- ---- the record of a line that is taken, behind a record, if there is one
+
+abbrev pub Record : Type 0
+Record = Option (List ℕ)
+
+abbrev pub with_record : Record → List ℕ → Record
+with_record None bytes = None
+with_record (Some text) bytes = Some (text ++ bytes)
+
+abbrev pub with_line : Record → List ℕ → Record
+with_line r line = with_record r (line ++ 10 ∷ [])
+
+-- of a step: its events
+abbrev pub step_recorded : Record → RunningView → OwnView → DriveLine → Record
+step_recorded r s o Step = with_record r (events_text (step s.nodes s.ends o.far s.world))
+step_recorded r s o (Script line) = r
+step_recorded r s o Needs = r
+step_recorded r s o (Near n k) = r
+step_recorded r s o (Far n k) = r
+step_recorded r s o (Notice n k) = r
+step_recorded r s o (Bytes i) = r
+step_recorded r s o (Forget i) = r
+
+-- of another line: an event that is not refused has its line, an order has the line as it is, and all that changes no world has none
+abbrev pub line_recorded : Record → DriveLine → List ℕ → Bool → Record
+line_recorded r (Script (Happens event)) line refused = if refused then r else with_record r (event_line event)
+line_recorded r (Script (Rounds n)) line refused = with_line r line
+line_recorded r (Script (Part a b)) line refused = with_line r line
+line_recorded r (Script (Mend a b)) line refused = with_line r line
+line_recorded r (Script (Heights d)) line refused = with_line r line
+line_recorded r (Script (Sent a b life)) line refused = with_line r line
+line_recorded r (Script (Taken b a life)) line refused = with_line r line
+line_recorded r (Script (Exact d)) line refused = with_line r line
+line_recorded r (Script (Walk n d)) line refused = with_line r line
+line_recorded r (Script Rest) line refused = with_line r line
+line_recorded r Step line refused = r
+line_recorded r Needs line refused = r
+line_recorded r (Near n k) line refused = r
+line_recorded r (Far n k) line refused = r
+line_recorded r (Notice n k) line refused = r
+line_recorded r (Bytes i) line refused = r
+line_recorded r (Forget i) line refused = r
+
+-- of a line of a running simulation; a fault has none
+unfoldable pub answer_recorded : Record → RunningView → OwnView → List ℕ → Record
+answer_recorded r s o text =
+    option_map_or (λ line. option_map_or (λ q. line_recorded (step_recorded r s o line) line text q.refused) (outcome_of s o line) r) (line_in s.world o.forgotten text) r
+
+-- of the line behind the last link and the last old node
+abbrev pub first_recorded : Record → Limits → Times → OwnView → List ℕ → List (ℕ × ℕ) → List ℕ → List ℕ → Record
+first_recorded r limits times o dests links olds line = option_map_or (λ w. answer_recorded r (begun_in dests (plain times) w) o line) (started limits links dests olds times) r
+
+abbrev pub link_recorded : Record → Limits → Times → OwnView → List ℕ → List (ℕ × ℕ) → List ℕ → List ℕ → Option (ℕ × ℕ) → Option ℕ → Record
+link_recorded r limits times o dests links olds line (Some link) old = with_line r line
+link_recorded r limits times o dests links olds line None (Some n) = with_line r line
+link_recorded r limits times o dests links olds line None None = first_recorded r limits times o dests links olds line
+
+-- of any line
+unfoldable pub place_recorded : Record → Limits → Times → OwnView → Progress → List ℕ → Record
+place_recorded r limits times o Progress.First line = with_line r line
+place_recorded r limits times o (Progress.Links dests links olds) line = link_recorded r limits times o dests links olds line (link_of line) (old_of line)
+place_recorded r limits times o (Progress.Runs s) line = answer_recorded r s o line
+
+-- a record that has nothing yet, if there is one
+abbrev pub cleared : Record → Record
+cleared None = None
+cleared (Some text) = Some []
+
+-- what a line has in a record; a fault has nothing
+abbrev pub drive_recorded : Record → Limits → Times → DriveView → List ℕ → Record
+drive_recorded r limits times v line =
+    option_map_or (λ q. place_recorded (cleared r) limits times v.place.own v.place.progress line) (place_reply limits times v.place.own v.place.progress line) (cleared r)
+
+-- ---- a drive that is recorded
+
+-- it cuts a life, for which a simulation file has no line
+abbrev pub is_notice : Option DriveLine → Bool
+is_notice None = false
+is_notice (Some (Notice n k)) = true
+is_notice (Some (Script line)) = false
+is_notice (Some Step) = false
+is_notice (Some Needs) = false
+is_notice (Some (Near n k)) = false
+is_notice (Some (Far n k)) = false
+is_notice (Some (Bytes i)) = false
+is_notice (Some (Forget i)) = false
+
+abbrev pub says_notice : List ℕ → Bool
+says_notice line = is_notice (drive_line_of line)
+
+-- a fault that changes nothing
+abbrev pub unrecorded : DriveView → DriveView × List ℕ
+unrecorded v = (record v { lines = v.lines + 1 }, fault_line (v.lines + 1) Recorded)
+
+-- each line is answered as in any drive, but for `notice`
+abbrev pub recorded_reply : Limits → Times → DriveView → List ℕ → DriveView × List ℕ
+recorded_reply limits times v line = if says_notice line then unrecorded v else drive_reply limits times v line
+
+abbrev pub recorded_rules : Limits → Times → Rules DriveView
+recorded_rules limits times = record { start = (drive_rules limits times).start; reply = λ v line. Some (recorded_reply limits times v line); at_end = λ v n. None }
+
+-- ---- what drive_recorded promises
+
+-- Known bytes grew by the answers to the lines of the input, and the input ends so.
+abbrev pub DrivesRecorded : Limits → Times → List ℕ → Option (List ℕ) → Option (List ℕ) → Ended → Type 0
+DrivesRecorded limits times input old new ended = IsWholeText (whole_text (recorded_rules limits times)) input old new ended
+
+-- The reader gave some bytes, and the writer got a front of the answers to them.
+abbrev pub IsRecordedBegun : Limits → Times → Option (List ℕ) → Option (List ℕ) → Option (List ℕ) → Option (List ℕ) → Type 0
+IsRecordedBegun limits times old_reader new_reader old_writer new_writer = IsFrontOfText (whole_text (recorded_rules limits times)) old_reader new_reader old_writer new_writer

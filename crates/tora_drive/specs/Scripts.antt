@@ -1,0 +1,125 @@
+-- Which lines of a simulation file stand for a line of a drive.
+use Rattle.std.specs.Prelude.{◌≡◌, ℕ, ◌<◌, ◌^◌, Bool, if◌then◌else◌, List, [], ◌∷◌, ◌++◌, length, map, Option, Some, None}
+use Rattle.std.specs.Option.{option_map_or, option_and_then}
+use Rattle.hex.specs.Hex.{IsBytes}
+use Rattle.tora_arq.specs.declared.Times.{Times}
+use Rattle.tora_lines.specs.LineText.{state_behind}
+use Rattle.tora_packet.specs.PacketParts.{IsId}
+use Rattle.tora_world.specs.declared.Event.{Event}
+use Rattle.tora_world.specs.declared.Event.TheVariants as Happen
+use Rattle.tora_world.specs.declared.limits.Limits.{Limits}
+use Rattle.tora_world.specs.World.{World}
+use Rattle.tora_script.specs.declared.script_line.SimulationLine.{SimulationLine}
+use Rattle.tora_script.specs.declared.script_line.SimulationLine.TheVariants.{Happens, Rounds, Part, Mend, Heights, Sent, Taken, Exact, Walk, Rest}
+use Rattle.tora_script.specs.Setup.{plain}
+use Rattle.tora_script.specs.Simulator.{started}
+use Rattle.tora_script.specs.SimulationLines.{link_of, old_of, simulation_line_of}
+use Rattle.tora_script.specs.SimulationText.{RunningView, Progress, begun_in, running_reply}
+use Rattle.tora_drive.specs.declared.line.DriveLine.{DriveLine}
+use Rattle.tora_drive.specs.declared.line.DriveLine.TheVariants.{Script, Step, Needs, Near, Far, Notice, Bytes, Forget}
+use Rattle.tora_drive.specs.DriveText.{OwnView, Outcome, outcome_of, place_reply, DriveView}
+use Rattle.tora_drive.specs.Recording.{event_text, says_notice, recorded_reply, recorded_rules}
+use Rattle.tora_drive.specs.Steps.{step}
+use Rattle.tora_drive.specs.Taking.{line_in}
+
+-- the lines that stand for one that is taken, and refused or not: those that a record has
+abbrev pub script_of : RunningView → OwnView → DriveLine → Bool → List SimulationLine
+script_of s o (Script (Happens event)) refused = if refused then [] else Happens event ∷ []
+script_of s o (Script (Rounds n)) refused = Rounds n ∷ []
+script_of s o (Script (Part a b)) refused = Part a b ∷ []
+script_of s o (Script (Mend a b)) refused = Mend a b ∷ []
+script_of s o (Script (Heights d)) refused = Heights d ∷ []
+script_of s o (Script (Sent a b life)) refused = Sent a b life ∷ []
+script_of s o (Script (Taken b a life)) refused = Taken b a life ∷ []
+script_of s o (Script (Exact d)) refused = Exact d ∷ []
+script_of s o (Script (Walk n d)) refused = Walk n d ∷ []
+script_of s o (Script Rest) refused = Rest ∷ []
+script_of s o Step refused = map (λ event. Happens event) (step s.nodes s.ends o.far s.world)
+script_of s o Needs refused = []
+script_of s o (Near n k) refused = []
+script_of s o (Far n k) refused = []
+script_of s o (Notice n k) refused = []
+script_of s o (Bytes i) refused = []
+script_of s o (Forget i) refused = []
+
+-- what the lines of a simulation leave of it; None where one is a fault
+abbrev pub simulated : RunningView → List SimulationLine → Option RunningView
+simulated s [] = Some s
+simulated s (line ∷ lines) = option_and_then (λ r. simulated r.0 lines) (running_reply s line)
+
+-- it is no `notice N K`
+abbrev pub CutsNothing : DriveLine → Type 0
+CutsNothing line = (n k : ℕ) → line ≡ Notice n k → ⊥
+
+-- what a line of a drive leaves of the simulation, those that stand for it leave of it
+abbrev pub ScriptsStandForLines : Type 0
+ScriptsStandForLines =
+    (s : RunningView) (o : OwnView) (line : DriveLine) (q : Outcome) → CutsNothing line → outcome_of s o line ≡ Some q → simulated s (script_of s o line q.refused) ≡ Some q.run
+
+-- none, or 16 bytes
+abbrev pub IsTorn : Option (List ℕ) → Type 0
+IsTorn None = Unit {0}
+IsTorn (Some bytes) = (length bytes ≡ 16) × IsBytes bytes
+
+-- the numbers of an event are those of nodes, and one of a datagram is below 2^64
+abbrev pub HasNumbers : Event → Type 0
+HasNumbers (Happen.Need n d) = IsId n × IsId d
+HasNumbers Happen.Tick = Unit {0}
+HasNumbers (Happen.Open n k) = IsId n × IsId k
+HasNumbers (Happen.Pull n k) = IsId n × IsId k
+HasNumbers (Happen.Transmit n k) = IsId n × IsId k
+HasNumbers (Happen.Deliver i) = i < 2 ^ 64
+HasNumbers (Happen.Pump n k) = IsId n × IsId k
+HasNumbers (Happen.CoreTurn n) = IsId n
+HasNumbers (Happen.Arm n call) = IsId n
+HasNumbers (Happen.Restart n torn) = IsId n × IsTorn torn
+
+-- the line of an event says that event
+abbrev pub EventsAreRead : Type 0
+EventsAreRead = (event : Event) → HasNumbers event → simulation_line_of (event_text event) ≡ Some (Happens event)
+
+-- ---- all lines
+
+-- the lines that stand for the text of a line, if it is one that is taken
+abbrev pub script_in : RunningView → OwnView → List ℕ → List SimulationLine
+script_in s o text = option_map_or (λ line. option_map_or (λ q. script_of s o line q.refused) (outcome_of s o line) []) (line_in s.world o.forgotten text) []
+
+abbrev pub first_script : Limits → Times → OwnView → List ℕ → List (ℕ × ℕ) → List ℕ → List ℕ → List SimulationLine
+first_script limits times o dests links olds line = option_map_or (λ w. script_in (begun_in dests (plain times) w) o line) (started limits links dests olds times) []
+
+-- the lines in front of the world have none
+abbrev pub link_script : Limits → Times → OwnView → List ℕ → List (ℕ × ℕ) → List ℕ → List ℕ → Option (ℕ × ℕ) → Option ℕ → List SimulationLine
+link_script limits times o dests links olds line (Some link) old = []
+link_script limits times o dests links olds line None (Some n) = []
+link_script limits times o dests links olds line None None = first_script limits times o dests links olds line
+
+unfoldable pub place_script : Limits → Times → OwnView → Progress → List ℕ → List SimulationLine
+place_script limits times o Progress.First line = []
+place_script limits times o (Progress.Links dests links olds) line = link_script limits times o dests links olds line (link_of line) (old_of line)
+place_script limits times o (Progress.Runs s) line = script_in s o line
+
+-- a fault has none
+abbrev pub line_script : Limits → Times → DriveView → List ℕ → List SimulationLine
+line_script limits times v line =
+    if says_notice line then [] else option_map_or (λ q. place_script limits times v.place.own v.place.progress line) (place_reply limits times v.place.own v.place.progress line) []
+
+-- the lines behind the links that stand for the lines of a recorded drive, from one on
+unfoldable pub scripts : Limits → Times → DriveView → List (List ℕ) → List SimulationLine
+scripts limits times v [] = []
+scripts limits times v (line ∷ lines) = line_script limits times v line ++ scripts limits times (recorded_reply limits times v line).0 lines
+
+-- A simulation is what lines leave of one that begins in the first world of some links, destinations and old nodes within the limits.
+pub record IsSimulated (limits : Limits) (times : Times) (script : List SimulationLine) (s : RunningView) : Type 0 where
+  pub links : List (ℕ × ℕ)
+  pub dests : List ℕ
+  pub olds : List ℕ
+  pub first : World
+  pub begins : started limits links dests olds times ≡ Some first
+  pub leads : simulated (begun_in dests (plain times) first) script ≡ Some s
+
+-- behind any lines of a recorded drive, its simulation is what the lines that stand for them leave
+abbrev pub RecordsAreSimulated : Type 0
+RecordsAreSimulated =
+    (limits : Limits) (times : Times) (lines : List (List ℕ)) (v : DriveView) (s : RunningView)
+    → state_behind (recorded_rules limits times) (recorded_rules limits times).start lines ≡ Some v → v.place.progress ≡ Progress.Runs s
+    → IsSimulated limits times (scripts limits times (recorded_rules limits times).start lines) s

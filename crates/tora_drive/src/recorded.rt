@@ -1,0 +1,92 @@
+//! A drive whose record is written.
+ghost use Rattle.std.specs.Prelude.{◌≡◌, ◌≢◌, Ok, IfOk, IfErr, IfSome};
+ghost use Rattle.std.specs.Io.KnownBytes.{IsAtEnd};
+ghost use Rattle.tora_arq.specs.Settings.{IsTimes};
+ghost use Rattle.tora_traced.specs.TraceOuts.{ArePut};
+ghost use Rattle.tora_drive.specs.DriveView.{record_view, recording_kind};
+ghost use Rattle.tora_drive.specs.Recording.{DrivesRecorded, IsRecordedBegun};
+
+use crate::drive::Drive;
+use crate::driven::Driven;
+use crate::line::says_notice;
+use crate::own::Own;
+use std::alloc::{AllocError, Global};
+use std::io::{Read, Write};
+use tora_arq::Times;
+use tora_lines::words::LineError;
+use tora_lines::{Ended, FileKind, Output, ReplayError, read_lines};
+use tora_script::Stage;
+use tora_traced::TraceOut;
+use tora_world::Limits;
+
+/// A drive whose record is written line by line.
+#[derive(Drop)]
+pub struct Recording<'a, S, W> {
+    drive: Drive<S>,
+    out: &'a mut TraceOut<W>,
+}
+
+/// Writes what stands for the last line.
+fn hand_on<W: Output>(own: &Own, out: &mut TraceOut<W>)
+    ensures { ArePut W.did_write out.old (record_view own.now) out.new }
+{
+    if let Some(bytes) = &own.recorded {
+        out.put(0, bytes.as_slice());
+    }
+}
+
+impl<S: Driven, W: Output> FileKind for Recording<'_, S, W> {
+    ghost kind = { recording_kind S.world };
+
+    fn take(&mut self, alloc: Global, line: &[u8], text: &mut String) -> Result<(), LineError> {
+        if says_notice(line) {
+            self.drive.refuse(text)?;
+            return Ok(());
+        }
+        self.drive.reply(alloc, line, text)?;
+        let drive = &self.drive;
+        hand_on(&drive.own, self.out);
+        Ok(())
+    }
+
+    #[tactic(auto, unfolding(tora_lines::specs::LineText::text_from))]
+    fn end(&self, _alloc: Global, _number: u64) -> Result<Option<u64>, AllocError> {
+        Ok(None)
+    }
+}
+
+/// Drives as `drive_in` does, and writes the record of the lines that are taken: a simulation file that stands for them. It has the
+/// lines in front of the world, the orders as they are, the line of each event that is not refused, and the events of each `step`, one by
+/// one; `needs`, `near`, `far`, `bytes` and `forget` change no world and have no line. `notice N K` has none either, and is a fault.
+///
+/// A record that can't be written stops nothing; `out` says so then.
+#[tactic(auto, unfolding(tora_lines::specs::Engine::text_of))]
+pub fn drive_recorded<S: Driven, R: Read, W: Write, V: Output>(
+    alloc: Global,
+    limits: Limits,
+    times: Times,
+    reader: &mut R,
+    writer: &mut W,
+    out: &mut TraceOut<V>,
+) -> Result<Ended, ReplayError>
+    requires { IsTimes times }
+    // What was written is the answers to all lines, and the input ends so.
+    ensures whole { IfOk result (λ ended. IfSome (R.remaining reader.old) (λ input.
+        DrivesRecorded limits times input (W.contents writer.old) (W.contents writer.new) ended)) }
+    ensures at_end { result ≡ Ok Ended.Whole → IsAtEnd (R.remaining reader.new) }
+    // What was written begins the answers to what was read.
+    ensures begun { IfErr result (λ e. e ≢ ReplayError.Write →
+        IsRecordedBegun limits times (R.remaining reader.old) (R.remaining reader.new) (W.contents writer.old) (W.contents writer.new)) }
+{
+    let state: Recording<'_, S, V> = Recording {
+        drive: Drive {
+            lines: 0,
+            limits,
+            times,
+            stage: Stage::First,
+            own: Own::recorded(alloc),
+        },
+        out,
+    };
+    read_lines(alloc, state, reader, writer)
+}

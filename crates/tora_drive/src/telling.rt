@@ -1,0 +1,152 @@
+//! A step whose events are told: the same as `stepping`, with the line of each event that happened.
+ghost use Rattle.std.specs.Prelude.{◌≡◌, IfOk, string_bytes};
+ghost use Rattle.tora_script.specs.Rounds.{repeats, end_event, each, each_core};
+ghost use Rattle.tora_drive.specs.Recording.{HappenedTold, Told, turns_of};
+ghost use Rattle.tora_drive.specs.Steps.{step_pass, step_passes, step};
+
+use crate::event_lines::tell_event;
+use crate::stepping::{MOST_PASSES, MOST_TIMES, either, is_far};
+use std::alloc::AllocError;
+use tora_height::Id;
+use tora_script::{EndTurn, Simulator};
+use tora_world::Event;
+
+/// Makes an event happen until it is refused, and so many times at most, and says whether it ever did.
+fn repeat_told<S: Simulator>(
+    sim: &mut S,
+    event: &Event,
+    most: u64,
+    text: &mut String,
+) -> Result<bool, AllocError>
+    ensures { IfOk result (λ some. HappenedTold (S.world sim.old) (repeats most event.now (S.world sim.old)) (S.world sim.new) some (string_bytes text.old) (string_bytes text.new)) }
+{
+    let mut some = false;
+    for _ in 0..most {
+        let refused = sim.happen(event)?;
+        match refused {
+            None => {
+                tell_event(text, event)?;
+                some = true;
+            }
+            Some(_) => return Ok(some),
+        }
+    }
+    Ok(some)
+}
+
+/// Lets each core take its items.
+fn tell_cores<S: Simulator>(
+    sim: &mut S,
+    nodes: &[Id],
+    text: &mut String,
+) -> Result<bool, AllocError>
+    ensures { IfOk result (λ some. HappenedTold (S.world sim.old) (each_core nodes.now (S.world sim.old)) (S.world sim.new) some (string_bytes text.old) (string_bytes text.new)) }
+{
+    let mut some = false;
+    for (place, n) in nodes.iter().enumerate() {
+        let any = repeat_told(sim, &Event::CoreTurn(*n), MOST_TIMES, text)?;
+        some = either(some, any);
+    }
+    Ok(some)
+}
+
+/// What an end does in its turn.
+fn end_event(kind: EndTurn, end: (Id, Id)) -> Event
+    ensures { result ≡ end_event kind end }
+{
+    let (n, k) = end;
+    match kind {
+        EndTurn::Open => Event::Open(n, k),
+        EndTurn::Pull => Event::Pull(n, k),
+        EndTurn::Transmit => Event::Transmit(n, k),
+        EndTurn::Pump => Event::Pump(n, k),
+    }
+}
+
+/// Gives an end its turn, unless it is one of those that are left out.
+fn tell_end<S: Simulator>(
+    sim: &mut S,
+    end: (Id, Id),
+    left_out: &[(Id, Id)],
+    kind: EndTurn,
+    most: u64,
+    text: &mut String,
+) -> Result<bool, AllocError>
+    ensures { IfOk result (λ some. HappenedTold (S.world sim.old) (turns_of left_out.now kind most end (S.world sim.old)) (S.world sim.new) some (string_bytes text.old) (string_bytes text.new)) }
+{
+    if is_far(left_out, end) {
+        return Ok(false);
+    }
+    repeat_told(sim, &end_event(kind, end), most, text)
+}
+
+/// Gives each end its turn that is not left out.
+fn tell_ends<S: Simulator>(
+    sim: &mut S,
+    ends: &[(Id, Id)],
+    left_out: &[(Id, Id)],
+    kind: EndTurn,
+    most: u64,
+    text: &mut String,
+) -> Result<bool, AllocError>
+    ensures { IfOk result (λ some. HappenedTold (S.world sim.old) (each (turns_of left_out.now kind most) ends.now (S.world sim.old)) (S.world sim.new) some (string_bytes text.old) (string_bytes text.new)) }
+{
+    let mut some = false;
+    for (place, end) in ends.iter().enumerate() {
+        let any = tell_end(sim, *end, left_out, kind, most, text)?;
+        some = either(some, any);
+    }
+    Ok(some)
+}
+
+/// One pass, and whether it had an event.
+fn pass_told<S: Simulator>(
+    sim: &mut S,
+    nodes: &[Id],
+    ends: &[(Id, Id)],
+    far: &[(Id, Id)],
+    text: &mut String,
+) -> Result<bool, AllocError>
+    ensures { IfOk result (λ some. HappenedTold (S.world sim.old) (step_pass nodes.now ends.now far.now (S.world sim.old)) (S.world sim.new) some (string_bytes text.old) (string_bytes text.new)) }
+{
+    let turned = tell_cores(sim, nodes, text)?;
+    let pulled = tell_ends(sim, ends, &[], EndTurn::Pull, MOST_TIMES, text)?;
+    let sent = tell_ends(sim, ends, far, EndTurn::Transmit, MOST_TIMES, text)?;
+    let pumped = tell_ends(sim, ends, &[], EndTurn::Pump, MOST_TIMES, text)?;
+    Ok(either(turned, either(pulled, either(sent, pumped))))
+}
+
+/// Passes until one has no event.
+fn make_passes_told<S: Simulator>(
+    sim: &mut S,
+    nodes: &[Id],
+    ends: &[(Id, Id)],
+    far: &[(Id, Id)],
+    text: &mut String,
+) -> Result<(), AllocError>
+    ensures { IfOk result (λ _. Told (S.world sim.old) (step_passes 1000 nodes.now ends.now far.now (S.world sim.old)) (S.world sim.new) (string_bytes text.old) (string_bytes text.new)) }
+{
+    for _ in 0..MOST_PASSES {
+        if !pass_told(sim, nodes, ends, far, text)? {
+            return Ok(());
+        }
+        sim.settle();
+    }
+    Ok(())
+}
+
+/// One step, whose events are told behind a text, each as its line.
+pub fn make_step_told<S: Simulator>(
+    sim: &mut S,
+    nodes: &[Id],
+    ends: &[(Id, Id)],
+    far: &[(Id, Id)],
+    text: &mut String,
+) -> Result<(), AllocError>
+    ensures { IfOk result (λ _. Told (S.world sim.old) (step nodes.now ends.now far.now (S.world sim.old)) (S.world sim.new) (string_bytes text.old) (string_bytes text.new)) }
+{
+    repeat_told(sim, &Event::Tick, 1, text)?;
+    tell_ends(sim, ends, &[], EndTurn::Open, 1, text)?;
+    make_passes_told(sim, nodes, ends, far, text)?;
+    Ok(())
+}
