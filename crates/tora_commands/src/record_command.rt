@@ -65,8 +65,14 @@ pub fn run_over<T: AllocGlobal + Eprint, R: Read + Drop, W: Output, V: Output>(
     };
     let alloc = rt.alloc();
     let mut reader = Recent::new(alloc, reader);
-    let result =
-        drive_and_flush::<Sim, Recent<R>, W, V>(alloc, limits, times, &mut reader, writer, out);
+    let result = drive_and_flush::<Sim, Recent<R>, W, V>(
+        alloc,
+        limits,
+        times,
+        &mut reader,
+        writer,
+        out,
+    );
     tell(rt, &reader, result);
     out.flush();
     traced_status(rt, result, out, path)

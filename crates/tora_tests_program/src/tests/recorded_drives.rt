@@ -38,13 +38,13 @@ const EACH_KIND: Row = (
     "ok\nok\nok\nok\nok\nsent 2 1 1 28\nok\nneed 1 2\nok\n\
      bytes 1 01010000000000020000000100000000000000010000000000000000\nok\n\
      refused 4\nok\nrefused 3\nok\nok\nfault 14 a record has no line that stands for it\n\
-     fault 15 it is no line that may stand here\nok\nsent 1 2 2 28\nsent 1 2 3 28\nok\nok\nexact 1\nok\nwalk -\nok\nrest no\nok\n\
+     fault 15 it is no line that may stand here\nok\nsent 1 2 2 28\nsent 1 2 3 28\nok\nok\nexact 1\nok\nwalk -\nok\nrest yes\nok\n\
      count 0\nok\ncount 0\nok\nok\nok\nok\nnode 1 - hop -\nnode 2 (0,0,0,0,2) hop -\nok\n",
     "dests 2\nlink 1 2\nold 2\nneed 1 2\n\
      tick\nopen 1 2\nopen 2 1\nturn 1\ntransmit 2 1\n\
      deliver 1\npart 1 2\nrounds 1\nmend 1 2\nexact 2\nwalk 1 2\nrest\nsent 1 2 1 1\ntaken 2 1 1 1\n\
      arm 1 send-lost\nrestart 2 -\nrestart 2 000102030405060708090a0b0c0d0e0f\nheights 2\n",
-    "exact 1\nwalk -\nrest no\ncount 0\ncount 0\nnode 1 - hop -\nnode 2 (0,0,0,0,2) hop -\n",
+    "exact 1\nwalk -\nrest yes\ncount 0\ncount 0\nnode 1 - hop -\nnode 2 (0,0,0,0,2) hop -\n",
 );
 
 /// A route that is found: the need waits until the link is up, and node 1 takes its height from its neighbour, the destination.
@@ -121,7 +121,14 @@ fn expect_record<T: AllocGlobal + Abort>(rt: &T, row: Row) {
 /// A simulation of the record prints what the row says.
 fn expect_simulated<T: AllocGlobal + Eprint + Abort>(rt: &T, (_, _, record, text): Row) {
     let lines = (record, "", 0, "");
-    expect_run(rt, Way::Simulation, lines, Fails::Never, text, Ok(Ended::Whole));
+    expect_run(
+        rt,
+        Way::Simulation,
+        lines,
+        Fails::Never,
+        text,
+        Ok(Ended::Whole),
+    );
 }
 
 /// Each line that is taken has in the record what stands for it, and no other line has anything.
@@ -196,7 +203,8 @@ fn holds_record<R: Files<File = File>>(rt: &R, path: &str) -> bool {
 }
 
 /// The answers to the first row, behind the greeting.
-const GREETED: &str = "tora drive 1\nok\nok\nok\nsent 1 2 1 28\nsent 1 2 2 28\nsent 2 1 3 28\nsent 2 1 4 28\nok\n\
+const GREETED: &str =
+    "tora drive 1\nok\nok\nok\nsent 1 2 1 28\nsent 1 2 2 28\nsent 2 1 3 28\nsent 2 1 4 28\nok\n\
      node 1 - hop -\nnode 2 (0,0,0,0,2) hop -\nok\n";
 
 /// The record is written to the file named; where it can't be made, and for times that are none, nothing is written.
