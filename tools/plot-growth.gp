@@ -22,6 +22,7 @@ set key above left Left reverse maxcols 1
 label_unavailable = 'share in which the route does not work'
 label_restore_median = 'break to route: rounds (100 ms), median'
 label_restore_95 = 'break to route: rounds (100 ms), 95 of 100'
+label_rounds_lost_by_outage = 'rounds without a route, by an outage'
 label_control = 'QRY, UPD and CLR broadcast in a run'
 label_control_per_delivered = 'QRY, UPD and CLR by packets delivered'
 label_hops_mean = 'hops of a route that works, mean'

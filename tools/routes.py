@@ -173,7 +173,7 @@ class Routes:
             status, length, least = fares[at]
             if not moved.isdisjoint(nodes[at]):
                 status, length, nodes[at] = follow(hops, near, *flow)
-            fare = status, length, far.get(flow[0])
+            fare = status, length, far[flow[0]]
             if fare != fares[at]:
                 self.settle(clock, destination, at)
                 fares[at] = fare

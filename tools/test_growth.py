@@ -86,6 +86,13 @@ class TablesTest(unittest.TestCase):
         self.assertEqual(lines[3:], [f"control_1_{part} = {value}" for part, value in zip(Fit._fields, (3, 2, 2, 2))]
                          + [f"control_2_{part} = NaN" for part in Fit._fields])
 
+    def test_derived(self):
+        """Of 400 rounds and flows a half has a path, and in a tenth of these the route does not work: 20, by 5 outages, or by none."""
+        parts = {"available": 0.9, "connected": 0.5, "rounds": 100, "flows": 4, "outages": 5}
+        row, none = with_derived(list(parts), [dict(parts), parts | {"outages": 0}])[1]
+        self.assertAlmostEqual(row["rounds_lost_by_outage"], 4)
+        self.assertIsNone(none["rounds_lost_by_outage"])
+
     def test_refusals(self):
         """A column of words, and one that is not there."""
         for column, cause in (("model", "has words"), ("colour", "no column colour")):

@@ -36,7 +36,12 @@ def random_trace(source):
 def state(first, last, world):
     """What a span says, as values that stay."""
     return first, last, sorted(world.links), {d: dict(hops) for d, hops in world.hops.items()}, set(world.changed), set(world.relinked), {
-        d: dict(heights) for d, heights in world.heights.items()}, {d: set(nodes) for d, nodes in world.rerouted.items()}
+        d: {node: text_of(height) for node, height in heights.items()} for d, heights in world.heights.items()}, {d: set(nodes) for d, nodes in world.rerouted.items()}
+
+
+def text_of(height):
+    """A height as its text, where it is none yet."""
+    return f"({','.join(map(str, height))})" if isinstance(height, tuple) else height
 
 
 class PlainRoutes(Routes):
@@ -48,7 +53,7 @@ class PlainRoutes(Routes):
             far = distances(world.near, destination)
             for flow in flows:
                 status, length, _ = follow(world.hops[destination], world.near, *flow)
-                linked = flow[0] in far
+                linked = far[flow[0]] is not None
                 self.outages.take(first, flow, status, linked)
                 self.rounds += 1
                 self.linked += linked
@@ -95,6 +100,12 @@ class TallyTest(unittest.TestCase):
             routes, _ = measure(scenario, path)
             self.assertEqual(routes.columns(), plain.columns())
             self.assertEqual(*(sorted(sorted(loop.items()) for loop in found.loops.all) for found in (routes, plain)))
+
+    def test_last(self):
+        """The last record is told with its own clock and line, where the last line of all has a later clock, too."""
+        for kind in ("need 1 5", "up 1 2 3 4", "qry 1 5 2"):
+            with self.subTest(kind=kind), written(f"0 trace 1 10 50 5 8 0 0 0 0 0 0\n7 {kind}\n7 {kind}\n9 end {'0' * 64}\n") as path:
+                self.assertEqual(list(news(path, Ends(path), Counts()))[-1], list(records(path))[-1])
 
     def test_refusals(self):
         """A record that is refused is refused with the same words by both."""

@@ -6,12 +6,18 @@ CHANGES = frozenset(("part", "mend", "route"))  # records that change the world
 
 
 def distances(near, start):
-    """How many hops each node is from `start`, by the neighbours of each; a node that can't be reached is left out."""
-    far, edge, hops = {start: 0}, {start}, 0
+    """How many hops each node is from `start`, by the neighbours of each: a list by node, None where a node can't be reached."""
+    far, edge, hops = [None] * (max(near) + 1), [start], 0
+    far[start] = 0
     while edge:
         hops += 1
-        edge = set().union(*[near[node] for node in edge]).difference(far)
-        far.update(dict.fromkeys(edge, hops))
+        behind = []
+        for node in edge:
+            for other in near[node]:
+                if far[other] is None:
+                    far[other] = hops
+                    behind.append(other)
+        edge = behind
     return far
 
 
