@@ -176,7 +176,11 @@ fn notice<'a>(alloc: Global) -> Arg<'a> {
 
 /// `--large` of `sim` and `drive`.
 fn large<'a>(alloc: Global) -> Arg<'a> {
-    flag(alloc, "large", "Allows up to 1024 nodes and 255 neighbours of a node, in place of 64 and 32")
+    flag(
+        alloc,
+        "large",
+        "Allows up to 1024 nodes and 255 neighbours of a node, in place of 64 and 32",
+    )
 }
 
 /// `--channel-file` of `sim`.
