@@ -2,6 +2,8 @@ pub mod AnswerLaws
 pub mod DigitLaws
 pub mod DriveLaws
 pub mod HopLaws
+pub mod NumberLaws
+pub mod OrderLaws
 pub mod RecordLaws
 pub mod RecordedLaws
 pub mod RunLaws

@@ -1,5 +1,6 @@
 -- Which lines of a simulation file stand for a line of a drive.
 use Rattle.std.specs.Prelude.{◌≡◌, ℕ, ◌<◌, ◌^◌, Bool, if◌then◌else◌, List, [], ◌∷◌, ◌++◌, length, map, Option, Some, None}
+use Rattle.std.specs.List.{AllByRecursion}
 use Rattle.std.specs.Option.{option_map_or, option_and_then}
 use Rattle.hex.specs.Hex.{IsBytes}
 use Rattle.tora_arq.specs.declared.Times.{Times}
@@ -77,6 +78,24 @@ HasNumbers (Happen.Restart n torn) = IsId n × IsTorn torn
 -- the line of an event says that event
 abbrev pub EventsAreRead : Type 0
 EventsAreRead = (event : Event) → HasNumbers event → simulation_line_of (event_text event) ≡ Some (Happens event)
+
+-- it is no event
+abbrev pub IsOrder : SimulationLine → Type 0
+IsOrder line = (event : Event) → line ≡ Happens event → ⊥
+
+-- the line of an order, which a record has as it is, says that order
+abbrev pub OrdersAreRead : Type 0
+OrdersAreRead =
+    (w : World) (forgotten : ℕ) (text : List ℕ) (order : SimulationLine) → IsOrder order → line_in w forgotten text ≡ Some (Script order) → simulation_line_of text ≡ Some order
+
+-- a link end of two nodes
+abbrev pub IsEnd : ℕ × ℕ → Type 0
+IsEnd e = IsId e.0 × IsId e.1
+
+-- the numbers of the events of a step are in range
+abbrev pub StepsHaveNumbers : Type 0
+StepsHaveNumbers =
+    (nodes : List ℕ) (ends far : List (ℕ × ℕ)) → AllByRecursion IsId nodes → AllByRecursion IsEnd ends → (w : World) → AllByRecursion HasNumbers (step nodes ends far w)
 
 -- ---- all lines
 

@@ -4,7 +4,7 @@ ghost use Rattle.tora_height.specs.Height.{Quintuple};
 ghost use Rattle.tora_world.specs.Law.{TakenBeginsSent};
 ghost use Rattle.tora_world.specs.Walks.{height_at, IsExact, Arrives};
 ghost use Rattle.tora_drive.specs.Runs.{DrivesAreRuns, AreSchedules, EveryDrive, HasNoGaps};
-ghost use Rattle.tora_drive.specs.Scripts.{ScriptsStandForLines, RecordsAreSimulated, EventsAreRead};
+ghost use Rattle.tora_drive.specs.Scripts.{ScriptsStandForLines, RecordsAreSimulated, EventsAreRead, OrdersAreRead, StepsHaveNumbers};
 ghost use Rattle.tora_drive.specs.RecordedRuns.{IsOfHappened, RecordedAreDrives, RecordedSaysNoNotice, EveryRecordedDrive};
 
 use tora_world::{exact_entries_give_walks, no_gap_law, prefix_law};
@@ -37,11 +37,13 @@ pub fn recorded_drives_are_drives()
     ensures events { EveryRecordedDrive (λ limits times w. IsOfHappened limits times w) }
 {}
 
-/// The lines of a simulation file that a record has for a line of a drive leave of the simulation what that line leaves of it; and the
-/// line of an event says that event.
+/// The lines of a simulation file that a record has for a line of a drive leave of the simulation what that line leaves of it; and they
+/// are read as what they are: the line of an event, where its numbers are in range, as those of a step are, and the line of an order.
 pub fn recorded_lines_stand_for_lines()
     ensures stands { ScriptsStandForLines }
     // The same of all lines: the simulation behind them is what the lines that stand for them leave.
     ensures simulated { RecordsAreSimulated }
     ensures read { EventsAreRead }
+    ensures numbers { StepsHaveNumbers }
+    ensures orders { OrdersAreRead }
 {}
