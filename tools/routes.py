@@ -178,8 +178,10 @@ class Routes:
                 self.settle(clock, destination, at)
                 fares[at] = fare
                 self.outages.take(clock, flow, status, fare[2] is not None)
-        rings = {ring for of, ring in self.loops.open if of == destination and moved.isdisjoint(ring)}
-        self.loops.take(clock, destination, rings | live_loops(hops, near, moved), world.heights[destination])
+        rings = {ring for of, ring in self.loops.open if of == destination and moved.isdisjoint(ring)} | live_loops(hops, near, moved)
+        if len(rings) > 1:  # the order in which several are told is that of all nodes, not of those that moved
+            rings = live_loops(hops, near, hops)
+        self.loops.take(clock, destination, rings, world.heights[destination])
 
     def settle(self, clock, destination, at):
         """Counts the rounds from the last one in which a flow began to fare as it does to the one before this."""

@@ -4,10 +4,10 @@ import random
 import unittest
 
 from measure import measure
-from record import Ends, records
+from record import GRAMMAR, Ends, records
 from routes import WORKS, Routes, follow, live_loops
 from study import Refused
-from tally import Counts, news
+from tally import KINDS, Counts, news
 from testing import scenario_of, written
 from world import distances, moments, spans
 
@@ -100,6 +100,10 @@ class TallyTest(unittest.TestCase):
             routes, _ = measure(scenario, path)
             self.assertEqual(routes.columns(), plain.columns())
             self.assertEqual(*(sorted(sorted(loop.items()) for loop in found.loops.all) for found in (routes, plain)))
+
+    def test_kinds(self):
+        """Each kind of record is told by its first three letters, and its expression is of it."""
+        self.assertEqual({kind for kind, _ in KINDS.values()}, set(GRAMMAR))
 
     def test_last(self):
         """The last record is told with its own clock and line, where the last line of all has a later clock, too."""
