@@ -1,6 +1,6 @@
 -- What a running simulation is.
 use Rattle.tora_world.specs.World.{World}
-use Rattle.tora_script.specs.declared.running.Running.{Running}
+use Rattle.tora_script.specs.declared.running_simulation.Running.{Running}
 use Rattle.tora_script.specs.Air.{air_view}
 use Rattle.tora_script.specs.SimulationText.{RunningView}
 

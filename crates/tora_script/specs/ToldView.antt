@@ -1,6 +1,6 @@
 -- The kind of file that a simulation is whose refusals are told.
 use Rattle.tora_world.specs.World.{World}
-use Rattle.tora_script.specs.declared.told.Told.{Told}
+use Rattle.tora_script.specs.declared.told_simulation.Told.{Told}
 use Rattle.tora_lines.specs.LineText.{text_from}
 use Rattle.tora_lines.specs.Engine.{Kind}
 use Rattle.tora_lines.specs.Kinds.{long_lines_are_faults}

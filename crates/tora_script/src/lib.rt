@@ -16,14 +16,14 @@ mod link_lines;
 mod parse;
 mod parted;
 mod rounds;
-mod running;
+mod running_simulation;
 mod script_line;
 mod setup;
-mod simulating;
 mod simulation;
+mod simulation_file;
 mod simulator;
 mod taking;
-mod told;
+mod told_simulation;
 mod world_simulator;
 
 pub use air::Air;
@@ -33,10 +33,12 @@ pub use link_lines::LinkLines;
 pub use parse::{is_word, link, old, pair, simulation_line, simulation_lines_are_read_as_written};
 pub use parted::is_parted;
 pub use rounds::{EndTurn, make_rounds, make_rounds_over, repeat, turn_cores, turn_end, turn_ends};
-pub use running::{Running, has_end, mend, part};
+pub use running_simulation::{Running, has_end, mend, part};
 pub use script_line::SimulationLine;
 pub use setup::Setup;
-pub use simulating::{first_line, simulate_in, simulation_fault_is_the_first, take_link, take_old};
 pub use simulation::{Simulation, Stage};
+pub use simulation_file::{
+    first_line, simulate_in, simulation_fault_is_the_first, take_link, take_old,
+};
 pub use simulator::Simulator;
-pub use told::{Told, simulate_telling, simulate_told, tell_cause};
+pub use told_simulation::{Told, simulate_telling, simulate_told, tell_cause};

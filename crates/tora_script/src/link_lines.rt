@@ -3,7 +3,7 @@ ghost use Rattle.std.specs.Prelude.{◌≡◌, ◌<◌, ◌++◌, ◌∷◌, [],
 ghost use Rattle.tora_sim.specs.Topologies.{with_old};
 ghost use Rattle.tora_script.specs.Simulator.{ArePairs, AreIds};
 
-use crate::running::has_number;
+use crate::running_simulation::has_number;
 use std::alloc::AllocError;
 use tora_height::Id;
 

@@ -4,7 +4,7 @@ ghost use Rattle.tora_channel.specs.Table.{lines_of};
 ghost use Rattle.tora_arq.specs.Settings.{IsTimes};
 
 use crate::link_lines::LinkLines;
-use crate::running::Running;
+use crate::running_simulation::Running;
 use crate::setup::Setup;
 use tora_channel::ChannelTable;
 

@@ -8,7 +8,7 @@ ghost use Rattle.tora_script.specs.SimulationText.{script_reply, script_line_rep
 use crate::done::is_done;
 use crate::parse::simulation_line;
 use crate::rounds::make_rounds_over;
-use crate::running::Running;
+use crate::running_simulation::Running;
 use crate::script_line::SimulationLine;
 use crate::simulator::Simulator;
 use std::alloc::AllocError;

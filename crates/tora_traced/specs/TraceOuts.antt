@@ -4,7 +4,7 @@ use Rattle.tora_world.specs.World.{World}
 use Rattle.tora_script.specs.declared.simulation.Stage.{Stage}
 use Rattle.tora_script.specs.declared.simulation.Stage.TheVariants.{First, Links, Runs}
 use Rattle.tora_traced.specs.declared.trace_out.TraceOut.{TraceOut}
-use Rattle.tora_traced.specs.declared.traced.Traced.{Traced}
+use Rattle.tora_traced.specs.declared.traced_simulator.Traced.{Traced}
 use Rattle.tora_script.specs.SimulationLines.{simulation_line_of}
 use Rattle.tora_traced.specs.Tracing.{after_line}
 

@@ -16,7 +16,7 @@ use Rattle.tora_script.specs.Rounds.{is_parted}
 use Rattle.tora_script.specs.SimulationText.{with_parted, without_parted}
 use Rattle.tora_script.specs.declared.script_line.SimulationLine.{SimulationLine}
 use Rattle.tora_script.specs.declared.script_line.SimulationLine.TheVariants.{Happens, Rounds, Part, Mend, Heights, Sent, Taken, Exact, Walk, Rest}
-use Rattle.tora_traced.specs.declared.traced.Before.{Before}
+use Rattle.tora_traced.specs.declared.traced_simulator.Before.{Before}
 
 -- the life that an item tells to be up
 abbrev pub life_of_what : What → Option Life

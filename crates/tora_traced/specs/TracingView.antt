@@ -1,7 +1,7 @@
 -- The kind of file that a simulation is whose trace is written.
 use Rattle.tora_world.specs.World.{World}
-use Rattle.tora_traced.specs.declared.traced.Traced.{Traced}
-use Rattle.tora_traced.specs.declared.tracing.Tracing.{Tracing}
+use Rattle.tora_traced.specs.declared.traced_simulator.Traced.{Traced}
+use Rattle.tora_traced.specs.declared.traced_simulation.Tracing.{Tracing}
 use Rattle.tora_lines.specs.LineText.{text_from}
 use Rattle.tora_lines.specs.Engine.{Kind}
 use Rattle.tora_lines.specs.Kinds.{long_lines_are_faults}

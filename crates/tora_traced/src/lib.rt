@@ -5,11 +5,11 @@
 
 mod ends;
 mod trace_out;
-mod traced;
-mod tracing;
+mod traced_simulation;
+mod traced_simulator;
 mod watched;
 
 pub use trace_out::TraceOut;
-pub use traced::Traced;
-pub use tracing::{Tracing, simulate_traced};
+pub use traced_simulation::{Tracing, simulate_traced};
+pub use traced_simulator::Traced;
 pub use watched::Watched;

@@ -1,0 +1,211 @@
+//! The simulation of a file of lines.
+ghost use Rattle.std.specs.Prelude.{◌≡◌, ◌≢◌, ◌<◌, ℕ, List, [], string_bytes, Some, Ok, IfOk, IfErr, IfSome};
+ghost use Rattle.std.specs.Io.KnownBytes.{IsAtEnd};
+ghost use Rattle.tora_script.specs.declared.setup.Setup.{Setup as AnySetup};
+ghost use Rattle.tora_arq.specs.Settings.{IsTimes};
+ghost use Rattle.tora_lines.specs.Gives.{Gives};
+ghost use Rattle.tora_lines.specs.LineText.{fault_of};
+ghost use Rattle.tora_lines.specs.Pieces.{pieces_of};
+ghost use Rattle.tora_channel.specs.declared.line.ChannelLine.{ChannelLine as AnyLine};
+ghost use Rattle.tora_channel.specs.Table.{lines_of};
+ghost use Rattle.tora_script.specs.RunningView.{running_view};
+ghost use Rattle.tora_script.specs.SimulationView.{progress_of, simulation_kind};
+ghost use Rattle.tora_script.specs.SimulationText.{Progress, first_progress, with_link, is_linked, with_old_line, first_run, behind_links, end_of_links, simulation_reply, first_simulation_fault, first_fault_with, IsFirstFaultWith, Simulates, IsSimulationBegun};
+
+use crate::link_lines::LinkLines;
+use crate::parse;
+use crate::running_simulation::Running;
+use crate::setup::Setup;
+use crate::simulation::{Simulation, Stage};
+use crate::simulator::Simulator;
+use std::alloc::{AllocError, Global};
+use std::io::{Read, Write};
+use tora_arq::Times;
+use tora_channel::ChannelTable;
+use tora_height::Id;
+use tora_lines::words::LineError;
+use tora_lines::{Ended, FileKind, ReplayError, read_lines};
+use tora_sim::{Limits, topology_fault_within};
+
+/// Takes the first line.
+pub fn first_line(alloc: Global, line: &[u8]) -> Result<LinkLines, LineError>
+    ensures { Gives (λ lines. Progress.Links lines.dests.items lines.links.items lines.olds.items) result (first_progress line.now) }
+{
+    let dests = parse::dests(alloc, line)?;
+    Ok(LinkLines {
+        dests,
+        links: Vec::new(alloc),
+        olds: Vec::new(alloc),
+    })
+}
+
+/// Takes a link; it is a fault behind an old node, and then changes nothing.
+pub fn take_link(lines: &mut LinkLines, link: (Id, Id)) -> Result<(), LineError>
+    requires { (0 < link.0) × (0 < link.1) }
+    ensures gives { Gives (λ _. Progress.Links lines.new.dests.items lines.new.links.items lines.new.olds.items) result
+        (with_link lines.old.dests.items lines.old.links.items lines.old.olds.items link) }
+    ensures kept { result ≡ Err LineError.Fault → lines.new ≡ lines.old }
+{
+    if !lines.olds.is_empty() {
+        return Err(LineError::Fault);
+    }
+    lines.push(link)?;
+    Ok(())
+}
+
+/// Whether a link names the node.
+pub fn is_linked(n: Id, links: &[(Id, Id)]) -> bool
+    ensures { result ≡ is_linked n links.now }
+{
+    links.iter().any(|link| link.0 == n || link.1 == n)
+}
+
+/// Takes an old node; it is a fault where no link names the node, or there is no topology of the links within
+/// the limits, and then changes nothing.
+pub fn take_old(limits: Limits, lines: &mut LinkLines, n: Id) -> Result<(), LineError>
+    ensures gives { Gives (λ _. Progress.Links lines.new.dests.items lines.new.links.items lines.new.olds.items) result
+        (with_old_line limits lines.old.dests.items lines.old.links.items lines.old.olds.items n) }
+    ensures kept { result ≡ Err LineError.Fault → lines.new ≡ lines.old }
+{
+    if !is_linked(n, &lines.links) {
+        return Err(LineError::Fault);
+    }
+    if topology_fault_within(limits, &lines.links, &lines.dests).is_some() {
+        return Err(LineError::Fault);
+    }
+    lines.push_old(n)?;
+    Ok(())
+}
+
+/// Takes a line behind the links and the old nodes, which makes the simulation run.
+fn first_run<S: Simulator>(
+    alloc: Global,
+    setup: Setup,
+    table: &ChannelTable,
+    lines: &LinkLines,
+    line: &[u8],
+    text: &mut String,
+) -> Result<Running<S>, LineError>
+    requires times { IsTimes setup.times }
+    requires empty { string_bytes text.old ≡ [] }
+    ensures { Gives (λ s. (running_view S.world s, string_bytes text.new)) result (first_run setup (lines_of table.now) lines.now.dests.items lines.now.links.items lines.now.olds.items line.now) }
+{
+    let mut running = Running::new(alloc, &lines.dests, &lines.links, &lines.olds, setup)?;
+    running.take(setup.until, table, line, text)?;
+    Ok(running)
+}
+
+/// Takes a line behind the last link and the last old node; at least one link is required.
+fn behind_links<S: Simulator>(
+    alloc: Global,
+    setup: Setup,
+    table: &ChannelTable,
+    lines: &LinkLines,
+    line: &[u8],
+    text: &mut String,
+) -> Result<Running<S>, LineError>
+    requires times { IsTimes setup.times }
+    requires empty { string_bytes text.old ≡ [] }
+    ensures { Gives (λ s. (Progress.Runs (running_view S.world s), string_bytes text.new)) result (behind_links setup (lines_of table.now) lines.now.dests.items lines.now.links.items lines.now.olds.items line.now) }
+{
+    if lines.links.is_empty() {
+        return Err(LineError::Fault);
+    }
+    first_run(alloc, setup, table, lines, line, text)
+}
+
+/// The number of the line that is a fault where the input ends behind links, if one is.
+fn end_of_links(limits: Limits, lines: &LinkLines, number: u64) -> Option<u64>
+    ensures { result ≡ end_of_links limits number lines.now.dests.items lines.now.links.items }
+{
+    if lines.links.is_empty() {
+        return Some(number);
+    }
+    match topology_fault_within(limits, &lines.links, &lines.dests) {
+        None => None,
+        Some(_) => Some(number.saturating_sub(1)),
+    }
+}
+
+/// Takes a line, and puts what is printed for it behind an empty text.
+#[tactic(auto, unfolding(crate::specs::SimulationText::simulation_reply))]
+fn take_line<S: Simulator>(
+    stage: &mut Stage<S>,
+    setup: Setup,
+    table: &ChannelTable,
+    alloc: Global,
+    line: &[u8],
+    text: &mut String,
+) -> Result<(), LineError>
+    requires times { IsTimes setup.times }
+    requires empty { string_bytes text.old ≡ [] }
+    ensures { Gives (λ _. (progress_of S.world stage.new, string_bytes text.new)) result (simulation_reply setup (lines_of table.now) (progress_of S.world stage.old) line.now) }
+{
+    match stage {
+        Stage::First => {
+            *stage = Stage::Links(first_line(alloc, line)?);
+            Ok(())
+        }
+        Stage::Links(lines) => {
+            if let Some(link) = parse::link(line) {
+                return take_link(lines, link);
+            }
+            if let Some(n) = parse::old(line) {
+                return take_old(setup.limits, lines, n);
+            }
+            *stage = Stage::Runs(behind_links(alloc, setup, table, lines, line, text)?);
+            Ok(())
+        }
+        Stage::Runs(running) => running.take(setup.until, table, line, text),
+    }
+}
+
+impl<S: Simulator> FileKind for Simulation<S> {
+    ghost kind = { simulation_kind S.world };
+
+    #[tactic(auto, using(crate::proofs::SimulationLaws::takes))]
+    fn take(&mut self, alloc: Global, line: &[u8], text: &mut String) -> Result<(), LineError> {
+        let setup = self.setup;
+        take_line(&mut self.stage, setup, &self.table, alloc, line, text)
+    }
+
+    #[tactic(auto, unfolding(tora_lines::specs::LineText::text_from, crate::specs::SimulationText::simulation_at_end))]
+    fn end(&self, _alloc: Global, number: u64) -> Result<Option<u64>, AllocError> {
+        match &self.stage {
+            Stage::First => Ok(Some(number)),
+            Stage::Links(lines) => Ok(end_of_links(self.setup.limits, lines, number)),
+            Stage::Runs(_) => Ok(None),
+        }
+    }
+}
+
+/// Reads the lines of a simulation file to the end of the input or to the first line that is a fault, and writes what is
+/// printed for each, in a simulator of this kind whose link ends have these times, none of which is 0. `docs/formats.md`,
+/// "Simulation files", says what a file is.
+#[tactic(auto, unfolding(tora_lines::specs::Engine::text_of))]
+pub fn simulate_in<S: Simulator, R: Read, W: Write>(
+    alloc: Global,
+    times: Times,
+    reader: &mut R,
+    writer: &mut W,
+) -> Result<Ended, ReplayError>
+    requires { IsTimes times }
+    // What was written is the text of the whole input, and the input ends so.
+    ensures whole { IfOk result (λ ended. IfSome (R.remaining reader.old) (λ input.
+        Simulates times input (W.contents writer.old) (W.contents writer.new) ended)) }
+    ensures at_end { result ≡ Ok Ended.Whole → IsAtEnd (R.remaining reader.new) }
+    ensures fault { IfOk result (λ ended. IfSome (R.remaining reader.old) (λ input. fault_of ended ≡ first_simulation_fault times input)) }
+    // What was written begins the text of what was read.
+    ensures begun { IfErr result (λ e. e ≢ ReplayError.Write →
+        IsSimulationBegun times (R.remaining reader.old) (R.remaining reader.new) (W.contents writer.old) (W.contents writer.new)) }
+{
+    let state: Simulation<S> = Simulation::new(Setup::plain(times));
+    read_lines(alloc, state, reader, writer)
+}
+
+/// The line whose number a fault of a simulation gives is the first that is none: all lines before it are taken, and it
+/// is not.
+pub fn simulation_fault_is_the_first()
+    ensures found { (setup : AnySetup) (table : List AnyLine) (bytes : List ℕ) (n : ℕ) → first_fault_with setup table bytes ≡ Some n → IsFirstFaultWith setup table Progress.First 1 (pieces_of bytes) n }
+    ensures only { (setup : AnySetup) (table : List AnyLine) (bytes : List ℕ) (n : ℕ) → IsFirstFaultWith setup table Progress.First 1 (pieces_of bytes) n → first_fault_with setup table bytes ≡ Some n }
+{}

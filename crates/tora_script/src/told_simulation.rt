@@ -1,0 +1,146 @@
+//! A simulation whose refusals and fault are told on standard error.
+ghost use Rattle.std.specs.Prelude.{◌≡◌, ◌≢◌, Ok, IfOk, IfErr, IfSome};
+ghost use Rattle.std.specs.Io.KnownBytes.{IsAtEnd};
+ghost use Rattle.tora_arq.specs.Settings.{IsTimes};
+ghost use Rattle.tora_lines.specs.LineText.{fault_of};
+ghost use Rattle.tora_channel.specs.Table.{lines_of};
+ghost use Rattle.tora_script.specs.ToldView.{told_kind};
+ghost use Rattle.tora_script.specs.SimulationText.{first_simulation_fault, Simulates, IsSimulationBegun, first_fault_with, SimulatesWith, IsBegunWith};
+
+use crate::causes::{SimulationCause, end_cause, simulation_cause_within};
+use crate::parse::simulation_line;
+use crate::running_simulation::has_number;
+use crate::script_line::SimulationLine;
+use crate::setup::Setup;
+use crate::simulation::{Simulation, Stage};
+use crate::simulator::Simulator;
+use std::alloc::{AllocError, Global};
+use std::io::{Read, Write};
+use tora_arq::Times;
+use tora_channel::ChannelTable;
+use tora_height::Id;
+use tora_lines::words::LineError;
+use tora_lines::{Ended, FileKind, ReplayError, read_lines};
+use tora_world::Event;
+
+/// A simulation file, and where is told why a line is a fault and, where it is verbose, why an event is refused.
+#[derive(Drop)]
+pub struct Told<'a, S, T> {
+    pub rt: &'a T,
+    pub is_verbose: bool,
+    /// The number of the last line.
+    pub number: u64,
+    pub state: Simulation<S>,
+}
+
+/// Tells why a line is a fault.
+pub fn tell_cause<T: Eprint>(rt: &T, number: u64, cause: SimulationCause) {
+    let _ = rt.eprintln(format_args!("tora: line {number}: {cause}"));
+}
+
+/// Tells that a core refuses a need, where its destination is not in the list.
+fn tell_need<T: Eprint>(rt: &T, number: u64, line: &[u8], dests: &[Id]) {
+    if let Some(SimulationLine::Happens(Event::Need(n, d))) = simulation_line(line) {
+        if !has_number(d, dests) {
+            let _ = rt.eprintln(format_args!(
+                "tora: line {number}: the core of {n} refuses the need: {d} is not in the list of the first line"
+            ));
+        }
+    }
+}
+
+/// Tells why the event of a line was refused, if it was, and of a need that the core refuses.
+fn tell_refusal<S, T: Eprint>(rt: &T, number: u64, stage: &Stage<S>, line: &[u8]) {
+    if let Stage::Runs(running) = stage {
+        match running.refused {
+            Some(error) => {
+                let _ = rt.eprintln(format_args!("tora: line {number}: refused: {error}"));
+            }
+            None => tell_need(rt, number, line, &running.dests),
+        }
+    }
+}
+
+impl<S: Simulator, T: Eprint> FileKind for Told<'_, S, T> {
+    ghost kind = { told_kind S.world };
+
+    fn take(&mut self, alloc: Global, line: &[u8], text: &mut String) -> Result<(), LineError> {
+        self.number = self.number.saturating_add(1);
+        let tells = self.is_verbose && !self.state.is_done();
+        let taken = self.state.take(alloc, line, text);
+        match taken {
+            Ok(()) if tells => {
+                tell_refusal(self.rt, self.number, &self.state.stage, line);
+            }
+            Ok(()) => {}
+            Err(LineError::Fault) => {
+                let limits = self.state.setup.limits;
+                let cause = simulation_cause_within(limits, &self.state.stage, line);
+                tell_cause(self.rt, self.number, cause);
+            }
+            Err(LineError::Memory) => {}
+        }
+        taken
+    }
+
+    fn end(&self, alloc: Global, number: u64) -> Result<Option<u64>, AllocError> {
+        let fault = self.state.end(alloc, number)?;
+        match fault {
+            Some(line) => {
+                let cause = end_cause(self.state.setup.limits, &self.state.stage);
+                tell_cause(self.rt, line, cause);
+            }
+            None => {}
+        }
+        Ok(fault)
+    }
+}
+
+/// Simulates what is made with this over a channel that the lines of a table change, and tells on standard error why a line is a
+/// fault, unless it is too long, and where it is verbose, why an event is refused.
+#[tactic(auto, unfolding(tora_lines::specs::Engine::text_of))]
+pub fn simulate_telling<S: Simulator, T: Eprint, R: Read, W: Write>(
+    rt: &T,
+    alloc: Global,
+    setup: Setup,
+    table: ChannelTable,
+    reader: &mut R,
+    writer: &mut W,
+    is_verbose: bool,
+) -> Result<Ended, ReplayError>
+    requires { IsTimes setup.times }
+    ensures whole { IfOk result (λ ended. IfSome (R.remaining reader.old) (λ input.
+        SimulatesWith setup (lines_of table) input (W.contents writer.old) (W.contents writer.new) ended)) }
+    ensures at_end { result ≡ Ok Ended.Whole → IsAtEnd (R.remaining reader.new) }
+    ensures fault { IfOk result (λ ended. IfSome (R.remaining reader.old) (λ input. fault_of ended ≡ first_fault_with setup (lines_of table) input)) }
+    ensures begun { IfErr result (λ e. e ≢ ReplayError.Write →
+        IsBegunWith setup (lines_of table) (R.remaining reader.old) (R.remaining reader.new) (W.contents writer.old) (W.contents writer.new)) }
+{
+    let state: Told<'_, S, T> = Told {
+        rt,
+        is_verbose,
+        number: 0,
+        state: Simulation::with_table(setup, table),
+    };
+    read_lines(alloc, state, reader, writer)
+}
+
+/// Simulates with these times of each link end, and tells on standard error why an event is refused and why a line is a fault, unless it is too long.
+pub fn simulate_told<S: Simulator, T: Eprint, R: Read, W: Write>(
+    rt: &T,
+    alloc: Global,
+    times: Times,
+    reader: &mut R,
+    writer: &mut W,
+) -> Result<Ended, ReplayError>
+    requires { IsTimes times }
+    ensures whole { IfOk result (λ ended. IfSome (R.remaining reader.old) (λ input.
+        Simulates times input (W.contents writer.old) (W.contents writer.new) ended)) }
+    ensures at_end { result ≡ Ok Ended.Whole → IsAtEnd (R.remaining reader.new) }
+    ensures fault { IfOk result (λ ended. IfSome (R.remaining reader.old) (λ input. fault_of ended ≡ first_simulation_fault times input)) }
+    ensures begun { IfErr result (λ e. e ≢ ReplayError.Write →
+        IsSimulationBegun times (R.remaining reader.old) (R.remaining reader.new) (W.contents writer.old) (W.contents writer.new)) }
+{
+    let (setup, table) = (Setup::plain(times), ChannelTable::none());
+    simulate_telling::<S, T, R, W>(rt, alloc, setup, table, reader, writer, true)
+}
