@@ -1,10 +1,11 @@
 -- When something is next due at a link end, if nothing comes.
 use Rattle.std.specs.Prelude.{◌≡◌, ℕ, ◌^◌, ◌<◌, ◌≤◌, Bool, true, false, not, nat_le, ◌||◌, ◌&&◌, Option, Some, None, is_some}
+use Rattle.tora_arq.specs.declared.Life.{Life}
 use Rattle.tora_arq.specs.declared.Times.{Times}
 use Rattle.tora_arq.specs.declared.queue.QueuedPacket.{QueuedPacket}
 use Rattle.tora_arq.specs.Settings.{Settings}
 use Rattle.tora_arq.specs.SendQueue.{is_ready, is_given_up}
-use Rattle.tora_arq.specs.LinkEnd.{EndState, is_closed, frame_due, after_tick}
+use Rattle.tora_arq.specs.LinkEnd.{EndState, is_closed, is_silent, is_hello_due, is_old_hello_due, due_of, on_transmit_due, frame_due, after_tick}
 
 -- at this tick a frame is due, or a life ends
 abbrev pub is_any_due : Settings → EndState → ℕ → Bool
@@ -24,3 +25,8 @@ has_begun (Some first) tick = nat_le first tick
 -- at this tick a packet is due or given up
 abbrev pub is_packet_due : Times → ℕ → QueuedPacket → Bool
 is_packet_due times tick q = is_ready times tick q || is_given_up times tick q
+
+-- at this tick a frame of a life is due, or the life ends for want of hearing
+abbrev pub is_due_in : Settings → EndState → Life → ℕ → Bool
+is_due_in s e life tick =
+    ((is_hello_due s e tick || is_old_hello_due e) || is_some (on_transmit_due s e life (due_of s e tick)).0) || is_silent s e tick

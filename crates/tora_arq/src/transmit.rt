@@ -3,9 +3,9 @@ ghost use Rattle.std.specs.Prelude.{◌≡◌, ℕ, ◌<◌, ◌≤◌, ◌+◌,
 ghost use Rattle.tora_frame.specs.FrameParts.{IsHeader, IsLifeNumber};
 ghost use Rattle.tora_frame.specs.declared.parts.Body.{Body};
 ghost use Rattle.tora_arq.specs.Settings.{IsLink};
-ghost use Rattle.tora_arq.specs.LinkEnd.{is_two, data_version, most_packets, is_silent, is_hello_due, is_old_hello_due, frame_sent, after_hello, after_old_hello, on_hello, due_of, on_transmit_due, on_transmit};
+ghost use Rattle.tora_arq.specs.LinkEnd.{is_two, data_version, most_packets, is_hello_due, is_old_hello_due, frame_sent, after_hello, after_old_hello, on_hello, due_of, on_transmit_due, on_transmit};
 ghost use Rattle.tora_arq.specs.EndRange.{IsEndState};
-ghost use Rattle.tora_arq.specs.NextDue.{is_any_due, IsNextDue, has_begun};
+ghost use Rattle.tora_arq.specs.NextDue.{is_any_due, is_due_in, IsNextDue, has_begun};
 ghost use Rattle.tora_arq.specs.StateView.{settings_in, state_in};
 
 use crate::Life;
@@ -175,7 +175,7 @@ impl State {
     /// The tick from which on a frame of a bound end is due, or its life ends.
     fn bound_tick(&self, settings: &Settings) -> Option<u64>
         requires { IsEndState (settings_in settings.now) (state_in self.now) }
-        ensures { (life : Life) (tick : ℕ) → tick < 2 ^ 64 → has_begun result tick ≡ ((is_hello_due (settings_in settings.now) (state_in self.now) tick || is_old_hello_due (state_in self.now)) || is_some (on_transmit_due (settings_in settings.now) (state_in self.now) life (due_of (settings_in settings.now) (state_in self.now) tick)).0) || is_silent (settings_in settings.now) (state_in self.now) tick }
+        ensures { (life : Life) (tick : ℕ) → tick < 2 ^ 64 → has_begun result tick ≡ is_due_in (settings_in settings.now) (state_in self.now) life tick }
     {
         if self.owes_ack {
             return Some(0);
