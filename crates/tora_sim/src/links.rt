@@ -5,6 +5,7 @@ ghost use Rattle.tora_arq.specs.LinkEnd.{is_closed, after_frame, after_tick, fra
 ghost use Rattle.tora_sim.specs.Links.{with_state, after_open_at, after_arm, after_pull_at, is_at, AreRising, ticked, AreChanged};
 ghost use Rattle.tora_arq.specs.LinkEnd.{first_end};
 ghost use Rattle.tora_arq.specs.EndRange.{link_end_of};
+ghost use Rattle.tora_seat.specs.declared.TheConstants.{MOST_CARGOES};
 ghost use Rattle.tora_sim.specs.Keyed.{IsFirst};
 ghost use Rattle.tora_sim.specs.Restarts.{restarted};
 ghost use Rattle.tora_sim.specs.Lanes.{after_offer_at, has_place, bare, HasRoom};
@@ -24,6 +25,9 @@ use tora_seat::{Cargo, MOST_CARGOES, hand_in};
 
 /// How many ends of a node are looked at one by one, before all are searched by halves.
 const MOST_TRIED: usize = 32;
+
+/// How many cargoes can be pulled from a lane before its memory has to grow.
+const SPARE_CARGOES: usize = 32;
 
 /// The end of a link at one node, with its life file and the lane from the node's core to it.
 #[derive(Drop)]
@@ -183,8 +187,8 @@ impl LinkSlot {
         hand_in(&mut self.end, &cargo);
     }
 
-    /// Takes the memory for all that one item of the node can put here: cargoes up to 256 that wait, and a packet that is
-    /// stepped.
+    /// Takes the memory for all that one item of the node can put here: cargoes up to as many as a lane holds, and a packet
+    /// that is stepped.
     ///
     /// # Errors
     /// `Memory`. The end is as it was either way.
@@ -193,23 +197,37 @@ impl LinkSlot {
         ensures room { OnOk result (HasRoom self.new) }
         ensures memory { IfErr result (λ e. e ≡ SimError.Memory) }
     {
-        let waiting = self.put.len() - self.pulled;
-        if self
-            .put
-            .reserve(MOST_CARGOES.saturating_sub(waiting))
-            .is_err()
-        {
-            return Err(SimError::Memory);
-        }
+        self.make_room_in_lane()?;
         if self.steps.reserve(1).is_err() {
             return Err(SimError::Memory);
         }
         Ok(())
     }
 
-    /// Puts a cargo at the back of the lane, where fewer than 256 wait, and answers whether it was put.
+    /// Takes the memory for cargoes up to as many as the lane holds, where there is less, and for some that come once these
+    /// are pulled.
+    ///
+    /// # Errors
+    /// `Memory`. The end is as it was either way.
+    fn make_room_in_lane(&mut self) -> Result<(), SimError>
+        ensures same { record self.new { room = 0 } ≡ record self.old { room = 0 } }
+        ensures room { OnOk result (self.new.pulled + MOST_CARGOES ≤ self.new.room) }
+        ensures memory { IfErr result (λ e. e ≡ SimError.Memory) }
+    {
+        let waiting = self.put.len() - self.pulled;
+        let needed = MOST_CARGOES.saturating_sub(waiting);
+        if needed <= self.put.capacity() - self.put.len() {
+            return Ok(());
+        }
+        if self.put.reserve(needed + SPARE_CARGOES).is_err() {
+            return Err(SimError::Memory);
+        }
+        Ok(())
+    }
+
+    /// Puts a cargo at the back of the lane, where fewer wait than it holds, and answers whether it was put.
     pub fn offer(&mut self, cargo: Cargo) -> bool
-        requires { self.old.pulled + 256 ≤ self.old.room }
+        requires { self.old.pulled + MOST_CARGOES ≤ self.old.room }
         ensures put { result ≡ has_place self.old }
         ensures lane { self.new ≡ after_offer_at self.old cargo result }
     {
