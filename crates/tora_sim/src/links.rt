@@ -36,7 +36,10 @@ pub struct LinkSlot {
     pub(crate) peer: Id,
     /// The place of the peer among the node's neighbours.
     pub(crate) seat: usize,
-    /// How many cargoes are no longer in the lane. What a round asks of each end stands in front.
+    /// Before this tick nothing is to be done here, and no tick changes the end; 0 where that isn't known. What a round asks
+    /// of each end stands in front.
+    pub(crate) still: u64,
+    /// How many cargoes are no longer in the lane.
     pub(crate) pulled: usize,
     /// All cargoes that were ever put into the lane.
     pub(crate) put: Vec<Cargo>,
@@ -52,12 +55,13 @@ impl Model for LinkSlot {
     ghost use Rattle.tora_world.specs.World.{owner_of};
     ghost use Rattle.tora_sim.specs.Files.{disk_of, IsDrawn};
     ghost use Rattle.tora_sim.specs.Links.{LinkView, link_of};
+    ghost use Rattle.tora_sim.specs.Quiet.{IsStillIf};
 
     ghost Value = { LinkView };
 
     ghost view = { λ s. link_of s.node s.peer s.seat s.end (disk_of s.file) s.put.items s.pulled (vec_capacity s.put) s.steps.items (vec_capacity s.steps) };
 
-    ghost invariant = { λ s. IsDrawn s.end.state.last_life (disk_of s.file) × (s.pulled ≤ length s.put.items) × (owner_in (disk_of s.file) ≡ owner_of s.end.settings.me s.end.settings.peer) };
+    ghost invariant = { λ s. IsDrawn s.end.state.last_life (disk_of s.file) × (s.pulled ≤ length s.put.items) × (owner_in (disk_of s.file) ≡ owner_of s.end.settings.me s.end.settings.peer) × IsStillIf s.still (link_of s.node s.peer s.seat s.end (disk_of s.file) s.put.items s.pulled (vec_capacity s.put) s.steps.items (vec_capacity s.steps)) };
 }
 
 impl LinkSlot {
@@ -122,7 +126,11 @@ impl LinkSlot {
     pub fn tick(&mut self, now: u64)
         ensures { self.new ≡ with_state self.old (after_tick self.old.settings self.old.state now) }
     {
+        if now < self.still {
+            return;
+        }
         lives_are_bound_once();
+        self.still = 0;
         self.end.on_tick(now);
     }
 
@@ -132,6 +140,7 @@ impl LinkSlot {
         ensures state { self.new ≡ with_state self.old (after_transmit self.old.settings self.old.state now) }
     {
         lives_are_bound_once();
+        self.still = 0;
         self.end.poll_transmit_into(now, packets)
     }
 
@@ -140,6 +149,7 @@ impl LinkSlot {
         ensures { self.new ≡ with_state self.old (after_frame self.old.settings self.old.state frame.now now) }
     {
         lives_are_bound_once();
+        self.still = 0;
         self.end.on_borrowed_frame(frame, now);
     }
 
@@ -149,6 +159,7 @@ impl LinkSlot {
         ensures state { self.new ≡ with_state self.old (after_poll_event self.old.state) }
     {
         lives_are_bound_once();
+        self.still = 0;
         self.end.poll_event()
     }
 
@@ -157,6 +168,7 @@ impl LinkSlot {
         requires { IsTrue (is_closed self.old.state) }
         ensures { self.new ≡ after_open_at self.old now }
     {
+        self.still = 0;
         if let Some(number) = self.file.draw() {
             self.end.open(number, now);
         }
@@ -183,6 +195,7 @@ impl LinkSlot {
     {
         lives_are_bound_once();
         let cargo = self.put[self.pulled];
+        self.still = 0;
         self.pulled += 1;
         hand_in(&mut self.end, &cargo);
     }
@@ -234,6 +247,7 @@ impl LinkSlot {
         if self.put.len() - self.pulled >= MOST_CARGOES {
             return false;
         }
+        self.still = 0;
         self.put.push_reserved(cargo);
         true
     }
@@ -264,6 +278,7 @@ impl LinkSlot {
             node: self.end.me(),
             peer: self.end.peer(),
         };
+        self.still = 0;
         mem::swap(&mut self.end, end);
         let file = mem::replace(&mut self.file, FileSlot::Unopened(owner, MemDisk::new()));
         self.file = file.restart(owner, torn);
