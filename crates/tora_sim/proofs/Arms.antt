@@ -22,12 +22,12 @@ use Rattle.tora_seat.specs.Rows as Rows
 use Rattle.tora_sim.specs.declared.nodes.Sending.{Sending as DeclaredSending}
 use Rattle.tora_sim.specs.declared.nodes.Sending.TheVariants as Sends
 use Rattle.tora_sim.specs.Keyed.{IsFirst}
-use Rattle.tora_sim.specs.Links.{LinkView, is_at, after_arm, at_node}
+use Rattle.tora_sim.specs.Links.{LinkView, is_at, key_of, after_arm, at_node}
 use Rattle.tora_sim.specs.Nodes.{NodeView, is_of, sending_of}
 use Rattle.tora_sim.specs.Store.{state_of, world_of, IsStore, IsLinkOf, link_at, end_in, file_in, lane_in, put_in, steps_in, node_at, seat_in, items_in, inputs_in, counts_in, arms_in, call_of}
 use Rattle.tora_sim.specs.Steps.{IsDone}
 use Rattle.tora_sim.specs.Links as Links
-use Rattle.tora_sim.proofs.Stores.{is_found, each_map, ordered_map, ends_map, IsSameLink, IsSameNode, node_changes, node_stays, node_stays_by, store_set_node}
+use Rattle.tora_sim.proofs.Stores.{is_found, each_map, ordered_map, ends_map, keys_map, IsSameLink, IsSameNode, node_changes, node_stays, node_stays_by, store_set_node}
 use Rattle.tora_sim.proofs.Keys.{found}
 use Rattle.tora_sim.proofs.Opens.{effect_is, links_same}
 use Rattle.tora_sim.proofs.Needs.{nodes_same, node_place, is_there, is_noded}
@@ -181,6 +181,7 @@ module _ (t : Topology) (times : Times) (clock : ℕ) (nodes : List NodeView) (l
   files_store call after f = subst (λ xs. IsStore (state_of t times clock nodes xs ds)) (sym f) (record {
     nodes = h.nodes;
     links = λ a k. h.links a k ∙ sym (ap (λ (g : ℕ → ℕ → Bool). g a k) (stays is_some call (λ x. refl)));
+    keys = keys_map (armed_of n call) (λ x. by_case call x (λ z. key_of z ≡ key_of x) refl refl) links ∙ h.keys;
     rising_nodes = h.rising_nodes;
     rising_links = ordered_map Links.ComesBefore (armed_of n call) (λ x y b. by_case call x (λ z. Links.ComesBefore z (armed_of n call y)) (by_case call y (Links.ComesBefore x) b b) (by_case call y (Links.ComesBefore (after_arm x call)) b b)) links h.rising_links;
     each_node = h.each_node;

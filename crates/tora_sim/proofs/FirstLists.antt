@@ -9,13 +9,13 @@ use Rattle.tora_arq.specs.Settings.{settings_of}
 use Rattle.tora_world.specs.Topology.{version_at, Topology, neighbours_of}
 use Rattle.tora_world.specs.World.{place_of, owner_of}
 use Rattle.tora_sim.specs.Topologies.{IsTopology}
-use Rattle.tora_sim.specs.Links.{LinkView}
+use Rattle.tora_sim.specs.Links.{LinkView, key_of}
 use Rattle.tora_sim.specs.Nodes.{NodeView}
 use Rattle.tora_sim.specs.Store.{EachOf}
 use Rattle.tora_sim.specs.Readers.{ends_at}
 use Rattle.tora_life.specs.State.{fresh_state}
 use Rattle.tora_life.specs.LifeRun.{opened}
-use Rattle.tora_sim.specs.Firsts.{IsFirstEnd, IsFirstLink, IsFirstNode, key_of, HasEnds, AreAdded, AreMade, IsMade}
+use Rattle.tora_sim.specs.Firsts.{IsFirstEnd, IsFirstLink, IsFirstNode, HasEnds, AreAdded, AreMade, IsMade}
 use Rattle.tora_sim.proofs.Stores.{each_push}
 use Rattle.tora_sim.proofs.Peers.{PutInOrder, neighbours-ascend, place-of}
 

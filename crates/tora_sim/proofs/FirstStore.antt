@@ -21,10 +21,10 @@ use Rattle.tora_world.specs.Topology.{Topology, nodes_in, neighbours_of, other_e
 use Rattle.tora_world.specs.World.{first_world, first_seat, owner_of}
 use Rattle.tora_world.specs.World.Sending.{Goes}
 use Rattle.tora_sim.specs.Topologies.{IsTopology}
-use Rattle.tora_sim.specs.Links.{LinkView, is_at}
+use Rattle.tora_sim.specs.Links.{LinkView, is_at, key_of}
 use Rattle.tora_sim.specs.Nodes.{NodeView, is_of, sending_of}
 use Rattle.tora_sim.specs.Store.{SimState, IsStore, IsNodeOf, IsLinkOf, AreEndsOf, state_of, world_of, node_at, link_at, seat_in, items_in, inputs_in, counts_in, arms_in, end_in, file_in, lane_in, put_in, steps_in}
-use Rattle.tora_sim.specs.Firsts.{IsFirstLink, IsFirstNode, AreMade, key_of}
+use Rattle.tora_sim.specs.Firsts.{IsFirstLink, IsFirstNode, AreMade}
 use Rattle.tora_sim.proofs.Peers.{PutInOrder, StaysInOrder, neighbours-ascend, nodes-ascend, stay-ascending}
 use Rattle.tora_sim.proofs.KeyLists.{has_key, AreOrdered, found-name, found-key, found-there, key-in, of-node, key-there, other-way, ends-ordered, links-rise, nodes-rise}
 
@@ -118,6 +118,7 @@ module _ (order : PutInOrder) (stays : StaysInOrder) (t : Topology) (times : Tim
   is-store = record {
     nodes = node-is;
     links = link-is;
+    keys = m.keys;
     rising_nodes = nodes-rise nodes (subst (λ (ns : List ℕ). IsAscending ns) (sym m.names) (nodes-ascend stays t.links));
     rising_links = links-rise links (subst (λ (keys : List (ℕ × ℕ)). AreOrdered keys) (sym m.keys) (ends-ordered t (neighbours-ascend order t h) (nodes_in t.links) (nodes-ascend stays t.links)));
     each_node = λ i x e. node-kept x (m.each_node i x e);

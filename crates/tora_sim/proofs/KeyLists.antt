@@ -6,11 +6,10 @@ use Rattle.std.specs.List.{AllByRecursion, flat_map, list_any}
 use Rattle.tora_core.specs.Numbers.{has_number, IsAscending}
 use Rattle.tora_world.specs.Topology.{Topology, Link, nodes_in, neighbours_of, other_ends, is_link}
 use Rattle.tora_sim.specs.Links as Links
-use Rattle.tora_sim.specs.Links.{LinkView, is_at}
+use Rattle.tora_sim.specs.Links.{LinkView, is_at, key_of}
 use Rattle.tora_sim.specs.Nodes as Nodes
 use Rattle.tora_sim.specs.Nodes.{NodeView, is_of}
 use Rattle.tora_sim.specs.Readers.{ends_at}
-use Rattle.tora_sim.specs.Firsts.{key_of}
 use Rattle.tora_world.proofs.SoundTopology.{unnamed}
 
 abbrev pub has_key : ℕ → ℕ → List (ℕ × ℕ) → Bool

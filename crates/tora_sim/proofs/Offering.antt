@@ -7,6 +7,7 @@ use Rattle.std.proofs.lemmas.List.{drop-append-le, length-append}
 use Rattle.tora_frame.specs.FrameParts.{FrameParts}
 use Rattle.tora_arq.specs.declared.Times.{Times}
 use Rattle.tora_seat.specs.declared.Cargo.{Cargo}
+use Rattle.tora_seat.specs.declared.TheConstants.{MOST_CARGOES}
 use Rattle.tora_seat.specs.Serving.{Offer, Parcel, Step, put_to, stepped_from, put_one}
 use Rattle.tora_seat.specs.declared.Stepped.{Stepped}
 use Rattle.tora_seat.specs.Rows.{step_of}
@@ -192,7 +193,7 @@ module _ (t : Topology) (times : Times) (clock : ℕ) (nodes : List NodeView) (l
         ∙ ap (λ z. lane_in z ++ put_to o.to done) (sym there)
 
     pub answered : own_answers w n done o.to ≡ o.put
-    answered = sym (did.answer ∙ ap (λ cs. nat_lt (length cs) 256) waits)
+    answered = sym (did.answer ∙ ap (λ cs. nat_lt (length cs) MOST_CARGOES) waits)
 
   -- what the offers came to
   pub record Offered (done offers : List Offer) (v : LanesView) : Type 0 where

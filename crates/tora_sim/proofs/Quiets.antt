@@ -1,10 +1,10 @@
 -- Where nothing is to be done before a tick, the clock alone goes on, and every turn is refused.
-use Rattle.std.proofs.Common.{◌≡◌, ℕ, zero, suc, ◌+◌, ◌<◌, ◌≤◌, inl, inr, min, not, ◌&&◌, Bool, true, false, List, [], ◌∷◌, length, map, slice_get, is_some, Option, Some, None, refl, sym, ap, ap₂, ◌∙◌, subst, arith, if◌then◌else◌}
+use Rattle.std.proofs.Common.{◌≡◌, ℕ, zero, suc, ◌+◌, ◌<◌, ◌≤◌, inl, inr, min, not, ◌&&◌, Bool, true, false, List, [], ◌∷◌, length, map, set, take, slice_get, is_some, Option, Some, None, refl, sym, ap, ap₂, ◌∙◌, subst, arith, if◌then◌else◌, option_map, nat_eq, eq-eqb}
 use Rattle.std.proofs.Math.Nat.{min-le_left, min-le_right}
 use Rattle.std.specs.List.{list_all}
 use Rattle.std.specs.Prelude.{slice_index_or}
-use Rattle.std.proofs.lemmas.Option.{slice_get_read, slice_get_within}
-use Rattle.std.proofs.lemmas.Bool.{and_parts}
+use Rattle.std.proofs.lemmas.Option.{slice_get_read, slice_get_within, slice_get-map}
+use Rattle.std.proofs.lemmas.Bool.{and_parts, and_from}
 use borrow.Author.Tests.{ltb-false, eqb-true}
 use Rattle.tora_frame.specs.FrameParts.{FrameParts}
 use Rattle.tora_arq.specs.declared.Times.{Times}
@@ -15,9 +15,10 @@ use Rattle.tora_world.specs.declared.SimError.TheVariants as Refused
 use Rattle.tora_world.specs.Topology.{Topology, is_node, is_link}
 use Rattle.tora_world.specs.World.{World, settings, is_empty, has_room, unless_possible, at_node, at_link}
 use Rattle.tora_sim.specs.Keyed.{IsFirst}
-use Rattle.tora_sim.specs.Links.{LinkView, is_at, ticked, with_state}
+use Rattle.tora_sim.specs.Links.{LinkView, is_at, key_of, ticked, with_state}
 use Rattle.tora_sim.specs.Nodes.{NodeView, is_of}
-use Rattle.tora_sim.specs.Quiet.{IsQuiet, IsStill, is_idle, AreStill}
+use Rattle.tora_sim.specs.Quiet.{IsQuiet, IsQuietEnd, IsStill, is_idle, AreStill}
+use Rattle.tora_sim.specs.Readers.{ends_in}
 use Rattle.tora_sim.specs.Store.{state_of, world_of, IsStore, EachOf, node_at, link_at}
 use Rattle.tora_sim.proofs.Keys.{le_cases, read_first, read_first_node}
 use Rattle.tora_sim.proofs.Opens.{open_refused, pull_refused}
@@ -51,9 +52,44 @@ one_more links n until here y within is before h i x lt e = elim (le_cases i n (
     same : i ≡ n → y ≡ x
     same q = some_is (sym (slice_get_read links (length links) n y refl within is) ∙ ap (λ (m : ℕ). slice_get links m) (sym q) ∙ e)
 
+-- one link end more is passed over
+pub one_passed : (links : List LinkView) (n until place : ℕ) (y : LinkView) → n < length links → y ≡ slice_index_or links n y → ((i : ℕ) (x : LinkView) → place ≤ i → i < n → slice_get links i ≡ Some x → IsStill until x) → IsStill until y →
+    (i : ℕ) (x : LinkView) → place ≤ i → i < n + 1 → slice_get links i ≡ Some x → IsStill until x
+one_passed links n until place y within is before h i x from lt e = elim (le_cases i n (omega (arith, lt))) [
+  | inl q ↦ subst (λ (z : LinkView). IsStill until z) (same q) h
+  | inr l ↦ before i x from l e
+]
+  where
+    some_is : {a b : LinkView} → Some a ≡ Some b → a ≡ b
+    some_is {a} {b} q = cc
+
+    same : i ≡ n → y ≡ x
+    same q = some_is (sym (slice_get_read links (length links) n y refl within is) ∙ ap (λ (m : ℕ). slice_get links m) (sym q) ∙ e)
+
+-- one link end more has its key
+pub one_named : (ends : List (ℕ × ℕ)) (links : List LinkView) (n : ℕ) (end : ℕ × ℕ) (x : LinkView) → take n ends ≡ map key_of (take n links) → n < length ends → n < length links → slice_get ends n ≡ Some end → slice_get links n ≡ Some x → is_at end.0 end.1 x ≡ true
+    → take (suc n) ends ≡ map key_of (take (suc n) links)
+one_named [] links n end x e lt less there read at = absurd (omega (arith, lt))
+one_named (y ∷ ends) [] n end x e lt less there read at = absurd (omega (arith, less))
+one_named (y ∷ ends) (z ∷ links) zero end x e lt less there read at =
+    let key : y ≡ end = cc in
+    let link : z ≡ x = cc in
+    let both = and_parts (nat_eq x.node end.0) (nat_eq x.peer end.1) at in
+    ap (λ (k : ℕ × ℕ). k ∷ []) (key ∙ ap₂ (λ (a b : ℕ). (a, b)) (sym (eqb-true x.node end.0 both.0)) (sym (eqb-true x.peer end.1 both.1)) ∙ sym (ap key_of link))
+one_named (y ∷ ends) (z ∷ links) (suc n) end x e lt less there read at =
+    let head : y ≡ key_of z = cc in
+    let rest : take n ends ≡ map key_of (take n links) = cc in
+    ap₂ (λ (k : ℕ × ℕ) (ks : List (ℕ × ℕ)). k ∷ ks) head (one_named ends links n end x rest (omega (arith, lt)) (omega (arith, less)) there read at)
+
+-- an end that is put where it stood
+pub set_same : (links : List LinkView) (i : ℕ) (x y : LinkView) → i < length links → x ≡ slice_index_or links i x → y ≡ x → set links i y ≡ links
+set_same [] i x y lt read e = absurd (omega (arith, lt))
+set_same (z ∷ links) zero x y lt read e = ap (λ (w : LinkView). w ∷ links) (e ∙ read)
+set_same (z ∷ links) (suc i) x y lt read e = ap (λ (ws : List LinkView). z ∷ ws) (set_same links i x y (omega (arith, lt)) read e)
+
 -- ---- a tick
 
-still_tick : (until now : ℕ) (link : LinkView) → now < until → IsStill until link → ticked now link ≡ link
+pub still_tick : (until now : ℕ) (link : LinkView) → now < until → IsStill until link → ticked now link ≡ link
 still_tick until now link lt h = ap (with_state link) (h.ticks now lt)
 
 pub still_ticks : (until now : ℕ) (links : List LinkView) → now < until → EachOf (IsStill until) links → map (ticked now) links ≡ links
@@ -112,3 +148,27 @@ module _ (t : Topology) (times : Times) (clock : ℕ) (nodes : List NodeView) (l
         sends = λ n k. at_ends (Transmit n k) n k until all.1 (λ e. no_link w n k (is_some (frame_due (settings w n k) (w.ends n k) clock)) e) (λ x place first read s. is_impossible w (Transmit n k) (transmit_refused t times clock nodes links ds h n k place x first read (s.frames clock lt)));
         pumps = λ n k. at_ends (Pump n k) n k until all.1 (λ e. no_link w n k (not (is_empty (w.ends n k).events) && has_room w n) e) (λ x place first read s. is_impossible w (Pump n k) (pump_without t times clock nodes links ds h n k place x first read (no_event (first_event x.state) s.events)));
       }
+
+  -- nothing is to be done now at the end that stands where this key does
+  pub quiet_at : (at : ℕ) (end : ℕ × ℕ) → slice_get (ends_in t) at ≡ Some end → ((link : LinkView) → slice_get links at ≡ Some link → IsStill (clock + 1) link) → IsQuietEnd w end.0 end.1
+  quiet_at at end there still = go (slice_get links at) refl (sym (slice_get-map key_of links at) ∙ ap (λ (keys : List (ℕ × ℕ)). slice_get keys at) h.keys ∙ there)
+    where
+      go : (o : Option LinkView) → slice_get links at ≡ o → option_map key_of o ≡ Some end → IsQuietEnd w end.0 end.1
+      go None read e = absurd (let none : None ≡ Some end = e in cc)
+      go (Some x) read e =
+          let key : Some (x.node, x.peer) ≡ Some end = e in
+          let same : (x.node, x.peer) ≡ end = cc in
+          let n : x.node ≡ end.0 = ap (λ (p : ℕ × ℕ). p.0) same in
+          let k : x.peer ≡ end.1 = ap (λ (p : ℕ × ℕ). p.1) same in
+          let value = read_of links at x read in
+          let first = read_first end.0 end.1 links at x h.rising_links (slice_get_within links at x read) value (both n k) in
+          let s = still x read in
+          record {
+            opens = is_impossible w (Open end.0 end.1) (open_refused t times clock nodes links ds h end.0 end.1 at x first value s.opened);
+            pulls = is_impossible w (Pull end.0 end.1) (pull_refused t times clock nodes links ds h end.0 end.1 at x first value (ltb-false x.pulled (length x.put) s.lane));
+            sends = is_impossible w (Transmit end.0 end.1) (transmit_refused t times clock nodes links ds h end.0 end.1 at x first value (s.frames clock (omega arith)));
+            pumps = is_impossible w (Pump end.0 end.1) (pump_without t times clock nodes links ds h end.0 end.1 at x first value (no_event (first_event x.state) s.events));
+          }
+        where
+          both : x.node ≡ end.0 → x.peer ≡ end.1 → is_at end.0 end.1 x ≡ true
+          both a b = and_from (nat_eq x.node end.0) (nat_eq x.peer end.1) (eq-eqb x.node end.0 a) (eq-eqb x.peer end.1 b)

@@ -5,7 +5,7 @@ use Rattle.tora_arq.specs.declared.Times.{Times}
 use Rattle.tora_arq.specs.Settings.{settings_of}
 use Rattle.tora_world.specs.World.{place_of}
 use Rattle.tora_world.specs.Topology.{version_at, Topology, is_node, is_link, neighbours_of}
-use Rattle.tora_sim.specs.Links.{LinkView, is_at}
+use Rattle.tora_sim.specs.Links.{LinkView, is_at, key_of}
 use Rattle.tora_sim.specs.Nodes.{NodeView}
 use Rattle.tora_sim.specs.Lanes.{bare, AreAlike}
 use Rattle.tora_sim.specs.Store.{state_of, world_of, IsStore, IsLinkOf, AreEndsOf, link_at, end_in, file_in, lane_in, put_in, steps_in}
@@ -103,10 +103,17 @@ ends_same t xs ys same node h = record {
       (o.2.node ∙ told.0, o.2.peer ∙ told.1);
 }
 
+keys_same : (xs ys : List LinkView) → AreSame xs ys → map key_of ys ≡ map key_of xs
+keys_same [] [] h = refl
+keys_same [] (y ∷ ys) h = absurd h
+keys_same (x ∷ xs) [] h = absurd h
+keys_same (x ∷ xs) (y ∷ ys) h = ap₂ (λ (key : ℕ × ℕ) (keys : List (ℕ × ℕ)). key ∷ keys) (ap₂ (λ (a b : ℕ). (a, b)) h.0.node h.0.peer) (keys_same xs ys h.1)
+
 pub store_same : (t : Topology) (times : Times) (clock : ℕ) (nodes : List NodeView) (xs ys : List LinkView) (ds : List FrameParts) → AreSame xs ys → IsStore (state_of t times clock nodes xs ds) → IsStore (state_of t times clock nodes ys ds)
 store_same t times clock nodes xs ys ds same h = record {
   nodes = h.nodes;
   links = λ a k. h.links a k ∙ found_same a k xs ys same;
+  keys = keys_same xs ys same ∙ h.keys;
   rising_nodes = h.rising_nodes;
   rising_links = λ i j d lt within.
       let p = node_same xs ys same i d in

@@ -14,7 +14,7 @@ use Rattle.tora_core.specs.Kept.{destinations_of}
 use Rattle.tora_world.specs.LinkMachine.{put_at}
 use Rattle.tora_seat.specs.Serving.{put_one}
 use Rattle.tora_sim.specs.Keyed.{IsFirst, IsOrdered}
-use Rattle.tora_sim.specs.Links.{LinkView, is_at}
+use Rattle.tora_sim.specs.Links.{LinkView, is_at, key_of}
 use Rattle.tora_sim.specs.Nodes.{NodeView, is_of}
 use Rattle.tora_sim.specs.Store.{state_of, IsStore, IsLinkOf, IsNodeOf, IsOfLink, EachOf, AreEndsOf, link_at, node_at}
 use Rattle.tora_sim.specs.Links as Links
@@ -159,6 +159,17 @@ pub each_at : {A : Type 0} (read : ℕ → ℕ → Option LinkView → A) (xs ys
     → ◌≡◌ {A = ℕ → ℕ → A} (λ a b. read a b (xs a b)) (λ a b. read a b (ys a b))
 each_at {A} read xs ys same = fun_ext (λ a. fun_ext (λ b. ap (λ (g : ℕ → ℕ → A). g a b) (same a b)))
 
+-- the keys stay where an end takes the place of one with the same key
+pub keys_set : (links : List LinkView) (i : ℕ) (x new : LinkView) → slice_get links i ≡ Some x → key_of new ≡ key_of x → map key_of (set links i new) ≡ map key_of links
+keys_set [] i x new e q = refl
+keys_set (z ∷ links) zero x new e q = let is : z ≡ x = cc in ap (λ (key : ℕ × ℕ). key ∷ map key_of links) (q ∙ ap key_of (sym is))
+keys_set (z ∷ links) (suc i) x new e q = ap (λ (keys : List (ℕ × ℕ)). key_of z ∷ keys) (keys_set links i x new e q)
+
+-- the keys stay where each end is changed in place
+pub keys_map : (f : LinkView → LinkView) → ((x : LinkView) → key_of (f x) ≡ key_of x) → (links : List LinkView) → map key_of (map f links) ≡ map key_of links
+keys_map f same [] = refl
+keys_map f same (x ∷ links) = ap₂ (λ (key : ℕ × ℕ) (keys : List (ℕ × ℕ)). key ∷ keys) (same x) (keys_map f same links)
+
 module _ (n k : ℕ) (links : List LinkView) (i : ℕ) (x new : LinkView) (first : IsFirst (is_at n k) links i) (there : slice_get links i ≡ Some x) (same : IsSameLink x new) where
   here : is_at n k x ≡ true
   here = subst (λ z. is_at n k z ≡ true) (get_or_from_slice_get links i x x there) (first.here x)
@@ -242,6 +253,7 @@ module _ (n k : ℕ) (links : List LinkView) (i : ℕ) (x new : LinkView) (first
   store_set t times clock nodes ds h = record {
     nodes = h.nodes;
     links = λ a b. h.links a b ∙ still_there a b;
+    keys = keys_set links i x new there (ap₂ (λ (a b : ℕ). (a, b)) same.node same.peer) ∙ h.keys;
     rising_nodes = h.rising_nodes;
     rising_links = rising_set h.rising_links;
     each_node = h.each_node;
@@ -345,6 +357,7 @@ module _ (n : ℕ) (nodes : List NodeView) (i : ℕ) (x new : NodeView) (first :
   store_set_node t times clock links ds h = record {
     nodes = λ a. h.nodes a ∙ sym (ap (λ (g : ℕ → Bool). g a) (node_stays is_some refl));
     links = h.links;
+    keys = h.keys;
     rising_nodes = rising_node_set h.rising_nodes;
     rising_links = h.rising_links;
     each_node = each_set (IsNodeOf t) nodes i new h.each_node (node_set t (h.each_node i x there));
@@ -359,6 +372,7 @@ pub store_push : (t : Topology) (times : Times) (clock : ℕ) (nodes : List Node
 store_push t times clock nodes links ds f p h = record {
   nodes = h.nodes;
   links = h.links;
+  keys = h.keys;
   rising_nodes = h.rising_nodes;
   rising_links = h.rising_links;
   each_node = h.each_node;

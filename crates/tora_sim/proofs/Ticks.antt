@@ -15,7 +15,7 @@ use Rattle.tora_sim.specs.Store.{state_of, world_of, IsStore, IsLinkOf, link_at,
 use Rattle.tora_sim.specs.Steps.{IsDone}
 use Rattle.tora_sim.specs.Links as Links
 use Rattle.tora_sim.proofs.Opens.{links_same}
-use Rattle.tora_sim.proofs.Stores.{each_at, is_found, each_map, ordered_map, ends_map}
+use Rattle.tora_sim.proofs.Stores.{each_at, is_found, each_map, ordered_map, ends_map, keys_map}
 
 link_map : (now n k : ℕ) (links : List LinkView) → link_at (map (ticked now) links) n k ≡ option_map (ticked now) (link_at links n k)
 link_map now n k [] = refl
@@ -59,6 +59,7 @@ module _ (t : Topology) (times : Times) (clock : ℕ) (nodes : List NodeView) (l
   tick_store_at = record {
     nodes = h.nodes;
     links = λ n k. h.links n k ∙ sym (ap (λ (g : ℕ → ℕ → Bool). g n k) (stays is_some (clock + 1) (λ x. refl)));
+    keys = keys_map (ticked (clock + 1)) (λ x. refl) links ∙ h.keys;
     rising_nodes = h.rising_nodes;
     rising_links = ordered_map Links.ComesBefore (ticked (clock + 1)) (λ x y b. b) links h.rising_links;
     each_node = h.each_node;

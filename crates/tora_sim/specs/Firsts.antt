@@ -11,7 +11,7 @@ use Rattle.tora_seat.specs.Rows.{first_seat}
 use Rattle.tora_world.specs.Topology.{Topology, version_at, neighbours_of, new_core}
 use Rattle.tora_world.specs.World.{place_of, owner_of}
 use Rattle.tora_sim.specs.declared.nodes.Sending.TheVariants.{Goes}
-use Rattle.tora_sim.specs.Links.{LinkView}
+use Rattle.tora_sim.specs.Links.{LinkView, key_of}
 use Rattle.tora_sim.specs.Nodes.{NodeView}
 use Rattle.tora_sim.specs.Store.{EachOf}
 use Rattle.tora_sim.specs.Readers.{ends_at}
@@ -39,10 +39,6 @@ pub record IsFirstNode (t : Topology) (node : NodeView) : Type 0 where
   pub counts : node.counts ≡ replicate (suc node.count) 0
   pub sending : node.sending ≡ Goes
   pub receive : node.receive ≡ false
-
--- of which node and towards which peer a link end is
-abbrev pub key_of : LinkView → ℕ × ℕ
-key_of link = (link.node, link.peer)
 
 -- the ends of a node stand among these one behind the other, from its first on
 pub record HasEnds (t : Topology) (keys : List (ℕ × ℕ)) (node : NodeView) : Type 0 where

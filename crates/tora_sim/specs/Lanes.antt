@@ -1,6 +1,7 @@
 -- The lanes from a node's core to its neighbours: the ends of the node's links stand one behind the other among all ends.
 use Rattle.std.specs.Prelude.{◌≡◌, ℕ, ◌+◌, ◌<◌, ◌≤◌, nat_lt, Bool, List, [], ◌∷◌, ◌++◌, length, map, slice_get, slice_set, Some, if◌then◌else◌}
 use Rattle.tora_seat.specs.declared.Cargo.{Cargo}
+use Rattle.tora_seat.specs.declared.TheConstants.{MOST_CARGOES}
 use Rattle.tora_sim.specs.Links.{LinkView, waiting}
 
 pub record LanesView : Type 0 where
@@ -15,9 +16,9 @@ lanes_of links first count = record { links = links; first = first; count = coun
 abbrev pub after_offer_at : LinkView → Cargo → Bool → LinkView
 after_offer_at link cargo put = record link { put = link.put ++ (if put then cargo ∷ [] else []) }
 
--- fewer than 256 cargoes wait
+-- fewer cargoes wait than a lane holds
 abbrev pub has_place : LinkView → Bool
-has_place link = nat_lt (length (waiting link)) 256
+has_place link = nat_lt (length (waiting link)) MOST_CARGOES
 
 -- what an offer to the lane at a place made of the lanes
 pub record DidOffer (before : LanesView) (place : ℕ) (cargo : Cargo) (put : Bool) (after : LanesView) : Type 0 where
@@ -29,7 +30,7 @@ pub record DidOffer (before : LanesView) (place : ℕ) (cargo : Cargo) (put : Bo
 
 -- there is memory for as many cargoes as one item can put, and for the packet that it steps
 pub record HasRoom (link : LinkView) : Type 0 where
-  pub cargoes : link.pulled + 256 ≤ link.room
+  pub cargoes : link.pulled + MOST_CARGOES ≤ link.room
   pub step : length link.steps < link.step_room
 
 pub record AreReady (lanes : LanesView) : Type 0 where

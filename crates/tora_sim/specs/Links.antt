@@ -51,6 +51,10 @@ link_of node peer seat end file put pulled room steps step_room = record {
 abbrev pub is_at : ℕ → ℕ → LinkView → Bool
 is_at n k link = (link.node == n) && (link.peer == k)
 
+-- of which node and towards which peer a link end is
+abbrev pub key_of : LinkView → ℕ × ℕ
+key_of link = (link.node, link.peer)
+
 -- what waits in the lane
 abbrev pub waiting : LinkView → List Cargo
 waiting link = drop link.pulled link.put

@@ -1,7 +1,8 @@
 -- Worlds in which nothing is to be done, and until which tick what is stored stays so.
 use Rattle.std.specs.Prelude.{◌≡◌, ℕ, ◌<◌, ◌==◌, Bool, true, false, is_some, List, length}
 use Rattle.std.specs.List.{list_all}
-use Rattle.tora_arq.specs.LinkEnd.{is_closed, first_event, frame_due, after_tick}
+use Rattle.tora_arq.specs.Settings.{Settings}
+use Rattle.tora_arq.specs.LinkEnd.{EndState, is_closed, first_event, frame_due, after_tick}
 use Rattle.tora_world.specs.declared.Event.TheVariants.{Open, Pull, Transmit, Pump, CoreTurn}
 use Rattle.tora_world.specs.World.{World, refusal_of}
 use Rattle.tora_sim.specs.Links.{LinkView}
@@ -17,13 +18,27 @@ pub record IsQuiet (w : World) : Type 0 where
   pub sends : (n k : ℕ) → is_some (refusal_of w (Transmit n k)) ≡ true
   pub pumps : (n k : ℕ) → is_some (refusal_of w (Pump n k)) ≡ true
 
--- nothing is to be done at a link end before a tick, and no tick before it changes the end
-pub record IsStill (until : ℕ) (link : LinkView) : Type 0 where
-  pub opened : is_closed link.state ≡ false
-  pub lane : has_cargo link ≡ false
-  pub events : is_some (first_event link.state) ≡ false
-  pub frames : (tick : ℕ) → tick < until → is_some (frame_due link.settings link.state tick) ≡ false
-  pub ticks : (tick : ℕ) → tick < until → after_tick link.settings link.state tick ≡ link.state
+-- a link end can't be opened, take a cargo, send a frame or give an event
+pub record IsQuietEnd (w : World) (n k : ℕ) : Type 0 where
+  pub opens : is_some (refusal_of w (Open n k)) ≡ true
+  pub pulls : is_some (refusal_of w (Pull n k)) ≡ true
+  pub sends : is_some (refusal_of w (Transmit n k)) ≡ true
+  pub pumps : is_some (refusal_of w (Pump n k)) ≡ true
+
+-- nothing is to be done before a tick at an end of these settings and this state, in whose lane a cargo waits or none, and no tick before it changes the end
+pub record IsStillEnd (until : ℕ) (settings : Settings) (state : EndState) (waits : Bool) : Type 0 where
+  pub opened : is_closed state ≡ false
+  pub lane : waits ≡ false
+  pub events : is_some (first_event state) ≡ false
+  pub frames : (tick : ℕ) → tick < until → is_some (frame_due settings state tick) ≡ false
+  pub ticks : (tick : ℕ) → tick < until → after_tick settings state tick ≡ state
+
+abbrev pub IsStill : ℕ → LinkView → Type 0
+IsStill until link = IsStillEnd until link.settings link.state (has_cargo link)
+
+-- the same, but that the tick 0 says nothing
+abbrev pub IsStillIf : ℕ → LinkView → Type 0
+IsStillIf until link = 0 < until → IsStill until link
 
 -- no item waits for the core of a node
 abbrev pub is_idle : NodeView → Bool

@@ -1,5 +1,5 @@
 -- What the simulator stores, and the world that it is.
-use Rattle.std.specs.Prelude.{◌≡◌, ℕ, zero, suc, ◌≤◌, ◌+◌, true, false, is_some, List, [], length, slice_get, slice_index, Option, Some, None, find}
+use Rattle.std.specs.Prelude.{◌≡◌, ℕ, zero, suc, ◌≤◌, ◌+◌, true, false, is_some, List, [], length, slice_get, slice_index, map, Option, Some, None, find}
 use Rattle.tora_frame.specs.FrameParts.{FrameParts}
 use Rattle.tora_arq.specs.declared.Times.{Times}
 use Rattle.tora_arq.specs.Settings.{settings_of}
@@ -20,10 +20,11 @@ use Rattle.tora_seat.specs.Rows as Rows
 use Rattle.tora_world.specs.Topology.{Topology, version_at, is_node, is_link, neighbours_of}
 use Rattle.tora_world.specs.World.{World, Arms, first_seat, place_of, owner_of}
 use Rattle.tora_world.specs.World.Sending.{Goes}
-use Rattle.tora_sim.specs.Links.{LinkView, is_at, waiting}
+use Rattle.tora_sim.specs.Links.{LinkView, is_at, key_of, waiting}
 use Rattle.tora_sim.specs.Nodes.{NodeView, is_of, sending_of}
 use Rattle.tora_sim.specs.Links as Links
 use Rattle.tora_sim.specs.Nodes as Nodes
+use Rattle.tora_sim.specs.Readers.{ends_in}
 
 pub record SimState : Type 0 where
   pub topology : Topology
@@ -135,6 +136,7 @@ IsOfLink t f = is_link t f.header.receiver f.header.sender ≡ true
 pub record IsStore (s : SimState) : Type 0 where
   pub nodes : (n : ℕ) → is_node s.topology n ≡ is_some (node_at s.nodes n)
   pub links : (n k : ℕ) → is_link s.topology n k ≡ is_some (link_at s.links n k)
+  pub keys : map key_of s.links ≡ ends_in s.topology
   pub rising_nodes : Nodes.AreRising s.nodes
   pub rising_links : Links.AreRising s.links
   pub each_node : EachOf (IsNodeOf s.topology) s.nodes

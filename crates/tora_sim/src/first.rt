@@ -185,6 +185,7 @@ fn new_link(
         end,
         file: open(MemDisk::new(), Owner { node: n, peer: k }),
         put: Vec::new(alloc),
+        still: 0,
         pulled: 0,
         steps: Vec::new(alloc),
     })

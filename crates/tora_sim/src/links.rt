@@ -5,6 +5,7 @@ ghost use Rattle.tora_arq.specs.LinkEnd.{is_closed, after_frame, after_tick, fra
 ghost use Rattle.tora_sim.specs.Links.{with_state, after_open_at, after_arm, after_pull_at, is_at, AreRising, ticked, AreChanged};
 ghost use Rattle.tora_arq.specs.LinkEnd.{first_end};
 ghost use Rattle.tora_arq.specs.EndRange.{link_end_of};
+ghost use Rattle.tora_seat.specs.declared.TheConstants.{MOST_CARGOES};
 ghost use Rattle.tora_sim.specs.Keyed.{IsFirst};
 ghost use Rattle.tora_sim.specs.Restarts.{restarted};
 ghost use Rattle.tora_sim.specs.Lanes.{after_offer_at, has_place, bare, HasRoom};
@@ -25,6 +26,9 @@ use tora_seat::{Cargo, MOST_CARGOES, hand_in};
 /// How many ends of a node are looked at one by one, before all are searched by halves.
 const MOST_TRIED: usize = 32;
 
+/// How many cargoes can be pulled from a lane before its memory has to grow.
+const SPARE_CARGOES: usize = 32;
+
 /// The end of a link at one node, with its life file and the lane from the node's core to it.
 #[derive(Drop)]
 pub struct LinkSlot {
@@ -32,7 +36,10 @@ pub struct LinkSlot {
     pub(crate) peer: Id,
     /// The place of the peer among the node's neighbours.
     pub(crate) seat: usize,
-    /// How many cargoes are no longer in the lane. What a round asks of each end stands in front.
+    /// Before this tick nothing is to be done here, and no tick changes the end; 0 where that isn't known. What a round asks
+    /// of each end stands in front.
+    pub(crate) still: u64,
+    /// How many cargoes are no longer in the lane.
     pub(crate) pulled: usize,
     /// All cargoes that were ever put into the lane.
     pub(crate) put: Vec<Cargo>,
@@ -48,12 +55,13 @@ impl Model for LinkSlot {
     ghost use Rattle.tora_world.specs.World.{owner_of};
     ghost use Rattle.tora_sim.specs.Files.{disk_of, IsDrawn};
     ghost use Rattle.tora_sim.specs.Links.{LinkView, link_of};
+    ghost use Rattle.tora_sim.specs.Quiet.{IsStillIf};
 
     ghost Value = { LinkView };
 
     ghost view = { λ s. link_of s.node s.peer s.seat s.end (disk_of s.file) s.put.items s.pulled (vec_capacity s.put) s.steps.items (vec_capacity s.steps) };
 
-    ghost invariant = { λ s. IsDrawn s.end.state.last_life (disk_of s.file) × (s.pulled ≤ length s.put.items) × (owner_in (disk_of s.file) ≡ owner_of s.end.settings.me s.end.settings.peer) };
+    ghost invariant = { λ s. IsDrawn s.end.state.last_life (disk_of s.file) × (s.pulled ≤ length s.put.items) × (owner_in (disk_of s.file) ≡ owner_of s.end.settings.me s.end.settings.peer) × IsStillIf s.still (link_of s.node s.peer s.seat s.end (disk_of s.file) s.put.items s.pulled (vec_capacity s.put) s.steps.items (vec_capacity s.steps)) };
 }
 
 impl LinkSlot {
@@ -118,7 +126,11 @@ impl LinkSlot {
     pub fn tick(&mut self, now: u64)
         ensures { self.new ≡ with_state self.old (after_tick self.old.settings self.old.state now) }
     {
+        if now < self.still {
+            return;
+        }
         lives_are_bound_once();
+        self.still = 0;
         self.end.on_tick(now);
     }
 
@@ -128,6 +140,7 @@ impl LinkSlot {
         ensures state { self.new ≡ with_state self.old (after_transmit self.old.settings self.old.state now) }
     {
         lives_are_bound_once();
+        self.still = 0;
         self.end.poll_transmit_into(now, packets)
     }
 
@@ -136,6 +149,7 @@ impl LinkSlot {
         ensures { self.new ≡ with_state self.old (after_frame self.old.settings self.old.state frame.now now) }
     {
         lives_are_bound_once();
+        self.still = 0;
         self.end.on_borrowed_frame(frame, now);
     }
 
@@ -145,6 +159,7 @@ impl LinkSlot {
         ensures state { self.new ≡ with_state self.old (after_poll_event self.old.state) }
     {
         lives_are_bound_once();
+        self.still = 0;
         self.end.poll_event()
     }
 
@@ -153,6 +168,7 @@ impl LinkSlot {
         requires { IsTrue (is_closed self.old.state) }
         ensures { self.new ≡ after_open_at self.old now }
     {
+        self.still = 0;
         if let Some(number) = self.file.draw() {
             self.end.open(number, now);
         }
@@ -179,12 +195,13 @@ impl LinkSlot {
     {
         lives_are_bound_once();
         let cargo = self.put[self.pulled];
+        self.still = 0;
         self.pulled += 1;
         hand_in(&mut self.end, &cargo);
     }
 
-    /// Takes the memory for all that one item of the node can put here: cargoes up to 256 that wait, and a packet that is
-    /// stepped.
+    /// Takes the memory for all that one item of the node can put here: cargoes up to as many as a lane holds, and a packet
+    /// that is stepped.
     ///
     /// # Errors
     /// `Memory`. The end is as it was either way.
@@ -193,29 +210,44 @@ impl LinkSlot {
         ensures room { OnOk result (HasRoom self.new) }
         ensures memory { IfErr result (λ e. e ≡ SimError.Memory) }
     {
-        let waiting = self.put.len() - self.pulled;
-        if self
-            .put
-            .reserve(MOST_CARGOES.saturating_sub(waiting))
-            .is_err()
-        {
-            return Err(SimError::Memory);
-        }
+        self.make_room_in_lane()?;
         if self.steps.reserve(1).is_err() {
             return Err(SimError::Memory);
         }
         Ok(())
     }
 
-    /// Puts a cargo at the back of the lane, where fewer than 256 wait, and answers whether it was put.
+    /// Takes the memory for cargoes up to as many as the lane holds, where there is less, and for some that come once these
+    /// are pulled.
+    ///
+    /// # Errors
+    /// `Memory`. The end is as it was either way.
+    fn make_room_in_lane(&mut self) -> Result<(), SimError>
+        ensures same { record self.new { room = 0 } ≡ record self.old { room = 0 } }
+        ensures room { OnOk result (self.new.pulled + MOST_CARGOES ≤ self.new.room) }
+        ensures memory { IfErr result (λ e. e ≡ SimError.Memory) }
+    {
+        let waiting = self.put.len() - self.pulled;
+        let needed = MOST_CARGOES.saturating_sub(waiting);
+        if needed <= self.put.capacity() - self.put.len() {
+            return Ok(());
+        }
+        if self.put.reserve(needed + SPARE_CARGOES).is_err() {
+            return Err(SimError::Memory);
+        }
+        Ok(())
+    }
+
+    /// Puts a cargo at the back of the lane, where fewer wait than it holds, and answers whether it was put.
     pub fn offer(&mut self, cargo: Cargo) -> bool
-        requires { self.old.pulled + 256 ≤ self.old.room }
+        requires { self.old.pulled + MOST_CARGOES ≤ self.old.room }
         ensures put { result ≡ has_place self.old }
         ensures lane { self.new ≡ after_offer_at self.old cargo result }
     {
         if self.put.len() - self.pulled >= MOST_CARGOES {
             return false;
         }
+        self.still = 0;
         self.put.push_reserved(cargo);
         true
     }
@@ -246,6 +278,7 @@ impl LinkSlot {
             node: self.end.me(),
             peer: self.end.peer(),
         };
+        self.still = 0;
         mem::swap(&mut self.end, end);
         let file = mem::replace(&mut self.file, FileSlot::Unopened(owner, MemDisk::new()));
         self.file = file.restart(owner, torn);

@@ -1,7 +1,7 @@
 //! Until which tick nothing is to be done.
-ghost use Rattle.std.specs.Prelude.{◌≡◌, ◌<◌, true};
+ghost use Rattle.std.specs.Prelude.{◌≡◌, ◌<◌, ◌+◌, true};
 ghost use Rattle.std.specs.List.{list_all};
-ghost use Rattle.tora_sim.specs.Quiet.{IsQuiet, IsStill, is_idle, AreStill};
+ghost use Rattle.tora_sim.specs.Quiet.{IsQuiet, IsStill, IsStillIf, is_idle, AreStill};
 ghost use Rattle.tora_sim.specs.Store.{EachOf, world_of};
 
 use crate::links::LinkSlot;
@@ -19,14 +19,15 @@ impl Sim {
         self.clock < self.quiet
     }
 
-    /// Looks at every node and link end for the tick before which nothing is to be done, where that isn't known: until then
-    /// a tick changes the clock alone. The world stays as it is.
+    /// Looks at every node, and at each link end where that isn't known, for the tick before which nothing is to be done: until
+    /// then a tick changes the clock alone, and `next_due` leaves a link end out. The world stays as it is.
     pub fn settle(&mut self)
         ensures { self.new ≡ self.old }
     {
         if self.clock < self.quiet {
             return;
         }
+        settle_ends(&mut self.links, self.clock);
         let until = quiet_until(&self.nodes, &self.links);
         self.quiet = until;
     }
@@ -42,6 +43,16 @@ fn quiet_until(nodes: &Vec<NodeSlot>, links: &Vec<LinkSlot>) -> u64
     still_until(links)
 }
 
+/// Looks at each link end for the tick before which nothing is to be done at it, where that isn't known.
+fn settle_ends(links: &mut Vec<LinkSlot>, now: u64)
+    ensures { links.new.items ≡ links.old.items }
+{
+    let count = links.len();
+    for place in 0..count {
+        links[place].settle(now);
+    }
+}
+
 fn are_idle(nodes: &Vec<NodeSlot>) -> bool
     ensures { result ≡ list_all is_idle nodes.now.items }
 {
@@ -55,7 +66,7 @@ fn still_until(links: &Vec<LinkSlot>) -> u64
     let mut until = u64::MAX;
     let count = links.len();
     for place in 0..count {
-        let here = links[place].still_until();
+        let here = links[place].known_still();
         if here == 0 {
             return 0;
         }
@@ -74,9 +85,37 @@ impl NodeSlot {
 }
 
 impl LinkSlot {
+    /// Looks before which tick nothing is to be done here, unless it is known at a tick that nothing is.
+    #[inline(always)]
+    fn settle(&mut self, now: u64)
+        ensures { self.new ≡ self.old }
+    {
+        if now < self.still {
+            return;
+        }
+        let until = self.still_until();
+        self.still = until;
+    }
+
+    /// Before which tick it is known that nothing is to be done here; 0 where that isn't known.
+    #[inline(always)]
+    fn known_still(&self) -> u64
+        ensures { IsStillIf result self.now }
+    {
+        self.still
+    }
+
+    /// Whether it is known that nothing is to be done here at a tick.
+    #[inline(always)]
+    pub fn is_still(&self, now: u64) -> bool
+        ensures { result ≡ true → IsStill (now + 1) self.now }
+    {
+        now < self.still
+    }
+
     /// Before which tick nothing is to be done here; 0 where something is to be done at once.
     fn still_until(&self) -> u64
-        ensures { 0 < result → IsStill result self.now }
+        ensures { IsStillIf result self.now }
     {
         if self.is_closed() {
             return 0;

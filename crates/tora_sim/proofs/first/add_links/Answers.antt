@@ -1,8 +1,8 @@
 use Rattle.std.proofs.Common.{◌≡◌, ◌≢◌, ◌<◌, ℕ, List, length, map, get_or, sym, ap, ◌∙◌, subst}
 use Rattle.tora_world.specs.Topology.{version_at, neighbours_of}
-use Rattle.tora_sim.specs.Links.{LinkView}
+use Rattle.tora_sim.specs.Links.{LinkView, key_of}
 use Rattle.tora_sim.specs.Store.{EachOf}
-use Rattle.tora_sim.specs.Firsts.{IsFirstEnd, IsFirstLink, key_of}
+use Rattle.tora_sim.specs.Firsts.{IsFirstEnd, IsFirstLink}
 use Rattle.tora_sim.proofs.Stores.{each_push}
 use Rattle.tora_sim.proofs.Peers.{positive-peer, other-peer}
 use Rattle.tora_sim.proofs.FirstLists.{first-link, keys-more}

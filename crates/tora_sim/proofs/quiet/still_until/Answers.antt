@@ -11,9 +11,9 @@ loop-place-preserved c =
     let l = c.loop-place in
     let links = c.args.links.now.items in
     let lt : l.place < length links = omega (arith, c.loop-place-test.true, c.len-count.ensures) in
-    let here : IsStill c.still_until-here.result c.index.result.now = c.still_until-here.ensures (omega (arith, c.if-here-eq0.false)) in
+    let here : IsStill c.known_still-here.result c.index.result.now = c.known_still-here.ensures (omega (arith, c.if-here-eq0.false)) in
     subst (λ (until : ℕ). (i : ℕ) (x : LinkView) → i < l.place + 1 → slice_get links i ≡ Some x → IsStill until x) (sym c.min-until.ensures)
-    (one_more links l.place l.until c.still_until-here.result c.index.result.now lt c.index.ensures l.invariant here)
+    (one_more links l.place l.until c.known_still-here.result c.index.result.now lt c.index.ensures l.invariant here)
 
 pub returns : goal.returns
 returns c some i x e =

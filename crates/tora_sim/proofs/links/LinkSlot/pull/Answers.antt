@@ -17,6 +17,7 @@ invariant_of-self c =
           (cargo_stays c.lives_are_bound_once.ensures.number end.settings end.state c.index.result.now) c.self.invariant.0,
       (let w : c.self.inside.pulled < length c.self.inside.put.items = subst (λ (v : LinkView). v.pulled < length v.put) (sym c.self.view_is) c.requires in omega arith),
       c.self.invariant.2 ∙ sym (ap (λ (e : LinkEndView). owner_of e.settings.me e.settings.peer) c.hand_in.ensures),
+      λ none. absurd (omega (arith, none)),
     )
 
 pub returns : goal.returns

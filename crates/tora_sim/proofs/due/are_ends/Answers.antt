@@ -1,0 +1,24 @@
+use Rattle.std.proofs.Common.{◌≡◌, ◌<◌, ◌≤◌, ◌+◌, ◌∙◌, ℕ, suc, Some, true, sym, ap, refl, subst, arith, take, map, length}
+use Rattle.std.proofs.lemmas.List.{take_all}
+use Rattle.std.proofs.lemmas.Option.{slice_get_read, slice_get-get_or}
+use Rattle.tora_sim.specs.Links.{LinkView, key_of}
+use Rattle.tora_sim.proofs.Quiets.{one_named}
+use Rattle.tora_sim.proofs.due.are_ends.Goals as goal
+
+pub loop-place-preserved : goal.loop-place-preserved
+loop-place-preserved c =
+    let ends = c.args.ends.now in
+    let links = c.args.links.now in
+    let place = c.loop-place.place in
+    let plus : suc place ≡ place + 1 = omega arith in
+    let less : place < length links = omega (arith, c.loop-place-test.true, c.if-links-ends.false) in
+    subst (λ (m : ℕ). take m ends ≡ map key_of (take m links)) plus
+    (one_named ends links place _ c.index-links-place.result c.loop-place.invariant c.loop-place-test.true less (slice_get-get_or ends place (0, 0) c.loop-place-test.true)
+    (slice_get_read links (length links) place c.index-links-place.result refl less c.index-links-place.is) (sym c.is_end.ensures ∙ c.if-not-is_end.false))
+
+pub returns : goal.returns
+returns c same =
+    let ends = c.args.ends.now in
+    let links = c.args.links.now in
+    let place = c.loop-place.place in
+    sym (take_all place ends c.loop-place-test.false) ∙ c.loop-place.invariant ∙ ap (map key_of) (take_all place links (omega (arith, c.loop-place-test.false, c.if-links-ends.false)))

@@ -1,0 +1,57 @@
+//! Where something may be to be done, among the link ends.
+ghost use Rattle.std.specs.Prelude.{◌≡◌, ◌<◌, ◌≤◌, ◌+◌, ℕ, true, Some, length, map, slice_get};
+ghost use Rattle.tora_sim.specs.Links.{LinkView, key_of};
+ghost use Rattle.tora_sim.specs.Quiet.{IsQuietEnd, IsStill};
+ghost use Rattle.tora_sim.specs.Readers.{ends_in};
+ghost use Rattle.tora_sim.specs.Store.{world_of};
+
+use crate::links::LinkSlot;
+use crate::sim::Sim;
+use tora_height::Id;
+
+impl Sim {
+    /// Whether these are the link ends, in the order of `ends`.
+    pub fn has_ends(&self, ends: &[(Id, Id)]) -> bool
+        ensures { result ≡ true → ends.now ≡ ends_in self.now.topology }
+    {
+        are_ends(&self.links, ends)
+    }
+
+    /// The first place from `place` on, in the order of `ends` and from 0 on, at which a link end may have something to do: the
+    /// ends that are passed over can't be opened, take a cargo, send a frame or give an event. Only ends are passed over of which
+    /// `settle` found until which tick that is so, and at which no event happened since.
+    #[inline(always)]
+    pub fn next_due(&self, place: usize) -> usize
+        ensures onward { place ≤ result }
+        ensures passed { (at : ℕ) (end : ℕ × ℕ) → place ≤ at → at < result → slice_get (ends_in self.now.topology) at ≡ Some end → IsQuietEnd (world_of self.now) end.0 end.1 }
+    {
+        next_due(&self.links, self.clock, place)
+    }
+}
+
+fn are_ends(links: &[LinkSlot], ends: &[(Id, Id)]) -> bool
+    ensures { result ≡ true → ends.now ≡ map key_of links.now }
+{
+    if links.len() != ends.len() {
+        return false;
+    }
+    for (place, end) in ends.iter().enumerate() {
+        if !links[place].is_end(end.0, end.1) {
+            return false;
+        }
+    }
+    true
+}
+
+#[inline(always)]
+fn next_due(links: &[LinkSlot], now: u64, place: usize) -> usize
+    ensures onward { place ≤ result }
+    ensures passed { (at : ℕ) (link : LinkView) → place ≤ at → at < result → slice_get links.now at ≡ Some link → IsStill (now + 1) link }
+{
+    for at in place..links.len() {
+        if !links[at].is_still(now) {
+            return at;
+        }
+    }
+    place.max(links.len())
+}
