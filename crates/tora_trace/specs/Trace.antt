@@ -84,6 +84,13 @@ first_trace nodes ends destinations = record { copies = map (first_copy_of ends 
 abbrev pub is_copy_of : ℕ → CopyState → Bool
 is_copy_of n c = c.core.me == n
 
+-- the node of a copy
+abbrev pub owner_of : CopyState → ℕ
+owner_of c = c.core.me
+
+abbrev pub owners_of : List CopyState → List ℕ
+owners_of copies = map owner_of copies
+
 -- the copy at a place, and the text, are others
 abbrev pub with_told : TraceState → ℕ → Told → TraceState
 with_told s at told = record s { copies = slice_set s.copies at told.0; text = told.1 }

@@ -1,5 +1,5 @@
 //! A copy of a node's core, which tells of each input that the core accepted.
-ghost use Rattle.std.specs.Prelude.{◌≡◌, ◌==◌, ◌<◌, All, true, nat_lt, IfOk, IfErr, OnOk, MatchOption, Err, None, string_bytes};
+ghost use Rattle.std.specs.Prelude.{◌≡◌, ◌<◌, All, true, nat_lt, IfOk, IfErr, OnOk, MatchOption, Err, None, string_bytes};
 ghost use Rattle.std.specs.List.{list_all};
 ghost use Rattle.tora_trace.specs.Copies.{TakesInput, TakesInputs, Restarts, are_ids, copy_refusal, first_copy, copy_after, input_records, after_input, after_inputs, copy_restarted, restart_records};
 
@@ -74,15 +74,8 @@ impl CoreCopy {
         })
     }
 
-    /// Whether it is that of node `n`.
-    pub fn is_of(&self, n: Id) -> bool
-        ensures { result ≡ (self.now.core.me == n) }
-    {
-        self.core.me() == n
-    }
-
     /// Steps an input that the core accepted, and puts its records behind a text.
-    #[tactic(auto, unfolding(crate::specs::Copies::copy_after, crate::specs::Copies::input_records))]
+    #[tactic(auto, unfolding(crate::specs::Copies::copy_after, crate::specs::Copies::input_records), using(crate::proofs::Owners::me_stays))]
     fn step(
         &mut self,
         input: &Input,
@@ -91,7 +84,8 @@ impl CoreCopy {
         sends: &mut Sends,
         out: &mut String,
     ) -> Result<(), AllocError>
-        ensures { OnOk result (TakesInput life self.old input.now now self.new (string_bytes out.old) (string_bytes out.new)) }
+        ensures told { OnOk result (TakesInput life self.old input.now now self.new (string_bytes out.old) (string_bytes out.new)) }
+        ensures me { self.new.core.me ≡ self.old.core.me }
     {
         note_lives(&mut self.lives, input, life)?;
         // The copy accepts what its core accepted.
@@ -113,7 +107,8 @@ impl CoreCopy {
         sends: &mut Sends,
         out: &mut String,
     ) -> Result<(), AllocError>
-        ensures { OnOk result (TakesInputs life self.old inputs.now self.new (string_bytes out.old) (string_bytes out.new)) }
+        ensures told { OnOk result (TakesInputs life self.old inputs.now self.new (string_bytes out.old) (string_bytes out.new)) }
+        ensures me { self.new.core.me ≡ self.old.core.me }
     {
         for (input, now) in inputs {
             self.step(input, *now, life, sends, out)?;
@@ -124,7 +119,8 @@ impl CoreCopy {
     /// Takes a new core in place of its own, and puts the records of the routes that changed so behind a text.
     #[tactic(auto, unfolding(crate::specs::Copies::copy_restarted, crate::specs::Copies::restart_records))]
     pub fn restart(&mut self, alloc: Global, now: u64, out: &mut String) -> Result<(), AllocError>
-        ensures { OnOk result (Restarts now self.old self.new (string_bytes out.old) (string_bytes out.new)) }
+        ensures told { OnOk result (Restarts now self.old self.new (string_bytes out.old) (string_bytes out.new)) }
+        ensures me { self.new.core.me ≡ self.old.core.me }
     {
         let core = &self.core;
         let Ok(core) = Core::with_limits(

@@ -8,6 +8,7 @@
 mod core_copy;
 mod counts;
 mod lives;
+mod names;
 mod packets;
 mod route;
 mod text;

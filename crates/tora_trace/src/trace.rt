@@ -3,10 +3,11 @@ ghost use Rattle.std.specs.Prelude.{◌≡◌, ◌⊎◌, ◌++◌, IfOk, IfErr,
 ghost use Rattle.std.specs.List.{position};
 ghost use Rattle.tora_trace.specs.Records.{need_record, part_record, mend_record};
 ghost use Rattle.tora_trace.specs.Copies.{after_inputs};
-ghost use Rattle.tora_trace.specs.Trace.{Tells, first_trace, refusal_of, trace_refusal, first_copy_of, peer_of, neighbours_in, is_copy_of, with_text, with_frame, after_frames, frames_told, after_restart};
+ghost use Rattle.tora_trace.specs.Trace.{Tells, first_trace, refusal_of, trace_refusal, first_copy_of, peer_of, neighbours_in, is_copy_of, owners_of, with_text, with_frame, after_frames, frames_told, after_restart};
 
 use crate::core_copy::CoreCopy;
 use crate::counts::{FrameCounts, write_frames};
+use crate::names::Names;
 use std::alloc::{AllocError, Global};
 use std::marker::Model;
 use tora_arq::Life;
@@ -21,6 +22,8 @@ use tora_height::Id;
 /// records; the trace is then of no more use but for its text. Own profile.
 #[derive(Drop)]
 pub struct Trace {
+    /// The nodes, by whose places the copies stand.
+    names: Names,
     copies: Vec<CoreCopy>,
     counts: FrameCounts,
     /// A list for the packets of a step.
@@ -29,12 +32,14 @@ pub struct Trace {
 }
 
 impl Model for Trace {
-    ghost use Rattle.std.specs.Prelude.{string_bytes};
-    ghost use Rattle.tora_trace.specs.Trace.{TraceState};
+    ghost use Rattle.std.specs.Prelude.{◌≡◌, string_bytes};
+    ghost use Rattle.tora_trace.specs.Trace.{TraceState, owners_of};
 
     ghost Value = { TraceState };
 
     ghost view = { λ t. record { copies = t.copies.items; counts = t.counts; text = string_bytes t.text } };
+
+    ghost invariant = { λ t. owners_of t.copies.items ≡ t.names };
 }
 
 /// The neighbour of a link end, where it is one of this node.
@@ -70,11 +75,13 @@ fn first_copy(
     CoreCopy::new(alloc, n, neighbours.as_slice(), destinations)
 }
 
-/// The place of the copy of a node's core.
-fn place(copies: &[CoreCopy], n: Id) -> Option<usize>
+/// The place of the copy of a node's core, where the copies stand in the order of these nodes: no copy is looked at.
+fn place(names: &Names, copies: &[CoreCopy], n: Id) -> Option<usize>
+    requires { owners_of copies.now ≡ names.now }
     ensures { result ≡ position (is_copy_of n) copies.now }
 {
-    copies.iter().position(|copy| copy.is_of(n))
+    let _ = copies;
+    names.place(n)
 }
 
 impl Trace {
@@ -94,6 +101,9 @@ impl Trace {
         ensures accepted { OnOk result (trace_refusal nodes.now ends.now destinations.now ≡ None) }
         ensures refused { IfErr result (λ e. (e ≡ CoreError.Memory) ⊎ (trace_refusal nodes.now ends.now destinations.now ≡ Some e)) }
     {
+        let Ok(names) = Names::new(alloc, nodes) else {
+            return Err(CoreError::Memory);
+        };
         let Ok(mut copies) = Vec::with_capacity(alloc, nodes.len()) else {
             return Err(CoreError::Memory);
         };
@@ -104,6 +114,7 @@ impl Trace {
             }
         }
         Ok(Trace {
+            names,
             copies,
             counts: FrameCounts::none(),
             sends: Sends::new(),
@@ -171,7 +182,7 @@ impl Trace {
     ) -> Result<(), AllocError>
         ensures { OnOk result (Tells n self.old (after_inputs life inputs.now) self.new) }
     {
-        match place(self.copies.as_slice(), n) {
+        match place(&self.names, self.copies.as_slice(), n) {
             None => Ok(()),
             Some(at) => { self.copies[at].step_all(inputs, life, &mut self.sends, &mut self.text) }
         }
@@ -185,7 +196,7 @@ impl Trace {
         ensures { OnOk result (Tells n self.old (after_restart now) self.new) }
     {
         let alloc = *self.text.allocator();
-        match place(self.copies.as_slice(), n) {
+        match place(&self.names, self.copies.as_slice(), n) {
             None => Ok(()),
             Some(at) => self.copies[at].restart(alloc, now, &mut self.text),
         }
