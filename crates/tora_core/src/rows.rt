@@ -12,9 +12,9 @@ use tora_height::{Entry, Height, Id, Level};
 /// What a node knows of one neighbour whose link is up.
 #[derive(Clone, Copy, Debug, Default, PartialEq, Eq, Hash)]
 pub struct Row {
-    pub neighbour: Id,
     /// The height that the neighbour told last, `None` for NULL.
     pub entry: Entry,
+    pub neighbour: Id,
     /// Whether an update was broadcast since the link came up.
     pub told: bool,
 }
