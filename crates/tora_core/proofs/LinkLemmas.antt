@@ -1,5 +1,5 @@
 -- What is kept of rows, after each change.
-use Rattle.std.proofs.Common.{◌≡◌, ◌≢◌, refl, ap, sym, subst, ◌∙◌, ℕ, zero, suc, ◌+◌, ◌<◌, ◌≤◌, ◌-◌, ◌==◌, Bool, true, false, not, ◌||◌, ◌&&◌, List, [], ◌∷◌, ◌++◌, take, drop, length, Option, Some, None, is_none, is_some, nat_lt, arith}
+use Rattle.std.proofs.Common.{◌≡◌, ◌≢◌, refl, ap, sym, subst, ◌∙◌, ℕ, zero, suc, ◌+◌, ◌<◌, ◌≤◌, ◌-◌, ◌==◌, Bool, true, false, not, ◌||◌, ◌&&◌, List, [], ◌∷◌, ◌++◌, map, take, drop, length, Option, Some, None, is_none, is_some, nat_lt, arith}
 use Rattle.std.specs.Prelude.{if◌then◌else◌, filter, fold, option_map, IfSome, slice_set, slice_index_or}
 use Rattle.std.specs.List.{AllByRecursion, cons_option, insert, remove, list_any, position_or_len, refill}
 use Rattle.std.specs.Ordering.{is_lt}
@@ -12,11 +12,12 @@ use Rattle.std.proofs.lemmas.List.Filters.{length-filter_more}
 use Rattle.std.proofs.lemmas.List.Sums.{prefix_len-le-length}
 use Rattle.std.proofs.lemmas.Bool.Decides.{nat_tests}
 use Rattle.tora_height.specs.declared.Direction.{Direction}
+use Rattle.tora_height.specs.declared.Direction.TheVariants.{Undirected}
 use Rattle.tora_height.specs.Height.{Quintuple}
 use Rattle.tora_height.specs.HeightOrder.{direction_by, height_cmp, link_status}
 use Rattle.tora_core.specs.declared.rows.Row.{Row}
 use Rattle.tora_core.specs.View.{all_told, are_null, heights_of, is_downstream, least_height, lower_of, lower_row_of, neighbours_of, with_entry, with_row, without_row, is_told, told_row}
-use Rattle.tora_core.specs.Links.{AreKept, IsLeastAt, IsLeastPlace, IsNotBelow, IsNull, IsOnlyPlace, LinkTable, directions_of, downstream_in, entry_at, is_above, is_down, low_of, with_entry_at}
+use Rattle.tora_core.specs.Links.{AreKept, IsLeastAt, IsLeastPlace, IsNotBelow, IsNull, IsOnlyPlace, LinkTable, directions_of, downstream_in, empty_place, entry_at, is_above, is_down, low_of, with_entry_at}
 use Rattle.tora_core.proofs.NumberLemmas.{not-same}
 use Rattle.tora_core.proofs.ReactsWords.{below-above, lt-not_gt, not-below}
 
@@ -266,6 +267,10 @@ status-down (Some o) (Some e) = at (height_cmp e o)
     at Equal = refl
     at Greater = refl
 
+pub status-none : (own : Option Quintuple) → link_status own None ≡ Undirected
+status-none None = refl
+status-none (Some o) = refl
+
 pub length-directions : (own : Option Quintuple) (rows : List Row) → length (directions_of own rows) ≡ length rows
 length-directions own [] = refl
 length-directions own (row ∷ rows) = ap suc (length-directions own rows)
@@ -295,8 +300,8 @@ only-here k place [] d is = absurd is
 only-here k zero (row ∷ rows) d is = is.0
 only-here k (suc place) (row ∷ rows) d is = only-here k place rows d is.1
 
-same-number : (n k : ℕ) → n ≡ k → (n == k) ≡ true
-same-number n k e = grind (arith, nat_tests)
+pub is-number : (n k : ℕ) → n ≡ k → (n == k) ≡ true
+is-number n k e = grind (arith, nat_tests)
 
 rest-stays : (k : ℕ) (h : Quintuple) (rows : List Row) → AllByRecursion (λ (m : ℕ). m ≢ k) (neighbours_of rows) → with_entry k h rows ≡ rows
 rest-stays k h [] all = refl
@@ -306,7 +311,7 @@ rest-stays k h (row ∷ rows) all =
 pub only-set : (k place : ℕ) (h : Quintuple) (rows : List Row) → IsOnlyPlace k place (neighbours_of rows) → with_entry k h rows ≡ with_entry_at place h rows
 only-set k place h [] is = absurd is
 only-set k zero h (row ∷ rows) is =
-    ap (λ b. (if b then record row { entry = Some h } else row) ∷ with_entry k h rows) (same-number row.neighbour k is.0)
+    ap (λ b. (if b then record row { entry = Some h } else row) ∷ with_entry k h rows) (is-number row.neighbour k is.0)
     ∙ ap (λ (xs : List Row). record row { entry = Some h } ∷ xs) (rest-stays k h rows is.1)
 only-set k (suc place) h (row ∷ rows) is =
     ap (λ b. (if b then record row { entry = Some h } else row) ∷ with_entry k h rows) (not-same row.neighbour k is.0) ∙ ap (λ (xs : List Row). row ∷ xs) (only-set k place h rows is.1)
@@ -380,6 +385,74 @@ least-set_higher zero zero g h (row ∷ rows) apart high is = absurd (apart refl
 least-set_higher (suc place) zero g h (row ∷ rows) apart high is = (is.0, all-set place g h rows (lt-not_lt h g high) is.1)
 least-set_higher zero (suc i) g h (row ∷ rows) apart high is = (high, is.1)
 least-set_higher (suc place) (suc i) g h (row ∷ rows) apart high is = (is.0, least-set_higher place i g h rows (λ (e : i ≡ place). apart (ap suc e)) high is.1)
+
+-- ---- a row that is written to a place
+
+pub directions-put : (own : Option Quintuple) (place : ℕ) (new : Row) (rows : List Row) → slice_set (directions_of own rows) place (link_status own new.entry) ≡ directions_of own (slice_set rows place new)
+directions-put own place new [] = refl
+directions-put own zero new (row ∷ rows) = refl
+directions-put own (suc place) new (row ∷ rows) = ap (λ (xs : List Direction). link_status own row.entry ∷ xs) (directions-put own place new rows)
+
+pub downstream-put : (own : Option Quintuple) (place : ℕ) (new : Row) (rows : List Row) (d : Direction) → place < length rows
+    → downstream_in own (slice_set rows place new) + one_if (is_down (slice_index_or (directions_of own rows) place d)) ≡ downstream_in own rows + one_if (is_down (link_status own new.entry))
+downstream-put own place new [] d lt = absurd (omega arith)
+downstream-put own zero new (row ∷ rows) d lt =
+    let a = count-more (is_downstream own new.entry) new (down_rows own rows) in
+    let b = count-more (is_downstream own row.entry) row (down_rows own rows) in
+    let e = ap one_if (status-down own new.entry) in
+    let f = ap one_if (status-down own row.entry) in
+    omega arith
+downstream-put own (suc place) new (row ∷ rows) d lt =
+    let rest = downstream-put own place new rows d (omega arith) in
+    let a = count-more (is_downstream own row.entry) row (down_rows own (slice_set rows place new)) in
+    let b = count-more (is_downstream own row.entry) row (down_rows own rows) in
+    omega arith
+
+null-put : (place : ℕ) (new : Row) (rows : List Row) → IsNull new → AllByRecursion IsNull rows → AllByRecursion IsNull (slice_set rows place new)
+null-put place new [] is all = tt
+null-put zero new (row ∷ rows) is all = (is, all.1)
+null-put (suc place) new (row ∷ rows) is all = (all.0, null-put place new rows is all.1)
+
+all-put : (place : ℕ) (h : Quintuple) (new : Row) (rows : List Row) → IsNull new → AllByRecursion (IsNotBelow h) rows → AllByRecursion (IsNotBelow h) (slice_set rows place new)
+all-put place h new [] is all = tt
+all-put zero h new (row ∷ rows) is all = (ap (is_downstream (Some h)) is, all.1)
+all-put (suc place) h new (row ∷ rows) is all = (all.0, all-put place h new rows is all.1)
+
+-- a row without an entry leaves the least where it is, elsewhere
+pub least-put_other : (place i : ℕ) (h : Quintuple) (new : Row) (rows : List Row) → i ≢ place → IsNull new → IsLeastAt i h rows → IsLeastAt i h (slice_set rows place new)
+least-put_other place i h new [] apart is least = absurd least
+least-put_other zero zero h new (row ∷ rows) apart is least = absurd (apart refl)
+least-put_other zero (suc i) h new (row ∷ rows) apart is least = (ap (is_above h) is, least.1)
+least-put_other (suc place) zero h new (row ∷ rows) apart is least = (least.0, all-put place h new rows is least.1)
+least-put_other (suc place) (suc i) h new (row ∷ rows) apart is least = (least.0, least-put_other place i h new rows (λ (e : i ≡ place). apart (ap suc e)) is least.1)
+
+pub none-put : (place : ℕ) (new : Row) (rows : List Row) → IsNull new → IsLeastPlace None rows → IsLeastPlace None (slice_set rows place new)
+none-put place new rows is least = null-put place new rows is least
+
+-- and so it does where the row before had no entry, either
+pub least-put_null : (place : ℕ) (least : Option ℕ) (new : Row) (rows : List Row) (d : Row) → IsNull new → (slice_index_or rows place d).entry ≡ None → IsLeastPlace least rows
+    → IsLeastPlace least (slice_set rows place new)
+least-put_null place None new rows d is none least = null-put place new rows is least
+least-put_null place (Some i) new rows d is none least = (least.0, least-put_other place i least.0 new rows apart is least.1)
+  where
+    apart : i ≢ place
+    apart e =
+        let here : (slice_index_or rows place d).entry ≡ Some least.0 = subst (λ (n : ℕ). (slice_index_or rows n d).entry ≡ Some least.0) e (least-entry i least.0 rows d least.1) in
+        let clash : None ≡ Some least.0 = sym none ∙ here in
+        absurd cc
+
+-- ---- the places at first
+
+null-first : (ns : List ℕ) → AllByRecursion IsNull (map empty_place ns)
+null-first [] = tt
+null-first (n ∷ ns) = (refl, null-first ns)
+
+pub kept-first : (own : Option Quintuple) (ns : List ℕ) → AreKept own (map empty_place ns) (directions_of own (map empty_place ns)) 0 None
+kept-first own ns = record {
+  directions_are = refl;
+  downstream_is = sym (ap (λ (xs : List Row). length xs) (null-down own (map empty_place ns) (null-first ns)));
+  least_is = null-first ns;
+}
 
 -- ---- a row that comes
 
@@ -478,7 +551,7 @@ least-remove place i h rows apart lt is =
     let one : i ≡ suc (i - 1) = omega arith in
     least-remove_before place (i - 1) h rows (omega arith) (subst (λ (j : ℕ). IsLeastAt j h rows) one is))
 
-rest-kept : (k : ℕ) (rows : List Row) → AllByRecursion (λ (m : ℕ). m ≢ k) (neighbours_of rows) → without_row k rows ≡ rows
+pub rest-kept : (k : ℕ) (rows : List Row) → AllByRecursion (λ (m : ℕ). m ≢ k) (neighbours_of rows) → without_row k rows ≡ rows
 rest-kept k [] all = refl
 rest-kept k (row ∷ rows) all =
     ap (λ b. if not b then row ∷ without_row k rows else without_row k rows) (not-same row.neighbour k all.0) ∙ ap (λ (xs : List Row). row ∷ xs) (rest-kept k rows all.1)
@@ -486,24 +559,24 @@ rest-kept k (row ∷ rows) all =
 pub only-remove : (k place : ℕ) (rows : List Row) → IsOnlyPlace k place (neighbours_of rows) → without_row k rows ≡ remove rows place
 only-remove k place [] is = absurd is
 only-remove k zero (row ∷ rows) is =
-    ap (λ b. if not b then row ∷ without_row k rows else without_row k rows) (same-number row.neighbour k is.0) ∙ rest-kept k rows is.1
+    ap (λ b. if not b then row ∷ without_row k rows else without_row k rows) (is-number row.neighbour k is.0) ∙ rest-kept k rows is.1
 only-remove k (suc place) (row ∷ rows) is =
     ap (λ b. if not b then row ∷ without_row k rows else without_row k rows) (not-same row.neighbour k is.0) ∙ ap (λ (xs : List Row). row ∷ xs) (only-remove k place rows is.1)
 
 -- ---- told rows
 
-rest-told : (k : ℕ) (rows : List Row) → AllByRecursion (λ (m : ℕ). m ≢ k) (neighbours_of rows) → is_told k rows ≡ false
+pub rest-told : (k : ℕ) (rows : List Row) → AllByRecursion (λ (m : ℕ). m ≢ k) (neighbours_of rows) → is_told k rows ≡ false
 rest-told k [] all = refl
 rest-told k (row ∷ rows) all = ap (λ b. (b && row.told) || is_told k rows) (not-same row.neighbour k all.0) ∙ rest-told k rows all.1
 
-or-none : (b : Bool) → (b || false) ≡ b
+pub or-none : (b : Bool) → (b || false) ≡ b
 or-none true = refl
 or-none false = refl
 
 pub only-told : (k place : ℕ) (rows : List Row) (d : Row) → IsOnlyPlace k place (neighbours_of rows) → is_told k rows ≡ (slice_index_or rows place d).told
 only-told k place [] d is = absurd is
 only-told k zero (row ∷ rows) d is =
-    ap (λ b. (b && row.told) || is_told k rows) (same-number row.neighbour k is.0) ∙ ap (λ b. row.told || b) (rest-told k rows is.1) ∙ or-none row.told
+    ap (λ b. (b && row.told) || is_told k rows) (is-number row.neighbour k is.0) ∙ ap (λ b. row.told || b) (rest-told k rows is.1) ∙ or-none row.told
 only-told k (suc place) (row ∷ rows) d is =
     ap (λ b. (b && row.told) || is_told k rows) (not-same row.neighbour k is.0) ∙ only-told k place rows d is.1
 
@@ -707,6 +780,21 @@ kept-remove own rows ds count least place before recount found kept lt read sum 
     let was = kept.downstream_is in
     record {
       directions_are = ap (λ (xs : List Direction). remove xs place) kept.directions_are ∙ directions-remove own place rows lt;
+      downstream_is = omega arith;
+      least_is = is;
+    }
+
+pub kept-put : (own : Option Quintuple) (rows : List Row) (ds : List Direction) (count : ℕ) (least : Option ℕ) (place : ℕ) (new : Row) (before : Direction) (recount : ℕ) (found : Option ℕ)
+    → AreKept own rows ds count least → place < length rows → before ≡ slice_index_or ds place before
+    → recount + one_if (is_down before) ≡ count + one_if (is_down (link_status own new.entry)) → IsLeastPlace found (slice_set rows place new)
+    → AreKept own (slice_set rows place new) (slice_set ds place (link_status own new.entry)) recount found
+kept-put own rows ds count least place new before recount found kept lt read sum is =
+    let same : before ≡ slice_index_or (directions_of own rows) place before = read ∙ ap (λ (xs : List Direction). slice_index_or xs place before) kept.directions_are in
+    let counted = downstream-put own place new rows before lt in
+    let one : one_if (is_down before) ≡ one_if (is_down (slice_index_or (directions_of own rows) place before)) = ap (λ (d : Direction). one_if (is_down d)) same in
+    let was = kept.downstream_is in
+    record {
+      directions_are = ap (λ (xs : List Direction). slice_set xs place (link_status own new.entry)) kept.directions_are ∙ directions-put own place new rows;
       downstream_is = omega arith;
       least_is = is;
     }

@@ -5,6 +5,7 @@ ghost use Rattle.arrayvec.specs.ArrayVec.{array_vec_len};
 ghost use Rattle.tora_height.specs.Height.{IsLevel};
 ghost use Rattle.tora_core.specs.View.{neighbours_of, heights_of, are_null, is_downstream, lower_of, least_height, lower_row_of, higher_level_of, greatest_level, lower_delta_of, least_delta, is_at, all_told, told_row, row_with_entry, is_told, with_entry, erased_row, all_erased, cleared_row, all_cleared, is_cleared, is_entry_at, with_row, without_row};
 ghost use Rattle.tora_core.specs.Heights.{time_after_all};
+ghost use Rattle.tora_core.specs.Rules.{link_row};
 ghost use Rattle.tora_core.specs.Links.{with_entry_at};
 
 use tora_height::{Entry, Height, Id, Level};
@@ -17,6 +18,17 @@ pub struct Row {
     pub neighbour: Id,
     /// Whether an update was broadcast since the link came up.
     pub told: bool,
+}
+
+/// The row of a neighbour whose link came up, with this entry.
+pub fn link_row(k: Id, entry: Entry) -> Row
+    ensures { result ≡ link_row k entry }
+{
+    Row {
+        neighbour: k,
+        entry,
+        told: false,
+    }
 }
 
 /// Whether the link to a neighbour with this entry is downstream.
