@@ -1,7 +1,7 @@
 -- What is kept of rows, after each change.
-use Rattle.std.proofs.Common.{◌≡◌, ◌≢◌, refl, ap, sym, subst, ◌∙◌, ℕ, zero, suc, ◌+◌, ◌<◌, ◌≤◌, ◌-◌, ◌==◌, Bool, true, false, not, ◌||◌, ◌&&◌, List, [], ◌∷◌, ◌++◌, map, take, drop, length, Option, Some, None, is_none, is_some, nat_lt, arith}
+use Rattle.std.proofs.Common.{◌≡◌, ◌≢◌, refl, ap, sym, subst, ◌∙◌, ℕ, zero, suc, ◌+◌, ◌<◌, ◌≤◌, ◌==◌, Bool, true, false, not, ◌||◌, ◌&&◌, List, [], ◌∷◌, ◌++◌, map, take, drop, length, Option, Some, None, is_none, is_some, nat_lt, arith}
 use Rattle.std.specs.Prelude.{if◌then◌else◌, filter, fold, option_map, IfSome, slice_set, slice_index_or}
-use Rattle.std.specs.List.{AllByRecursion, cons_option, insert, remove, list_any, position_or_len, refill}
+use Rattle.std.specs.List.{AllByRecursion, cons_option, list_any, refill}
 use Rattle.std.specs.Ordering.{is_lt}
 use Rattle.std.specs.declared.cmp.Ordering.{Ordering}
 use Rattle.std.specs.declared.cmp.Ordering.TheVariants.{Less, Equal, Greater}
@@ -9,14 +9,13 @@ use Rattle.std.proofs.lemmas.Grind.{common_steps}
 use Rattle.std.proofs.lemmas.Bool.{cond_both}
 use Rattle.std.proofs.lemmas.List.{length-take-le, take-append-drop, take_more, take_more_set}
 use Rattle.std.proofs.lemmas.List.Filters.{length-filter_more}
-use Rattle.std.proofs.lemmas.List.Sums.{prefix_len-le-length}
 use Rattle.std.proofs.lemmas.Bool.Decides.{nat_tests}
 use Rattle.tora_height.specs.declared.Direction.{Direction}
 use Rattle.tora_height.specs.declared.Direction.TheVariants.{Undirected}
 use Rattle.tora_height.specs.Height.{Quintuple}
 use Rattle.tora_height.specs.HeightOrder.{direction_by, height_cmp, link_status}
 use Rattle.tora_core.specs.declared.rows.Row.{Row}
-use Rattle.tora_core.specs.View.{all_told, are_null, heights_of, is_downstream, least_height, lower_of, lower_row_of, neighbours_of, with_entry, with_row, without_row, is_told, told_row}
+use Rattle.tora_core.specs.View.{all_told, are_null, heights_of, is_downstream, least_height, lower_of, lower_row_of, neighbours_of, with_entry, without_row, is_told, told_row}
 use Rattle.tora_core.specs.Links.{AreKept, IsLeastAt, IsLeastPlace, IsNotBelow, IsNull, IsOnlyPlace, LinkTable, directions_of, downstream_in, empty_place, entry_at, is_above, is_down, low_of, with_entry_at}
 use Rattle.tora_core.proofs.NumberLemmas.{not-same}
 use Rattle.tora_core.proofs.ReactsWords.{below-above, lt-not_gt, not-below}
@@ -24,8 +23,8 @@ use Rattle.tora_core.proofs.ReactsWords.{below-above, lt-not_gt, not-below}
 pub refill-same : {X : Type 0} (n : ℕ) (xs ws : List X) → length ws ≡ n → refill n xs ws ≡ ws
 refill-same n xs ws e = grind (arith, common_steps)
 
-abbrev pub links_of : Option Quintuple → List Row → ℕ → LinkTable
-links_of own rows room = record { own = own; rows = rows; room = room }
+abbrev pub links_of : Option Quintuple → List Row → List ℕ → LinkTable
+links_of own rows neighbours = record { own = own; rows = rows; neighbours = neighbours }
 
 -- ---- heights
 
@@ -454,114 +453,12 @@ kept-first own ns = record {
   least_is = null-first ns;
 }
 
--- ---- a row that comes
-
-pub directions-insert : (own : Option Quintuple) (place : ℕ) (new : Row) (rows : List Row) → place ≤ length rows → insert (directions_of own rows) place (link_status own new.entry) ≡ directions_of own (insert rows place new)
-directions-insert own zero new rows le = refl
-directions-insert own (suc place) new [] le = absurd (omega arith)
-directions-insert own (suc place) new (row ∷ rows) le = ap (λ (xs : List Direction). link_status own row.entry ∷ xs) (directions-insert own place new rows (omega arith))
-
-pub downstream-insert : (own : Option Quintuple) (place : ℕ) (new : Row) (rows : List Row) → place ≤ length rows → downstream_in own (insert rows place new) ≡ downstream_in own rows + one_if (is_down (link_status own new.entry))
-downstream-insert own zero new rows le =
-    let a = count-more (is_downstream own new.entry) new (down_rows own rows) in let e = ap one_if (status-down own new.entry) in omega arith
-downstream-insert own (suc place) new [] le = absurd (omega arith)
-downstream-insert own (suc place) new (row ∷ rows) le =
-    let rest = downstream-insert own place new rows (omega arith) in
-    let a = count-more (is_downstream own row.entry) row (down_rows own (insert rows place new)) in
-    let b = count-more (is_downstream own row.entry) row (down_rows own rows) in
-    omega arith
-
-null-insert : (place : ℕ) (new : Row) (rows : List Row) → place ≤ length rows → IsNull new → AllByRecursion IsNull rows → AllByRecursion IsNull (insert rows place new)
-null-insert zero new rows le is all = (is, all)
-null-insert (suc place) new [] le is all = absurd (omega arith)
-null-insert (suc place) new (row ∷ rows) le is all = (all.0, null-insert place new rows (omega arith) is all.1)
-
-all-insert : (place : ℕ) (h : Quintuple) (new : Row) (rows : List Row) → place ≤ length rows → IsNull new → AllByRecursion (IsNotBelow h) rows → AllByRecursion (IsNotBelow h) (insert rows place new)
-all-insert zero h new rows le is all = (ap (is_downstream (Some h)) is, all)
-all-insert (suc place) h new [] le is all = absurd (omega arith)
-all-insert (suc place) h new (row ∷ rows) le is all = (all.0, all-insert place h new rows (omega arith) is all.1)
-
-least-insert_before : (place i : ℕ) (h : Quintuple) (new : Row) (rows : List Row) → place ≤ i → IsNull new → IsLeastAt i h rows → IsLeastAt (suc i) h (insert rows place new)
-least-insert_before zero i h new rows le is least = (ap (is_above h) is, least)
-least-insert_before (suc place) i h new [] le is least = absurd least
-least-insert_before (suc place) zero h new (row ∷ rows) le is least = absurd (omega arith)
-least-insert_before (suc place) (suc i) h new (row ∷ rows) le is least = (least.0, least-insert_before place i h new rows (omega arith) is least.1)
-
-least-insert_after : (place i : ℕ) (h : Quintuple) (new : Row) (rows : List Row) → i < place → place ≤ length rows → IsNull new → IsLeastAt i h rows → IsLeastAt i h (insert rows place new)
-least-insert_after zero i h new rows lt le is least = absurd (omega arith)
-least-insert_after (suc place) i h new [] lt le is least = absurd least
-least-insert_after (suc place) zero h new (row ∷ rows) lt le is least = (least.0, all-insert place h new rows (omega arith) is least.1)
-least-insert_after (suc place) (suc i) h new (row ∷ rows) lt le is least = (least.0, least-insert_after place i h new rows (omega arith) (omega arith) is least.1)
-
-pub least-insert : (place : ℕ) (least : Option ℕ) (new : Row) (rows : List Row) → place ≤ length rows → IsNull new → IsLeastPlace least rows → IsLeastPlace (option_map (λ i. if nat_lt i place then i else i + 1) least) (insert rows place new)
-least-insert place None new rows le null is = null-insert place new rows le null is
-least-insert place (Some i) new rows le null is =
-    cond_both (nat_lt i place) i (i + 1) (λ (j : ℕ). IsLeastPlace (Some j) (insert rows place new))
-    (λ (e : nat_lt i place ≡ true). (is.0, least-insert_after place i is.0 new rows (grind (arith, nat_tests)) le null is.1))
-    (λ (e : nat_lt i place ≡ false).
-    let one : suc i ≡ i + 1 = omega arith in
-    (is.0, subst (λ (j : ℕ). IsLeastAt j is.0 (insert rows place new)) one (least-insert_before place i is.0 new rows (grind (arith, nat_tests)) null is.1)))
-
--- ---- a row that goes
-
-pub directions-remove : (own : Option Quintuple) (place : ℕ) (rows : List Row) → place < length rows → remove (directions_of own rows) place ≡ directions_of own (remove rows place)
-directions-remove own place [] lt = absurd (omega arith)
-directions-remove own zero (row ∷ rows) lt = refl
-directions-remove own (suc place) (row ∷ rows) lt = ap (λ (xs : List Direction). link_status own row.entry ∷ xs) (directions-remove own place rows (omega arith))
-
-pub downstream-remove : (own : Option Quintuple) (place : ℕ) (rows : List Row) (d : Direction) → place < length rows
-    → downstream_in own (remove rows place) + one_if (is_down (slice_index_or (directions_of own rows) place d)) ≡ downstream_in own rows
-downstream-remove own place [] d lt = absurd (omega arith)
-downstream-remove own zero (row ∷ rows) d lt =
-    let b = count-more (is_downstream own row.entry) row (down_rows own rows) in let f = ap one_if (status-down own row.entry) in omega arith
-downstream-remove own (suc place) (row ∷ rows) d lt =
-    let rest = downstream-remove own place rows d (omega arith) in
-    let a = count-more (is_downstream own row.entry) row (down_rows own (remove rows place)) in
-    let b = count-more (is_downstream own row.entry) row (down_rows own rows) in
-    omega arith
-
-pub null-remove : (place : ℕ) (rows : List Row) → place < length rows → AllByRecursion IsNull rows → AllByRecursion IsNull (remove rows place)
-null-remove place [] lt all = absurd (omega arith)
-null-remove zero (row ∷ rows) lt all = all.1
-null-remove (suc place) (row ∷ rows) lt all = (all.0, null-remove place rows (omega arith) all.1)
-
-all-remove : (place : ℕ) (h : Quintuple) (rows : List Row) → place < length rows → AllByRecursion (IsNotBelow h) rows → AllByRecursion (IsNotBelow h) (remove rows place)
-all-remove place h [] lt all = absurd (omega arith)
-all-remove zero h (row ∷ rows) lt all = all.1
-all-remove (suc place) h (row ∷ rows) lt all = (all.0, all-remove place h rows (omega arith) all.1)
-
-least-remove_before : (place i : ℕ) (h : Quintuple) (rows : List Row) → place ≤ i → IsLeastAt (suc i) h rows → IsLeastAt i h (remove rows place)
-least-remove_before place i h [] le least = absurd least
-least-remove_before zero i h (row ∷ rows) le least = least.1
-least-remove_before (suc place) zero h (row ∷ rows) le least = absurd (omega arith)
-least-remove_before (suc place) (suc i) h (row ∷ rows) le least = (least.0, least-remove_before place i h rows (omega arith) least.1)
-
-least-remove_after : (place i : ℕ) (h : Quintuple) (rows : List Row) → i < place → place < length rows → IsLeastAt i h rows → IsLeastAt i h (remove rows place)
-least-remove_after place i h [] lt le least = absurd least
-least-remove_after zero i h (row ∷ rows) lt le least = absurd (omega arith)
-least-remove_after (suc place) zero h (row ∷ rows) lt le least = (least.0, all-remove place h rows (omega arith) least.1)
-least-remove_after (suc place) (suc i) h (row ∷ rows) lt le least = (least.0, least-remove_after place i h rows (omega arith) (omega arith) least.1)
-
-pub least-remove : (place i : ℕ) (h : Quintuple) (rows : List Row) → i ≢ place → place < length rows → IsLeastAt i h rows → IsLeastAt (if nat_lt i place then i else i - 1) h (remove rows place)
-least-remove place i h rows apart lt is =
-    cond_both (nat_lt i place) i (i - 1) (λ (j : ℕ). IsLeastAt j h (remove rows place))
-    (λ (e : nat_lt i place ≡ true). least-remove_after place i h rows (grind (arith, nat_tests)) lt is)
-    (λ (e : nat_lt i place ≡ false).
-    let above : place < i = grind (arith, nat_tests) in
-    let one : i ≡ suc (i - 1) = omega arith in
-    least-remove_before place (i - 1) h rows (omega arith) (subst (λ (j : ℕ). IsLeastAt j h rows) one is))
+-- ---- rows that are not there
 
 pub rest-kept : (k : ℕ) (rows : List Row) → AllByRecursion (λ (m : ℕ). m ≢ k) (neighbours_of rows) → without_row k rows ≡ rows
 rest-kept k [] all = refl
 rest-kept k (row ∷ rows) all =
     ap (λ b. if not b then row ∷ without_row k rows else without_row k rows) (not-same row.neighbour k all.0) ∙ ap (λ (xs : List Row). row ∷ xs) (rest-kept k rows all.1)
-
-pub only-remove : (k place : ℕ) (rows : List Row) → IsOnlyPlace k place (neighbours_of rows) → without_row k rows ≡ remove rows place
-only-remove k place [] is = absurd is
-only-remove k zero (row ∷ rows) is =
-    ap (λ b. if not b then row ∷ without_row k rows else without_row k rows) (is-number row.neighbour k is.0) ∙ rest-kept k rows is.1
-only-remove k (suc place) (row ∷ rows) is =
-    ap (λ b. if not b then row ∷ without_row k rows else without_row k rows) (not-same row.neighbour k is.0) ∙ ap (λ (xs : List Row). row ∷ xs) (only-remove k place rows is.1)
 
 -- ---- told rows
 
@@ -572,13 +469,6 @@ rest-told k (row ∷ rows) all = ap (λ b. (b && row.told) || is_told k rows) (n
 pub or-none : (b : Bool) → (b || false) ≡ b
 or-none true = refl
 or-none false = refl
-
-pub only-told : (k place : ℕ) (rows : List Row) (d : Row) → IsOnlyPlace k place (neighbours_of rows) → is_told k rows ≡ (slice_index_or rows place d).told
-only-told k place [] d is = absurd is
-only-told k zero (row ∷ rows) d is =
-    ap (λ b. (b && row.told) || is_told k rows) (is-number row.neighbour k is.0) ∙ ap (λ b. row.told || b) (rest-told k rows is.1) ∙ or-none row.told
-only-told k (suc place) (row ∷ rows) d is =
-    ap (λ b. (b && row.told) || is_told k rows) (not-same row.neighbour k is.0) ∙ only-told k place rows d is.1
 
 pub directions-told : (own : Option Quintuple) (rows : List Row) → directions_of own rows ≡ directions_of own (all_told rows)
 directions-told own [] = refl
@@ -670,22 +560,6 @@ pub least-in : (least : Option ℕ) (rows : List Row) → IsLeastPlace least row
 least-in None rows is = tt
 least-in (Some place) rows is = least-within place is.0 rows is.1
 
--- the place before the first greater row
-pub with_row-insert : (new : Row) (rows : List Row) → insert rows (position_or_len (λ row. nat_lt new.neighbour row.neighbour) rows) new ≡ with_row new rows
-with_row-insert new [] = refl
-with_row-insert new (row ∷ rows) = at (with_row-insert new rows) (nat_lt new.neighbour row.neighbour) refl
-  where
-    later : (n : ℕ) → insert (row ∷ rows) (1 + n) new ≡ row ∷ insert rows n new
-    later n = let s : 1 + n ≡ suc n = omega arith in rw s refl
-
-    at : (insert rows (position_or_len (λ row. nat_lt new.neighbour row.neighbour) rows) new ≡ with_row new rows) → (b : Bool) → nat_lt new.neighbour row.neighbour ≡ b
-        → insert (row ∷ rows) (position_or_len (λ row. nat_lt new.neighbour row.neighbour) (row ∷ rows)) new ≡ with_row new (row ∷ rows)
-    at rest true e = rw e refl
-    at rest false e = rw e (later (position_or_len (λ row. nat_lt new.neighbour row.neighbour) rows) ∙ ap (λ (xs : List Row). row ∷ xs) rest)
-
-pub place-within : (p : Row → Bool) (rows : List Row) → position_or_len p rows ≤ length rows
-place-within p rows = prefix_len-le-length (λ row. not (p row)) rows
-
 -- ---- one row more, read in a loop
 
 pub directions-next : (own : Option Quintuple) (ds : List Direction) (rows : List Row) (i : ℕ) (x : Row) → i < length ds → i < length rows → x ≡ slice_index_or rows i x → take i ds ≡ directions_of own (take i rows)
@@ -757,33 +631,6 @@ kept-set own rows ds count least place h before recount found kept lt read sum i
       least_is = is;
     }
 
-pub kept-insert : (own : Option Quintuple) (rows : List Row) (ds : List Direction) (count : ℕ) (least : Option ℕ) (place : ℕ) (new : Row) (recount : ℕ) (found : Option ℕ)
-    → AreKept own rows ds count least → place ≤ length rows → recount + 0 ≡ count + one_if (is_down (link_status own new.entry)) → IsLeastPlace found (insert rows place new)
-    → AreKept own (insert rows place new) (insert ds place (link_status own new.entry)) recount found
-kept-insert own rows ds count least place new recount found kept le sum is =
-    let counted = downstream-insert own place new rows le in
-    let was = kept.downstream_is in
-    record {
-      directions_are = ap (λ (xs : List Direction). insert xs place (link_status own new.entry)) kept.directions_are ∙ directions-insert own place new rows le;
-      downstream_is = omega arith;
-      least_is = is;
-    }
-
-pub kept-remove : (own : Option Quintuple) (rows : List Row) (ds : List Direction) (count : ℕ) (least : Option ℕ) (place : ℕ) (before : Direction) (recount : ℕ) (found : Option ℕ)
-    → AreKept own rows ds count least → place < length rows → before ≡ slice_index_or ds place before
-    → recount + one_if (is_down before) ≡ count + 0 → IsLeastPlace found (remove rows place)
-    → AreKept own (remove rows place) (remove ds place) recount found
-kept-remove own rows ds count least place before recount found kept lt read sum is =
-    let same : before ≡ slice_index_or (directions_of own rows) place before = read ∙ ap (λ (xs : List Direction). slice_index_or xs place before) kept.directions_are in
-    let counted = downstream-remove own place rows before lt in
-    let one : one_if (is_down before) ≡ one_if (is_down (slice_index_or (directions_of own rows) place before)) = ap (λ (d : Direction). one_if (is_down d)) same in
-    let was = kept.downstream_is in
-    record {
-      directions_are = ap (λ (xs : List Direction). remove xs place) kept.directions_are ∙ directions-remove own place rows lt;
-      downstream_is = omega arith;
-      least_is = is;
-    }
-
 pub kept-put : (own : Option Quintuple) (rows : List Row) (ds : List Direction) (count : ℕ) (least : Option ℕ) (place : ℕ) (new : Row) (before : Direction) (recount : ℕ) (found : Option ℕ)
     → AreKept own rows ds count least → place < length rows → before ≡ slice_index_or ds place before
     → recount + one_if (is_down before) ≡ count + one_if (is_down (link_status own new.entry)) → IsLeastPlace found (slice_set rows place new)
@@ -814,7 +661,7 @@ kept-few own rows ds count least kept = let few = few-down own rows in let was =
 pub kept-lengths : (own : Option Quintuple) (rows : List Row) (ds : List Direction) (count : ℕ) (least : Option ℕ) → AreKept own rows ds count least → length ds ≡ length rows
 kept-lengths own rows ds count least kept = ap (λ (xs : List Direction). length xs) kept.directions_are ∙ length-directions own rows
 
-pub table-is : (o p : Option Quintuple) (r s : List Row) (m n : ℕ) → o ≡ p → r ≡ s → m ≡ n → links_of o r m ≡ links_of p s n
+pub table-is : (o p : Option Quintuple) (r s : List Row) (m n : List ℕ) → o ≡ p → r ≡ s → m ≡ n → links_of o r m ≡ links_of p s n
 table-is o p r s m n e f g = ap (λ (x : Option Quintuple). links_of x r m) e ∙ ap (λ (x : List Row). links_of p x m) f ∙ ap (links_of p s) g
 
 pub not-some : {X : Type 0} (o : Option X) → is_some o ≡ false → o ≡ None

@@ -1,6 +1,6 @@
 -- The rows of the places whose link is up, and what writing a place does to them.
 use Rattle.std.proofs.Common.{◌≡◌, ◌≢◌, refl, ap, sym, subst, ◌∙◌, ℕ, zero, suc, ◌+◌, ◌<◌, ◌≤◌, ◌==◌, Bool, true, false, not, ◌||◌, ◌&&◌, List, [], ◌∷◌, ◌++◌, map, take, replicate, length, Option, Some, None, is_none, nat_lt, arith}
-use Rattle.std.specs.Prelude.{if◌then◌else◌, filter, find, fold, option_map, slice_index_or, slice_set}
+use Rattle.std.specs.Prelude.{if◌then◌else◌, find, fold, option_map, slice_index_or, slice_set}
 use Rattle.std.specs.List.{AllByRecursion, cons_option}
 use Rattle.std.proofs.lemmas.Bool.{cond_both}
 use Rattle.std.proofs.lemmas.Bool.Decides.{nat_tests}

@@ -36,11 +36,6 @@ only-of k (n ∷ ns) asc has = at (n == k) refl has (only-of k ns asc.1)
         let one : suc (position_or_len (λ m. m == k) ns) ≡ 1 + position_or_len (λ m. m == k) ns = omega arith in
         subst (λ (i : ℕ). IsOnlyPlace k i (n ∷ ns)) one (other-number n k e, rest h)
 
--- the place before the first greater number is that before the first greater row
-pub place-rows : (k : ℕ) (rows : List Row) → position_or_len (λ n. nat_lt k n) (neighbours_of rows) ≡ position_or_len (λ row. nat_lt k row.neighbour) rows
-place-rows k [] = refl
-place-rows k (row ∷ rows) = ap (λ (n : ℕ). if not (nat_lt k row.neighbour) then 1 + n else 0) (place-rows k rows)
-
 -- a neighbour stands where its row does
 row-numbers : (k : ℕ) (rows : List Row) → position_or_len (λ (row : Row). row.neighbour == k) rows ≡ position_or_len (λ n. n == k) (neighbours_of rows)
 row-numbers k [] = refl

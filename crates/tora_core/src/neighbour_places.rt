@@ -1,5 +1,5 @@
 //! The places of a destination's rows, one for each neighbour of the node, and the marks of the links that are up.
-ghost use Rattle.std.specs.Prelude.{◌≡◌, ◌==◌, ◌<◌, ◌∷◌, ◌++◌, [], false, find, if◌then◌else◌, length, map, option_map, position, replicate, slice_index_or, IfOk, OnOk};
+ghost use Rattle.std.specs.Prelude.{◌≡◌, ◌==◌, ◌<◌, ◌∷◌, ◌++◌, [], false, find, if◌then◌else◌, length, map, option_map, position, replicate, slice_index_or, slice_set, IfOk, OnOk};
 ghost use Rattle.tora_core.specs.Links.{directions_of, empty_place, rows_up};
 ghost use Rattle.tora_core.specs.Numbers.{IsAscending};
 ghost use Rattle.tora_core.specs.View.{neighbours_of};
@@ -104,4 +104,12 @@ pub fn entry_of(k: Id, up: &[bool], places: &[Row]) -> Option<Entry>
     } else {
         None
     }
+}
+
+/// Writes an item to its place.
+pub fn put<T: Copy>(place: usize, item: T, items: &mut [T])
+    requires { place < length items.old }
+    ensures { items.new ≡ slice_set items.old place item }
+{
+    items[place] = item;
 }

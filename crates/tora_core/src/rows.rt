@@ -1,5 +1,5 @@
 //! The rows of a view, read and changed.
-ghost use Rattle.std.specs.Prelude.{◌≡◌, false, ◌<◌, ◌≤◌, ◌+◌, ◌^◌, ◌≤ℤ◌, pos, neg_ℤ, IfSome, fold, filter, nat_lt, position, length, slice_index_or, option_map, option_copied, find, ◌==◌, None};
+ghost use Rattle.std.specs.Prelude.{◌≡◌, false, ◌<◌, ◌≤◌, ◌+◌, ◌^◌, ◌≤ℤ◌, pos, neg_ℤ, IfSome, fold, filter, nat_lt, position, length, slice_index_or, ◌==◌, None};
 ghost use Rattle.std.specs.List.{list_any, list_all};
 ghost use Rattle.arrayvec.specs.ArrayVec.{array_vec_len};
 ghost use Rattle.tora_height.specs.Height.{IsLevel};
@@ -214,17 +214,4 @@ pub fn clear_level(destination: Id, level: Level, rows: &mut [Row]) -> bool
         }
     }
     cleared
-}
-
-fn row_of(k: Id, rows: &[Row]) -> Option<&Row>
-    ensures { option_copied result ≡ find (λ row. row.neighbour == k) rows.now }
-{
-    rows.iter().find(|row| row.neighbour == k)
-}
-
-/// The entry of a neighbour, where it has a row.
-pub fn entry_of(k: Id, rows: &[Row]) -> Option<Entry>
-    ensures { result ≡ option_map (λ row. row.entry) (find (λ row. row.neighbour == k) rows.now) }
-{
-    row_of(k, rows).map(|row| row.entry)
 }

@@ -1,6 +1,5 @@
-use Rattle.std.proofs.Common.{◌≡◌, ◌∙◌, sym, ap, ◌<◌, false, true, Option, Some, length, arith}
+use Rattle.std.proofs.Common.{◌≡◌, ◌∙◌, sym, ap, ◌<◌, false, true, Some, length, arith}
 use Rattle.std.specs.Prelude.{option_map, slice_index_or}
-use Rattle.tora_height.specs.Height.{Quintuple}
 use Rattle.tora_core.specs.declared.rows.Row.{Row}
 use Rattle.tora_core.proofs.PlaceLemmas.{find-none, find-off, find-on, mark-read}
 use Rattle.tora_core.proofs.RowPlaces.{row-none, row-only}
