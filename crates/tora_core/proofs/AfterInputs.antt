@@ -12,13 +12,13 @@ use Rattle.tora_core.specs.declared.Input.{Input}
 use Rattle.tora_core.specs.declared.Input.TheVariants as In
 use Rattle.tora_core.specs.declared.errors.StepError.TheVariants as Fault
 use Rattle.tora_core.specs.Numbers.{has_number, with_number, without_number, ascending, IsAscending}
-use Rattle.tora_core.specs.View.{View}
+use Rattle.tora_core.specs.View.{View, up_neighbours}
 use Rattle.tora_core.specs.Rules.{outcome_of, packet_of, packet_sent}
 use Rattle.tora_core.specs.CoreRun.{CoreView, concerns, core_after, core_taking, has_destination, is_from, is_of, next_packet, next_view, refusal_of, sends_of, up_after, view_of}
-use Rattle.tora_core.specs.Kept.{IsCore, IsLinked, IsOver, IsPart, IsViewOf, destinations_of}
+use Rattle.tora_core.specs.Kept.{IsCore, IsLinked, IsOfOne, IsPart, IsViewOf, destinations_of}
 use Rattle.tora_core.proofs.RowLemmas.{all-weaker}
 use Rattle.tora_core.proofs.NumberLemmas.{all-other, ascending-with_number, all-without, not-same, same-number}
-use Rattle.tora_core.proofs.CoreLemmas.{destinations_of-next, next_view-destination, not-false, refused-not}
+use Rattle.tora_core.proofs.CoreLemmas.{destinations_of-next, free-up, next_view-destination, not-false, refused-not}
 
 -- ---- numbers
 
@@ -286,13 +286,20 @@ known-sends c input now =
 
 -- ---- what an input that is not refused finds
 
--- the rows of each view are those of the up neighbours
-pub all-over : (me : ℕ) (up : List ℕ) (views : List View) → AllByRecursion (IsViewOf me up) views → AllByRecursion (IsOver up) views
-all-over me up [] all = tt
-all-over me up (v ∷ views) all = (all.0.neighbours, all-over me up views all.1)
-
 pub linked : (c : CoreView) (input : Input) → refusal_of c input ≡ None → IsLinked input c.up
 linked c (In.Need d) free = tt
 linked c (In.LinkUp k) free = tt
 linked c (In.LinkDown k) free = (free-down c k free).1
 linked c (In.Packet k packet) free = (free-packet c k packet free).1
+
+-- so it is in each view, whose rows are those of the up neighbours
+pub all-linked : (me : ℕ) (up : List ℕ) (input : Input) (views : List View) → IsLinked input up → AllByRecursion (IsViewOf me up) views
+    → AllByRecursion (λ (v : View). IsLinked input (up_neighbours v)) views
+all-linked me up input [] is all = tt
+all-linked me up input (v ∷ views) is all = (subst (IsLinked input) (sym all.0.neighbours) is, all-linked me up input views is all.1)
+
+pub of-one : (c : CoreView) (input : Input) → refusal_of c input ≡ None → IsOfOne input c.neighbours
+of-one c (In.Need d) free = tt
+of-one c (In.LinkUp k) free = (free-up c k free).0
+of-one c (In.LinkDown k) free = (free-down c k free).0
+of-one c (In.Packet k packet) free = (free-packet c k packet free).0

@@ -21,7 +21,6 @@ use Rattle.tora_core.specs.Numbers.{has_number, ascending, has_repeat, IsAscendi
 use Rattle.tora_core.specs.View.{View, first_view, neighbours_of}
 use Rattle.tora_core.specs.Rules.{view_after}
 use Rattle.tora_core.specs.CoreRun.{CoreView, core_refusal_within, first_core, is_from, refusal_of, concerns, next_view, up_after, core_taking, core_after, core_after_all}
-use Rattle.tora_core.specs.Table.{HaveRoom, TableView, views_in}
 use Rattle.tora_core.specs.Kept.{IsKept, IsPacketOf, CanTake, IsNeighbour, IsPart, IsViewOf, destinations_of, IsCore, IsInput, AreInputs}
 use Rattle.tora_core.proofs.RowLemmas.{all-weaker}
 use Rattle.tora_core.proofs.NumberLemmas.{or-false-left, or-false-right, same-number, all-has, all-other, all-ascending, length-ascending, ascending-ascending, part-shorter, part-with, part-without}
@@ -64,16 +63,6 @@ length-neighbours_of (row ∷ rows) = ap suc (length-neighbours_of rows)
 -- fewer links are up than there are neighbours where one comes up
 pub fewer-up : (c : CoreView) (k : ℕ) → IsCore c → refusal_of c (In.LinkUp k) ≡ None → length c.up < length c.neighbours
 fewer-up c k core free = let is = free-up c k free in part-shorter k c.up c.neighbours core.up is.0 is.1
-
--- each view of a table has room for one row more
-pub all-roomy : (me room : ℕ) (up : List ℕ) (table : List TableView) → length up < room → AllByRecursion (IsViewOf me up) (views_in table) → HaveRoom room table
-    → AllByRecursion (λ (t : TableView). length t.view.rows < t.room) table
-all-roomy me room up [] fewer is have = tt
-all-roomy me room up (t ∷ table) fewer is have =
-    let rows = length-neighbours_of t.view.rows in
-    let names = ap length is.0.neighbours in
-    let wide = have.0 in
-    (omega arith, all-roomy me room up table fewer is.1 have.1)
 
 -- there is room for a link that comes up
 pub room-up : (c : CoreView) (k : ℕ) → IsCore c → refusal_of c (In.LinkUp k) ≡ None → length c.up < GREATEST_NEIGHBOURS

@@ -1,7 +1,7 @@
 -- What is kept of rows, after each change.
-use Rattle.std.proofs.Common.{◌≡◌, ◌≢◌, refl, ap, sym, subst, ◌∙◌, ℕ, zero, suc, ◌+◌, ◌<◌, ◌≤◌, ◌-◌, ◌==◌, Bool, true, false, not, ◌||◌, ◌&&◌, List, [], ◌∷◌, ◌++◌, take, drop, length, Option, Some, None, is_none, is_some, nat_lt, arith}
+use Rattle.std.proofs.Common.{◌≡◌, ◌≢◌, refl, ap, sym, subst, ◌∙◌, ℕ, zero, suc, ◌+◌, ◌<◌, ◌≤◌, ◌==◌, Bool, true, false, not, ◌||◌, ◌&&◌, List, [], ◌∷◌, ◌++◌, map, take, drop, length, Option, Some, None, is_none, is_some, nat_lt, arith}
 use Rattle.std.specs.Prelude.{if◌then◌else◌, filter, fold, option_map, IfSome, slice_set, slice_index_or}
-use Rattle.std.specs.List.{AllByRecursion, cons_option, insert, remove, list_any, position_or_len, refill}
+use Rattle.std.specs.List.{AllByRecursion, cons_option, list_any, refill}
 use Rattle.std.specs.Ordering.{is_lt}
 use Rattle.std.specs.declared.cmp.Ordering.{Ordering}
 use Rattle.std.specs.declared.cmp.Ordering.TheVariants.{Less, Equal, Greater}
@@ -9,22 +9,22 @@ use Rattle.std.proofs.lemmas.Grind.{common_steps}
 use Rattle.std.proofs.lemmas.Bool.{cond_both}
 use Rattle.std.proofs.lemmas.List.{length-take-le, take-append-drop, take_more, take_more_set}
 use Rattle.std.proofs.lemmas.List.Filters.{length-filter_more}
-use Rattle.std.proofs.lemmas.List.Sums.{prefix_len-le-length}
 use Rattle.std.proofs.lemmas.Bool.Decides.{nat_tests}
 use Rattle.tora_height.specs.declared.Direction.{Direction}
+use Rattle.tora_height.specs.declared.Direction.TheVariants.{Undirected}
 use Rattle.tora_height.specs.Height.{Quintuple}
 use Rattle.tora_height.specs.HeightOrder.{direction_by, height_cmp, link_status}
 use Rattle.tora_core.specs.declared.rows.Row.{Row}
-use Rattle.tora_core.specs.View.{all_told, are_null, heights_of, is_downstream, least_height, lower_of, lower_row_of, neighbours_of, with_entry, with_row, without_row, is_told, told_row}
-use Rattle.tora_core.specs.Links.{AreKept, IsLeastAt, IsLeastPlace, IsNotBelow, IsNull, IsOnlyPlace, LinkTable, directions_of, downstream_in, entry_at, is_above, is_down, low_of, with_entry_at}
+use Rattle.tora_core.specs.View.{all_told, are_null, heights_of, is_downstream, least_height, lower_of, lower_row_of, neighbours_of, with_entry, without_row, is_told, told_row}
+use Rattle.tora_core.specs.Links.{AreKept, IsLeastAt, IsLeastPlace, IsNotBelow, IsNull, IsOnlyPlace, LinkTable, directions_of, downstream_in, empty_place, entry_at, is_above, is_down, low_of, with_entry_at}
 use Rattle.tora_core.proofs.NumberLemmas.{not-same}
 use Rattle.tora_core.proofs.ReactsWords.{below-above, lt-not_gt, not-below}
 
 pub refill-same : {X : Type 0} (n : ℕ) (xs ws : List X) → length ws ≡ n → refill n xs ws ≡ ws
 refill-same n xs ws e = grind (arith, common_steps)
 
-abbrev pub links_of : Option Quintuple → List Row → ℕ → LinkTable
-links_of own rows room = record { own = own; rows = rows; room = room }
+abbrev pub links_of : Option Quintuple → List Row → List ℕ → LinkTable
+links_of own rows neighbours = record { own = own; rows = rows; neighbours = neighbours }
 
 -- ---- heights
 
@@ -266,6 +266,10 @@ status-down (Some o) (Some e) = at (height_cmp e o)
     at Equal = refl
     at Greater = refl
 
+pub status-none : (own : Option Quintuple) → link_status own None ≡ Undirected
+status-none None = refl
+status-none (Some o) = refl
+
 pub length-directions : (own : Option Quintuple) (rows : List Row) → length (directions_of own rows) ≡ length rows
 length-directions own [] = refl
 length-directions own (row ∷ rows) = ap suc (length-directions own rows)
@@ -295,8 +299,8 @@ only-here k place [] d is = absurd is
 only-here k zero (row ∷ rows) d is = is.0
 only-here k (suc place) (row ∷ rows) d is = only-here k place rows d is.1
 
-same-number : (n k : ℕ) → n ≡ k → (n == k) ≡ true
-same-number n k e = grind (arith, nat_tests)
+pub is-number : (n k : ℕ) → n ≡ k → (n == k) ≡ true
+is-number n k e = grind (arith, nat_tests)
 
 rest-stays : (k : ℕ) (h : Quintuple) (rows : List Row) → AllByRecursion (λ (m : ℕ). m ≢ k) (neighbours_of rows) → with_entry k h rows ≡ rows
 rest-stays k h [] all = refl
@@ -306,7 +310,7 @@ rest-stays k h (row ∷ rows) all =
 pub only-set : (k place : ℕ) (h : Quintuple) (rows : List Row) → IsOnlyPlace k place (neighbours_of rows) → with_entry k h rows ≡ with_entry_at place h rows
 only-set k place h [] is = absurd is
 only-set k zero h (row ∷ rows) is =
-    ap (λ b. (if b then record row { entry = Some h } else row) ∷ with_entry k h rows) (same-number row.neighbour k is.0)
+    ap (λ b. (if b then record row { entry = Some h } else row) ∷ with_entry k h rows) (is-number row.neighbour k is.0)
     ∙ ap (λ (xs : List Row). record row { entry = Some h } ∷ xs) (rest-stays k h rows is.1)
 only-set k (suc place) h (row ∷ rows) is =
     ap (λ b. (if b then record row { entry = Some h } else row) ∷ with_entry k h rows) (not-same row.neighbour k is.0) ∙ ap (λ (xs : List Row). row ∷ xs) (only-set k place h rows is.1)
@@ -381,131 +385,90 @@ least-set_higher (suc place) zero g h (row ∷ rows) apart high is = (is.0, all-
 least-set_higher zero (suc i) g h (row ∷ rows) apart high is = (high, is.1)
 least-set_higher (suc place) (suc i) g h (row ∷ rows) apart high is = (is.0, least-set_higher place i g h rows (λ (e : i ≡ place). apart (ap suc e)) high is.1)
 
--- ---- a row that comes
+-- ---- a row that is written to a place
 
-pub directions-insert : (own : Option Quintuple) (place : ℕ) (new : Row) (rows : List Row) → place ≤ length rows → insert (directions_of own rows) place (link_status own new.entry) ≡ directions_of own (insert rows place new)
-directions-insert own zero new rows le = refl
-directions-insert own (suc place) new [] le = absurd (omega arith)
-directions-insert own (suc place) new (row ∷ rows) le = ap (λ (xs : List Direction). link_status own row.entry ∷ xs) (directions-insert own place new rows (omega arith))
+pub directions-put : (own : Option Quintuple) (place : ℕ) (new : Row) (rows : List Row) → slice_set (directions_of own rows) place (link_status own new.entry) ≡ directions_of own (slice_set rows place new)
+directions-put own place new [] = refl
+directions-put own zero new (row ∷ rows) = refl
+directions-put own (suc place) new (row ∷ rows) = ap (λ (xs : List Direction). link_status own row.entry ∷ xs) (directions-put own place new rows)
 
-pub downstream-insert : (own : Option Quintuple) (place : ℕ) (new : Row) (rows : List Row) → place ≤ length rows → downstream_in own (insert rows place new) ≡ downstream_in own rows + one_if (is_down (link_status own new.entry))
-downstream-insert own zero new rows le =
-    let a = count-more (is_downstream own new.entry) new (down_rows own rows) in let e = ap one_if (status-down own new.entry) in omega arith
-downstream-insert own (suc place) new [] le = absurd (omega arith)
-downstream-insert own (suc place) new (row ∷ rows) le =
-    let rest = downstream-insert own place new rows (omega arith) in
-    let a = count-more (is_downstream own row.entry) row (down_rows own (insert rows place new)) in
+pub downstream-put : (own : Option Quintuple) (place : ℕ) (new : Row) (rows : List Row) (d : Direction) → place < length rows
+    → downstream_in own (slice_set rows place new) + one_if (is_down (slice_index_or (directions_of own rows) place d)) ≡ downstream_in own rows + one_if (is_down (link_status own new.entry))
+downstream-put own place new [] d lt = absurd (omega arith)
+downstream-put own zero new (row ∷ rows) d lt =
+    let a = count-more (is_downstream own new.entry) new (down_rows own rows) in
+    let b = count-more (is_downstream own row.entry) row (down_rows own rows) in
+    let e = ap one_if (status-down own new.entry) in
+    let f = ap one_if (status-down own row.entry) in
+    omega arith
+downstream-put own (suc place) new (row ∷ rows) d lt =
+    let rest = downstream-put own place new rows d (omega arith) in
+    let a = count-more (is_downstream own row.entry) row (down_rows own (slice_set rows place new)) in
     let b = count-more (is_downstream own row.entry) row (down_rows own rows) in
     omega arith
 
-null-insert : (place : ℕ) (new : Row) (rows : List Row) → place ≤ length rows → IsNull new → AllByRecursion IsNull rows → AllByRecursion IsNull (insert rows place new)
-null-insert zero new rows le is all = (is, all)
-null-insert (suc place) new [] le is all = absurd (omega arith)
-null-insert (suc place) new (row ∷ rows) le is all = (all.0, null-insert place new rows (omega arith) is all.1)
+null-put : (place : ℕ) (new : Row) (rows : List Row) → IsNull new → AllByRecursion IsNull rows → AllByRecursion IsNull (slice_set rows place new)
+null-put place new [] is all = tt
+null-put zero new (row ∷ rows) is all = (is, all.1)
+null-put (suc place) new (row ∷ rows) is all = (all.0, null-put place new rows is all.1)
 
-all-insert : (place : ℕ) (h : Quintuple) (new : Row) (rows : List Row) → place ≤ length rows → IsNull new → AllByRecursion (IsNotBelow h) rows → AllByRecursion (IsNotBelow h) (insert rows place new)
-all-insert zero h new rows le is all = (ap (is_downstream (Some h)) is, all)
-all-insert (suc place) h new [] le is all = absurd (omega arith)
-all-insert (suc place) h new (row ∷ rows) le is all = (all.0, all-insert place h new rows (omega arith) is all.1)
+all-put : (place : ℕ) (h : Quintuple) (new : Row) (rows : List Row) → IsNull new → AllByRecursion (IsNotBelow h) rows → AllByRecursion (IsNotBelow h) (slice_set rows place new)
+all-put place h new [] is all = tt
+all-put zero h new (row ∷ rows) is all = (ap (is_downstream (Some h)) is, all.1)
+all-put (suc place) h new (row ∷ rows) is all = (all.0, all-put place h new rows is all.1)
 
-least-insert_before : (place i : ℕ) (h : Quintuple) (new : Row) (rows : List Row) → place ≤ i → IsNull new → IsLeastAt i h rows → IsLeastAt (suc i) h (insert rows place new)
-least-insert_before zero i h new rows le is least = (ap (is_above h) is, least)
-least-insert_before (suc place) i h new [] le is least = absurd least
-least-insert_before (suc place) zero h new (row ∷ rows) le is least = absurd (omega arith)
-least-insert_before (suc place) (suc i) h new (row ∷ rows) le is least = (least.0, least-insert_before place i h new rows (omega arith) is least.1)
+-- a row without an entry leaves the least where it is, elsewhere
+pub least-put_other : (place i : ℕ) (h : Quintuple) (new : Row) (rows : List Row) → i ≢ place → IsNull new → IsLeastAt i h rows → IsLeastAt i h (slice_set rows place new)
+least-put_other place i h new [] apart is least = absurd least
+least-put_other zero zero h new (row ∷ rows) apart is least = absurd (apart refl)
+least-put_other zero (suc i) h new (row ∷ rows) apart is least = (ap (is_above h) is, least.1)
+least-put_other (suc place) zero h new (row ∷ rows) apart is least = (least.0, all-put place h new rows is least.1)
+least-put_other (suc place) (suc i) h new (row ∷ rows) apart is least = (least.0, least-put_other place i h new rows (λ (e : i ≡ place). apart (ap suc e)) is least.1)
 
-least-insert_after : (place i : ℕ) (h : Quintuple) (new : Row) (rows : List Row) → i < place → place ≤ length rows → IsNull new → IsLeastAt i h rows → IsLeastAt i h (insert rows place new)
-least-insert_after zero i h new rows lt le is least = absurd (omega arith)
-least-insert_after (suc place) i h new [] lt le is least = absurd least
-least-insert_after (suc place) zero h new (row ∷ rows) lt le is least = (least.0, all-insert place h new rows (omega arith) is least.1)
-least-insert_after (suc place) (suc i) h new (row ∷ rows) lt le is least = (least.0, least-insert_after place i h new rows (omega arith) (omega arith) is least.1)
+pub none-put : (place : ℕ) (new : Row) (rows : List Row) → IsNull new → IsLeastPlace None rows → IsLeastPlace None (slice_set rows place new)
+none-put place new rows is least = null-put place new rows is least
 
-pub least-insert : (place : ℕ) (least : Option ℕ) (new : Row) (rows : List Row) → place ≤ length rows → IsNull new → IsLeastPlace least rows → IsLeastPlace (option_map (λ i. if nat_lt i place then i else i + 1) least) (insert rows place new)
-least-insert place None new rows le null is = null-insert place new rows le null is
-least-insert place (Some i) new rows le null is =
-    cond_both (nat_lt i place) i (i + 1) (λ (j : ℕ). IsLeastPlace (Some j) (insert rows place new))
-    (λ (e : nat_lt i place ≡ true). (is.0, least-insert_after place i is.0 new rows (grind (arith, nat_tests)) le null is.1))
-    (λ (e : nat_lt i place ≡ false).
-    let one : suc i ≡ i + 1 = omega arith in
-    (is.0, subst (λ (j : ℕ). IsLeastAt j is.0 (insert rows place new)) one (least-insert_before place i is.0 new rows (grind (arith, nat_tests)) null is.1)))
+-- and so it does where the row before had no entry, either
+pub least-put_null : (place : ℕ) (least : Option ℕ) (new : Row) (rows : List Row) (d : Row) → IsNull new → (slice_index_or rows place d).entry ≡ None → IsLeastPlace least rows
+    → IsLeastPlace least (slice_set rows place new)
+least-put_null place None new rows d is none least = null-put place new rows is least
+least-put_null place (Some i) new rows d is none least = (least.0, least-put_other place i least.0 new rows apart is least.1)
+  where
+    apart : i ≢ place
+    apart e =
+        let here : (slice_index_or rows place d).entry ≡ Some least.0 = subst (λ (n : ℕ). (slice_index_or rows n d).entry ≡ Some least.0) e (least-entry i least.0 rows d least.1) in
+        let clash : None ≡ Some least.0 = sym none ∙ here in
+        absurd cc
 
--- ---- a row that goes
+-- ---- the places at first
 
-pub directions-remove : (own : Option Quintuple) (place : ℕ) (rows : List Row) → place < length rows → remove (directions_of own rows) place ≡ directions_of own (remove rows place)
-directions-remove own place [] lt = absurd (omega arith)
-directions-remove own zero (row ∷ rows) lt = refl
-directions-remove own (suc place) (row ∷ rows) lt = ap (λ (xs : List Direction). link_status own row.entry ∷ xs) (directions-remove own place rows (omega arith))
+null-first : (ns : List ℕ) → AllByRecursion IsNull (map empty_place ns)
+null-first [] = tt
+null-first (n ∷ ns) = (refl, null-first ns)
 
-pub downstream-remove : (own : Option Quintuple) (place : ℕ) (rows : List Row) (d : Direction) → place < length rows
-    → downstream_in own (remove rows place) + one_if (is_down (slice_index_or (directions_of own rows) place d)) ≡ downstream_in own rows
-downstream-remove own place [] d lt = absurd (omega arith)
-downstream-remove own zero (row ∷ rows) d lt =
-    let b = count-more (is_downstream own row.entry) row (down_rows own rows) in let f = ap one_if (status-down own row.entry) in omega arith
-downstream-remove own (suc place) (row ∷ rows) d lt =
-    let rest = downstream-remove own place rows d (omega arith) in
-    let a = count-more (is_downstream own row.entry) row (down_rows own (remove rows place)) in
-    let b = count-more (is_downstream own row.entry) row (down_rows own rows) in
-    omega arith
+pub kept-first : (own : Option Quintuple) (ns : List ℕ) → AreKept own (map empty_place ns) (directions_of own (map empty_place ns)) 0 None
+kept-first own ns = record {
+  directions_are = refl;
+  downstream_is = sym (ap (λ (xs : List Row). length xs) (null-down own (map empty_place ns) (null-first ns)));
+  least_is = null-first ns;
+}
 
-pub null-remove : (place : ℕ) (rows : List Row) → place < length rows → AllByRecursion IsNull rows → AllByRecursion IsNull (remove rows place)
-null-remove place [] lt all = absurd (omega arith)
-null-remove zero (row ∷ rows) lt all = all.1
-null-remove (suc place) (row ∷ rows) lt all = (all.0, null-remove place rows (omega arith) all.1)
+-- ---- rows that are not there
 
-all-remove : (place : ℕ) (h : Quintuple) (rows : List Row) → place < length rows → AllByRecursion (IsNotBelow h) rows → AllByRecursion (IsNotBelow h) (remove rows place)
-all-remove place h [] lt all = absurd (omega arith)
-all-remove zero h (row ∷ rows) lt all = all.1
-all-remove (suc place) h (row ∷ rows) lt all = (all.0, all-remove place h rows (omega arith) all.1)
-
-least-remove_before : (place i : ℕ) (h : Quintuple) (rows : List Row) → place ≤ i → IsLeastAt (suc i) h rows → IsLeastAt i h (remove rows place)
-least-remove_before place i h [] le least = absurd least
-least-remove_before zero i h (row ∷ rows) le least = least.1
-least-remove_before (suc place) zero h (row ∷ rows) le least = absurd (omega arith)
-least-remove_before (suc place) (suc i) h (row ∷ rows) le least = (least.0, least-remove_before place i h rows (omega arith) least.1)
-
-least-remove_after : (place i : ℕ) (h : Quintuple) (rows : List Row) → i < place → place < length rows → IsLeastAt i h rows → IsLeastAt i h (remove rows place)
-least-remove_after place i h [] lt le least = absurd least
-least-remove_after zero i h (row ∷ rows) lt le least = absurd (omega arith)
-least-remove_after (suc place) zero h (row ∷ rows) lt le least = (least.0, all-remove place h rows (omega arith) least.1)
-least-remove_after (suc place) (suc i) h (row ∷ rows) lt le least = (least.0, least-remove_after place i h rows (omega arith) (omega arith) least.1)
-
-pub least-remove : (place i : ℕ) (h : Quintuple) (rows : List Row) → i ≢ place → place < length rows → IsLeastAt i h rows → IsLeastAt (if nat_lt i place then i else i - 1) h (remove rows place)
-least-remove place i h rows apart lt is =
-    cond_both (nat_lt i place) i (i - 1) (λ (j : ℕ). IsLeastAt j h (remove rows place))
-    (λ (e : nat_lt i place ≡ true). least-remove_after place i h rows (grind (arith, nat_tests)) lt is)
-    (λ (e : nat_lt i place ≡ false).
-    let above : place < i = grind (arith, nat_tests) in
-    let one : i ≡ suc (i - 1) = omega arith in
-    least-remove_before place (i - 1) h rows (omega arith) (subst (λ (j : ℕ). IsLeastAt j h rows) one is))
-
-rest-kept : (k : ℕ) (rows : List Row) → AllByRecursion (λ (m : ℕ). m ≢ k) (neighbours_of rows) → without_row k rows ≡ rows
+pub rest-kept : (k : ℕ) (rows : List Row) → AllByRecursion (λ (m : ℕ). m ≢ k) (neighbours_of rows) → without_row k rows ≡ rows
 rest-kept k [] all = refl
 rest-kept k (row ∷ rows) all =
     ap (λ b. if not b then row ∷ without_row k rows else without_row k rows) (not-same row.neighbour k all.0) ∙ ap (λ (xs : List Row). row ∷ xs) (rest-kept k rows all.1)
 
-pub only-remove : (k place : ℕ) (rows : List Row) → IsOnlyPlace k place (neighbours_of rows) → without_row k rows ≡ remove rows place
-only-remove k place [] is = absurd is
-only-remove k zero (row ∷ rows) is =
-    ap (λ b. if not b then row ∷ without_row k rows else without_row k rows) (same-number row.neighbour k is.0) ∙ rest-kept k rows is.1
-only-remove k (suc place) (row ∷ rows) is =
-    ap (λ b. if not b then row ∷ without_row k rows else without_row k rows) (not-same row.neighbour k is.0) ∙ ap (λ (xs : List Row). row ∷ xs) (only-remove k place rows is.1)
-
 -- ---- told rows
 
-rest-told : (k : ℕ) (rows : List Row) → AllByRecursion (λ (m : ℕ). m ≢ k) (neighbours_of rows) → is_told k rows ≡ false
+pub rest-told : (k : ℕ) (rows : List Row) → AllByRecursion (λ (m : ℕ). m ≢ k) (neighbours_of rows) → is_told k rows ≡ false
 rest-told k [] all = refl
 rest-told k (row ∷ rows) all = ap (λ b. (b && row.told) || is_told k rows) (not-same row.neighbour k all.0) ∙ rest-told k rows all.1
 
-or-none : (b : Bool) → (b || false) ≡ b
+pub or-none : (b : Bool) → (b || false) ≡ b
 or-none true = refl
 or-none false = refl
-
-pub only-told : (k place : ℕ) (rows : List Row) (d : Row) → IsOnlyPlace k place (neighbours_of rows) → is_told k rows ≡ (slice_index_or rows place d).told
-only-told k place [] d is = absurd is
-only-told k zero (row ∷ rows) d is =
-    ap (λ b. (b && row.told) || is_told k rows) (same-number row.neighbour k is.0) ∙ ap (λ b. row.told || b) (rest-told k rows is.1) ∙ or-none row.told
-only-told k (suc place) (row ∷ rows) d is =
-    ap (λ b. (b && row.told) || is_told k rows) (not-same row.neighbour k is.0) ∙ only-told k place rows d is.1
 
 pub directions-told : (own : Option Quintuple) (rows : List Row) → directions_of own rows ≡ directions_of own (all_told rows)
 directions-told own [] = refl
@@ -597,22 +560,6 @@ pub least-in : (least : Option ℕ) (rows : List Row) → IsLeastPlace least row
 least-in None rows is = tt
 least-in (Some place) rows is = least-within place is.0 rows is.1
 
--- the place before the first greater row
-pub with_row-insert : (new : Row) (rows : List Row) → insert rows (position_or_len (λ row. nat_lt new.neighbour row.neighbour) rows) new ≡ with_row new rows
-with_row-insert new [] = refl
-with_row-insert new (row ∷ rows) = at (with_row-insert new rows) (nat_lt new.neighbour row.neighbour) refl
-  where
-    later : (n : ℕ) → insert (row ∷ rows) (1 + n) new ≡ row ∷ insert rows n new
-    later n = let s : 1 + n ≡ suc n = omega arith in rw s refl
-
-    at : (insert rows (position_or_len (λ row. nat_lt new.neighbour row.neighbour) rows) new ≡ with_row new rows) → (b : Bool) → nat_lt new.neighbour row.neighbour ≡ b
-        → insert (row ∷ rows) (position_or_len (λ row. nat_lt new.neighbour row.neighbour) (row ∷ rows)) new ≡ with_row new (row ∷ rows)
-    at rest true e = rw e refl
-    at rest false e = rw e (later (position_or_len (λ row. nat_lt new.neighbour row.neighbour) rows) ∙ ap (λ (xs : List Row). row ∷ xs) rest)
-
-pub place-within : (p : Row → Bool) (rows : List Row) → position_or_len p rows ≤ length rows
-place-within p rows = prefix_len-le-length (λ row. not (p row)) rows
-
 -- ---- one row more, read in a loop
 
 pub directions-next : (own : Option Quintuple) (ds : List Direction) (rows : List Row) (i : ℕ) (x : Row) → i < length ds → i < length rows → x ≡ slice_index_or rows i x → take i ds ≡ directions_of own (take i rows)
@@ -684,29 +631,17 @@ kept-set own rows ds count least place h before recount found kept lt read sum i
       least_is = is;
     }
 
-pub kept-insert : (own : Option Quintuple) (rows : List Row) (ds : List Direction) (count : ℕ) (least : Option ℕ) (place : ℕ) (new : Row) (recount : ℕ) (found : Option ℕ)
-    → AreKept own rows ds count least → place ≤ length rows → recount + 0 ≡ count + one_if (is_down (link_status own new.entry)) → IsLeastPlace found (insert rows place new)
-    → AreKept own (insert rows place new) (insert ds place (link_status own new.entry)) recount found
-kept-insert own rows ds count least place new recount found kept le sum is =
-    let counted = downstream-insert own place new rows le in
-    let was = kept.downstream_is in
-    record {
-      directions_are = ap (λ (xs : List Direction). insert xs place (link_status own new.entry)) kept.directions_are ∙ directions-insert own place new rows le;
-      downstream_is = omega arith;
-      least_is = is;
-    }
-
-pub kept-remove : (own : Option Quintuple) (rows : List Row) (ds : List Direction) (count : ℕ) (least : Option ℕ) (place : ℕ) (before : Direction) (recount : ℕ) (found : Option ℕ)
+pub kept-put : (own : Option Quintuple) (rows : List Row) (ds : List Direction) (count : ℕ) (least : Option ℕ) (place : ℕ) (new : Row) (before : Direction) (recount : ℕ) (found : Option ℕ)
     → AreKept own rows ds count least → place < length rows → before ≡ slice_index_or ds place before
-    → recount + one_if (is_down before) ≡ count + 0 → IsLeastPlace found (remove rows place)
-    → AreKept own (remove rows place) (remove ds place) recount found
-kept-remove own rows ds count least place before recount found kept lt read sum is =
+    → recount + one_if (is_down before) ≡ count + one_if (is_down (link_status own new.entry)) → IsLeastPlace found (slice_set rows place new)
+    → AreKept own (slice_set rows place new) (slice_set ds place (link_status own new.entry)) recount found
+kept-put own rows ds count least place new before recount found kept lt read sum is =
     let same : before ≡ slice_index_or (directions_of own rows) place before = read ∙ ap (λ (xs : List Direction). slice_index_or xs place before) kept.directions_are in
-    let counted = downstream-remove own place rows before lt in
+    let counted = downstream-put own place new rows before lt in
     let one : one_if (is_down before) ≡ one_if (is_down (slice_index_or (directions_of own rows) place before)) = ap (λ (d : Direction). one_if (is_down d)) same in
     let was = kept.downstream_is in
     record {
-      directions_are = ap (λ (xs : List Direction). remove xs place) kept.directions_are ∙ directions-remove own place rows lt;
+      directions_are = ap (λ (xs : List Direction). slice_set xs place (link_status own new.entry)) kept.directions_are ∙ directions-put own place new rows;
       downstream_is = omega arith;
       least_is = is;
     }
@@ -726,7 +661,7 @@ kept-few own rows ds count least kept = let few = few-down own rows in let was =
 pub kept-lengths : (own : Option Quintuple) (rows : List Row) (ds : List Direction) (count : ℕ) (least : Option ℕ) → AreKept own rows ds count least → length ds ≡ length rows
 kept-lengths own rows ds count least kept = ap (λ (xs : List Direction). length xs) kept.directions_are ∙ length-directions own rows
 
-pub table-is : (o p : Option Quintuple) (r s : List Row) (m n : ℕ) → o ≡ p → r ≡ s → m ≡ n → links_of o r m ≡ links_of p s n
+pub table-is : (o p : Option Quintuple) (r s : List Row) (m n : List ℕ) → o ≡ p → r ≡ s → m ≡ n → links_of o r m ≡ links_of p s n
 table-is o p r s m n e f g = ap (λ (x : Option Quintuple). links_of x r m) e ∙ ap (λ (x : List Row). links_of p x m) f ∙ ap (links_of p s) g
 
 pub not-some : {X : Type 0} (o : Option X) → is_some o ≡ false → o ≡ None

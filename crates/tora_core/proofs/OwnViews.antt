@@ -12,33 +12,34 @@ use Rattle.tora_core.specs.CoreRun.{is_of, own_destination, concerns, next_view,
 use Rattle.tora_core.specs.Kept.{destinations_of}
 use Rattle.tora_core.proofs.NumberLemmas.{same-number}
 
--- ---- the place of a view
+-- ---- the place of the first that passes a test
 
-pub place-Some : (p : View → Bool) (views : List View) (i : ℕ) → position p views ≡ Some i → (position_or_len p views < length views) × (i ≡ position_or_len p views)
-place-Some p views i e = at (nat_lt (position_or_len p views) (length views)) refl e
-  where
-    at : (b : Bool) → nat_lt (position_or_len p views) (length views) ≡ b → (if b then Some (position_or_len p views) else None) ≡ Some i → (position_or_len p views < length views) × (i ≡ position_or_len p views)
-    at true t f = (grind (arith, nat_tests), cc)
-    at false t f = absurd cc
+module _ {X : Type 0} (p : X → Bool) where
+  pub place-Some : (xs : List X) (i : ℕ) → position p xs ≡ Some i → (position_or_len p xs < length xs) × (i ≡ position_or_len p xs)
+  place-Some xs i e = at (nat_lt (position_or_len p xs) (length xs)) refl e
+    where
+      at : (b : Bool) → nat_lt (position_or_len p xs) (length xs) ≡ b → (if b then Some (position_or_len p xs) else None) ≡ Some i → (position_or_len p xs < length xs) × (i ≡ position_or_len p xs)
+      at true t f = (grind (arith, nat_tests), cc)
+      at false t f = absurd cc
 
-place-None : (p : View → Bool) (views : List View) → position p views ≡ None → length views ≤ position_or_len p views
-place-None p views e = at (nat_lt (position_or_len p views) (length views)) refl e
-  where
-    at : (b : Bool) → nat_lt (position_or_len p views) (length views) ≡ b → (if b then Some (position_or_len p views) else None) ≡ None → length views ≤ position_or_len p views
-    at true t f = absurd cc
-    at false t f = grind (arith, nat_tests)
+  place-None : (xs : List X) → position p xs ≡ None → length xs ≤ position_or_len p xs
+  place-None xs e = at (nat_lt (position_or_len p xs) (length xs)) refl e
+    where
+      at : (b : Bool) → nat_lt (position_or_len p xs) (length xs) ≡ b → (if b then Some (position_or_len p xs) else None) ≡ None → length xs ≤ position_or_len p xs
+      at true t f = absurd cc
+      at false t f = grind (arith, nat_tests)
 
-none-within : (p : View → Bool) (views : List View) → length views ≤ position_or_len p views → AllByRecursion (λ (v : View). p v ≡ false) views
-none-within p [] e = tt
-none-within p (v ∷ views) e = at (none-within p views) (p v) refl e
-  where
-    at : (length views ≤ position_or_len p views → AllByRecursion (λ (v : View). p v ≡ false) views) → (b : Bool) → p v ≡ b → suc (length views) ≤ (if not b then 1 + position_or_len p views else 0)
-        → AllByRecursion (λ (v : View). p v ≡ false) (v ∷ views)
-    at rest true be f = absurd (omega arith)
-    at rest false be f = (be, rest (omega arith))
+  none-within : (xs : List X) → length xs ≤ position_or_len p xs → AllByRecursion (λ (x : X). p x ≡ false) xs
+  none-within [] e = tt
+  none-within (x ∷ xs) e = at (none-within xs) (p x) refl e
+    where
+      at : (length xs ≤ position_or_len p xs → AllByRecursion (λ (x : X). p x ≡ false) xs) → (b : Bool) → p x ≡ b → suc (length xs) ≤ (if not b then 1 + position_or_len p xs else 0)
+          → AllByRecursion (λ (x : X). p x ≡ false) (x ∷ xs)
+      at rest true be f = absurd (omega arith)
+      at rest false be f = (be, rest (omega arith))
 
-pub none-passes : (p : View → Bool) (views : List View) → position p views ≡ None → AllByRecursion (λ (v : View). p v ≡ false) views
-none-passes p views e = none-within p views (place-None p views e)
+  pub none-passes : (xs : List X) → position p xs ≡ None → AllByRecursion (λ (x : X). p x ≡ false) xs
+  none-passes xs e = none-within xs (place-None xs e)
 
 -- no later view is of the same destination
 later-apart : (d : ℕ) (v : View) (views : List View) → is_of d v ≡ true → AllByRecursion (λ (m : ℕ). v.destination < m) (destinations_of views) → AllByRecursion (λ (w : View). is_of d w ≡ false) views

@@ -29,7 +29,7 @@ Of v o = IsPlaced v.me v.destination (neighbours_of v.rows) o
 along : (n d : ℕ) (up also : List ℕ) (o : Outcome) → up ≡ also → IsPlaced n d up o → IsPlaced n d also o
 along n d up also o e p = record { me = p.me; destination = p.destination; rows = p.rows ∙ e }
 
-neighbours_of-map : (f : Row → Row) → ((row : Row) → (f row).neighbour ≡ row.neighbour) → (rows : List Row) → neighbours_of (map f rows) ≡ neighbours_of rows
+pub neighbours_of-map : (f : Row → Row) → ((row : Row) → (f row).neighbour ≡ row.neighbour) → (rows : List Row) → neighbours_of (map f rows) ≡ neighbours_of rows
 neighbours_of-map f same [] = refl
 neighbours_of-map f same (row ∷ rows) = let rest = neighbours_of-map f same rows in let e = same row in cc
 

@@ -1,5 +1,5 @@
 -- The place of a neighbour among those that are up, and of its row in each view.
-use Rattle.std.proofs.Common.{◌≡◌, ◌≢◌, refl, ap, ◌∙◌, ℕ, suc, ◌+◌, ◌<◌, ◌==◌, Bool, true, false, not, ◌||◌, List, [], ◌∷◌, length, Option, Some, None, nat_lt, arith, subst}
+use Rattle.std.proofs.Common.{◌≡◌, ◌≢◌, refl, ap, sym, ◌∙◌, ℕ, suc, ◌+◌, ◌<◌, ◌==◌, Bool, true, false, not, ◌||◌, List, [], ◌∷◌, length, Option, Some, None, nat_lt, arith, subst}
 use Rattle.std.specs.Prelude.{if◌then◌else◌, unwrap_or}
 use Rattle.std.specs.List.{AllByRecursion, position, position_or_len}
 use Rattle.std.proofs.lemmas.Bool.{cond_both}
@@ -12,6 +12,7 @@ use Rattle.tora_core.specs.Links.{IsOnlyPlace}
 use Rattle.tora_core.specs.CoreRun.{is_of}
 use Rattle.tora_core.specs.Kept.{destinations_of}
 use Rattle.tora_core.proofs.NumberLemmas.{same-number, other-number}
+use Rattle.tora_core.proofs.OwnViews.{none-passes, place-Some}
 
 pub place-or-length : {X : Type 0} (p : X → Bool) (xs : List X) → unwrap_or (position p xs) (length xs) ≡ position_or_len p xs
 place-or-length p xs =
@@ -35,10 +36,45 @@ only-of k (n ∷ ns) asc has = at (n == k) refl has (only-of k ns asc.1)
         let one : suc (position_or_len (λ m. m == k) ns) ≡ 1 + position_or_len (λ m. m == k) ns = omega arith in
         subst (λ (i : ℕ). IsOnlyPlace k i (n ∷ ns)) one (other-number n k e, rest h)
 
--- the place before the first greater number is that before the first greater row
-pub place-rows : (k : ℕ) (rows : List Row) → position_or_len (λ n. nat_lt k n) (neighbours_of rows) ≡ position_or_len (λ row. nat_lt k row.neighbour) rows
-place-rows k [] = refl
-place-rows k (row ∷ rows) = ap (λ (n : ℕ). if not (nat_lt k row.neighbour) then 1 + n else 0) (place-rows k rows)
+-- a neighbour stands where its row does
+row-numbers : (k : ℕ) (rows : List Row) → position_or_len (λ (row : Row). row.neighbour == k) rows ≡ position_or_len (λ n. n == k) (neighbours_of rows)
+row-numbers k [] = refl
+row-numbers k (row ∷ rows) = ap (λ (n : ℕ). if not (row.neighbour == k) then 1 + n else 0) (row-numbers k rows)
+
+pub length-rows : (rows : List Row) → length (neighbours_of rows) ≡ length rows
+length-rows [] = refl
+length-rows (row ∷ rows) = ap suc (length-rows rows)
+
+-- a number that stands somewhere is there
+has-within : (k : ℕ) (ns : List ℕ) → position_or_len (λ n. n == k) ns < length ns → has_number k ns ≡ true
+has-within k [] lt = absurd (omega arith)
+has-within k (n ∷ ns) lt = at (n == k) refl lt (has-within k ns)
+  where
+    at : (b : Bool) → (n == k) ≡ b → (if not b then 1 + position_or_len (λ m. m == k) ns else 0) < suc (length ns) → (position_or_len (λ m. m == k) ns < length ns → has_number k ns ≡ true)
+        → (b || has_number k ns) ≡ true
+    at true e within rest = refl
+    at false e within rest = rest (omega arith)
+
+-- the place of the row of a neighbour that has one
+pub row-only : (k i : ℕ) (rows : List Row) → IsAscending (neighbours_of rows) → position (λ (row : Row). row.neighbour == k) rows ≡ Some i
+    → (i < length rows) × IsOnlyPlace k i (neighbours_of rows)
+row-only k i rows asc e =
+    let found = place-Some (λ (row : Row). row.neighbour == k) rows i e in
+    let same = row-numbers k rows in
+    let here : i ≡ position_or_len (λ n. n == k) (neighbours_of rows) = found.1 ∙ same in
+    let count = length-rows rows in
+    let first = found.0 in
+    let within : position_or_len (λ n. n == k) (neighbours_of rows) < length (neighbours_of rows) = omega arith in
+    let is = found.1 in
+    (omega arith, subst (λ (n : ℕ). IsOnlyPlace k n (neighbours_of rows)) (sym here) (only-of k (neighbours_of rows) asc (has-within k (neighbours_of rows) within)))
+
+others : (k : ℕ) (rows : List Row) → AllByRecursion (λ (row : Row). (row.neighbour == k) ≡ false) rows → AllByRecursion (λ (m : ℕ). m ≢ k) (neighbours_of rows)
+others k [] all = tt
+others k (row ∷ rows) all = (other-number row.neighbour k all.0, others k rows all.1)
+
+-- and of one that has none
+pub row-none : (k : ℕ) (rows : List Row) → position (λ (row : Row). row.neighbour == k) rows ≡ None → AllByRecursion (λ (m : ℕ). m ≢ k) (neighbours_of rows)
+row-none k rows e = others k rows (none-passes (λ (row : Row). row.neighbour == k) rows e)
 
 -- a destination stands where its view does
 place-names : (d : ℕ) (views : List View) → position_or_len (λ n. n == d) (destinations_of views) ≡ position_or_len (is_of d) views

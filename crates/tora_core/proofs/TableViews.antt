@@ -1,4 +1,4 @@
--- The views of a table, beside the room that each has.
+-- The views of a table, beside the neighbours that each has a place for.
 use Rattle.std.proofs.Common.{◌≡◌, ◌∙◌, refl, ap, sym, ℕ, zero, suc, ◌<◌, ◌≤◌, ◌==◌, Bool, true, false, List, [], ◌∷◌, ◌++◌, map, take, length, Option, Some, arith}
 use Rattle.std.specs.Prelude.{filter_map, find, option_map, slice_index_or, slice_set, if◌then◌else◌}
 use Rattle.std.specs.List.{AllByRecursion, cons_option, flat_map}
@@ -8,27 +8,27 @@ use Rattle.tora_core.specs.declared.Input.{Input}
 use Rattle.tora_core.specs.View.{View, first_view}
 use Rattle.tora_core.specs.CoreRun.{is_of, next_packet, next_view}
 use Rattle.tora_core.specs.ShowText.{view_text}
-use Rattle.tora_core.specs.Table.{HaveRoom, TableView, first_in, next_in, views_in}
+use Rattle.tora_core.specs.Table.{HavePlaces, TableView, first_in, next_in, views_in}
 
 pub length-in : (table : List TableView) → length (views_in table) ≡ length table
 length-in [] = refl
 length-in (t ∷ table) = ap suc (length-in table)
 
-pub views_first : (room me : ℕ) (destinations : List ℕ) → views_in (map (first_in room me) destinations) ≡ map (first_view me) destinations
-views_first room me [] = refl
-views_first room me (d ∷ destinations) = ap (λ (views : List View). first_view me d ∷ views) (views_first room me destinations)
+pub views_first : (neighbours : List ℕ) (me : ℕ) (destinations : List ℕ) → views_in (map (first_in neighbours me) destinations) ≡ map (first_view me) destinations
+views_first neighbours me [] = refl
+views_first neighbours me (d ∷ destinations) = ap (λ (views : List View). first_view me d ∷ views) (views_first neighbours me destinations)
 
-pub room-first : (room me : ℕ) (destinations : List ℕ) → HaveRoom room (map (first_in room me) destinations)
-room-first room me [] = tt
-room-first room me (d ∷ destinations) = (refl, room-first room me destinations)
+pub places-first : (neighbours : List ℕ) (me : ℕ) (destinations : List ℕ) → HavePlaces neighbours (map (first_in neighbours me) destinations)
+places-first neighbours me [] = tt
+places-first neighbours me (d ∷ destinations) = (refl, places-first neighbours me destinations)
 
 pub views_next : (input : Input) (now : ℕ) (table : List TableView) → views_in (map (next_in input now) table) ≡ map (next_view input now) (views_in table)
 views_next input now [] = refl
 views_next input now (t ∷ table) = ap (λ (views : List View). next_view input now t.view ∷ views) (views_next input now table)
 
-pub room-next : (input : Input) (now room : ℕ) (table : List TableView) → HaveRoom room table → HaveRoom room (map (next_in input now) table)
-room-next input now room [] have = tt
-room-next input now room (t ∷ table) have = (have.0, room-next input now room table have.1)
+pub places-next : (input : Input) (now : ℕ) (neighbours : List ℕ) (table : List TableView) → HavePlaces neighbours table → HavePlaces neighbours (map (next_in input now) table)
+places-next input now neighbours [] have = tt
+places-next input now neighbours (t ∷ table) have = (have.0, places-next input now neighbours table have.1)
 
 -- the packet that an input sends of a view of the table
 abbrev pub packet_in : Input → ℕ → TableView → Option Packet
@@ -68,8 +68,8 @@ table-same input now (t ∷ table) e =
 pub table-none : (input : Input) (now : ℕ) (table : List TableView) → map (next_view input now) (views_in table) ≡ views_in table → table ≡ map (next_in input now) table
 table-none input now table e = sym (table-same input now table e)
 
-pub same-in : (t u : TableView) → t.view ≡ u.view → t.room ≡ u.room → t ≡ u
-same-in t u e f = ap (λ (v : View). record t { view = v }) e ∙ ap (λ (n : ℕ). record u { room = n }) f
+pub same-in : (t u : TableView) → t.view ≡ u.view → t.neighbours ≡ u.neighbours → t ≡ u
+same-in t u e f = ap (λ (v : View). record t { view = v }) e ∙ ap (λ (ns : List ℕ). record u { neighbours = ns }) f
 
 pub all-in : (P : View → Type 0) (table : List TableView) → AllByRecursion P (views_in table) → AllByRecursion (λ (t : TableView). P t.view) table
 all-in P [] all = tt

@@ -88,16 +88,19 @@ pub record CanTake (input : Input) (v : View) : Type 0 where
   pub kept : IsKept v
   pub may : concerns input v.destination ≡ true → MayCome v input × HasRoom v input
 
--- the rows are those of these up neighbours
-abbrev pub IsOver : List ℕ → View → Type 0
-IsOver up v = up_neighbours v ≡ up
-
 -- a link that goes down, or over which a packet comes, is up
 abbrev pub IsLinked : Input → List ℕ → Type 0
 IsLinked (In.Need d) up = Unit {0}
 IsLinked (In.LinkUp k) up = Unit {0}
 IsLinked (In.LinkDown k) up = has_number k up ≡ true
 IsLinked (In.Packet k packet) up = has_number k up ≡ true
+
+-- a link that comes up or goes down, or over which a packet comes, is that of one of these neighbours
+abbrev pub IsOfOne : Input → List ℕ → Type 0
+IsOfOne (In.Need d) neighbours = Unit {0}
+IsOfOne (In.LinkUp k) neighbours = has_number k neighbours ≡ true
+IsOfOne (In.LinkDown k) neighbours = has_number k neighbours ≡ true
+IsOfOne (In.Packet k packet) neighbours = has_number k neighbours ≡ true
 
 -- ---- one core
 

@@ -1,7 +1,7 @@
--- What a core keeps of the rows of one destination: the directions of the links, how many are downstream, and the row
--- with the least height.
+-- What a core keeps of the rows of one destination: a place for each neighbour, the directions of the links, how many are
+-- downstream, and the row with the least height.
 use Rattle.std.specs.Prelude.{◌≡◌, ◌≢◌, ℕ, zero, suc, Bool, true, false, List, [], ◌∷◌, length, map, filter, Option, None, Some}
-use Rattle.std.specs.List.{AllByRecursion}
+use Rattle.std.specs.List.{AllByRecursion, items_where_true}
 use Rattle.std.specs.Ordering.{is_lt}
 use Rattle.tora_height.specs.declared.Direction.{Direction}
 use Rattle.tora_height.specs.declared.Direction.TheVariants.{Down, Up, Undirected}
@@ -10,11 +10,28 @@ use Rattle.tora_height.specs.HeightOrder.{height_cmp, link_status}
 use Rattle.tora_core.specs.declared.rows.Row.{Row}
 use Rattle.tora_core.specs.View.{is_downstream}
 
--- the own height, the rows of the up neighbours, and how many there may be
+-- the own height, the rows of the up neighbours, and all neighbours of the node
 pub record LinkTable : Type 0 where
   pub own : Option Quintuple
   pub rows : List Row
-  pub room : ℕ
+  pub neighbours : List ℕ
+
+-- ---- places
+
+-- a place whose link is not up
+abbrev pub empty_place : ℕ → Row
+empty_place k = record { neighbour = k; entry = None; told = false }
+
+-- the rows: those of the places whose link is up
+abbrev pub rows_up : List Bool → List Row → List Row
+rows_up up places = items_where_true up places
+
+-- there is a mark for each place, and no entry where the link is not up
+abbrev pub AreMarked : List Bool → List Row → Type 0
+AreMarked [] [] = Unit {0}
+AreMarked [] (row ∷ places) = ⊥
+AreMarked (mark ∷ up) [] = ⊥
+AreMarked (mark ∷ up) (row ∷ places) = (mark ≡ false → row.entry ≡ None) × AreMarked up places
 
 -- ---- directions
 
@@ -79,7 +96,7 @@ pub record AreKept (own : Option Quintuple) (rows : List Row) (directions : List
   pub downstream_is : downstream ≡ downstream_in own rows
   pub least_is : IsLeastPlace least rows
 
--- ---- the place of a neighbour's row
+-- ---- the place of a neighbour
 
 -- k stands at this place of the numbers, and nowhere else
 abbrev pub IsOnlyPlace : ℕ → ℕ → List ℕ → Type 0

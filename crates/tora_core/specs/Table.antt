@@ -1,4 +1,4 @@
--- The views of a core's table, each with the room that there is for its rows.
+-- The views of a core's table, each with the neighbours that there is a place for.
 use Rattle.std.specs.Prelude.{◌≡◌, ℕ, List, map}
 use Rattle.std.specs.List.{AllByRecursion}
 use Rattle.tora_core.specs.declared.Input.{Input}
@@ -7,17 +7,17 @@ use Rattle.tora_core.specs.CoreRun.{next_view}
 
 pub record TableView : Type 0 where
   pub view : View
-  pub room : ℕ  -- for so many rows
+  pub neighbours : List ℕ  -- all of the node, by ascending number
 
 abbrev pub views_in : List TableView → List View
 views_in table = map (λ t. t.view) table
 
-abbrev pub first_in : ℕ → ℕ → ℕ → TableView
-first_in room me destination = record { view = first_view me destination; room = room }
+abbrev pub first_in : List ℕ → ℕ → ℕ → TableView
+first_in neighbours me destination = record { view = first_view me destination; neighbours = neighbours }
 
 abbrev pub next_in : Input → ℕ → TableView → TableView
 next_in input now t = record t { view = next_view input now t.view }
 
--- there is room for the rows of so many neighbours in each view
-abbrev pub HaveRoom : ℕ → List TableView → Type 0
-HaveRoom room table = AllByRecursion (λ (t : TableView). t.room ≡ room) table
+-- there is a place for each of these neighbours in each view
+abbrev pub HavePlaces : List ℕ → List TableView → Type 0
+HavePlaces neighbours table = AllByRecursion (λ (t : TableView). t.neighbours ≡ neighbours) table

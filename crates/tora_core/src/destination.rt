@@ -1,9 +1,9 @@
 //! What a node knows of one destination, what it takes in, and what it broadcasts (Park and Corson 1997, section 3). What an input does
 //! to the rows stands in `reactions`, and how heights come and go in `levels`.
-ghost use Rattle.std.specs.Prelude.{◌≡◌, ◌==◌, ◌<◌, ◌≤◌, IfOk, IfSome, nat_lt, option_map, length};
+ghost use Rattle.std.specs.Prelude.{◌≡◌, ◌==◌, ◌<◌, ◌≤◌, IfOk, IfSome, option_map, length, true};
 ghost use Rattle.tora_packet.specs.PacketParts.{IsId};
-ghost use Rattle.std.specs.List.{position_or_len};
-ghost use Rattle.tora_core.specs.Links.{IsOnlyPlace, directions_of};
+ghost use Rattle.tora_core.specs.Links.{IsOnlyPlace};
+ghost use Rattle.tora_core.specs.Numbers.{IsAscending, has_number};
 ghost use Rattle.tora_core.specs.Table.{first_in};
 ghost use Rattle.tora_core.specs.View.{downstream_count, up_neighbours, has_downstream, lacks_downstream, next_hop_of};
 ghost use Rattle.tora_core.specs.CoreRun.{entry_in};
@@ -13,10 +13,10 @@ ghost use Rattle.tora_core.specs.Rules.{packet_of, packet_sent, view_after};
 
 use crate::GREATEST_NEIGHBOURS;
 use crate::links::Links;
-use crate::rows::{Row, entry_of};
+use crate::rows::Row;
 use std::alloc::{AllocError, Global};
 use std::marker::Model;
-use tora_height::{Direction, Entry, Height, Id};
+use tora_height::{Entry, Height, Id};
 use tora_packet::{Clear, Packet, Query, Update};
 
 /// What is broadcast of a destination.
@@ -49,14 +49,14 @@ impl Model for Destination {
 
     ghost view = { λ d. record {
       view = record { me = d.me; destination = d.destination; height = d.links.own; flag = d.flag; rows = d.links.rows; last = d.last };
-      room = d.links.room;
+      neighbours = d.links.neighbours;
     } };
 
     ghost invariant = { λ d. IsId d.me × (d.last ≤ 2 ^ 62) };
 }
 
 impl Destination {
-    /// The first view of a destination, with room for the rows of so many neighbours.
+    /// The first view of a destination, with a place for each of these neighbours, which stand in ascending order.
     ///
     /// # Errors
     /// Want of memory.
@@ -64,12 +64,13 @@ impl Destination {
         alloc: Global,
         me: Id,
         destination: Id,
-        room: usize,
+        neighbours: &[Id],
     ) -> Result<Destination, AllocError>
         requires me { 0 < me }
         requires destination { 0 < destination }
-        requires room { room ≤ GREATEST_NEIGHBOURS }
-        ensures { IfOk result (λ first. first ≡ first_in room me destination) }
+        requires few { length neighbours.now ≤ GREATEST_NEIGHBOURS }
+        requires ascending { IsAscending neighbours.now }
+        ensures { IfOk result (λ first. first ≡ first_in neighbours.now me destination) }
     {
         let own = if me == destination {
             Some(Height::zero(destination))
@@ -80,7 +81,7 @@ impl Destination {
             me,
             destination,
             flag: false,
-            links: Links::new(alloc, own, room)?,
+            links: Links::new(alloc, own, neighbours)?,
             last: 0,
         })
     }
@@ -103,17 +104,14 @@ impl Destination {
         self.flag
     }
 
-    pub fn rows(&self) -> &[Row]
-        ensures { result.now ≡ self.now.view.rows }
+    /// The rows, in a list of their own.
+    ///
+    /// # Errors
+    /// Want of memory.
+    pub fn rows(&self, alloc: Global) -> Result<Vec<Row>, AllocError>
+        ensures { IfOk result (λ rows. rows.items ≡ self.now.view.rows) }
     {
-        self.links.rows()
-    }
-
-    /// The direction of the link of each row.
-    pub fn directions(&self) -> &[Direction]
-        ensures { result.now ≡ directions_of self.now.view.height self.now.view.rows }
-    {
-        self.links.directions()
+        self.links.rows(alloc)
     }
 
     /// How many neighbours are downstream.
@@ -127,7 +125,7 @@ impl Destination {
     pub fn entry(&self, k: Id) -> Option<Entry>
         ensures { result ≡ entry_in k self.now.view }
     {
-        entry_of(k, self.links.rows())
+        self.links.entry(k)
     }
 
     /// The downstream neighbour with the lowest entry.
@@ -142,50 +140,51 @@ impl Destination {
         requires kept { IsKept self.old.view }
         ensures view { self.new.view ≡ view_after self.old.view (Input.Need self.old.view.destination) 0 }
         ensures packet { result ≡ packet_sent self.old.view (Input.Need self.old.view.destination) 0 }
-        ensures room { self.new.room ≡ self.old.room }
+        ensures neighbours { self.new.neighbours ≡ self.old.neighbours }
     {
         let destination = self.destination;
         let broadcast = self.react_to_need();
         packet_to_send(destination, broadcast)
     }
 
-    /// As `need`, for a packet of the neighbour `k`, whose row is at `place`, for the destination.
+    /// As `need`, for a packet for the destination of the neighbour `k`, which is at `place` among the neighbours.
     pub fn packet(&mut self, k: Id, place: usize, packet: &Packet, now: u64) -> Option<Packet>
         requires kept { IsKept self.old.view }
-        requires place { IsOnlyPlace k place (up_neighbours self.old.view) }
+        requires place { IsOnlyPlace k place self.old.neighbours }
+        requires up { has_number k (up_neighbours self.old.view) ≡ true }
         requires may { MayCome self.old.view (Input.Packet k packet.now) }
         ensures view { self.new.view ≡ view_after self.old.view (Input.Packet k packet.now) now }
         ensures packet { result ≡ packet_sent self.old.view (Input.Packet k packet.now) now }
-        ensures room { self.new.room ≡ self.old.room }
+        ensures neighbours { self.new.neighbours ≡ self.old.neighbours }
     {
         let destination = self.destination;
         let broadcast = self.react_to_packet(k, place, packet, now);
         packet_to_send(destination, broadcast)
     }
 
-    /// As `need`, for the link to a neighbour that came up, whose row goes to `place`. The rules for it read no clock.
+    /// As `need`, for the link to neighbour `k`, which is at `place` among the neighbours, that came up. The rules for it read no
+    /// clock.
     pub fn link_up(&mut self, k: Id, place: usize) -> Option<Packet>
         requires kept { IsKept self.old.view }
-        requires place { place ≡ position_or_len (λ row. nat_lt k row.neighbour) self.old.view.rows }
+        requires place { IsOnlyPlace k place self.old.neighbours }
         requires may { MayCome self.old.view (Input.LinkUp k) }
         requires neighbour { IsId k }
-        requires room { length self.old.view.rows < self.old.room }
         ensures view { self.new.view ≡ view_after self.old.view (Input.LinkUp k) 0 }
         ensures packet { result ≡ packet_sent self.old.view (Input.LinkUp k) 0 }
-        ensures room { self.new.room ≡ self.old.room }
+        ensures neighbours { self.new.neighbours ≡ self.old.neighbours }
     {
         let destination = self.destination;
         let broadcast = self.react_to_link_up(k, place);
         packet_to_send(destination, broadcast)
     }
 
-    /// As `need`, for the link to neighbour `k`, whose row is at `place`, that went down.
+    /// As `need`, for the link to neighbour `k`, which is at `place` among the neighbours, that went down.
     pub fn link_down(&mut self, k: Id, place: usize, now: u64) -> Option<Packet>
         requires kept { IsKept self.old.view }
-        requires place { IsOnlyPlace k place (up_neighbours self.old.view) }
+        requires place { IsOnlyPlace k place self.old.neighbours }
         ensures view { self.new.view ≡ view_after self.old.view (Input.LinkDown k) now }
         ensures packet { result ≡ packet_sent self.old.view (Input.LinkDown k) now }
-        ensures room { self.new.room ≡ self.old.room }
+        ensures neighbours { self.new.neighbours ≡ self.old.neighbours }
     {
         let destination = self.destination;
         let broadcast = self.react_to_link_down(k, place, now);

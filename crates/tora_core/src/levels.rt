@@ -21,7 +21,7 @@ impl Destination {
     pub(crate) fn broadcast_query(&mut self) -> Option<Broadcast>
         ensures view { self.new.view ≡ (query_broadcast self.old.view).view }
         ensures broadcast { result ≡ (query_broadcast self.old.view).broadcast }
-        ensures room { self.new.room ≡ self.old.room }
+        ensures neighbours { self.new.neighbours ≡ self.old.neighbours }
     {
         self.flag = true;
         Some(Broadcast::Query)
@@ -31,7 +31,7 @@ impl Destination {
     pub(crate) fn broadcast_update(&mut self) -> Option<Broadcast>
         ensures view { self.new.view ≡ (update_broadcast self.old.view).view }
         ensures broadcast { result ≡ (update_broadcast self.old.view).broadcast }
-        ensures room { self.new.room ≡ self.old.room }
+        ensures neighbours { self.new.neighbours ≡ self.old.neighbours }
     {
         let height = self.links.own()?;
         self.links.tell_all();
@@ -43,7 +43,7 @@ impl Destination {
     pub(crate) fn join(&mut self) -> Option<Broadcast>
         ensures view { self.new.view ≡ (after_join self.old.view).view }
         ensures broadcast { result ≡ (after_join self.old.view).broadcast }
-        ensures room { self.new.room ≡ self.old.room }
+        ensures neighbours { self.new.neighbours ≡ self.old.neighbours }
     {
         let own = self.joined_height();
         self.links.set_own(own);
@@ -65,7 +65,7 @@ impl Destination {
     pub(crate) fn after_link_loss(&mut self, now: u64) -> Option<Broadcast>
         ensures view { self.new.view ≡ (after_link_loss self.old.view now).view }
         ensures broadcast { result ≡ (after_link_loss self.old.view now).broadcast }
-        ensures room { self.new.room ≡ self.old.room }
+        ensures neighbours { self.new.neighbours ≡ self.old.neighbours }
     {
         if self.links.are_null() {
             self.links.set_own(None);
@@ -79,13 +79,13 @@ impl Destination {
     pub(crate) fn after_update_loss(&mut self, now: u64) -> Option<Broadcast>
         ensures view { self.new.view ≡ (after_update_loss self.old.view now).view }
         ensures broadcast { result ≡ (after_update_loss self.old.view now).broadcast }
-        ensures room { self.new.room ≡ self.old.room }
+        ensures neighbours { self.new.neighbours ≡ self.old.neighbours }
     {
-        let Some(level) = greatest_level(self.links.rows()) else {
+        let Some(level) = greatest_level(self.links.places()) else {
             self.links.set_own(None);
             return None;
         };
-        if !all_at(level, self.links.rows()) {
+        if !all_at(level, self.links.places()) {
             return self.propagate(level);
         }
         if level.r == 0 {
@@ -105,7 +105,7 @@ impl Destination {
             None => 0,
             Some(height) => height.tau() + 1,
         };
-        let known = own.max(time_after_all(self.links.rows()));
+        let known = own.max(time_after_all(self.links.places()));
         let later = (self.last + 1).max(known);
         now.max(1u64.max(later))
     }
@@ -115,7 +115,7 @@ impl Destination {
     fn define_level(&mut self, now: u64) -> Option<Broadcast>
         ensures view { self.new.view ≡ (new_level self.old.view now).view }
         ensures broadcast { result ≡ (new_level self.old.view now).broadcast }
-        ensures room { self.new.room ≡ self.old.room }
+        ensures neighbours { self.new.neighbours ≡ self.old.neighbours }
     {
         let time = self.fresh_time(now);
         self.links.set_own(fitted(time, self.me, 0, 0, self.me));
@@ -129,9 +129,9 @@ impl Destination {
     fn propagate(&mut self, level: Level) -> Option<Broadcast>
         ensures view { self.new.view ≡ (propagated_level self.old.view level).view }
         ensures broadcast { result ≡ (propagated_level self.old.view level).broadcast }
-        ensures room { self.new.room ≡ self.old.room }
+        ensures neighbours { self.new.neighbours ≡ self.old.neighbours }
     {
-        let own = match least_delta(level, self.links.rows()) {
+        let own = match least_delta(level, self.links.places()) {
             None => None,
             Some(delta) => fitted(level.tau, level.oid, level.r, delta - 1, self.me),
         };
@@ -144,7 +144,7 @@ impl Destination {
         requires { IsLevel level }
         ensures view { self.new.view ≡ (reflected_level self.old.view level).view }
         ensures broadcast { result ≡ (reflected_level self.old.view level).broadcast }
-        ensures room { self.new.room ≡ self.old.room }
+        ensures neighbours { self.new.neighbours ≡ self.old.neighbours }
     {
         self.links.set_own(reflected(level, self.me));
         self.broadcast_update()
@@ -155,7 +155,7 @@ impl Destination {
     pub(crate) fn erase(&mut self, level: Level) -> Option<Broadcast>
         ensures view { self.new.view ≡ (after_erase self.old.view level.tau level.oid).view }
         ensures broadcast { result ≡ (after_erase self.old.view level.tau level.oid).broadcast }
-        ensures room { self.new.room ≡ self.old.room }
+        ensures neighbours { self.new.neighbours ≡ self.old.neighbours }
     {
         self.links.set_own(None);
         self.links.erase_all(self.destination);

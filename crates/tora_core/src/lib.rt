@@ -25,6 +25,7 @@ mod laws;
 mod levels;
 mod limits;
 mod links;
+mod neighbour_places;
 mod node;
 pub mod numbers;
 mod reactions;

@@ -39,14 +39,14 @@ impl Model for Core {
     ghost use Rattle.std.specs.Prelude.{◌≡◌, ◌≤◌, length, vec_capacity};
     ghost use Rattle.tora_core.specs.CoreRun.{CoreView};
     ghost use Rattle.tora_core.specs.Kept.{IsCore, destinations_of};
-    ghost use Rattle.tora_core.specs.Table.{HaveRoom, views_in};
+    ghost use Rattle.tora_core.specs.Table.{HavePlaces, views_in};
 
     ghost Value = { CoreView };
 
     ghost view = { λ c. record { me = c.me; neighbours = c.neighbours.items; up = c.up.items; views = views_in c.views.items } };
 
     ghost invariant = { λ c. IsCore (record { me = c.me; neighbours = c.neighbours.items; up = c.up.items; views = views_in c.views.items })
-        × ((c.destinations.items ≡ destinations_of (views_in c.views.items)) × (length c.neighbours.items ≤ vec_capacity c.up)) × HaveRoom (length c.neighbours.items) c.views.items };
+        × ((c.destinations.items ≡ destinations_of (views_in c.views.items)) × (length c.neighbours.items ≤ vec_capacity c.up)) × HavePlaces c.neighbours.items c.views.items };
 }
 
 impl Core {
@@ -102,10 +102,10 @@ impl Core {
             return Err(error);
         }
         let table = ascending::<MOST_DESTINATIONS>(destinations);
-        let Ok(views) = first_views(alloc, me, table.as_slice(), neighbours.len()) else {
+        let Ok(peers) = sorted(alloc, neighbours) else {
             return Err(CoreError::Memory);
         };
-        let Ok(peers) = sorted(alloc, neighbours) else {
+        let Ok(views) = first_views(alloc, me, table.as_slice(), peers.as_slice()) else {
             return Err(CoreError::Memory);
         };
         let Ok(up) = Vec::with_capacity(alloc, neighbours.len()) else {
@@ -195,7 +195,7 @@ impl Core {
         step(
             &mut self.views,
             self.destinations.as_slice(),
-            self.up.as_slice(),
+            self.neighbours.as_slice(),
             input,
             now,
             sends,

@@ -1,16 +1,18 @@
 //! What an input does to a destination (Park and Corson 1997, section 3): the rows take it in, and the rule for it is followed.
-ghost use Rattle.std.specs.Prelude.{◌≡◌, ◌==◌, ◌<◌, None, Some, MatchBool, nat_lt, length};
-ghost use Rattle.std.specs.List.{position_or_len};
+ghost use Rattle.std.specs.Prelude.{◌≡◌, ◌≢◌, ◌==◌, ◌<◌, None, Some, MatchBool, true};
+ghost use Rattle.std.specs.List.{AllByRecursion};
 ghost use Rattle.tora_height.specs.Height.{destination_height};
 ghost use Rattle.tora_packet.specs.PacketParts.{IsId};
 ghost use Rattle.tora_core.specs.declared.Input.{Input};
+ghost use Rattle.tora_core.specs.declared.rows.Row.{Row};
+ghost use Rattle.tora_core.specs.Numbers.{has_number};
 ghost use Rattle.tora_core.specs.Links.{IsOnlyPlace};
 ghost use Rattle.tora_core.specs.View.{up_neighbours};
-ghost use Rattle.tora_core.specs.Rules.{link_row, on_need, on_query, on_update, on_clear, on_packet, cleared_level, outcome_of};
+ghost use Rattle.tora_core.specs.Rules.{on_need, on_query, on_update, on_clear, on_packet, cleared_level, outcome_of};
 
 use crate::destination::{Broadcast, Destination};
-use crate::rows::{Row, is_entry_at};
-use tora_height::{Height, Id, Level};
+use crate::rows::is_entry_at;
+use tora_height::{Entry, Height, Id, Level};
 use tora_packet::{Clear, Packet};
 
 impl Destination {
@@ -18,12 +20,12 @@ impl Destination {
     pub(crate) fn react_to_need(&mut self) -> Option<Broadcast>
         ensures view { self.new.view ≡ (outcome_of self.old.view (Input.Need self.old.view.destination) 0).view }
         ensures broadcast { result ≡ (outcome_of self.old.view (Input.Need self.old.view.destination) 0).broadcast }
-        ensures room { self.new.room ≡ self.old.room }
+        ensures neighbours { self.new.neighbours ≡ self.old.neighbours }
     {
         if self.is_own() { None } else { self.on_need() }
     }
 
-    /// A packet of the neighbour `k`, whose row is at `place`, came for the destination.
+    /// A packet of the neighbour `k`, which is at `place` among the neighbours, came for the destination.
     pub(crate) fn react_to_packet(
         &mut self,
         k: Id,
@@ -31,10 +33,11 @@ impl Destination {
         packet: &Packet,
         now: u64,
     ) -> Option<Broadcast>
-        requires { IsOnlyPlace k place (up_neighbours self.old.view) }
+        requires place { IsOnlyPlace k place self.old.neighbours }
+        requires up { has_number k (up_neighbours self.old.view) ≡ true }
         ensures view { self.new.view ≡ (outcome_of self.old.view (Input.Packet k packet.now) now).view }
         ensures broadcast { result ≡ (outcome_of self.old.view (Input.Packet k packet.now) now).broadcast }
-        ensures room { self.new.room ≡ self.old.room }
+        ensures neighbours { self.new.neighbours ≡ self.old.neighbours }
     {
         if self.is_own() {
             None
@@ -43,17 +46,17 @@ impl Destination {
         }
     }
 
-    /// The link to a neighbour came up; its row goes to `place`.
+    /// The link to neighbour `k`, which is at `place` among the neighbours, came up.
     pub(crate) fn react_to_link_up(&mut self, k: Id, place: usize) -> Option<Broadcast>
-        requires place { place ≡ position_or_len (λ row. nat_lt k row.neighbour) self.old.view.rows }
+        requires place { IsOnlyPlace k place self.old.neighbours }
+        requires down { AllByRecursion (λ (row : Row). row.neighbour ≢ k) self.old.view.rows }
         requires neighbour { IsId k }
-        requires room { length self.old.view.rows < self.old.room }
         ensures view { self.new.view ≡ (outcome_of self.old.view (Input.LinkUp k) 0).view }
         ensures broadcast { result ≡ (outcome_of self.old.view (Input.LinkUp k) 0).broadcast }
-        ensures room { self.new.room ≡ self.old.room }
+        ensures neighbours { self.new.neighbours ≡ self.old.neighbours }
     {
         self.links
-            .insert(place, first_row(self.me, self.destination, k));
+            .insert(k, place, first_entry(self.me, self.destination, k));
         if self.is_own() || !self.flag {
             None
         } else if k == self.destination {
@@ -63,12 +66,12 @@ impl Destination {
         }
     }
 
-    /// The link to neighbour `k`, whose row is at `place`, went down.
+    /// The link to neighbour `k`, which is at `place` among the neighbours, went down.
     pub(crate) fn react_to_link_down(&mut self, k: Id, place: usize, now: u64) -> Option<Broadcast>
-        requires { IsOnlyPlace k place (up_neighbours self.old.view) }
+        requires { IsOnlyPlace k place self.old.neighbours }
         ensures view { self.new.view ≡ (outcome_of self.old.view (Input.LinkDown k) now).view }
         ensures broadcast { result ≡ (outcome_of self.old.view (Input.LinkDown k) now).broadcast }
-        ensures room { self.new.room ≡ self.old.room }
+        ensures neighbours { self.new.neighbours ≡ self.old.neighbours }
     {
         self.links.remove(k, place);
         if self.is_own() || !self.lacks_downstream() {
@@ -79,10 +82,11 @@ impl Destination {
     }
 
     fn on_packet(&mut self, k: Id, place: usize, packet: &Packet, now: u64) -> Option<Broadcast>
-        requires { IsOnlyPlace k place (up_neighbours self.old.view) }
+        requires place { IsOnlyPlace k place self.old.neighbours }
+        requires up { has_number k (up_neighbours self.old.view) ≡ true }
         ensures view { self.new.view ≡ (on_packet self.old.view k packet.now now).view }
         ensures broadcast { result ≡ (on_packet self.old.view k packet.now now).broadcast }
-        ensures room { self.new.room ≡ self.old.room }
+        ensures neighbours { self.new.neighbours ≡ self.old.neighbours }
     {
         match packet {
             Packet::Qry(_) => self.on_query(k, place),
@@ -94,7 +98,7 @@ impl Destination {
     fn on_need(&mut self) -> Option<Broadcast>
         ensures view { self.new.view ≡ (on_need self.old.view).view }
         ensures broadcast { result ≡ (on_need self.old.view).broadcast }
-        ensures room { self.new.room ≡ self.old.room }
+        ensures neighbours { self.new.neighbours ≡ self.old.neighbours }
     {
         if self.links.are_null() && !self.flag {
             self.broadcast_query()
@@ -104,10 +108,11 @@ impl Destination {
     }
 
     fn on_query(&mut self, k: Id, place: usize) -> Option<Broadcast>
-        requires { IsOnlyPlace k place (up_neighbours self.old.view) }
+        requires place { IsOnlyPlace k place self.old.neighbours }
+        requires up { has_number k (up_neighbours self.old.view) ≡ true }
         ensures view { self.new.view ≡ (on_query self.old.view k).view }
         ensures broadcast { result ≡ (on_query self.old.view k).broadcast }
-        ensures room { self.new.room ≡ self.old.room }
+        ensures neighbours { self.new.neighbours ≡ self.old.neighbours }
     {
         if !self.has_downstream() {
             if !self.flag {
@@ -125,10 +130,11 @@ impl Destination {
     }
 
     fn on_update(&mut self, k: Id, place: usize, height: Height, now: u64) -> Option<Broadcast>
-        requires { IsOnlyPlace k place (up_neighbours self.old.view) }
+        requires place { IsOnlyPlace k place self.old.neighbours }
+        requires up { has_number k (up_neighbours self.old.view) ≡ true }
         ensures view { self.new.view ≡ (on_update self.old.view k height now).view }
         ensures broadcast { result ≡ (on_update self.old.view k height now).broadcast }
-        ensures room { self.new.room ≡ self.old.room }
+        ensures neighbours { self.new.neighbours ≡ self.old.neighbours }
     {
         self.links.set_entry(k, place, height);
         if self.flag {
@@ -143,7 +149,7 @@ impl Destination {
     fn on_clear(&mut self, level: Level, now: u64) -> Option<Broadcast>
         ensures view { self.new.view ≡ (on_clear self.old.view level now).view }
         ensures broadcast { result ≡ (on_clear self.old.view level now).broadcast }
-        ensures room { self.new.room ≡ self.old.room }
+        ensures neighbours { self.new.neighbours ≡ self.old.neighbours }
     {
         if is_entry_at(level, self.links.own()) {
             return self.erase(level);
@@ -168,22 +174,17 @@ fn cleared_level(clear: &Clear) -> Level
     }
 }
 
-/// The row of a neighbour whose link came up: the entry of the destination is its own height, any other is NULL.
-fn first_row(me: Id, destination: Id, k: Id) -> Row
+/// The entry of a neighbour whose link came up: that of the destination is its own height, any other is NULL.
+fn first_entry(me: Id, destination: Id, k: Id) -> Entry
     requires { 0 < k }
-    ensures { MatchBool (me == destination) (result ≡ link_row k None)
-        (MatchBool (k == destination) (result ≡ link_row k (Some (destination_height k))) (result ≡ link_row k None)) }
+    ensures { MatchBool (me == destination) (result ≡ None)
+        (MatchBool (k == destination) (result ≡ Some (destination_height k)) (result ≡ None)) }
 {
-    let entry = if me == destination {
+    if me == destination {
         None
     } else if k == destination {
         Some(Height::zero(k))
     } else {
         None
-    };
-    Row {
-        neighbour: k,
-        entry,
-        told: false,
     }
 }

@@ -1,10 +1,11 @@
 //! The rows of a view, read and changed.
-ghost use Rattle.std.specs.Prelude.{◌≡◌, false, ◌<◌, ◌≤◌, ◌+◌, ◌^◌, ◌≤ℤ◌, pos, neg_ℤ, IfSome, fold, filter, nat_lt, position, length, slice_index_or, option_map, option_copied, find, ◌==◌, None};
+ghost use Rattle.std.specs.Prelude.{◌≡◌, false, ◌<◌, ◌≤◌, ◌+◌, ◌^◌, ◌≤ℤ◌, pos, neg_ℤ, IfSome, fold, filter, nat_lt, position, length, slice_index_or, ◌==◌, None};
 ghost use Rattle.std.specs.List.{list_any, list_all};
 ghost use Rattle.arrayvec.specs.ArrayVec.{array_vec_len};
 ghost use Rattle.tora_height.specs.Height.{IsLevel};
 ghost use Rattle.tora_core.specs.View.{neighbours_of, heights_of, are_null, is_downstream, lower_of, least_height, lower_row_of, higher_level_of, greatest_level, lower_delta_of, least_delta, is_at, all_told, told_row, row_with_entry, is_told, with_entry, erased_row, all_erased, cleared_row, all_cleared, is_cleared, is_entry_at, with_row, without_row};
 ghost use Rattle.tora_core.specs.Heights.{time_after_all};
+ghost use Rattle.tora_core.specs.Rules.{link_row};
 ghost use Rattle.tora_core.specs.Links.{with_entry_at};
 
 use tora_height::{Entry, Height, Id, Level};
@@ -12,11 +13,22 @@ use tora_height::{Entry, Height, Id, Level};
 /// What a node knows of one neighbour whose link is up.
 #[derive(Clone, Copy, Debug, Default, PartialEq, Eq, Hash)]
 pub struct Row {
-    pub neighbour: Id,
     /// The height that the neighbour told last, `None` for NULL.
     pub entry: Entry,
+    pub neighbour: Id,
     /// Whether an update was broadcast since the link came up.
     pub told: bool,
+}
+
+/// The row of a neighbour whose link came up, with this entry.
+pub fn link_row(k: Id, entry: Entry) -> Row
+    ensures { result ≡ link_row k entry }
+{
+    Row {
+        neighbour: k,
+        entry,
+        told: false,
+    }
 }
 
 /// Whether the link to a neighbour with this entry is downstream.
@@ -202,17 +214,4 @@ pub fn clear_level(destination: Id, level: Level, rows: &mut [Row]) -> bool
         }
     }
     cleared
-}
-
-fn row_of(k: Id, rows: &[Row]) -> Option<&Row>
-    ensures { option_copied result ≡ find (λ row. row.neighbour == k) rows.now }
-{
-    rows.iter().find(|row| row.neighbour == k)
-}
-
-/// The entry of a neighbour, where it has a row.
-pub fn entry_of(k: Id, rows: &[Row]) -> Option<Entry>
-    ensures { result ≡ option_map (λ row. row.entry) (find (λ row. row.neighbour == k) rows.now) }
-{
-    row_of(k, rows).map(|row| row.entry)
 }

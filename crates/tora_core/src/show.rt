@@ -85,11 +85,12 @@ fn write_via_line(out: &mut String, view: &Destination, row: &Row) -> Result<(),
     writeln!(out, "via {neighbour} {entry} {direction}")
 }
 
-fn write_view(out: &mut String, view: &Destination) -> Result<(), AllocError>
+fn write_view(alloc: Global, out: &mut String, view: &Destination) -> Result<(), AllocError>
     ensures { OnOk result (string_bytes out.new ≡ string_bytes out.old ++ view_text view.now.view) }
 {
     write_to_line(out, view)?;
-    for row in view.rows() {
+    let rows = view.rows(alloc)?;
+    for row in rows.as_slice() {
         write_via_line(out, view, row)?;
     }
     Ok(())
@@ -101,7 +102,7 @@ pub fn text_of(alloc: Global, views: &[Destination]) -> Result<String, AllocErro
 {
     let mut text = String::new(alloc);
     for view in views {
-        write_view(&mut text, view)?;
+        write_view(alloc, &mut text, view)?;
     }
     Ok(text)
 }

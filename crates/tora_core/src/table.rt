@@ -1,71 +1,72 @@
 //! The views of a node's destinations, by ascending destination.
-ghost use Rattle.std.specs.Prelude.{◌≡◌, ◌≤◌, ◌<◌, ℕ, length, map, filter_map, position, nat_lt, ◌==◌, All, true, Some, IfOk, [], ◌++◌};
-ghost use Rattle.std.specs.List.{cons_option, position_or_len};
+ghost use Rattle.std.specs.Prelude.{◌≡◌, ◌≤◌, ◌<◌, length, map, filter_map, position, ◌==◌, All, true, Some, IfOk, [], ◌++◌};
+ghost use Rattle.std.specs.List.{cons_option};
 ghost use Rattle.arrayvec.specs.ArrayVec.{array_vec_len};
 ghost use Rattle.tora_core.specs.Numbers.{IsAscending, has_number};
 ghost use Rattle.tora_core.specs.View.{up_neighbours};
 ghost use Rattle.tora_core.specs.Table.{first_in, next_in, views_in};
 ghost use Rattle.tora_core.specs.Links.{IsOnlyPlace};
 ghost use Rattle.tora_core.specs.CoreRun.{concerns, has_destination, is_of, next_packet, own_destination};
-ghost use Rattle.tora_core.specs.Kept.{CanTake, IsLinked, IsOver, destinations_of};
+ghost use Rattle.tora_core.specs.Kept.{CanTake, IsLinked, IsOfOne, destinations_of};
 ghost use Rattle.tora_packet.specs.PacketParts.{IsId};
 
 use crate::destination::Destination;
-use crate::numbers::{place_above, place_of};
+use crate::numbers::place_of;
 use crate::{GREATEST_NEIGHBOURS, Input, MOST_DESTINATIONS, Sends};
 use std::alloc::{AllocError, Global};
 use tora_height::Id;
 use tora_packet::Packet;
 
-/// The first views of the destinations, each with room for the rows of so many neighbours.
+/// The first views of the destinations, each with a place for each of these neighbours, which stand in ascending order.
 pub fn first_views(
     alloc: Global,
     me: Id,
     destinations: &[Id],
-    room: usize,
+    neighbours: &[Id],
 ) -> Result<Vec<Destination>, AllocError>
     requires me { 0 < me }
     requires destinations { All (λ d. 0 < d) destinations.now }
-    requires room { room ≤ GREATEST_NEIGHBOURS }
-    ensures { IfOk result (λ views. views.items ≡ map (first_in room me) destinations.now) }
+    requires few { length neighbours.now ≤ GREATEST_NEIGHBOURS }
+    requires ascending { IsAscending neighbours.now }
+    ensures { IfOk result (λ views. views.items ≡ map (first_in neighbours.now me) destinations.now) }
 {
     let mut views = Vec::with_capacity(alloc, destinations.len())?;
     for destination in destinations {
-        views.push(Destination::new(alloc, me, *destination, room)?)?;
+        views.push(Destination::new(alloc, me, *destination, neighbours)?)?;
     }
     Ok(views)
 }
 
-/// Takes an input in, and lists the packets to every up neighbour. `destinations` are those of the views, and `up` the
-/// neighbours whose link is up before the input. It takes no memory.
+/// Takes an input in, and lists the packets to every up neighbour. `destinations` are those of the views, and `neighbours` those
+/// that each view has a place for. It takes no memory.
 pub fn step(
     views: &mut [Destination],
     destinations: &[Id],
-    up: &[Id],
+    neighbours: &[Id],
     input: &Input,
     now: u64,
     sends: &mut Sends,
 )
     requires may { All (λ t. CanTake input.now t.view) views.old }
-    requires room { (k : ℕ) → input.now ≡ Input.LinkUp k → All (λ t. length t.view.rows < t.room) views.old }
     requires few { length views.old ≤ MOST_DESTINATIONS }
     requires ascending { IsAscending destinations.now }
     requires names { destinations.now ≡ destinations_of (views_in views.old) }
-    requires sorted { IsAscending up.now }
-    requires rows { All (λ t. IsOver up.now t.view) views.old }
-    requires linked { IsLinked input.now up.now }
+    requires sorted { IsAscending neighbours.now }
+    requires places { All (λ t. t.neighbours ≡ neighbours.now) views.old }
+    requires known { IsOfOne input.now neighbours.now }
+    requires linked { All (λ t. IsLinked input.now (up_neighbours t.view)) views.old }
     requires empty { sends.old.items ≡ [] }
     ensures views { views.new ≡ map (next_in input.now now) views.old }
     ensures sends { sends.new.items ≡ filter_map (next_packet input.now now) (views_in views.old) }
 {
     match input {
-        Input::LinkUp(k) => link_up(views, *k, place_for(*k, up), sends),
-        Input::LinkDown(k) => link_down(views, *k, place_in(*k, up), now, sends),
+        Input::LinkUp(k) => link_up(views, *k, place_in(*k, neighbours), sends),
+        Input::LinkDown(k) => link_down(views, *k, place_in(*k, neighbours), now, sends),
         Input::Need(d) => step_need(*d, views, destinations, now, sends),
         Input::Packet(k, packet) => {
             step_packet(
                 *k,
-                place_in(*k, up),
+                place_in(*k, neighbours),
                 packet,
                 views,
                 destinations,
@@ -76,27 +77,19 @@ pub fn step(
     }
 }
 
-/// The place of a neighbour whose link is up.
-fn place_in(k: Id, up: &[Id]) -> usize
-    requires { IsAscending up.now × (has_number k up.now ≡ true) }
-    ensures { IsOnlyPlace k result up.now }
+/// The place of a neighbour.
+fn place_in(k: Id, neighbours: &[Id]) -> usize
+    requires { IsAscending neighbours.now × (has_number k neighbours.now ≡ true) }
+    ensures { IsOnlyPlace k result neighbours.now }
 {
-    place_of(k, up).unwrap_or(up.len())
+    place_of(k, neighbours).unwrap_or(neighbours.len())
 }
 
-/// The place of a neighbour whose link comes up: before the first greater one.
-fn place_for(k: Id, up: &[Id]) -> usize
-    ensures { result ≡ position_or_len (λ n. nat_lt k n) up.now }
-{
-    place_above(k, up).unwrap_or(up.len())
-}
-
-/// A link that came up goes to every view, as a row at `place`.
+/// A link that came up goes to every view, to the neighbour's place.
 fn link_up(views: &mut [Destination], k: Id, place: usize, sends: &mut Sends)
     requires may { All (λ t. CanTake (Input.LinkUp k) t.view) views.old }
-    requires room { All (λ t. length t.view.rows < t.room) views.old }
     requires few { length views.old ≤ MOST_DESTINATIONS }
-    requires rows { All (λ t. place ≡ position_or_len (λ row. nat_lt k row.neighbour) t.view.rows) views.old }
+    requires places { All (λ t. IsOnlyPlace k place t.neighbours) views.old }
     requires empty { sends.old.items ≡ [] }
     ensures views { views.new ≡ map (next_in (Input.LinkUp k) 0) views.old }
     ensures sends { sends.new.items ≡ filter_map (next_packet (Input.LinkUp k) 0) (views_in views.old) }
@@ -106,11 +99,11 @@ fn link_up(views: &mut [Destination], k: Id, place: usize, sends: &mut Sends)
     }
 }
 
-/// A link that went down goes to every view, where its row is at `place`.
+/// A link that went down goes to every view, where the neighbour is at `place`.
 fn link_down(views: &mut [Destination], k: Id, place: usize, now: u64, sends: &mut Sends)
     requires may { All (λ t. CanTake (Input.LinkDown k) t.view) views.old }
     requires few { length views.old ≤ MOST_DESTINATIONS }
-    requires rows { All (λ t. IsOnlyPlace k place (up_neighbours t.view)) views.old }
+    requires places { All (λ t. IsOnlyPlace k place t.neighbours) views.old }
     requires empty { sends.old.items ≡ [] }
     ensures views { views.new ≡ map (next_in (Input.LinkDown k) now) views.old }
     ensures sends { sends.new.items ≡ filter_map (next_packet (Input.LinkDown k) now) (views_in views.old) }
@@ -135,7 +128,7 @@ fn step_need(d: Id, views: &mut [Destination], destinations: &[Id], now: u64, se
     list(views[place].need(), sends);
 }
 
-/// A packet of neighbour `k`, whose rows are at `row`, goes to the view of its destination alone.
+/// A packet of neighbour `k`, whose rows are at `row` in all views, goes to the view of its destination alone.
 fn step_packet(
     k: Id,
     row: usize,
@@ -148,7 +141,8 @@ fn step_packet(
     requires may { All (λ t. CanTake (Input.Packet k packet.now) t.view) views.old }
     requires ascending { IsAscending destinations.now }
     requires names { destinations.now ≡ destinations_of (views_in views.old) }
-    requires rows { All (λ t. IsOnlyPlace k row (up_neighbours t.view)) views.old }
+    requires places { All (λ t. IsOnlyPlace k row t.neighbours) views.old }
+    requires up { All (λ t. has_number k (up_neighbours t.view) ≡ true) views.old }
     requires empty { sends.old.items ≡ [] }
     ensures views { views.new ≡ map (next_in (Input.Packet k packet.now) now) views.old }
     ensures sends { sends.new.items ≡ filter_map (next_packet (Input.Packet k packet.now) now) (views_in views.old) }

@@ -20,7 +20,7 @@ loop-view-preserved c =
     let read : x ≡ get_or xs i x = read-on (next_in (In.LinkDown c.args.k) c.args.now) xs c.loop-view.views i x lt c.loop-view.invariant.views c.view-item.is in
     let sent : c.list.new.sends.items ≡ c.loop-view.sends.items ++ cons_option (h x) [] = c.list.ensures ∙ ap (λ (o : Option Packet). c.loop-view.sends.items ++ cons_option o []) (c.link_down.ensures.packet ∙ ap h (sym c.view-item.is)) in
     let new : c.link_down.new.self ≡ next_in (In.LinkDown c.args.k) c.args.now x =
-    same-in c.link_down.new.self (next_in (In.LinkDown c.args.k) c.args.now x) (c.link_down.ensures.view ∙ ap (λ (t : TableView). next_view (In.LinkDown c.args.k) c.args.now t.view) (sym c.view-item.is)) (c.link_down.ensures.room ∙ ap (λ (t : TableView). t.room) (sym c.view-item.is)) in
+    same-in c.link_down.new.self (next_in (In.LinkDown c.args.k) c.args.now x) (c.link_down.ensures.view ∙ ap (λ (t : TableView). next_view (In.LinkDown c.args.k) c.args.now t.view) (sym c.view-item.is)) (c.link_down.ensures.neighbours ∙ ap (λ (t : TableView). t.neighbours) (sym c.view-item.is)) in
     record {
       views = rw new (map_over_more (next_in (In.LinkDown c.args.k) c.args.now) xs c.loop-view.views i x lt c.loop-view.invariant.views c.view-item.is);
       sends = sent ∙ sends-next h xs i x c.loop-view.sends.items (h x) lt read refl c.loop-view.invariant.sends;

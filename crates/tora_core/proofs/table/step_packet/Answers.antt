@@ -56,7 +56,7 @@ returns-clause-views c =
     c.packet.ensures.view ∙ ap (λ (u : TableView). view_after u.view (In.Packet c.args.k c.args.packet.now) c.args.now) (sym c.index-views-place.is) ∙ sym (view-taken (In.Packet c.args.k c.args.packet.now) c.args.now x own) in
     let Q : ℕ → Type 0 = λ i. map (next_view (In.Packet c.args.k c.args.packet.now) c.args.now) views ≡ slice_set views i (next_view (In.Packet c.args.k c.args.packet.now) c.args.now x) in
     let made = table-at (In.Packet c.args.k c.args.packet.now) c.args.now table c.in-Some.place t (next_view (In.Packet c.args.k c.args.packet.now) c.args.now x) lt c.index-views-place.is (subst Q (sym place.1) at) in
-    let whole = same-in c.packet.new.self (record t { view = next_view (In.Packet c.args.k c.args.packet.now) c.args.now x }) new (c.packet.ensures.room ∙ ap (λ (u : TableView). u.room) (sym c.index-views-place.is)) in
+    let whole = same-in c.packet.new.self (record t { view = next_view (In.Packet c.args.k c.args.packet.now) c.args.now x }) new (c.packet.ensures.neighbours ∙ ap (λ (u : TableView). u.neighbours) (sym c.index-views-place.is)) in
     rw whole (sym made)
 
 pub returns-clause-sends : goal.returns-clause-sends

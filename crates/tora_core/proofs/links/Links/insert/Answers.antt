@@ -1,73 +1,116 @@
-use Rattle.std.proofs.Common.{◌≡◌, ◌∙◌, refl, sym, ap, subst, ℕ, ◌+◌, ◌≤◌, Option, nat_lt, length, arith}
-use Rattle.std.specs.Prelude.{if◌then◌else◌}
-use Rattle.std.specs.List.{insert, position_or_len}
+use Rattle.std.proofs.Common.{◌≡◌, ◌≢◌, ◌∙◌, refl, sym, ap, subst, ℕ, ◌+◌, ◌<◌, false, true, Bool, List, Option, length, arith}
+use Rattle.std.specs.Prelude.{if◌then◌else◌, slice_index_or, slice_set}
+use Rattle.std.specs.List.{AllByRecursion, refill}
 use Rattle.tora_height.specs.declared.Direction.{Direction}
-use Rattle.tora_core.specs.Links.{IsLeastPlace, LinkTable}
-use Rattle.tora_core.specs.View.{with_row}
-use Rattle.tora_core.proofs.LinkLemmas.{kept-few, kept-insert, least-in, least-insert, in-longer, place-within, not-some, table-is, with_row-insert}
-use Rattle.tora_core.specs.Links.{IsNull, is_down}
+use Rattle.tora_height.specs.HeightOrder.{link_status}
+use Rattle.tora_core.specs.declared.TheConstants.{GREATEST_NEIGHBOURS}
+use Rattle.tora_core.specs.declared.rows.Row.{Row}
+use Rattle.tora_core.specs.Numbers.{IsAscending}
+use Rattle.tora_core.specs.Rules.{link_row}
+use Rattle.tora_core.specs.View.{neighbours_of, with_row}
+use Rattle.tora_core.specs.Links.{IsLeastPlace, IsNull, IsOnlyPlace, LinkTable, is_down, rows_up}
+use Rattle.tora_core.proofs.LinkLemmas.{before-counted, kept-few, kept-lengths, kept-put, least-put_null, not-some, only-within, refill-same, table-is}
+use Rattle.tora_core.proofs.PlaceLemmas.{few-still, marked-length, marked-put, null-off, numbers-put, up-comes, up-off}
 use Rattle.tora_core.proofs.links.Links.insert.Goals.{then-is_some, else-is_some}
 use Rattle.tora_core.proofs.links.Links.insert.Goals as goal
 
-pub insert_within-requires-clause-place : goal.insert_within-requires-clause-place
-insert_within-requires-clause-place c =
-    let rows = c.self.inside.rows.items in
-    let at : c.args.place ≡ position_or_len (λ other. nat_lt c.args.row.neighbour other.neighbour) rows = c.requires.place ∙ ap (λ (t : LinkTable). position_or_len (λ other. nat_lt c.args.row.neighbour other.neighbour) t.rows) (sym c.self.view_is) in
-    let le = place-within (λ other. nat_lt c.args.row.neighbour other.neighbour) rows in
-    let len = c.self.inside.rows.ok.0 in
-    omega arith
+pub put_direction-before-requires : goal.put_direction-before-requires
+put_direction-before-requires c =
+    let only : IsOnlyPlace c.args.k c.args.place (neighbours_of c.self.inside.places.items) = subst (λ (t : LinkTable). IsOnlyPlace c.args.k c.args.place t.neighbours) (sym c.self.view_is) c.requires.place in
+    let rows = c.self.inside.places.items in
+    let lt : c.args.place < length rows = only-within c.args.k c.args.place rows only in
+    let same = kept-lengths c.self.inside.own rows c.self.inside.directions.items c.self.inside.downstream c.self.inside.least c.self.invariant.0 in
+    rw (c.as_mut_slice.ensures.value, same) lt
 
-pub insert_within-requires-clause-room : goal.insert_within-requires-clause-room
-insert_within-requires-clause-room c =
-    let len = c.self.inside.rows.ok.0 in
-    let room = c.requires.room in
-    let rows_are = ap (λ (t : LinkTable). length t.rows) c.self.view_is in
-    let room_is = ap (λ (t : LinkTable). t.room) c.self.view_is in
-    omega arith
+pub recounted-self-inside-requires-clause-some : goal.recounted-self-inside-requires-clause-some
+recounted-self-inside-requires-clause-some c =
+    let only : IsOnlyPlace c.args.k c.args.place (neighbours_of c.self.inside.places.items) = subst (λ (t : LinkTable). IsOnlyPlace c.args.k c.args.place t.neighbours) (sym c.self.view_is) c.requires.place in
+    let rows = c.self.inside.places.items in
+    let lt : c.args.place < length rows = only-within c.args.k c.args.place rows only in
+    let before = c.put_direction-before.result in
+    let P : List Direction → Type 0 = λ xs. before ≡ slice_index_or xs c.args.place before in
+    let read = subst P c.as_mut_slice.ensures.value c.put_direction-before.ensures.before in
+    before-counted c.self.inside.own rows c.self.inside.directions.items c.self.inside.downstream c.self.inside.least c.args.place before c.self.invariant.0 lt read
 
 pub recounted-self-inside-requires-clause-few : goal.recounted-self-inside-requires-clause-few
 recounted-self-inside-requires-clause-few c =
-    let few = kept-few c.self.inside.own c.self.inside.rows.items c.self.inside.directions.items c.self.inside.downstream c.self.inside.least c.self.invariant.0 in
-    let len = c.self.inside.rows.ok.0 in
-    let fits = c.self.inside.rows.ok.1 in
-    let most = c.self.invariant.2 in
+    let few = kept-few c.self.inside.own c.self.inside.places.items c.self.inside.directions.items c.self.inside.downstream c.self.inside.least c.self.invariant.0 in
+    let most = c.self.invariant.3 in
     omega arith
 
-pub moved_up-self-inside-requires : goal.moved_up-self-inside-requires
-moved_up-self-inside-requires c =
-    let len = c.self.inside.rows.ok.0 in
-    let room = c.requires.room in
-    let rows_are = ap (λ (t : LinkTable). length t.rows) c.self.view_is in
-    let room_is = ap (λ (t : LinkTable). t.room) c.self.view_is in
-    let most = c.self.invariant.2 in
-    in-longer c.self.inside.least (length c.self.inside.rows.items) _ (omega arith) (least-in c.self.inside.least c.self.inside.rows.items c.self.invariant.0.least_is)
+pub put-requires : goal.put-requires
+put-requires c =
+    let only : IsOnlyPlace c.args.k c.args.place (neighbours_of c.self.inside.places.items) = subst (λ (t : LinkTable). IsOnlyPlace c.args.k c.args.place t.neighbours) (sym c.self.view_is) c.requires.place in
+    let rows = c.self.inside.places.items in
+    let lt : c.args.place < length rows = only-within c.args.k c.args.place rows only in
+    rw c.as_mut_slice-2.ensures.value lt
+
+pub put-requires-2 : goal.put-requires-2
+put-requires-2 c =
+    let only : IsOnlyPlace c.args.k c.args.place (neighbours_of c.self.inside.places.items) = subst (λ (t : LinkTable). IsOnlyPlace c.args.k c.args.place t.neighbours) (sym c.self.view_is) c.requires.place in
+    let rows = c.self.inside.places.items in
+    let lt : c.args.place < length rows = only-within c.args.k c.args.place rows only in
+    rw (c.as_mut_slice-3.ensures.value, marked-length c.self.inside.up.items rows c.self.invariant.1) lt
 
 pub invariant_of-self : goal.invariant_of-self
 invariant_of-self c =
-    let rows = c.self.inside.rows.items in
-    let at : c.args.place ≡ position_or_len (λ other. nat_lt c.args.row.neighbour other.neighbour) rows = c.requires.place ∙ ap (λ (t : LinkTable). position_or_len (λ other. nat_lt c.args.row.neighbour other.neighbour) t.rows) (sym c.self.view_is) in
-    let le : c.args.place ≤ length rows = let within = place-within (λ other. nat_lt c.args.row.neighbour other.neighbour) rows in omega arith in
-    let least : IsLeastPlace c.if-is_some.self (insert rows c.args.place c.args.row) =
+    let only : IsOnlyPlace c.args.k c.args.place (neighbours_of c.self.inside.places.items) = subst (λ (t : LinkTable). IsOnlyPlace c.args.k c.args.place t.neighbours) (sym c.self.view_is) c.requires.place in
+    let rows = c.self.inside.places.items in
+    let lt : c.args.place < length rows = only-within c.args.k c.args.place rows only in
+    let up = c.self.inside.up.items in
+    let ds = c.self.inside.directions.items in
+    let row = link_row c.args.k c.args.entry in
+    let told = refill-same c.self.inside.places.len rows c.put.new.items (omega (arith, c.put.auto.items, c.as_mut_slice-2.ensures.len)) in
+    let made : c.put.new.items ≡ slice_set rows c.args.place row =
+    c.put.ensures ∙ ap (λ (xs : List Row). slice_set xs c.args.place c.link_row-row.result) c.as_mut_slice-2.ensures.value ∙ ap (slice_set rows c.args.place) c.link_row-row.ensures in
+    let marks = refill-same c.self.inside.up.len up c.put-2.new.items (omega (arith, c.put-2.auto.items, c.as_mut_slice-3.ensures.len)) in
+    let marked : c.put-2.new.items ≡ slice_set up c.args.place true = c.put-2.ensures ∙ ap (λ (xs : List Bool). slice_set xs c.args.place true) c.as_mut_slice-3.ensures.value in
+    let written = refill-same c.self.inside.directions.len ds c.put_direction-before.new.directions (omega (arith, c.put_direction-before.auto.directions, c.as_mut_slice.ensures.len)) in
+    let before = c.put_direction-before.result in
+    let P : List Direction → Type 0 = λ xs. before ≡ slice_index_or xs c.args.place before in
+    let read = subst P c.as_mut_slice.ensures.value c.put_direction-before.ensures.before in
+    let directed : c.put_direction-before.new.directions ≡ slice_set ds c.args.place (link_status c.self.inside.own c.args.entry) =
+    c.put_direction-before.ensures.after ∙ ap (λ (xs : List Direction). slice_set xs c.args.place c.status-direction.result) c.as_mut_slice.ensures.value ∙ ap (slice_set ds c.args.place) c.status-direction.ensures in
+    let down : AllByRecursion (λ (other : Row). other.neighbour ≢ c.args.k) (rows_up up rows) = subst (λ (t : LinkTable). AllByRecursion (λ (other : Row). other.neighbour ≢ c.args.k) t.rows) (sym c.self.view_is) c.requires.down in
+    let off = up-off c.args.k c.args.place up rows down only in
+    let least : IsLeastPlace c.if-is_some.self (slice_set rows c.args.place row) =
     elim c.if-is_some.branch [
-      | then-is_some w ↦ subst (λ (l : Option ℕ). IsLeastPlace l (insert rows c.args.place c.args.row)) (sym w.self-is)
-          (subst (IsLeastPlace w.place_of_least-self-inside.result) (w.as_slice.ensures.value ∙ c.insert_within.ensures.items) w.place_of_least-self-inside.ensures)
+      | then-is_some w ↦ subst (λ (l : Option ℕ). IsLeastPlace l (slice_set rows c.args.place row)) (sym w.self-is)
+          (subst (IsLeastPlace w.place_of_least-self-inside.result) (w.as_slice.ensures.value ∙ told ∙ made) w.place_of_least-self-inside.ensures)
       | else-is_some w ↦
-          (let null : IsNull c.args.row = not-some c.args.row.entry (sym c.is_some.ensures ∙ w.if-is_some.false) in
-          subst (λ (l : Option ℕ). IsLeastPlace l (insert rows c.args.place c.args.row)) (sym w.self-is ∙ refl)
-          (subst (λ (l : Option ℕ). IsLeastPlace l (insert rows c.args.place c.args.row)) (sym w.moved_up-self-inside.ensures) (least-insert c.args.place c.self.inside.least c.args.row rows le null c.self.invariant.0.least_is)))
+          (let null : IsNull row = not-some c.args.entry (sym c.is_some.ensures ∙ w.if-is_some.false) in
+          subst (λ (l : Option ℕ). IsLeastPlace l (slice_set rows c.args.place row)) (sym w.self-is)
+          (least-put_null c.args.place c.self.inside.least row rows row null (null-off c.args.place up rows row c.self.invariant.1 off lt) c.self.invariant.0.least_is))
     ] in
-    rw (c.insert_within.ensures.items, c.insert_within-2.ensures.items, c.status-direction.ensures) (
-      kept-insert c.self.inside.own rows c.self.inside.directions.items c.self.inside.downstream c.self.inside.least c.args.place c.args.row c.recounted-self-inside.result c.if-is_some.self
-          c.self.invariant.0 le (c.recounted-self-inside.ensures ∙ ap (λ (d : Direction). c.self.inside.downstream + (if is_down d then 1 else 0)) c.status-direction.ensures) least,
-      (let a = c.insert_within.ensures.capacity in let b = c.insert_within-2.ensures.capacity in let wide = c.self.invariant.1 in omega arith),
-      (let a = c.insert_within.ensures.capacity in let most = c.self.invariant.2 in omega arith),
+    let numbers = numbers-put c.args.k c.args.place row rows refl only in
+    rw (told, made, marks, marked, written, directed) (
+      kept-put c.self.inside.own rows ds c.self.inside.downstream c.self.inside.least c.args.place row before c.recounted-self-inside.result c.if-is_some.self
+          c.self.invariant.0 lt read (c.recounted-self-inside.ensures ∙ ap (λ (d : Direction). c.self.inside.downstream + (if is_down d then 1 else 0)) c.status-direction.ensures) least,
+      marked-put c.args.place true row up rows (λ (e : true ≡ false). absurd cc) c.self.invariant.1,
+      subst IsAscending (sym numbers) c.self.invariant.2,
+      few-still GREATEST_NEIGHBOURS rows (slice_set rows c.args.place row) numbers c.self.invariant.3,
     )
 
 pub returns : goal.returns
 returns c =
-    let rows = c.self.inside.rows.items in
-    let at : c.args.place ≡ position_or_len (λ other. nat_lt c.args.row.neighbour other.neighbour) rows = c.requires.place ∙ ap (λ (t : LinkTable). position_or_len (λ other. nat_lt c.args.row.neighbour other.neighbour) t.rows) (sym c.self.view_is) in
-    let le : c.args.place ≤ length rows = let within = place-within (λ other. nat_lt c.args.row.neighbour other.neighbour) rows in omega arith in
-    let come : c.insert_within.new.list.items ≡ with_row c.args.row c.args.self.now.rows =
-    c.insert_within.ensures.items ∙ ap (λ (n : ℕ). insert rows n c.args.row) at ∙ with_row-insert c.args.row rows ∙ ap (λ (t : LinkTable). with_row c.args.row t.rows) c.self.view_is in
-    table-is c.self.inside.own c.args.self.now.own c.insert_within.new.list.items (with_row c.args.row c.args.self.now.rows) c.insert_within.new.list.cap c.args.self.now.room (ap (λ (t : LinkTable). t.own) c.self.view_is) come (c.insert_within.ensures.capacity ∙ ap (λ (t : LinkTable). t.room) c.self.view_is)
+    let only : IsOnlyPlace c.args.k c.args.place (neighbours_of c.self.inside.places.items) = subst (λ (t : LinkTable). IsOnlyPlace c.args.k c.args.place t.neighbours) (sym c.self.view_is) c.requires.place in
+    let rows = c.self.inside.places.items in
+    let lt : c.args.place < length rows = only-within c.args.k c.args.place rows only in
+    let up = c.self.inside.up.items in
+    let ds = c.self.inside.directions.items in
+    let row = link_row c.args.k c.args.entry in
+    let told = refill-same c.self.inside.places.len rows c.put.new.items (omega (arith, c.put.auto.items, c.as_mut_slice-2.ensures.len)) in
+    let made : c.put.new.items ≡ slice_set rows c.args.place row =
+    c.put.ensures ∙ ap (λ (xs : List Row). slice_set xs c.args.place c.link_row-row.result) c.as_mut_slice-2.ensures.value ∙ ap (slice_set rows c.args.place) c.link_row-row.ensures in
+    let marks = refill-same c.self.inside.up.len up c.put-2.new.items (omega (arith, c.put-2.auto.items, c.as_mut_slice-3.ensures.len)) in
+    let marked : c.put-2.new.items ≡ slice_set up c.args.place true = c.put-2.ensures ∙ ap (λ (xs : List Bool). slice_set xs c.args.place true) c.as_mut_slice-3.ensures.value in
+    let down : AllByRecursion (λ (other : Row). other.neighbour ≢ c.args.k) (rows_up up rows) = subst (λ (t : LinkTable). AllByRecursion (λ (other : Row). other.neighbour ≢ c.args.k) t.rows) (sym c.self.view_is) c.requires.down in
+    let off = up-off c.args.k c.args.place up rows down only in
+    let new = refill c.self.inside.places.len rows c.put.new.items in
+    let ups = refill c.self.inside.up.len up c.put-2.new.items in
+    let is : new ≡ slice_set rows c.args.place row = told ∙ made in
+    let seen : rows_up ups new ≡ with_row row c.args.self.now.rows =
+    ap (λ (us : List Bool). rows_up us new) (marks ∙ marked) ∙ ap (rows_up (slice_set up c.args.place true)) is
+    ∙ up-comes c.args.k c.args.place row up rows refl c.self.invariant.2 only c.self.invariant.1 off ∙ ap (λ (t : LinkTable). with_row row t.rows) c.self.view_is in
+    let numbers : neighbours_of new ≡ c.args.self.now.neighbours = ap neighbours_of is ∙ numbers-put c.args.k c.args.place row rows refl only ∙ ap (λ (t : LinkTable). t.neighbours) c.self.view_is in
+    table-is c.self.inside.own c.args.self.now.own (rows_up ups new) (with_row row c.args.self.now.rows) (neighbours_of new) c.args.self.now.neighbours (ap (λ (t : LinkTable). t.own) c.self.view_is) seen numbers
