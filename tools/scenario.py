@@ -33,30 +33,35 @@ GREATEST_NODES = 1024  # with --large
 MOST_NEIGHBOURS = 32
 GREATEST_NEIGHBOURS = 255  # with --large
 MOST_DESTINATIONS = 64
+MOST_TEXTS = 1 << 16  # coordinates whose text is kept
 LOSS_STEP = 10_000  # millionths to which a loss by distance is rounded
 EDGE_LOSS = 0.5  # without --edge-loss
 
 
 def simulation_lines(scenario, changes, every, need):
     """The lines of the simulation file."""
-    destinations, known = scenario["destinations"], set(scenario["links"])
-    lines = ["dests " + ",".join(map(str, destinations))] + [f"link {a} {b}" for a, b in scenario["links"]]
+    destinations, links = scenario["destinations"], scenario["links"]
+    known = {link: place for place, link in enumerate(links)}  # links ascend
+    links_of, parts, mends = ([f"{word} {a} {b}" for a, b in links] for word in ("link", "part", "mend"))
+    needs = [f"need {source} {destination}" for source, destination in scenario["flows"]]
+    heights = [f"heights {destination}" for destination in destinations]
+    lines = ["dests " + ",".join(map(str, destinations))] + links_of
     for at, (came, gone) in enumerate(changes):
         if at == 0:  # a simulation begins with every link mended
-            came, gone = [], known.difference(came)
-        part, mend = sorted(known.intersection(gone)), sorted(known.intersection(came))
-        lines += [f"part {a} {b}" for a, b in part] + [f"mend {a} {b}" for a, b in mend]
+            came, gone = [], set(known).difference(came)
+        part, mend = ([known[link] for link in some if link in known] for some in (gone, came))
+        lines += [parts[place] for place in sorted(part)] + [mends[place] for place in sorted(mend)]
         scenario["breaks"] += len(part) if at else 0
         clock = at * scenario["sample"]
         end = min(clock + scenario["sample"], scenario["rounds"])
         while clock < end:
             if clock % need == 0:
-                lines += [f"need {source} {destination}" for source, destination in scenario["flows"]]
+                lines += needs
             stop = min(end, clock - clock % need + need, clock - clock % every + every if every else end)
             lines.append(f"rounds {stop - clock}")
             clock = stop
             if every and clock % every == 0:
-                lines += [f"heights {destination}" for destination in destinations]
+                lines += heights
     return lines
 
 
@@ -183,6 +188,24 @@ def make(options):
     return scenario, simulation_lines(scenario, contacts.changes, options.heights, options.need)
 
 
+class Texts(dict):
+    """Numbers as JSON has them; coordinates come again, so the first ones are kept."""
+
+    def __missing__(self, value):
+        """The text of a number; 0 is not kept, since it is -0.0, too."""
+        text = json.dumps(value)
+        if value and len(self) < MOST_TEXTS:
+            self[value] = text
+        return text
+
+
+def positions_text(positions):
+    """Positions as JSON."""
+    texts = Texts()
+    rows = ("],[".join([f"{texts[x]},{texts[y]}" for x, y in places]) for places in positions)
+    return "[[[" + "]],[[".join(rows) + "]]]"
+
+
 def write_channel(path, scenario, edge):
     """Writes a channel file of losses that rise with the distance."""
     lines = channel_lines(scenario["positions"], scenario["links"], scenario["sample"], scenario["range"], edge, LOSS_STEP)
@@ -197,7 +220,10 @@ def write(prefix, scenario, lines):
         sink.write(text)
     told = scenario | {"digest": hashlib.sha256(text.encode("ascii")).hexdigest()}
     with writing(prefix + ".json") as sink:
-        parts = [f" {json.dumps(key)}: {json.dumps(value, separators=(',', ':'))}" for key, value in told.items()]
+        parts = [
+            f" {json.dumps(key)}: " + (positions_text(value) if key == "positions" else json.dumps(value, separators=(",", ":")))
+            for key, value in told.items()
+        ]
         sink.write("{\n" + ",\n".join(parts) + "\n}\n")
     lost = scenario["links_met"] - len(scenario["links"])
     if lost:

@@ -1,8 +1,11 @@
 """Ways of nodes: lists of way points (seconds, x, y), between which a node moves on the line, and rests before and behind them."""
 import bisect
+import math
 import operator
 
 TIME_OF = operator.itemgetter(0)
+FAR = 1e7  # metres
+SURE = 0.004_999_99  # metres up to which another hundredth of a metre is nearer to none of the places up to there, whatever is rounded
 
 
 def place_between(one, other, time):
@@ -23,13 +26,29 @@ def position(way, time):
 
 
 def positions(way, times):
-    """Yields the places on a way at times that rise, rounded to centimetres."""
-    high, last = 0, len(way) - 1
-    for time in times:
-        while high <= last and way[high][0] <= time:
-            high += 1
-        if time <= way[0][0] or high > last:
-            x, y = way[0 if time <= way[0][0] else last][1:]
-        else:
-            x, y = place_between(way[high - 1], way[high], time)
-        yield round(x, 2), round(y, 2)
+    """The places on a way at times that rise, rounded to centimetres."""
+    xs, ys, later = [], [], iter(times)
+    time, (began, x, y) = next(later, math.inf), way[0]
+    while time <= began:
+        xs.append(x)
+        ys.append(y)
+        time = next(later, math.inf)
+    for ends, to_x, to_y in way:
+        if time < ends:
+            length, east, north = ends - began, to_x - x, to_y - y
+            while time < ends:
+                part = (time - began) / length
+                xs.append(x + part * east)
+                ys.append(y + part * north)
+                time = next(later, math.inf)
+        began, x, y = ends, to_x, to_y
+    rest = len(times) - len(xs)
+    return list(zip(rounded(xs + [x] * rest), rounded(ys + [y] * rest)))
+
+
+def rounded(values):
+    """Values rounded to centimetres as `round(value, 2)` rounds them, which takes three times as long."""
+    found = [int(100 * value + 0.5) / 100 for value in values if 0 < value < FAR]
+    if len(found) == len(values) and min(found, default=0) > 0 and max(map(abs, map(operator.sub, values, found))) < SURE:
+        return found
+    return [round(value, 2) for value in values]
