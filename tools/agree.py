@@ -4,8 +4,8 @@
   agree.py SIMULATION.sim OUTPUT TRACE
   agree.py --page PAGE TRACE
 
-SIMULATION.sim has `heights` lines (scenario.py --heights), OUTPUT is what was printed for it, and TRACE its trace. The
-`route` records are folded, and compared with each printed line. PAGE is a page of play.py for TRACE: its records are folded
+SIMULATION.sim has `heights` lines (scenario.py --heights, or a record of `tora drive`), OUTPUT is what was printed for it, and TRACE
+its trace. The `route` records are folded, and compared with each printed line. PAGE is a page of play.py for TRACE: its records are folded
 round by round, and so are those of the trace; heights and next hops of every node have to be the same, and the records, too.
 """
 import argparse
@@ -15,6 +15,9 @@ from play_data import read_page
 from record import field, records
 from study import Usage, refused, run
 from world import Rounds
+
+# Lines of a simulation file that print nothing, where nothing is refused, and leave the clock
+QUIET = "dests link old need part mend open pull transmit pump deliver turn arm restart".split()
 
 
 class Fold:
@@ -52,13 +55,15 @@ def printed_heights(simulation, output):
         for number, words in enumerate(lines, 1):
             if words[0] == "rounds":
                 clock += int(words[1])
+            elif words[0] == "tick":
+                clock += 1
             elif words[0] == "heights":
                 for node in nodes:
                     line, text = next(told, (0, None))
                     if text is None or len(text) != 5 or text[:2] != ["node", str(node)]:
                         raise refused(output, line or None, f"no height of node {node}, which {simulation}:{number} prints")
                     yield line, clock, node, int(words[1]), field(output, line, "h", text[2]), field(output, line, "k", text[4])
-            elif words[0] not in ("dests", "link", "need", "part", "mend"):
+            elif words[0] not in QUIET:
                 raise refused(simulation, number, f"a line `{words[0]}` is not looked at here")
 
 

@@ -8,6 +8,8 @@
  *   tora-compare --help lists all words
  */
 #include "ns3/aodv-helper.h"
+#include "ns3/arp-cache.h"
+#include "ns3/arp-l3-protocol.h"
 #include "ns3/core-module.h"
 #include "ns3/dsdv-helper.h"
 #include "ns3/internet-module.h"
@@ -19,6 +21,7 @@
 #include "ns3/tora-routing.h"
 #include "ns3/tora-world.h"
 #include "ns3/wifi-module.h"
+#include "ns3/wifi-mpdu.h"
 #include "ns3/yans-wifi-helper.h"
 
 #include <algorithm>
@@ -66,8 +69,19 @@ struct Setup
     bool isNoticing{false};       ///< whether it is told of neighbours that are gone
     bool isReturnNoticed{false};  ///< whether links are cut that packets come back from
     bool isSalvaging{false};      ///< whether packets that the radio gives up wait once more
-    std::string record;           ///< the file for the lines of the run
+    std::string record;           ///< the file for the engine's record
     bool hasHeader{false};        ///< whether the names of the columns are printed, too
+};
+
+/// What happened last to a data packet that may have been lost by it.
+enum class Fate
+{
+    NONE,      ///< nothing: it arrived, waits at the end of the run, or was dropped without a word
+    RADIO,     ///< a radio gave it up after its last retry
+    ARP,       ///< ARP dropped it
+    NO_ROUTE,  ///< a node dropped it for want of a route
+    CAME_BACK, ///< TORA: it came back to a node
+    LATE       ///< TORA: its time in a queue was over, or the queue was full
 };
 
 /// When data packets begin, in seconds.
@@ -141,6 +155,20 @@ class Comparison
      * \returns how many hops it has, or 0 where there is none
      */
     uint32_t Shortest(uint32_t from, uint32_t to) const;
+    /// Connects what drops data packets.
+    void WatchDrops();
+    /**
+     * Something happened to a packet.
+     *
+     * \param packet the packet
+     * \param fate what
+     */
+    void Note(Ptr<const Packet> packet, Fate fate);
+    /**
+     * \param fate what happened last to a packet
+     * \returns how many packets that did not arrive have that fate
+     */
+    uint32_t Lost(Fate fate) const;
     /**
      * \param share a share
      * \returns that quantile of the delays in ms, or nothing where nothing arrived
@@ -153,6 +181,8 @@ class Comparison
         Ipv4Address source; ///< its source
         uint32_t hops{1};   ///< hops until now, with the first one
         uint32_t least{0};  ///< hops of the shortest path as it was sent, or 0
+        Fate fate{Fate::NONE}; ///< what happened to it last
+        bool hasArrived{false}; ///< whether it arrived
     };
 
     Setup m_setup;                        ///< what the run is
@@ -296,15 +326,78 @@ Comparison::MakeRouting()
         {
             tora->TraceConnectWithoutContext("Control",
                                              MakeCallback(&Comparison::CountFrames, this));
+        }
+    }
+    WatchDrops();
+}
+
+void
+Comparison::WatchDrops()
+{
+    for (uint32_t i = 0; i < m_nodes.GetN(); i++)
+    {
+        Ptr<Node> node = m_nodes.Get(i);
+        DynamicCast<WifiNetDevice>(m_devices.Get(i))
+            ->GetMac()
+            ->TraceConnectWithoutContext(
+                "DroppedMpdu",
+                Callback<void, WifiMacDropReason, Ptr<const WifiMpdu>>(
+                    [this](WifiMacDropReason, Ptr<const WifiMpdu> mpdu) {
+                        Note(mpdu->GetPacket(), Fate::RADIO);
+                    }));
+        Callback<void, Ptr<const Packet>> arp(
+            [this](Ptr<const Packet> packet) { Note(packet, Fate::ARP); });
+        node->GetObject<ArpL3Protocol>()->TraceConnectWithoutContext("Drop", arp);
+        Ptr<Ipv4L3Protocol> ip = node->GetObject<Ipv4L3Protocol>();
+        ip->GetInterface(1)->GetArpCache()->TraceConnectWithoutContext("Drop", arp);
+        ip->TraceConnectWithoutContext(
+            "Drop",
+            Callback<void,
+                     const Ipv4Header&,
+                     Ptr<const Packet>,
+                     Ipv4L3Protocol::DropReason,
+                     Ptr<Ipv4>,
+                     uint32_t>([this](const Ipv4Header&,
+                                      Ptr<const Packet> packet,
+                                      Ipv4L3Protocol::DropReason,
+                                      Ptr<Ipv4>,
+                                      uint32_t) { Note(packet, Fate::NO_ROUTE); }));
+        if (auto tora = node->GetObject<ToraRouting>())
+        {
             tora->TraceConnectWithoutContext(
                 "Drop",
                 Callback<void, Ptr<const Packet>, const Ipv4Header&, ToraRouting::DropReason>(
-                    [this](Ptr<const Packet>, const Ipv4Header&, ToraRouting::DropReason reason) {
-                        m_cameBack += reason == ToraRouting::CAME_BACK;
+                    [this](Ptr<const Packet> packet,
+                           const Ipv4Header&,
+                           ToraRouting::DropReason reason) {
+                        bool isBack = reason == ToraRouting::CAME_BACK;
+                        m_cameBack += isBack;
                         m_late += reason == ToraRouting::TIME_OVER;
+                        Note(packet, isBack ? Fate::CAME_BACK : Fate::LATE);
                     }));
         }
     }
+}
+
+void
+Comparison::Note(Ptr<const Packet> packet, Fate fate)
+{
+    auto under = m_under.find(packet->GetUid());
+    // IP tells of what TORA drops, too, behind TORA.
+    if (under != m_under.end() &&
+        (fate != Fate::NO_ROUTE ||
+         (under->second.fate != Fate::CAME_BACK && under->second.fate != Fate::LATE)))
+    {
+        under->second.fate = fate;
+    }
+}
+
+uint32_t
+Comparison::Lost(Fate fate) const
+{
+    return std::count_if(m_under.begin(), m_under.end(), [fate](const auto& under) {
+        return !under.second.hasArrived && under.second.fate == fate;
+    });
 }
 
 void
@@ -350,7 +443,10 @@ Comparison::Send(Ptr<Socket> socket, uint32_t to)
     under.source = socket->GetNode()->GetObject<Ipv4>()->GetAddress(1, 0).GetLocal();
     under.least = Shortest(socket->GetNode()->GetId(), to);
     m_reachable += under.least > 0;
-    socket->Send(packet);
+    if (socket->Send(packet) < 0)
+    {
+        under.fate = Fate::NO_ROUTE;
+    }
 }
 
 void
@@ -365,7 +461,8 @@ Comparison::Receive(Ptr<Socket> socket)
             continue;
         }
         m_delays.push_back((Simulator::Now() - header.GetTs()).GetSeconds() * 1000);
-        const UnderWay& under = m_under[packet->GetUid()];
+        UnderWay& under = m_under[packet->GetUid()];
+        under.hasArrived = true;
         m_hops += under.hops;
         if (under.least > 0)
         {
@@ -471,7 +568,8 @@ Comparison::Print() const
         std::cout
             << "protocol,nodes,speed,flows,seed,sent,reachable,received,delivery,"
                "delay_median,delay_95,control_bytes,control_packets,control_rate,"
-               "bytes_per_packet,packets_per_packet,hops,stretch,came_back,late,hello,data,ack\n";
+               "bytes_per_packet,packets_per_packet,hops,stretch,came_back,late,hello,data,ack,"
+               "lost_radio,lost_arp,lost_no_route,lost_came_back,lost_late,lost_other\n";
     }
     double received = m_delays.size();
     std::cout << (m_setup.label.empty() ? m_setup.protocol : m_setup.label) << "," << m_setup.nodes
@@ -498,7 +596,17 @@ Comparison::Print() const
         return frames == m_frames.end() ? 0 : frames->second;
     };
     std::cout << "," << m_cameBack << "," << m_late << "," << count(ToraFrame::HELLO) << ","
-              << count(ToraFrame::DATA) << "," << count(ToraFrame::ACK) << std::endl;
+              << count(ToraFrame::DATA) << "," << count(ToraFrame::ACK);
+    for (Fate fate : {Fate::RADIO,
+                      Fate::ARP,
+                      Fate::NO_ROUTE,
+                      Fate::CAME_BACK,
+                      Fate::LATE,
+                      Fate::NONE})
+    {
+        std::cout << "," << Lost(fate);
+    }
+    std::cout << std::endl;
 }
 
 void
@@ -544,7 +652,7 @@ main(int argc, char* argv[])
     cmd.AddValue("notice", "TORA: the radio's reports cut links", setup.isNoticing);
     cmd.AddValue("returns", "TORA: packets that come back cut links", setup.isReturnNoticed);
     cmd.AddValue("salvage", "TORA: packets that the radio gives up wait", setup.isSalvaging);
-    cmd.AddValue("record", "TORA: the file for the lines of the run", setup.record);
+    cmd.AddValue("record", "TORA: the file for the engine's record of the run", setup.record);
     cmd.AddValue("header", "print the names of the columns, too", setup.hasHeader);
     cmd.Parse(argc, argv);
 

@@ -26,7 +26,7 @@ main(int argc, char* argv[])
     CommandLine cmd(__FILE__);
     cmd.AddValue("program", "the engine", program);
     cmd.AddValue("pcap", "the beginning of the names of pcap files", pcap);
-    cmd.AddValue("record", "the file for the lines of the run", record);
+    cmd.AddValue("record", "the file for the engine's record of the run", record);
     cmd.Parse(argc, argv);
 
     NodeContainer nodes(3);

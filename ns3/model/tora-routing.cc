@@ -65,8 +65,8 @@ ToraRouting::GetTypeId()
                           MakeStringChecker())
             .AddAttribute(
                 "Record",
-                "The file for the lines of the run, which tora sim reads, or nothing; Notice and "
-                "NoticeReturn do nothing then. The same for all nodes.",
+                "The file into which the engine writes the simulation file of the run, or nothing; "
+                "Notice and NoticeReturn do nothing then. The same for all nodes.",
                 StringValue(""),
                 MakeStringAccessor(&ToraRouting::m_record),
                 MakeStringChecker())

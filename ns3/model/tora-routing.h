@@ -435,7 +435,7 @@ class ToraRouting : public Ipv4RoutingProtocol
     Time m_tick;            //!< how long a tick takes
     std::string m_times;    //!< the times of link ends
     std::string m_program;  //!< the engine's program
-    std::string m_record;   //!< the file of the lines of the run
+    std::string m_record;   //!< the file of the engine's record
     bool m_isSalvaging;     //!< whether packets that the radio gives up wait for another route
     bool m_isNoticing;      //!< whether the engine is told of neighbours that are gone
     bool m_isReturnNoticed; //!< whether a link is cut that a packet came back from

@@ -59,7 +59,6 @@ ToraWorld::Tell(const std::string& line)
     try
     {
         ToraAnswer answer = m_engine->Order(line);
-        Note(line == "step" ? "rounds 1" : line);
         Handle(answer);
         return answer;
     }
@@ -206,10 +205,6 @@ ToraWorld::Need(uint32_t node, uint32_t destination)
         {
             throw m_engine->ErrorOf(line, answer);
         }
-        if (answer.verdict == ToraAnswer::OK)
-        {
-            Note(line);
-        }
         Handle(answer);
     }
     catch (const ToraEngineError& error)
@@ -252,10 +247,6 @@ ToraWorld::Receive(uint32_t node, uint32_t sender, const std::vector<ToraFrame>&
             else if (answers[i].verdict != ToraAnswer::OK)
             {
                 throw m_engine->ErrorOf(lines[i], answers[i]);
-            }
-            else
-            {
-                Note(ToraLineOf("deliver", frames[i].GetId()));
             }
         }
         for (const auto& answer : answers)

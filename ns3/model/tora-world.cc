@@ -165,6 +165,10 @@ ToraWorld::Build()
     {
         options.insert(options.end(), {"--times", m_settings.times});
     }
+    if (!m_settings.record.empty())
+    {
+        options.insert(options.end(), {"--record", m_settings.record});
+    }
     m_engine = std::make_unique<ToraEngine>(m_settings.program, options);
     std::vector<std::string> lines = LinesOfWorld();
     std::vector<ToraAnswer> answers = AskAll(lines);
@@ -174,10 +178,6 @@ ToraWorld::Build()
         {
             throw m_engine->ErrorOf(lines[i], answers[i]);
         }
-    }
-    if (!m_settings.record.empty())
-    {
-        BeginRecord(lines);
     }
     // The first line behind the links tells whether the engine takes the world.
     ToraAnswer answer = m_engine->Ask(ToraLineOf("heights", m_nodes.begin()->first));
@@ -192,40 +192,6 @@ ToraWorld::Build()
     for (const auto& [node, neighbour] : m_pairs)
     {
         SetNear(node, neighbour, false);
-    }
-}
-
-void
-ToraWorld::BeginRecord(const std::vector<std::string>& lines)
-{
-    m_record.open(m_settings.record);
-    if (!m_record)
-    {
-        NS_FATAL_ERROR("tora: the record " << m_settings.record << " can't be written");
-    }
-    for (const auto& line : lines)
-    {
-        Note(line);
-    }
-    // A step is a round in which every link is parted. A file has no silent ends: the module leaves
-    // their frames out.
-    for (const auto& [a, b] : m_pairs)
-    {
-        if (a < b)
-        {
-            Note(ToraLineOf("part", a, b));
-        }
-    }
-    m_far.isThere = false;
-    m_notice.isThere = false;
-}
-
-void
-ToraWorld::Note(const std::string& line)
-{
-    if (m_record.is_open())
-    {
-        m_record << line << "\n";
     }
 }
 

@@ -11,7 +11,6 @@
 #include "ns3/simple-ref-count.h"
 
 #include <deque>
-#include <fstream>
 #include <map>
 #include <memory>
 #include <optional>
@@ -49,7 +48,7 @@ class ToraWorld : public SimpleRefCount<ToraWorld>
     {
         std::string program; //!< the engine's program
         std::string times;   //!< the times of link ends, or nothing for those of the engine
-        std::string record;  //!< the file of the lines of the run, or nothing
+        std::string record;  //!< the file of the engine's record, or nothing
         Time tick;           //!< how long a tick takes
         bool isTaking;       //!< whether received frames are handed over as bytes
 
@@ -217,18 +216,6 @@ class ToraWorld : public SimpleRefCount<ToraWorld>
      * \returns its answer; nothing where the engine has no such line
      */
     std::optional<ToraAnswer> Try(Optional& optional, const std::string& line);
-    /**
-     * Begins the record of the run.
-     *
-     * \param lines the lines that name the world
-     */
-    void BeginRecord(const std::vector<std::string>& lines);
-    /**
-     * Writes a line of the run into its record, where there is one.
-     *
-     * \param line a line of a simulation file
-     */
-    void Note(const std::string& line);
     /// Lets the engine forget datagrams that no node can receive any more.
     void Forget();
     /// Ends the engine: called by Simulator::Destroy().
@@ -242,7 +229,6 @@ class ToraWorld : public SimpleRefCount<ToraWorld>
 
     std::unique_ptr<ToraEngine> m_engine;            //!< the engine, once started
     Settings m_settings;                             //!< what the nodes ask of it
-    std::ofstream m_record;                          //!< the record of the run, where it is open
     bool m_isStarting{false};                        //!< whether Start() was scheduled
     std::vector<ToraRouting*> m_joined;              //!< the nodes that joined, in order
     std::map<uint32_t, ToraRouting*> m_nodes;        //!< the nodes by their numbers
