@@ -33,7 +33,7 @@ open_append a b p q = no_place 10 (a ++ b) (All-append (λ x. (x == 10) ≡ fals
 
 -- ---- a line that ends
 
-pieces_at : (a rest : List ℕ) → Lacks 10 a → pieces_of (a ++ 10 ∷ rest) ≡ a ∷ pieces_of rest
+pub pieces_at : (a rest : List ℕ) → Lacks 10 a → pieces_of (a ++ 10 ∷ rest) ≡ a ∷ pieces_of rest
 unfolding pieces_of
 pieces_at a rest clear =
     let r = split_cons 10 rest in

@@ -6,5 +6,6 @@ pub mod Kinds
 pub mod LineText
 pub mod Pieces
 pub mod Session
+pub mod Shortened
 pub mod WordGrammar
 pub mod Words

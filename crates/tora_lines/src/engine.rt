@@ -16,7 +16,7 @@ use std::io::{ErrorKind, Read, Write};
 pub const MOST_READS: u64 = 0x1_0000_0000;
 
 /// How many bytes are asked for at once.
-const CHUNK: usize = 0x1_0000;
+pub const CHUNK: usize = 0x1_0000;
 
 fn put<W: Write>(writer: &mut W, text: &[u8]) -> Result<(), ReplayError>
     ensures ok { OnOk result (Appends (W.contents writer.old) (W.contents writer.new) text.now) }
@@ -29,7 +29,7 @@ fn put<W: Write>(writer: &mut W, text: &[u8]) -> Result<(), ReplayError>
 }
 
 /// Takes one line, and writes what is printed for it.
-fn answer<K: FileKind, W: Write>(
+pub fn answer<K: FileKind, W: Write>(
     alloc: Global,
     session: &mut Session<K>,
     writer: &mut W,
@@ -151,7 +151,7 @@ fn take_chunk<K: FileKind, W: Write>(
 }
 
 /// Writes that a line is a fault.
-fn fault<W: Write>(alloc: Global, number: u64, writer: &mut W) -> Result<Ended, ReplayError>
+pub fn fault<W: Write>(alloc: Global, number: u64, writer: &mut W) -> Result<Ended, ReplayError>
     ensures { Ends (faulty number) (W.contents writer.old) (W.contents writer.new) result }
 {
     let mut text = String::new(alloc);
@@ -163,7 +163,7 @@ fn fault<W: Write>(alloc: Global, number: u64, writer: &mut W) -> Result<Ended, 
 }
 
 /// Says how an input ends that ends before this line.
-fn close<K: FileKind, W: Write>(
+pub fn close<K: FileKind, W: Write>(
     alloc: Global,
     session: &Session<K>,
     number: u64,
@@ -200,14 +200,15 @@ fn finish<K: FileKind, W: Write>(
     }
 }
 
-fn zeros(alloc: Global, size: usize) -> Result<Vec<u8>, AllocError>
+/// So many bytes that are 0.
+pub fn zeros(alloc: Global, size: usize) -> Result<Vec<u8>, AllocError>
     ensures { IfOk result (λ v. vec_len v ≡ size) }
 {
     vec![in alloc; 0u8; size]
 }
 
 /// Asks the reader once.
-fn read_some<R: Read>(reader: &mut R, chunk: &mut Vec<u8>) -> io::Result<usize>
+pub fn read_some<R: Read>(reader: &mut R, chunk: &mut Vec<u8>) -> io::Result<usize>
     ensures len { vec_len chunk.new ≡ vec_len chunk.old }
     ensures bound { IfOk result (λ n. n ≤ vec_len chunk.new) }
     ensures bytes { ReadConsumes (R.remaining reader.old) (R.remaining reader.new) result chunk.new.items }

@@ -17,6 +17,7 @@ mod fronts;
 mod output;
 mod recent;
 mod session;
+mod shortened;
 mod text;
 pub mod words;
 
@@ -27,5 +28,6 @@ pub use fronts::{after, behind};
 pub use output::Output;
 pub use recent::Recent;
 pub use session::{FileKind, LONGEST_LINE};
+pub use shortened::read_shortened_lines;
 pub use text::numbered;
 pub use words::{LineError, numbers_are_read_as_printed};
