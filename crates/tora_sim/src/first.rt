@@ -20,7 +20,7 @@ use std::alloc::Global;
 use std::collections::VecDeque;
 use tora_arq::{Times, standard_times};
 use tora_core::{Core, CoreLimits, numbers_are_put_in_order, numbers_come_and_go};
-use tora_frame::Version;
+use tora_frame::{Packets, Version};
 use tora_height::Id;
 use tora_life::{MemDisk, Owner};
 use tora_seat::CoreSeat;
@@ -73,6 +73,7 @@ impl Sim {
             datagrams: Datagrams::new(alloc),
             hints,
             quiet: 0,
+            packets: Packets::new(),
         })
     }
 }

@@ -37,6 +37,8 @@ pub struct Sim {
     pub(crate) hints: Hints,
     /// Before this tick nothing is to be done at any node or link end, and no tick changes one; 0 where that isn't known.
     pub(crate) quiet: u64,
+    /// Where the packets of a frame stand while it is sent.
+    pub(crate) packets: Packets,
 }
 
 impl Model for Sim {
@@ -130,9 +132,8 @@ impl Sim {
             return Err(SimError::Memory);
         }
         data_frames_are_what_was_submitted();
-        let mut packets = Packets::new();
         self.quiet = 0;
-        let Some(frame) = self.links[at].send(self.clock, &mut packets) else {
+        let Some(frame) = self.links[at].send(self.clock, &mut self.packets) else {
             return Err(SimError::NotPossible);
         };
         note_sent(&mut self.nodes[home], &mut self.datagrams, at, &frame);

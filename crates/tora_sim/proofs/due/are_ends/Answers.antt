@@ -1,7 +1,7 @@
-use Rattle.std.proofs.Common.{◌≡◌, ◌<◌, ◌≤◌, ◌+◌, ◌∙◌, ℕ, suc, Some, true, sym, ap, refl, subst, arith, take, map, length}
+use Rattle.std.proofs.Common.{◌≡◌, ◌<◌, ◌+◌, ◌∙◌, ℕ, suc, sym, ap, refl, subst, arith, take, map, length}
 use Rattle.std.proofs.lemmas.List.{take_all}
 use Rattle.std.proofs.lemmas.Option.{slice_get_read, slice_get-get_or}
-use Rattle.tora_sim.specs.Links.{LinkView, key_of}
+use Rattle.tora_sim.specs.Links.{key_of}
 use Rattle.tora_sim.proofs.Quiets.{one_named}
 use Rattle.tora_sim.proofs.due.are_ends.Goals as goal
 

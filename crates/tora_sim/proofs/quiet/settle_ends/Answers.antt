@@ -1,4 +1,4 @@
-use Rattle.std.proofs.Common.{◌≡◌, ◌<◌, ◌∙◌, ℕ, List, length, sym, subst, arith}
+use Rattle.std.proofs.Common.{◌<◌, ◌∙◌, List, length, sym, subst, arith}
 use Rattle.tora_sim.specs.Links.{LinkView}
 use Rattle.tora_sim.proofs.Quiets.{set_same}
 use Rattle.tora_sim.proofs.quiet.settle_ends.Goals as goal

@@ -1,4 +1,4 @@
-use Rattle.std.proofs.Common.{◌<◌, ◌≤◌, ◌+◌, subst, arith}
+use Rattle.std.proofs.Common.{◌<◌, ◌+◌, subst, arith}
 use borrow.Author.Tests.{ltb-true}
 use Rattle.tora_sim.specs.Links.{LinkView}
 use Rattle.tora_sim.specs.Quiet.{IsStill}

@@ -34,7 +34,7 @@ returns-then-is_err c =
     (transmit_starved s.topology s.times s.clock s.nodes.items s.links.items s.datagrams.items c.self.invariant.0 c.args.n c.args.k c.in-Some.at c.index.result.now c.in-Some.ensures.first c.index.ensures
     (sym c.has_frame_due.ensures ∙ c.if-not-has_frame_due.false)))
 
-module _ (c : goal.After-packets-2-1) where
+module _ (c : goal.After-self-4-1) where
   x_is : c.index.result.now ≡ c.index_mut.result.now
   x_is = same_read c.self.inside.links.items c.in-Some.at c.index.result.now c.index_mut.result.now c.in-Some.ensures.first.within c.index.ensures c.index_mut.ensures.value
 
