@@ -1,6 +1,6 @@
 -- The links and destinations that are given.
-use Rattle.std.specs.Prelude.{◌≡◌, ℕ, ◌+◌, ◌==◌, ◌<◌, ◌≤◌, List, [], ◌∷◌, ◌++◌, length, map, None, if◌then◌else◌}
-use Rattle.std.specs.List.{All}
+use Rattle.std.specs.Prelude.{◌≡◌, ℕ, ◌+◌, ◌==◌, ◌<◌, ◌≤◌, ◌||◌, Bool, List, [], ◌∷◌, ◌++◌, length, map, None, if◌then◌else◌}
+use Rattle.std.specs.List.{All, list_any}
 use Rattle.tora_core.specs.Numbers.{has_number}
 use Rattle.tora_world.specs.Topology.{Topology, Link, topology_fault_within, greatest_limits, nodes_in, with_node}
 use Rattle.tora_world.specs.declared.limits.TheConstants.{GREATEST_NODES}
@@ -26,6 +26,10 @@ with_old n olds = if has_number n olds then olds else olds ++ n ∷ []
 abbrev pub others : List ℕ → List ℕ → List ℕ
 others olds [] = []
 others olds (n ∷ nodes) = if has_number n olds then others olds nodes else n ∷ others olds nodes
+
+-- a link names the number
+abbrev pub is_named : ℕ → List (ℕ × ℕ) → Bool
+is_named n links = list_any (λ p. (p.0 == n) || (p.1 == n)) links
 
 -- with the other end of a link, where one end is the node
 abbrev pub with_end : ℕ → Link → List ℕ → List ℕ

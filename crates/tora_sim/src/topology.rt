@@ -3,7 +3,7 @@ ghost use Rattle.std.specs.Prelude.{◌≡◌, ◌⊎◌, ◌<◌, ◌≤◌, �
 ghost use Rattle.std.specs.List.{list_any};
 ghost use Rattle.tora_core.specs.Numbers.{ascending, has_number, has_repeat, with_number};
 ghost use Rattle.tora_world.specs.Topology.{Link, is_node, version_at, topology_fault, topology_fault_within, most_neighbours, nodes_in, neighbours_of, with_node, different, different_neighbours, other_ends, has_too_many_within, is_same_link, has_link, has_repeated_link, has_own_link};
-ghost use Rattle.tora_sim.specs.Topologies.{topology_of, with_olds, with_old, link_in, links_in, with_end, AreNumbers, IsTopology};
+ghost use Rattle.tora_sim.specs.Topologies.{topology_of, with_olds, with_old, link_in, links_in, is_named, with_end, AreNumbers, IsTopology};
 ghost use Rattle.arrayvec.specs.ArrayVec.{array_vec_len};
 
 use crate::SimError;
@@ -143,8 +143,7 @@ impl Topology {
     pub fn has_node(&self, n: Id) -> bool
         ensures { result ≡ is_node self.now n }
     {
-        let nodes = self.nodes();
-        has_number(n, nodes.as_slice())
+        names_node(n, &self.links)
     }
 
     /// Whether this is one of the destinations.
@@ -200,6 +199,20 @@ impl Topology {
             olds,
         })
     }
+}
+
+/// Whether a link names a number.
+fn is_named(n: Id, links: &[(Id, Id)]) -> bool
+    ensures { result ≡ is_named n links.now }
+{
+    links.iter().any(|link| link.0 == n || link.1 == n)
+}
+
+/// Whether a number is that of one of the nodes that links name. No list of these is made.
+fn names_node(n: Id, links: &[(Id, Id)]) -> bool
+    ensures { result ≡ has_number n (nodes_in (links_in links.now)) }
+{
+    is_named(n, links)
 }
 
 /// The neighbours that links give a node, in ascending order.
