@@ -92,7 +92,7 @@ ends-more n link links = go (link.a == n) (link.b == n)
     go false true = refl
     go false false = refl
 
-ends-step : (n : ℕ) (links : List (ℕ × ℕ)) (i : ℕ) (d : ℕ × ℕ) → i < length links
+pub ends-step : (n : ℕ) (links : List (ℕ × ℕ)) (i : ℕ) (d : ℕ × ℕ) → i < length links
     → ends_from n links i ≡ with_end n (link_in (get_or links i d)) (ends_from n links (i + 1))
 ends-step n links i d lt =
     ap (λ xs. different (other_ends n (links_in xs))) (drop_more links i d lt)

@@ -16,6 +16,7 @@
 
 mod cuts;
 mod datagrams;
+mod duplicates;
 mod files;
 mod first;
 mod hints;
