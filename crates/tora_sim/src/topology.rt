@@ -348,7 +348,7 @@ pub(crate) fn put_end<const N: usize>(ends: &mut ArrayVec<Id, N>, n: Id, link: (
 fn put<const N: usize>(numbers: &mut ArrayVec<Id, N>, n: Id) -> bool
     ensures { MatchBool result (numbers.new.items ≡ with_node n numbers.old.items) (N < length (with_node n numbers.old.items)) }
 {
-    if has_number(n, numbers.as_slice()) {
+    if is_among(n, numbers.as_slice()) {
         return true;
     }
     if numbers.is_full() {
@@ -356,6 +356,23 @@ fn put<const N: usize>(numbers: &mut ArrayVec<Id, N>, n: Id) -> bool
     }
     insert_number(numbers, n);
     true
+}
+
+/// Whether a number is in a list: one of ascending numbers is found by halves, and all are looked at only where it is not found so.
+fn is_among(n: Id, numbers: &[Id]) -> bool
+    ensures { result ≡ has_number n numbers.now }
+{
+    is_found(n, numbers) || has_number(n, numbers)
+}
+
+/// Whether a number is found by halves.
+fn is_found(n: Id, numbers: &[Id]) -> bool
+    ensures { result ≡ true → has_number n numbers.now ≡ true }
+{
+    match numbers.binary_search(&n) {
+        Ok(at) => numbers[at] == n,
+        Err(_) => false,
+    }
 }
 
 fn has_own_link(links: &[(Id, Id)]) -> bool
