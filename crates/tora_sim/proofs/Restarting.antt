@@ -1,5 +1,5 @@
 -- A node restarts.
-use Rattle.std.proofs.Common.{◌≡◌, ℕ, zero, suc, ◌<◌, ◌⊎◌, ◌&&◌, inl, inr, Bool, true, false, true≢false, List, [], ◌∷◌, ◌++◌, map, length, set, get_or, slice_get, Option, Some, None, refl, sym, ap, ap₂, ◌∙◌, subst, arith, is_some, if◌then◌else◌, nat_eq, nat_lt, eqb-true, option_map, append_assoc, append-nil, fold}
+use Rattle.std.proofs.Common.{◌≡◌, ℕ, zero, suc, ◌<◌, ◌⊎◌, ◌&&◌, inl, inr, Bool, true, false, true≢false, List, [], ◌∷◌, ◌++◌, map, length, set, get_or, Option, Some, None, refl, sym, ap, ap₂, ◌∙◌, subst, arith, is_some, if◌then◌else◌, nat_eq, nat_lt, eqb-true, option_map, append_assoc, append-nil, fold}
 use Rattle.std.proofs.lemmas.Bool.{cases_Bool, and_parts}
 use Rattle.std.proofs.lemmas.Bool.Decides.{nat_tests}
 use Rattle.std.proofs.lemmas.List.{drop_all, length-replicate}

@@ -1,7 +1,7 @@
 use Rattle.std.proofs.Common.{◌≡◌, length, ◌<◌, arith, subst, ap, refl, ◌∙◌}
 use Rattle.std.proofs.lemmas.Option.{slice_get_read}
 use Rattle.std.proofs.lemmas.List.{length-set}
-use Rattle.tora_sim.specs.Hints.{last_bits, kept_place, kept_end, AreGuessed}
+use Rattle.tora_sim.specs.Hints.{last_bits, kept_end, AreGuessed}
 use Rattle.tora_sim.proofs.Guesses.{more_guessed}
 use Rattle.tora_sim.proofs.hints.Hints.new.Goals as goal
 
