@@ -36,3 +36,4 @@ pub mod Walking
 pub mod NodeReads
 pub mod Resting
 pub mod Quiets
+pub mod CoreEnds

@@ -1,12 +1,12 @@
 -- The nodes and the neighbours that links name, taken from the last link to the first.
-use Rattle.std.proofs.Common.{◌≡◌, refl, sym, ap, ◌∙◌, subst, ℕ, zero, suc, ◌+◌, ◌-◌, ◌<◌, ◌≤◌, ◌==◌, Bool, true, false, nat_lt, List, [], ◌∷◌, length, drop, get_or, cond, arith, if◌then◌else◌}
+use Rattle.std.proofs.Common.{◌≡◌, refl, sym, ap, ◌∙◌, subst, ℕ, zero, suc, ◌+◌, ◌-◌, ◌<◌, ◌≤◌, ◌==◌, ◌||◌, Bool, true, false, nat_lt, List, [], ◌∷◌, length, drop, get_or, cond, arith, if◌then◌else◌}
 use Rattle.std.proofs.lemmas.Bool.{cond_both}
 use Rattle.std.proofs.lemmas.Bool.Decides.{nat_tests}
 use Rattle.std.proofs.lemmas.List.{drop_more}
 use Rattle.tora_core.specs.Numbers.{has_number, with_number}
 use Rattle.tora_world.specs.Topology.{Link, nodes_in, with_node, different, different_neighbours, other_ends}
-use Rattle.tora_world.proofs.SoundTopology.{length-with_number, one_if, IsSplit, split-different}
-use Rattle.tora_sim.specs.Topologies.{link_in, links_in, with_end}
+use Rattle.tora_world.proofs.SoundTopology.{length-with_number, one_if, IsSplit, split-different, has-with_node}
+use Rattle.tora_sim.specs.Topologies.{link_in, links_in, is_named, with_end}
 
 -- ---- a number more is no shorter list
 
@@ -65,6 +65,19 @@ many-by-both links left most items behind d some within is next_is more =
     let size = ap length is_step in
     omega arith
 
+-- ---- a number is a node's where a link names it
+
+or-more : (a b c d : Bool) → c ≡ (b || d) → ((a || b) || d) ≡ (a || c)
+or-more true b c d e = refl
+or-more false b c d e = sym e
+
+pub named-nodes : (n : ℕ) (links : List (ℕ × ℕ)) → is_named n links ≡ has_number n (nodes_in (links_in links))
+named-nodes n [] = refl
+named-nodes n (x ∷ links) =
+    ap (λ b. ((x.0 == n) || (x.1 == n)) || b) (named-nodes n links)
+    ∙ or-more (x.0 == n) (x.1 == n) (has_number n (with_node x.1 (nodes_in (links_in links)))) (has_number n (nodes_in (links_in links))) (has-with_node n x.1 (nodes_in (links_in links)))
+    ∙ sym (has-with_node n x.0 (with_node x.1 (nodes_in (links_in links))))
+
 -- ---- the other ends of a node's links from a place on
 
 abbrev pub ends_from : ℕ → List (ℕ × ℕ) → ℕ → List ℕ
@@ -79,7 +92,7 @@ ends-more n link links = go (link.a == n) (link.b == n)
     go false true = refl
     go false false = refl
 
-ends-step : (n : ℕ) (links : List (ℕ × ℕ)) (i : ℕ) (d : ℕ × ℕ) → i < length links
+pub ends-step : (n : ℕ) (links : List (ℕ × ℕ)) (i : ℕ) (d : ℕ × ℕ) → i < length links
     → ends_from n links i ≡ with_end n (link_in (get_or links i d)) (ends_from n links (i + 1))
 ends-step n links i d lt =
     ap (λ xs. different (other_ends n (links_in xs))) (drop_more links i d lt)

@@ -1,8 +1,8 @@
 -- The links and destinations that are given.
-use Rattle.std.specs.Prelude.{◌≡◌, ℕ, ◌+◌, ◌==◌, ◌<◌, ◌≤◌, List, [], ◌∷◌, ◌++◌, length, map, None, if◌then◌else◌}
-use Rattle.std.specs.List.{All}
-use Rattle.tora_core.specs.Numbers.{has_number}
-use Rattle.tora_world.specs.Topology.{Topology, Link, topology_fault_within, greatest_limits, nodes_in, with_node}
+use Rattle.std.specs.Prelude.{◌≡◌, ℕ, ◌+◌, ◌==◌, ◌<◌, ◌≤◌, ◌||◌, Bool, false, List, [], ◌∷◌, ◌++◌, length, map, None, if◌then◌else◌}
+use Rattle.std.specs.List.{All, list_any}
+use Rattle.tora_core.specs.Numbers.{has_number, has_repeat}
+use Rattle.tora_world.specs.Topology.{Topology, Link, topology_fault_within, greatest_limits, nodes_in, other_ends, with_node}
 use Rattle.tora_world.specs.declared.limits.TheConstants.{GREATEST_NODES}
 
 abbrev pub link_in : ℕ × ℕ → Link
@@ -27,12 +27,27 @@ abbrev pub others : List ℕ → List ℕ → List ℕ
 others olds [] = []
 others olds (n ∷ nodes) = if has_number n olds then others olds nodes else n ∷ others olds nodes
 
+-- a link names the number
+abbrev pub is_named : ℕ → List (ℕ × ℕ) → Bool
+is_named n links = list_any (λ p. (p.0 == n) || (p.1 == n)) links
+
 -- with the other end of a link, where one end is the node
 abbrev pub with_end : ℕ → Link → List ℕ → List ℕ
 with_end n link ends =
     if link.a == n then with_node link.b ends
     else if link.b == n then with_node link.a ends
     else ends
+
+-- the other end of a link, where one end is the node, is among these
+abbrev pub has_other : ℕ → Link → List ℕ → Bool
+has_other n link ends =
+    if link.a == n then has_number link.b ends
+    else if link.b == n then has_number link.a ends
+    else false
+
+-- another end of a node's links stands twice
+abbrev pub has_repeated_end : List Link → ℕ → Bool
+has_repeated_end links n = has_repeat (other_ends n links)
 
 -- no number is 0
 pub record AreNumbers (t : Topology) : Type 0 where

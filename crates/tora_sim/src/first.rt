@@ -3,9 +3,10 @@ ghost use Rattle.std.specs.Prelude.{◌≡◌, ◌≢◌, ◌<◌, IfErr, IfOk, 
 ghost use Rattle.tora_arq.specs.declared.TheConstants.Times.{STANDARD};
 ghost use Rattle.tora_arq.specs.Settings.{IsTimes};
 ghost use Rattle.tora_seat.specs.Rows.{first_seat};
-ghost use Rattle.tora_world.specs.Topology.{new_core};
+ghost use Rattle.tora_world.specs.Topology.{neighbours_of, new_core};
 ghost use Rattle.tora_world.specs.World.{first_world};
 ghost use Rattle.tora_sim.specs.Store.{world_of};
+ghost use Rattle.tora_sim.specs.Topologies.{IsTopology};
 ghost use Rattle.tora_sim.specs.Firsts.{IsFirstEnd, AreAdded, IsMade};
 
 use crate::SimError;
@@ -94,9 +95,9 @@ fn add_node(
     let first = links.len();
     let neighbours = topology.neighbours(n);
     let count = neighbours.len();
-    let seat = new_seat(alloc, topology, n)?;
+    let seat = new_seat(alloc, topology, n, neighbours.as_slice())?;
     let counts = no_counts(alloc, count + 1)?;
-    add_links(alloc, topology, times, n, links)?;
+    add_links(alloc, topology, times, n, neighbours.as_slice(), links)?;
     let node = NodeSlot {
         node: n,
         first,
@@ -114,17 +115,23 @@ fn add_node(
     Ok(())
 }
 
-/// The seat of a node's core before any input.
-fn new_seat(alloc: Global, topology: &Topology, n: Id) -> Result<CoreSeat, SimError>
-    requires { 0 < n }
+/// The seat of the core of a node with these neighbours, before any input.
+fn new_seat(
+    alloc: Global,
+    topology: &Topology,
+    n: Id,
+    neighbours: &[Id],
+) -> Result<CoreSeat, SimError>
+    requires me { 0 < n }
+    requires kept { IsTopology topology.now }
+    requires neighbours { neighbours.now ≡ neighbours_of topology.now n }
     ensures { MatchResult result (λ seat. seat ≡ first_seat (new_core topology.now n)) (λ e. e ≡ SimError.Memory) }
 {
-    let neighbours = topology.neighbours(n);
     let Ok(core) = Core::with_limits(
         alloc,
         CoreLimits::GREATEST,
         n,
-        neighbours.as_slice(),
+        neighbours,
         topology.destinations(),
     ) else {
         return Err(SimError::Memory);
@@ -135,22 +142,23 @@ fn new_seat(alloc: Global, topology: &Topology, n: Id) -> Result<CoreSeat, SimEr
     }
 }
 
-/// Adds the link ends of a node.
+/// Adds the link ends of a node towards these neighbours.
 fn add_links(
     alloc: Global,
     topology: &Topology,
     times: Times,
     n: Id,
+    peers: &[Id],
     links: &mut Vec<LinkSlot>,
 ) -> Result<(), SimError>
     requires times { IsTimes times }
     requires me { 0 < n }
+    requires kept { IsTopology topology.now }
+    requires peers { peers.now ≡ neighbours_of topology.now n }
     ensures { MatchResult result (λ _. AreAdded topology.now times n links.old.items links.new.items) (λ e. e ≡ SimError.Memory) }
 {
     numbers_are_put_in_order();
     let version = topology.version_of(n);
-    let neighbours = topology.neighbours(n);
-    let peers = neighbours.as_slice();
     for seat in 0..peers.len() {
         let link = new_link(alloc, version, times, n, peers[seat], seat)?;
         match links.push(link) {

@@ -1,6 +1,6 @@
 //! Guesses of where the nodes and the link ends stand.
 ghost use Rattle.std.specs.Prelude.{◌≡◌, length, slice_index};
-ghost use Rattle.tora_sim.specs.Hints.{last_bits, kept_place, AreGuessed};
+ghost use Rattle.tora_sim.specs.Hints.{last_bits, kept_place, kept_end, AreGuessed};
 
 use crate::nodes::NodeSlot;
 use tora_height::Id;
@@ -15,14 +15,21 @@ const PLACES: usize = 1024;
 #[derive(Clone, Copy)]
 pub struct Hints {
     nodes: [u16; 1024],
-    ends: [u16; 1024],
+    ends: [u32; 1024],
 }
 
-/// A place as it is kept; one that does not fit is kept as the first.
+/// The place of a node as it is kept; one that does not fit is kept as the first.
 fn kept(place: usize) -> u16
     ensures { result ≡ kept_place place }
 {
     u16::try_from(place).unwrap_or(0)
+}
+
+/// The place of a link end as it is kept; one that does not fit is kept as the first.
+fn kept_end(place: usize) -> u32
+    ensures { result ≡ kept_end place }
+{
+    u32::try_from(place).unwrap_or(0)
 }
 
 /// The bits of a number that a guess goes by.
@@ -44,7 +51,7 @@ impl Hints {
         for (place, node) in nodes.iter().enumerate() {
             let at = bits(node.key());
             hints.nodes[at] = kept(place);
-            hints.ends[at] = kept(node.first());
+            hints.ends[at] = kept_end(node.first());
         }
         hints
     }
@@ -60,6 +67,6 @@ impl Hints {
     pub fn first_end(&self, n: Id) -> usize
         ensures { result ≡ slice_index self.now.ends (last_bits n) }
     {
-        usize::from(self.ends[bits(n)])
+        self.ends[bits(n)] as usize
     }
 }

@@ -17,6 +17,7 @@
 mod cuts;
 mod datagrams;
 mod due;
+mod duplicates;
 mod files;
 mod first;
 mod hints;

@@ -7,7 +7,7 @@ ghost use Rattle.tora_world.specs.Walks.{height_at, hop_at};
 ghost use Rattle.tora_world.specs.Lists.{packets_of, parcels_in};
 ghost use Rattle.tora_sim.specs.Store.{world_of, numbered};
 ghost use Rattle.tora_sim.specs.Links.{parcel_in};
-ghost use Rattle.tora_sim.specs.Readers.{ends_in, way_of};
+ghost use Rattle.tora_sim.specs.Readers.{ends_at, ends_in, way_of};
 
 use crate::datagrams::Datagrams;
 use crate::links::{LinkSlot, place};
@@ -57,10 +57,19 @@ impl Sim {
         let nodes = self.topology.nodes();
         let mut ends = Vec::new(alloc);
         for n in nodes.as_slice() {
-            let neighbours = self.topology.neighbours(*n);
-            put_ends(&mut ends, *n, neighbours.as_slice())?;
+            self.put_ends_of(&mut ends, *n)?;
         }
         Ok(ends)
+    }
+
+    /// Appends the ends of a node, by the neighbours of its core: the links of the topology are not gone through.
+    fn put_ends_of(&self, ends: &mut Vec<(Id, Id)>, n: Id) -> Result<(), AllocError>
+        ensures { IfOk result (λ _. ends.new.items ≡ ends.old.items ++ ends_at self.now.topology n) }
+    {
+        match node_place(&self.nodes, &self.hints, n) {
+            Some(at) => put_ends(ends, n, self.nodes[at].neighbours()),
+            None => Ok(()),
+        }
     }
 
     /// How many datagrams were ever sent, those that were lost on sending not counted.
@@ -153,6 +162,13 @@ impl Sim {
 }
 
 impl NodeSlot {
+    /// The neighbours of its core, in ascending order.
+    fn neighbours(&self) -> &[Id]
+        ensures { result.now ≡ self.now.seat.core.neighbours }
+    {
+        self.seat.core().neighbours()
+    }
+
     /// Its height for a destination.
     fn height(&self, d: Id) -> Option<Entry>
         ensures { result ≡ height_of self.now.seat.core d }

@@ -2,11 +2,12 @@
 ghost use Rattle.std.specs.Prelude.{◌≡◌, ◌⊎◌, ◌<◌, ◌≤◌, ◌-◌, if◌then◌else◌, None, Some, IfErr, IfOk, OnOk, true, false, MatchOption, MatchBool, length, map, nat_lt, position};
 ghost use Rattle.std.specs.List.{list_any};
 ghost use Rattle.tora_core.specs.Numbers.{ascending, has_number, has_repeat, with_number};
-ghost use Rattle.tora_world.specs.Topology.{Link, is_node, version_at, topology_fault, topology_fault_within, most_neighbours, nodes_in, neighbours_of, with_node, different, different_neighbours, other_ends, has_too_many_within, is_same_link, has_link, has_repeated_link, has_own_link};
-ghost use Rattle.tora_sim.specs.Topologies.{topology_of, with_olds, with_old, link_in, links_in, with_end, AreNumbers, IsTopology};
+ghost use Rattle.tora_world.specs.Topology.{Link, is_node, version_at, topology_fault, topology_fault_within, most_neighbours, nodes_in, neighbours_of, with_node, different, different_neighbours, other_ends, has_too_many_within, has_own_link};
+ghost use Rattle.tora_sim.specs.Topologies.{topology_of, with_olds, with_old, link_in, links_in, is_named, with_end, AreNumbers, IsTopology};
 ghost use Rattle.arrayvec.specs.ArrayVec.{array_vec_len};
 
 use crate::SimError;
+use crate::duplicates::has_repeated_link;
 use arrayvec::ArrayVec;
 use std::alloc::{AllocError, Global};
 use std::marker::Model;
@@ -18,7 +19,7 @@ use tora_world::{GREATEST_NODES, Limits};
 
 /// The most nodes at the other ends of a node's links: one more than its neighbours within any limits, since a link of the node to itself
 /// names the node.
-const MOST_ENDS: usize = GREATEST_NEIGHBOURS + 1;
+pub(crate) const MOST_ENDS: usize = GREATEST_NEIGHBOURS + 1;
 
 /// The links of a world and the destinations that each node's table has.
 ///
@@ -143,8 +144,7 @@ impl Topology {
     pub fn has_node(&self, n: Id) -> bool
         ensures { result ≡ is_node self.now n }
     {
-        let nodes = self.nodes();
-        has_number(n, nodes.as_slice())
+        names_node(n, &self.links)
     }
 
     /// Whether this is one of the destinations.
@@ -200,6 +200,20 @@ impl Topology {
             olds,
         })
     }
+}
+
+/// Whether a link names a number.
+fn is_named(n: Id, links: &[(Id, Id)]) -> bool
+    ensures { result ≡ is_named n links.now }
+{
+    links.iter().any(|link| link.0 == n || link.1 == n)
+}
+
+/// Whether a number is that of one of the nodes that links name. No list of these is made.
+fn names_node(n: Id, links: &[(Id, Id)]) -> bool
+    ensures { result ≡ has_number n (nodes_in (links_in links.now)) }
+{
+    is_named(n, links)
 }
 
 /// The neighbours that links give a node, in ascending order.
@@ -272,7 +286,7 @@ fn some_has_many_neighbours(limits: Limits, nodes: &[Id], links: &[(Id, Id)]) ->
 }
 
 /// The nodes that links name, ascending, where there are at most as many as any limits allow.
-fn nodes_of(links: &[(Id, Id)]) -> Option<ArrayVec<Id, GREATEST_NODES>>
+pub(crate) fn nodes_of(links: &[(Id, Id)]) -> Option<ArrayVec<Id, GREATEST_NODES>>
     ensures { MatchOption result (GREATEST_NODES < length (nodes_in (links_in links.now))) (λ nodes. nodes.items ≡ nodes_in (links_in links.now)) }
 {
     let mut nodes = ArrayVec::new();
@@ -318,7 +332,7 @@ fn count_others(n: Id, ends: &[Id]) -> usize
 }
 
 /// Puts the other end of a link of the node, if it is one; answers whether there was room.
-fn put_end<const N: usize>(ends: &mut ArrayVec<Id, N>, n: Id, link: (Id, Id)) -> bool
+pub(crate) fn put_end<const N: usize>(ends: &mut ArrayVec<Id, N>, n: Id, link: (Id, Id)) -> bool
     ensures { MatchBool result (ends.new.items ≡ with_end n (link_in link) ends.old.items) (N < length (with_end n (link_in link) ends.old.items)) }
 {
     if link.0 == n {
@@ -334,7 +348,7 @@ fn put_end<const N: usize>(ends: &mut ArrayVec<Id, N>, n: Id, link: (Id, Id)) ->
 fn put<const N: usize>(numbers: &mut ArrayVec<Id, N>, n: Id) -> bool
     ensures { MatchBool result (numbers.new.items ≡ with_node n numbers.old.items) (N < length (with_node n numbers.old.items)) }
 {
-    if has_number(n, numbers.as_slice()) {
+    if is_among(n, numbers.as_slice()) {
         return true;
     }
     if numbers.is_full() {
@@ -344,32 +358,21 @@ fn put<const N: usize>(numbers: &mut ArrayVec<Id, N>, n: Id) -> bool
     true
 }
 
-/// Whether some link is named twice, either way round.
-///
-/// Where there are few nodes and few neighbours of each, links that all differ are few, so the pass ends early in a long list.
-fn has_repeated_link(links: &[(Id, Id)]) -> bool
-    ensures { result ≡ has_repeated_link (links_in links.now) }
+/// Whether a number is in a list: one of ascending numbers is found by halves, and all are looked at only where it is not found so.
+fn is_among(n: Id, numbers: &[Id]) -> bool
+    ensures { result ≡ has_number n numbers.now }
 {
-    let mut left = links.len();
-    while left > 0 {
-        left -= 1;
-        if has_link(links[left], &links[left + 1..]) {
-            return true;
-        }
+    is_found(n, numbers) || has_number(n, numbers)
+}
+
+/// Whether a number is found by halves.
+fn is_found(n: Id, numbers: &[Id]) -> bool
+    ensures { result ≡ true → has_number n numbers.now ≡ true }
+{
+    match numbers.binary_search(&n) {
+        Ok(at) => numbers[at] == n,
+        Err(_) => false,
     }
-    false
-}
-
-fn has_link(x: (Id, Id), links: &[(Id, Id)]) -> bool
-    ensures { result ≡ has_link (link_in x) (links_in links.now) }
-{
-    links.iter().any(|link| is_same_link(x, *link))
-}
-
-fn is_same_link(x: (Id, Id), y: (Id, Id)) -> bool
-    ensures { result ≡ is_same_link (link_in x) (link_in y) }
-{
-    (x.0 == y.0 && x.1 == y.1) || (x.0 == y.1 && x.1 == y.0)
 }
 
 fn has_own_link(links: &[(Id, Id)]) -> bool

@@ -1,9 +1,9 @@
-use Rattle.std.proofs.Common.{◌<◌, ℕ, List, sym, ◌∙◌, subst}
+use Rattle.std.proofs.Common.{◌<◌, ℕ, List, sym, subst}
 use Rattle.std.specs.List.{All}
 use Rattle.tora_sim.proofs.Peers.{positive-peer}
 use Rattle.tora_sim.proofs.first.new_seat.Goals as goal
 
 pub with_limits-requires-clause-neighbours : goal.with_limits-requires-clause-neighbours
 with_limits-requires-clause-neighbours c =
-    subst (λ (ns : List ℕ). All (λ k. 0 < k) ns) (sym (c.as_slice.ensures.value ∙ c.neighbours-neighbours.ensures.items))
-    (λ k d lt. positive-peer c.args.topology.now c.neighbours-neighbours.ensures.kept c.args.n k d lt)
+    subst (λ (ns : List ℕ). All (λ k. 0 < k) ns) (sym c.requires.neighbours)
+    (λ k d lt. positive-peer c.args.topology.now c.requires.kept c.args.n k d lt)

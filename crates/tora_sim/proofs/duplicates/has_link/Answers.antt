@@ -5,7 +5,7 @@ use Rattle.std.proofs.lemmas.Iterator.Search.{any_from_yields_List}
 use Rattle.tora_world.specs.Topology.{is_same_link}
 use Rattle.tora_sim.specs.Topologies.{link_in}
 use Rattle.tora_sim.proofs.Repeats.{link-any}
-use Rattle.tora_sim.proofs.topology.has_link.Goals as goal
+use Rattle.tora_sim.proofs.duplicates.has_link.Goals as goal
 
 pub returns : goal.returns
 returns c =

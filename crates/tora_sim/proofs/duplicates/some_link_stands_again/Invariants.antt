@@ -1,7 +1,7 @@
 use Rattle.std.proofs.Common.{◌≡◌, ◌≤◌, false, length, drop}
 use Rattle.tora_world.specs.Topology.{has_repeated_link}
 use Rattle.tora_sim.specs.Topologies.{links_in}
-use Rattle.tora_sim.proofs.topology.has_repeated_link.Given as goal
+use Rattle.tora_sim.proofs.duplicates.some_link_stands_again.Given as goal
 
 -- no link that was taken stands again behind it
 abbrev pub invariant-loop-left : goal.invariant-loop-left
