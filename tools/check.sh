@@ -136,7 +136,10 @@ check_simulator() {
   TORA_SIM="${command[*]}" refuses 1 "$work/s:4: the simulator calls this line a fault" python3 ../play.py --sim "$work/s" -o "$work/refused.html"
   TORA_SIM="${command[*]}" holds 'the laws of worlds at rest in random networks' python3 ../rest.py --networks 12
   if [ "${command[0]}" = "$program" ]; then
-    holds 'a driven world, which is the simulated one' python3 ../drive.py --ticks 200 --loss 0.4 --need 1,3 "$program" three.sim
+    mkdir "$work/driven"
+    holds 'a driven world, which is the simulated one' python3 ../drive.py --ticks 200 --loss 0.4 --need 1,3 --keep "$work/driven" "$program" three.sim
+    "$program" sim --trace "$work/trace" "$work/driven/record.sim" >"$work/printed"
+    holds 'the trace of a record' python3 ../agree.py "$work/driven/record.sim" "$work/printed" "$work/trace"
   fi
 }
 

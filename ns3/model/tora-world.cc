@@ -179,8 +179,9 @@ ToraWorld::Build()
             throw m_engine->ErrorOf(lines[i], answers[i]);
         }
     }
-    // The first line behind the links tells whether the engine takes the world.
-    ToraAnswer answer = m_engine->Ask(ToraLineOf("heights", m_nodes.begin()->first));
+    // The first line behind the links tells whether the engine takes the world. A record has no
+    // line for this one.
+    ToraAnswer answer = m_engine->Ask("needs");
     if (answer.verdict != ToraAnswer::OK)
     {
         throw ToraEngineError(ToraEngineError::FAULT,
