@@ -10,6 +10,7 @@
 How routes fare is told in routes.py, what becomes of data packets in traffic.py.
 """
 import argparse
+import gc
 import sys
 
 import parameters
@@ -99,6 +100,7 @@ def options_of(words):
 def main():
     """Prints what the command line asks for."""
     options = options_of(sys.argv[1:])
+    gc.disable()  # nothing is made that refers to itself, and to look for it takes time
 
     def body():
         load = traffic.load_of(options.traffic, options.hop, options.ttl) if options.traffic is not None else None

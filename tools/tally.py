@@ -10,7 +10,8 @@ N, I, H = r"(?:0|[1-9]\d{0,19})", r"[1-9]\d{0,19}", r"(?:-|\(\d{1,20},\d{1,20},[
 RECORD = re.compile(
     rf"\n({N}) (route {I} {I} {H} (?:-|{I})(?=\n)|need {I} {I}(?:\n\1 need {I} {I})*(?=\n)|(?:part|mend) {I} {I}(?=\n)|"
     rf"upd {I} {I} {N}(?= {H}\n)|(?:up|down) {I} {I}(?= {N} {N}\n)|frames {N} {N} {N} {N}(?=\n)|qry {I} {I} {N}(?=\n)|clr {I} {I} {N}(?= {N} {I}\n))"
-    r"[^\n]*"
+    r"[^\n]*",
+    re.ASCII,
 )
 
 
