@@ -10,6 +10,7 @@
 How routes fare is told in routes.py, what becomes of data packets in traffic.py.
 """
 import argparse
+import gc
 import sys
 
 import parameters
@@ -17,8 +18,8 @@ import traffic
 from record import PARTS, Ends, until
 from routes import Routes
 from scenario_file import load_scenario
-from study import Usage, at_least, run
-from tally import Counts, news
+from study import Refused, Usage, at_least, run
+from tally import Counts, counted, news
 from world import spans
 
 COLUMNS = (
@@ -35,11 +36,21 @@ MORE = ["until", "channel_file"]  # what it says behind these
 
 
 def measure(scenario, path, load=None, version=""):
-    """The routes and the row of a run, which a version of the simulator made; with a load the columns of its packets, too."""
+    """The routes and the row of a run, which a version of the simulator made; with a load the columns of its packets, too.
+
+    What is refused where records are read in blocks is read again line by line, so that the refusal tells the line."""
+    try:
+        return measured(scenario, path, load, version, news)
+    except Refused:
+        return measured(scenario, path, load, version, counted)
+
+
+def measured(scenario, path, load, version, given):
+    """The same by a function that counts the records of a trace and yields those that say something new."""
     ends, scenario = Ends(path), until(scenario, path)
     counts, routes = Counts(), Routes(scenario)
     packets, linked = load and traffic.Traffic(scenario["flows"], load), 0
-    for first, last, world in spans(scenario, path, news(path, ends, counts)):
+    for first, last, world in spans(scenario, path, given(path, ends, counts)):
         linked += 2 * len(world.links) * (last - first + 1)
         routes.take(first, last, world)
         if packets:
@@ -89,6 +100,7 @@ def options_of(words):
 def main():
     """Prints what the command line asks for."""
     options = options_of(sys.argv[1:])
+    gc.disable()  # nothing is made that refers to itself, and to look for it takes time
 
     def body():
         load = traffic.load_of(options.traffic, options.hop, options.ttl) if options.traffic is not None else None

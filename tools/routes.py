@@ -33,17 +33,19 @@ def follow(hops, near, node, destination):
 def live_loops(hops, near, starts):
     """The cycles of next hops over links that are not parted to which they lead from these nodes; each begins with its lowest node."""
     met, loops = set(), set()
-    for node in starts:
-        walk = []
+    for start in starts:
+        walk, node = {}, start  # in the order in which nodes are come to
         while node not in met:
             met.add(node)
-            walk.append(node)
-            if hops[node] not in near[node]:
+            walk[node] = None
+            hop = hops[node]
+            if hop not in near[node]:
                 break
-            node = hops[node]
+            node = hop
         else:
             if node in walk:
-                ring = walk[walk.index(node):]
+                ring = list(walk)
+                ring = ring[ring.index(node):]
                 at = ring.index(min(ring))
                 loops.add(tuple(ring[at:] + ring[:at]))
     return loops
@@ -111,7 +113,7 @@ class Outages:
                 self.close(clock, self.open.pop(flow))
         elif outage:
             since = None if not linked else clock - 1 if outage.linked_since is None else outage.linked_since
-            self.open[flow] = outage._replace(was_cut=outage.was_cut or not linked, linked_since=since)
+            self.open[flow] = Outage(outage.start, outage.by_break, outage.was_cut or not linked, since)
         elif flow in self.worked:
             self.count += 1
             self.by_break += status == STALE
@@ -152,6 +154,7 @@ class Routes:
         self.nodes = {d: [{source} for source, _ in flows] for d, flows in self.flows.items()}
         self.count, self.linked, self.rounds = collections.Counter(), 0, 0
         self.lengths, self.stretches = collections.Counter(), collections.Counter()
+        self.fared = collections.Counter()  # rounds of all flows by how they fare
         self.outages, self.loops = Outages(), Loops()
         self.far = {}
 
@@ -168,41 +171,48 @@ class Routes:
     def look(self, clock, world, destination):
         """Looks at a destination whose next hops or links are others in this round than before."""
         hops, near, far, moved = world.hops[destination], world.near, self.far[destination], world.moved(destination)
-        fares, nodes = self.fares[destination], self.nodes[destination]
-        for at, flow in enumerate(self.flows[destination]):
-            status, length, least = fares[at]
-            if not moved.isdisjoint(nodes[at]):
-                status, length, nodes[at] = follow(hops, near, *flow)
-            fare = status, length, far[flow[0]]
+        fares, nodes, flows = self.fares[destination], self.nodes[destination], self.flows[destination]
+        found = {}
+        for at in [at for at, own in enumerate(nodes) if not moved.isdisjoint(own)]:
+            status, length, nodes[at] = follow(hops, near, *flows[at])
+            found[at] = status, length, far[flows[at][0]]
+        if world.relinked:
+            for at, (status, length, least) in enumerate(fares):
+                if at not in found and least != far[flows[at][0]]:
+                    found[at] = status, length, far[flows[at][0]]
+        for at, fare in found.items():
             if fare != fares[at]:
                 self.settle(clock, destination, at)
                 fares[at] = fare
-                self.outages.take(clock, flow, status, fare[2] is not None)
-        rings = {ring for of, ring in self.loops.open if of == destination and moved.isdisjoint(ring)} | live_loops(hops, near, moved)
+                self.outages.take(clock, flows[at], fare[0], fare[2] is not None)
+        rings = live_loops(hops, near, moved)
+        if self.loops.open:
+            rings |= {ring for of, ring in self.loops.open if of == destination and moved.isdisjoint(ring)}
         if len(rings) > 1:  # the order in which several are told is that of all nodes, not of those that moved
             rings = live_loops(hops, near, hops)
-        self.loops.take(clock, destination, rings, world.heights[destination])
+        if rings or self.loops.open:
+            self.loops.take(clock, destination, rings, world.heights[destination])
 
     def settle(self, clock, destination, at):
         """Counts the rounds from the last one in which a flow began to fare as it does to the one before this."""
-        rounds = clock - self.since[destination][at]
-        self.since[destination][at] = clock
-        if not rounds:
-            return
-        status, length, least = self.fares[destination][at]
-        self.rounds += rounds
-        if least is not None:
-            self.linked += rounds
-            self.count[status] += rounds
-        if status == WORKS:
-            self.lengths[length] += rounds
-            self.stretches[length / least] += rounds
+        since = self.since[destination]
+        if clock > since[at]:
+            self.fared[self.fares[destination][at]] += clock - since[at]
+            since[at] = clock
 
     def end(self, rounds):
         """Counts what stands at the end of the run."""
         for destination, flows in self.flows.items():
             for at in range(len(flows)):
                 self.settle(rounds + 1, destination, at)
+        for (status, length, least), rounds_so in self.fared.items():
+            self.rounds += rounds_so
+            if least is not None:
+                self.linked += rounds_so
+                self.count[status] += rounds_so
+            if status == WORKS:
+                self.lengths[length] += rounds_so
+                self.stretches[length / least] += rounds_so
         self.loops.end(rounds + 1)
 
     def columns(self):

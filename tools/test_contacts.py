@@ -25,10 +25,24 @@ class ContactsTest(unittest.TestCase):
         return unittest.mock.patch.object(contacts, "is_dense", lambda *_: dense)
 
     def test_which_way(self):
-        """Every pair is looked at where at most 64 nodes stand within four reaches from the left to the right."""
-        for nodes, width, dense in ((64, 399, True), (64, 400, False), (65, 399, False)):
-            places = [[(width * node / (nodes - 1), 0) for node in range(nodes)]]
-            self.assertEqual(contacts.is_dense(places, 100), dense)
+        """Every pair is looked at where at most 256 nodes stand within a hundred reaches, or more within twelve."""
+        for nodes, width, dense in ((64, 9999, True), (256, 9999, True), (256, 10_000, False), (257, 1199, True), (257, 1200, False)):
+            for places in ([[(width * node / (nodes - 1), 0) for node in range(nodes)]], [[(0, 0)] * nodes, [(0, width * (node > 0)) for node in range(nodes)]]):
+                self.assertEqual(contacts.is_dense(places, 100), dense)
+
+    def test_whole_places(self):
+        """On a grid many pairs are just at the reach; all is as by the other way."""
+        source = random.Random(5)
+        places = [[(source.randrange(0, 241, 20), source.randrange(0, 241, 20)) for _ in range(40)] for _ in range(60)]
+        for reach in (20, 100, 1e-9, 1e300):
+            with self.subTest(reach=reach):
+                both = []
+                for dense in (True, False):
+                    with self.forced(dense):
+                        both.append(Contacts(places, reach))
+                found, wanted = both
+                self.assertEqual([list(map(sorted, pair)) for pair in found.changes], [list(map(sorted, pair)) for pair in wanted.changes])
+                self.assertEqual((found.total, found.most), (wanted.total, wanted.most))
 
     def test_as_every_pair(self):
         """Slow, fast and resting nodes, each in both ways."""

@@ -5,7 +5,7 @@ import unittest
 
 from motion import MODELS, Motion, mean_length, waypoint, waypoint_steady
 from motion_streets import Streets, choose_speeds, Driver
-from way import position, positions
+from way import position, positions, rounded
 
 WIDTH, HEIGHT, UNTIL = 600.0, 400.0, 300.0
 PARAMETERS = {
@@ -65,6 +65,19 @@ class EveryModelTest(unittest.TestCase):
         for _, ways in self.each():
             for way in ways[:5]:
                 self.assertEqual(list(positions(way, times)), [tuple(round(c, 2) for c in position(way, time)) for time in times])
+
+
+class RoundedTest(unittest.TestCase):
+    """Rounding to centimetres, as the standard library rounds."""
+
+    def test_as_round(self):
+        """Random places, places half way between two hundredths and beside them, 0, negative and far places."""
+        source = random.Random(2)
+        halves = [source.randrange(10**6) / 100 + 0.005 for _ in range(3000)]
+        lists = [[source.uniform(0, 600) for _ in range(3000)], halves, [math.nextafter(it, 0) for it in halves], [math.nextafter(it, 1e9) for it in halves]]
+        lists += [[it] for it in (0.0, -0.0, -0.001, 0.001, 0.004999, -3.14159, 9_999_999.994999, 9_999_999.995, 1e7, 1e300, 2.675, math.inf)] + [[]]
+        for values in lists:
+            self.assertEqual(list(map(repr, rounded(values))), [repr(round(value, 2)) for value in values])
 
 
 class WaypointTest(unittest.TestCase):

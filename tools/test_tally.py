@@ -1,13 +1,16 @@
 """What is counted and what is looked at seldom, compared with every record and every round, on random traces."""
 import collections
+import itertools
 import random
 import unittest
+import unittest.mock
 
+import tally
 from measure import measure
-from record import GRAMMAR, Ends, records
+from record import Ends, records
 from routes import WORKS, Routes, follow, live_loops
 from study import Refused
-from tally import KINDS, Counts, news
+from tally import Counts, counted, news
 from testing import scenario_of, written
 from world import distances, moments, spans
 
@@ -101,25 +104,38 @@ class TallyTest(unittest.TestCase):
             self.assertEqual(routes.columns(), plain.columns())
             self.assertEqual(*(sorted(sorted(loop.items()) for loop in found.loops.all) for found in (routes, plain)))
 
-    def test_kinds(self):
-        """Each kind of record is told by its first three letters, and its expression is of it."""
-        self.assertEqual({kind for kind, _ in KINDS.values()}, set(GRAMMAR))
-
     def test_last(self):
-        """The last record is told with its own clock and line, where the last line of all has a later clock, too."""
-        for kind in ("need 1 5", "up 1 2 3 4", "qry 1 5 2"):
+        """The last record is told with its own clock, where the last line of all has a later clock, too."""
+        for kind in ("need 1 5", "up 1 2 3 4", "qry 1 5 2", "route 1 5 - -", "frames 1 2 3 4"):
             with self.subTest(kind=kind), written(f"0 trace 1 10 50 5 8 0 0 0 0 0 0\n7 {kind}\n7 {kind}\n9 end {'0' * 64}\n") as path:
-                self.assertEqual(list(news(path, Ends(path), Counts()))[-1], list(records(path))[-1])
+                self.assertEqual(list(news(path, Ends(path), Counts()))[-1][1], list(records(path))[-1].clock)
+
+    def test_blocks(self):
+        """Blocks of any size give the same counts, and the same where a trace has no first and last record."""
+        for path, _ in self.cases():
+            wanted = Counts()
+            collections.deque(counted(path, Ends(path), wanted), 0)
+            for size in (7, 100, 1000):
+                with unittest.mock.patch.object(tally, "BLOCK", size):
+                    found = Counts()
+                    collections.deque(news(path, Ends(path), found), 0)
+                self.assertEqual(vars(found), vars(wanted))
 
     def test_refusals(self):
-        """A record that is refused is refused with the same words by both."""
-        for bad in ("60 need 9 5", "60 up 1 6 1 1", "60 route 1 5 - 4", "60 frames 1 2", "60 part 1 6", "60 qry 1 4 2", "59 need 1 5", "60 need 1 05"):
-            with written(random_trace(random.Random(1)) + bad + "\n60 need 1 5\n") as path:
+        """A record that is refused is refused with the words of a look at every record, and so is one that is no record."""
+        first, end = "0 trace 1 10 50 5 8 0 0 0 0 0 0\n", f"60 end {'0' * 64}\n"
+        bad = ["60 need 9 5", "60 up 1 6 1 1", "60 route 1 5 - 4", "60 frames 1 2", "60 part 1 6", "60 qry 1 4 2", "59 need 1 5", "60 need 1 05", "60 up 1 2 1 1 1",
+               "60 upd 1 5 2 (0,0,2,1,1)", "60 route 1 5 -  2", "60 need 1 5 ", "60 clr 1 5 2 -1 3", "06 need 1 5", "60  need 1 5", "60 end 12", "60 needs 1 5", ""]
+        texts = [f"{it}\n60 need 1 5\n" for it in bad] + ["60 need 1 5", "60 need 1 5\n60 need 1", end, f"60 end {'0' * 64}"]
+        for text, begin in itertools.product(texts + [text + end for text in texts], ("", first)):
+            with self.subTest(text=text, begin=begin), written(begin + random_trace(random.Random(1)) + text) as path:
                 told, scenario = [], scenario_of(links=LINKS, flows=FLOWS, rounds=ROUNDS)
-                for given in (records(path), news(path, Ends(path), Counts())):
-                    with self.subTest(bad=bad), self.assertRaises(Refused) as caught:
-                        list(spans(scenario, path, given))
-                    told.append(str(caught.exception))
+                for look in (lambda: list(spans(scenario, path, records(path))), lambda: measure(scenario, path)):
+                    try:
+                        look()
+                        told.append(None)
+                    except Refused as cause:
+                        told.append(str(cause))
                 self.assertEqual(*told)
 
 

@@ -1,5 +1,5 @@
 """The world that a trace tells, round by round: which links are not parted, and heights and next hops."""
-from record import BETWEEN, GRAMMAR, OF_LINKS
+from record import BETWEEN, GRAMMAR, OF_LINKS, Record
 from study import nodes_of, ordered, refused
 
 CHANGES = frozenset(("part", "mend", "route"))  # records that change the world
@@ -7,17 +7,14 @@ CHANGES = frozenset(("part", "mend", "route"))  # records that change the world
 
 def distances(near, start):
     """How many hops each node is from `start`, by the neighbours of each: a list by node, None where a node can't be reached."""
-    far, edge, hops = [None] * (max(near) + 1), [start], 0
-    far[start] = 0
-    while edge:
-        hops += 1
-        behind = []
-        for node in edge:
-            for other in near[node]:
-                if far[other] is None:
-                    far[other] = hops
-                    behind.append(other)
-        edge = behind
+    far = [None] * (max(near) + 1)
+    far[start], row = 0, [start]
+    for node in row:  # which grows
+        hops = far[node] + 1
+        for other in near[node]:
+            if far[other] is None:
+                far[other] = hops
+                row.append(other)
     return far
 
 
@@ -81,6 +78,7 @@ class World:
         for a, b in self.links:
             self.near[a].add(b)
             self.near[b].add(a)
+        self.reach = {node: set(near) for node, near in self.near.items()}  # over all links
         self.hops = {d: dict.fromkeys(self.nodes) for d in scenario["destinations"]}
         self.heights = {d: {n: (0, 0, 0, 0, d) if n == d else None for n in self.nodes} for d in self.hops}
         self.changed, self.rerouted, self.relinked = set(self.hops), {d: set(self.nodes) for d in self.hops}, set(self.links)
@@ -102,29 +100,37 @@ class World:
     def take(self, path, record):
         """Takes a record of `CHANGES` in; refuses one of another world."""
         _, _, kind, words = record
-        known = words[:2] in self.fit.known[kind]
-        if not known:
-            self.fit.check(path, record)
         if kind == "route":
             node, destination, height, hop = words
-            if self.hops[destination][node] != hop:
-                if known:
-                    self.fit.check_hop(path, record)
+            hops = self.hops.get(destination)
+            if hops is None or node not in hops:
+                self.fit.check(path, Record(*record))
+            if hops[node] != hop:
+                if hop is not None and hop not in self.reach[node]:
+                    self.fit.check_hop(path, Record(*record))
+                hops[node] = hop
                 self.rerouted.setdefault(destination, set()).add(node)
-                self.hops[destination][node] = hop
             self.heights[destination][node] = height
             self.changed.add(destination)
         else:
+            if words not in self.fit.known[kind]:
+                self.fit.check(path, Record(*record))
             self.take_link(kind == "mend", *words)
 
     def take_link(self, is_mended, a, b):
         """A link is mended or parted."""
-        link = ordered(a, b)
-        (self.links.add if is_mended else self.links.discard)(link)
-        for node, other in ((a, b), (b, a)):
-            (self.near[node].add if is_mended else self.near[node].discard)(other)
-        self.changed.update(self.hops)
+        link, near = (a, b) if a < b else (b, a), self.near
+        if is_mended:
+            self.links.add(link)
+            near[a].add(b)
+            near[b].add(a)
+        else:
+            self.links.discard(link)
+            near[a].discard(b)
+            near[b].discard(a)
         self.relinked.add(link)
+        if len(self.changed) < len(self.hops):
+            self.changed.update(self.hops)
 
 
 def spans(scenario, path, given):
@@ -133,22 +139,22 @@ def spans(scenario, path, given):
     `changed` are the destinations with a height or a next hop that is not as in the rounds before, `rerouted` has by destination
     the nodes whose next hop is not, and `relinked` the links that were parted or mended.
     """
-    world, rounds, ended, last, record = World(scenario), Rounds(), 0, scenario["rounds"], None
+    world, now, ended, last, record = World(scenario), 1, 0, scenario["rounds"], None
     known = world.fit.known
     for record in given:
         _, clock, kind, words = record
-        if kind in BETWEEN or clock > rounds.now:
-            rounds.of(record)
+        if clock >= now:  # as `Rounds.of`
+            now = clock + 1 if kind in BETWEEN else clock
         if kind in CHANGES:
-            if rounds.now > ended + 1 and ended < last:
-                first, ended = ended + 1, min(rounds.now - 1, last)
+            if now > ended + 1 and ended < last:
+                first, ended = ended + 1, min(now - 1, last)
                 yield first, ended, world
                 world.settle()
             if clock <= last:
                 world.take(path, record)
         elif words[:2] not in known[kind] and clock <= last:
-            world.fit.check(path, record)
-    refuse_cut(path, scenario, record)
+            world.fit.check(path, Record(*record))
+    refuse_cut(path, scenario, record and Record(*record))
     if ended < last:
         yield ended + 1, last, world
 
