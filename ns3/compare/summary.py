@@ -3,6 +3,8 @@
 
   summary.py DIR/compare.csv [--by speed] [COLUMN]..    a table for readers
   summary.py --data DIR/compare.csv [--by speed]        a table for plot.gp
+  summary.py --less AODV DIR/compare.csv [COLUMN]..     what each has more than AODV, in pairs of runs of the same motion
+  summary.py --times AODV DIR/compare.csv [COLUMN]..    how many times what AODV has each has, in the same pairs
 
 The interval is Student's (tools/interval.py): it takes runs that are drawn independently, and means that are near a normal
 distribution. Runs whose cell is empty are left out of that column.
@@ -15,6 +17,8 @@ import sys
 sys.path.insert(0, str(pathlib.Path(__file__).resolve().parents[2] / "tools"))
 from interval import mean_interval
 
+# What is the same in two runs of the same motion
+MOTION = ["nodes", "speed", "flows", "seed"]
 COLUMNS = ["delivery", "delay_median", "delay_95", "control_rate", "bytes_per_packet", "packets_per_packet", "stretch"]
 
 
@@ -35,6 +39,24 @@ def interval_of(rows, column):
     return mean_interval(numbers) if numbers else None
 
 
+def paired(rows, other, columns, is_quotient):
+    """The rows of the protocols but the other one, less those of the other, or divided by them, where both have a run of the motion."""
+    others = {tuple(row[name] for name in MOTION): row for row in rows if row["protocol"] == other}
+    if not others:
+        raise KeyError(f"there is no row of {other}")
+    for row in rows:
+        its = others.get(tuple(row[name] for name in MOTION))
+        if its and row["protocol"] != other:
+            yield row | {name: joined(row[name], its[name], is_quotient) for name in columns}
+
+
+def joined(one, other, is_quotient):
+    """The difference of two cells, or their quotient; empty where there is none."""
+    if not one or not other or (is_quotient and float(other) == 0):
+        return ""
+    return repr(float(one) / float(other) if is_quotient else float(one) - float(other))
+
+
 def text_of(interval):
     """An interval for readers."""
     if not interval:
@@ -52,6 +74,9 @@ def main():
     """Prints the table that the command line asks for."""
     parser = argparse.ArgumentParser(description=__doc__, formatter_class=argparse.RawDescriptionHelpFormatter)
     parser.add_argument("--data", action="store_true", help="a table for gnuplot")
+    pairs = parser.add_mutually_exclusive_group()
+    pairs.add_argument("--less", metavar="PROTOCOL", help="differences from this protocol, in pairs of runs")
+    pairs.add_argument("--times", metavar="PROTOCOL", help="quotients by this protocol, in pairs of runs")
     parser.add_argument("--by", default="speed", help="the column beside the protocol (speed)")
     parser.add_argument("csv", help="the CSV that run wrote")
     parser.add_argument("columns", nargs="*", help="the columns told")
@@ -60,6 +85,8 @@ def main():
         with open(options.csv, encoding="ascii", newline="") as source:
             rows = list(csv.DictReader(source))
         columns = options.columns or COLUMNS
+        if options.less or options.times:
+            rows = list(paired(rows, options.less or options.times, columns, bool(options.times)))
         if options.data:
             print(" ".join(["protocol", options.by, *(name + end for name in columns for end in ("", "_low", "_high"))]))
         table = [["protocol", options.by, "runs", *columns]]
@@ -76,7 +103,7 @@ def main():
     except (OSError, UnicodeDecodeError) as cause:
         sys.exit(f"summary: {options.csv}: {cause}")
     except (KeyError, ValueError) as cause:
-        sys.exit(f"summary: {options.csv}: a column is missing, or a cell is no number: {cause}")
+        sys.exit(f"summary: {options.csv}: a column or a protocol is missing, or a cell is no number: {cause.args[0]}")
 
 
 if __name__ == "__main__":

@@ -70,6 +70,7 @@ struct Setup
     bool isReturnNoticed{false};  ///< whether links are cut that packets come back from
     bool isSalvaging{false};      ///< whether packets that the radio gives up wait once more
     std::string record;           ///< the file for the engine's record
+    bool isLarge{false};          ///< whether nodes may have more than 32 neighbours
     bool hasHeader{false};        ///< whether the names of the columns are printed, too
 };
 
@@ -282,6 +283,7 @@ Comparison::MakeRouting()
         tora->Set("NoticeReturn", BooleanValue(m_setup.isReturnNoticed));
         tora->Set("Salvage", BooleanValue(m_setup.isSalvaging));
         tora->Set("Record", StringValue(m_setup.record));
+        tora->Set("Large", BooleanValue(m_setup.isLarge));
         routing = std::move(tora);
     }
     else if (m_setup.protocol == "AODV")
@@ -653,6 +655,7 @@ main(int argc, char* argv[])
     cmd.AddValue("returns", "TORA: packets that come back cut links", setup.isReturnNoticed);
     cmd.AddValue("salvage", "TORA: packets that the radio gives up wait", setup.isSalvaging);
     cmd.AddValue("record", "TORA: the file for the engine's record of the run", setup.record);
+    cmd.AddValue("large", "TORA: nodes may have more than 32 neighbours", setup.isLarge);
     cmd.AddValue("header", "print the names of the columns, too", setup.hasHeader);
     cmd.Parse(argc, argv);
 

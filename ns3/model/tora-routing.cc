@@ -77,6 +77,12 @@ ToraRouting::GetTypeId()
                 BooleanValue(false),
                 MakeBooleanAccessor(&ToraRouting::m_isTaking),
                 MakeBooleanChecker())
+            .AddAttribute("Large",
+                          "Whether a node may have up to 255 neighbours, and not 32; the same for "
+                          "all nodes.",
+                          BooleanValue(false),
+                          MakeBooleanAccessor(&ToraRouting::m_isLarge),
+                          MakeBooleanChecker())
             .AddAttribute("Notice",
                           "Whether a link is cut where the radio gives up a unicast frame to the "
                           "neighbour, or two of its beacons are missed.",
@@ -176,7 +182,7 @@ ToraRouting::DoInitialize()
     }
     m_lastBroadcast = Simulator::Now() - m_random->GetValue(0, 1) * m_beaconInterval;
     m_world = ToraWorld::Get();
-    m_world->Join(this, {m_program, m_times, m_record, m_tick, m_isTaking});
+    m_world->Join(this, {m_program, m_times, m_record, m_tick, m_isTaking, m_isLarge});
     Ipv4RoutingProtocol::DoInitialize();
 }
 

@@ -440,6 +440,7 @@ class ToraRouting : public Ipv4RoutingProtocol
     bool m_isNoticing;      //!< whether the engine is told of neighbours that are gone
     bool m_isReturnNoticed; //!< whether a link is cut that a packet came back from
     bool m_isTaking;        //!< whether received frames are handed over as bytes
+    bool m_isLarge;         //!< whether nodes may have more than 32 links
     bool m_isOld;           //!< whether link ends speak version 1 of frames alone
     Time m_beaconInterval;  //!< how long the node is silent at most
     Time m_heardTimeout;    //!< how long a neighbour counts as heard

@@ -30,7 +30,7 @@ bool
 ToraWorld::Settings::operator!=(const Settings& other) const
 {
     return program != other.program || times != other.times || record != other.record ||
-           tick != other.tick || isTaking != other.isTaking;
+           tick != other.tick || isTaking != other.isTaking || isLarge != other.isLarge;
 }
 
 Ptr<ToraWorld>
@@ -76,7 +76,7 @@ ToraWorld::Join(ToraRouting* node, const Settings& settings)
     }
     else if (m_settings != settings)
     {
-        NS_FATAL_ERROR("tora: Program, Times, Record, Tick and Take of node "
+        NS_FATAL_ERROR("tora: Program, Times, Record, Tick, Take and Large of node "
                        << node->GetNodeNumber() << " are not those of node "
                        << m_joined.front()->GetNodeNumber() << ": there is one engine for all");
     }
@@ -168,6 +168,10 @@ ToraWorld::Build()
     if (!m_settings.record.empty())
     {
         options.insert(options.end(), {"--record", m_settings.record});
+    }
+    if (m_settings.isLarge)
+    {
+        options.emplace_back("--large");
     }
     m_engine = std::make_unique<ToraEngine>(m_settings.program, options);
     std::vector<std::string> lines = LinesOfWorld();

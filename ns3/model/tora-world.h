@@ -51,6 +51,7 @@ class ToraWorld : public SimpleRefCount<ToraWorld>
         std::string record;  //!< the file of the engine's record, or nothing
         Time tick;           //!< how long a tick takes
         bool isTaking;       //!< whether received frames are handed over as bytes
+        bool isLarge;        //!< whether nodes may have more than 32 links
 
         /**
          * \param other other settings
