@@ -1,12 +1,12 @@
 -- From which tick on something is due.
 use Rattle.std.proofs.Common.{◌≡◌, ℕ, zero, suc, ◌+◌, ◌^◌, ◌<◌, ◌≤◌, Bool, true, false, ◌||◌, nat_le, min, max, List, [], ◌∷◌, length, drop, Option, Some, None, if◌then◌else◌, refl, sym, ap, ◌∙◌, arith, slice_get, is_some}
 use Rattle.std.proofs.lemmas.Bool.Decides.{nat_tests}
-use Rattle.tora_arq.specs.declared.Times.{Times}
-use Rattle.tora_arq.specs.declared.queue.QueuedPacket.{QueuedPacket}
+use Rattle.tora_arq.specs.declared.times.Times.{Times}
+use Rattle.tora_arq.specs.declared.queued_packet.QueuedPacket.{QueuedPacket}
 use Rattle.tora_arq.specs.SendQueue.{is_ready, is_given_up, has_given_up, DueBatch, due_behind, first_due}
 use Rattle.tora_arq.specs.EndRange.{AreUntried}
 use Rattle.tora_arq.specs.Settings.{Settings, ticks_passed}
-use Rattle.tora_arq.specs.declared.Life.{Life}
+use Rattle.tora_arq.specs.declared.life.Life.{Life}
 use Rattle.tora_arq.specs.LinkEnd.{EndState, on_transmit_due}
 use Rattle.tora_arq.specs.NextDue.{is_any_due, IsNextDue, is_packet_due, has_begun}
 use Rattle.tora_arq.proofs.QueueLemmas.{none_of_untried}

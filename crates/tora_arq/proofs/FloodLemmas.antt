@@ -4,11 +4,11 @@ use Rattle.std.proofs.lemmas.Bool.{and_right, lt-leb}
 use Rattle.tora_packet.specs.declared.Packet.{Packet}
 use Rattle.tora_frame.specs.FrameParts.{FrameParts}
 use Rattle.tora_arq.specs.declared.TheConstants.{QUEUE_PLACES}
-use Rattle.tora_arq.specs.declared.Life.{Life}
-use Rattle.tora_arq.specs.declared.Times.{Times}
-use Rattle.tora_arq.specs.declared.SubmitError.{SubmitError}
-use Rattle.tora_arq.specs.declared.state.Phase.TheVariants.{Bound}
-use Rattle.tora_arq.specs.declared.queue.QueuedPacket.{QueuedPacket}
+use Rattle.tora_arq.specs.declared.life.Life.{Life}
+use Rattle.tora_arq.specs.declared.times.Times.{Times}
+use Rattle.tora_arq.specs.declared.submit_error.SubmitError.{SubmitError}
+use Rattle.tora_arq.specs.declared.phase.Phase.TheVariants.{Bound}
+use Rattle.tora_arq.specs.declared.queued_packet.QueuedPacket.{QueuedPacket}
 use Rattle.tora_arq.specs.Settings.{Settings, IsTimes}
 use Rattle.tora_arq.specs.SendQueue.{untried, retried, with_ready, ReadyRun, ready_run, due_batch, first_due}
 use Rattle.tora_arq.specs.LinkEnd.{EndState, on_submit, after_submit, is_old_hello_due, on_transmit, on_transmit_in, frame_due, after_transmit}

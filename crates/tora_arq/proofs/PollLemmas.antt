@@ -6,11 +6,11 @@ use Rattle.std.proofs.lemmas.Option.{same_Some}
 use Rattle.tora_frame.specs.declared.parts.Version.{Version}
 use Rattle.tora_frame.specs.declared.parts.Version.TheVariants.{One, Two}
 use Rattle.tora_frame.specs.FrameParts.{FrameParts}
-use Rattle.tora_arq.specs.declared.Life.{Life}
-use Rattle.tora_arq.specs.declared.Times.{Times}
-use Rattle.tora_arq.specs.declared.state.Phase.{Phase}
-use Rattle.tora_arq.specs.declared.state.Phase.TheVariants.{Closed, Unbound, Bound}
-use Rattle.tora_arq.specs.declared.queue.QueuedPacket.{QueuedPacket}
+use Rattle.tora_arq.specs.declared.life.Life.{Life}
+use Rattle.tora_arq.specs.declared.times.Times.{Times}
+use Rattle.tora_arq.specs.declared.phase.Phase.{Phase}
+use Rattle.tora_arq.specs.declared.phase.Phase.TheVariants.{Closed, Unbound, Bound}
+use Rattle.tora_arq.specs.declared.queued_packet.QueuedPacket.{QueuedPacket}
 use Rattle.tora_arq.specs.Settings.{Settings, IsTimes}
 use Rattle.tora_arq.specs.SendQueue.{retried, is_ready, ReadyRun, ready_run, DueBatch, due_batch, due_behind, first_due}
 use Rattle.tora_arq.specs.LinkEnd.{EndState, is_two, data_version, most_packets, is_hello_due, is_old_hello_due, after_hello, on_hello, due_of, on_transmit_due, on_transmit_in, on_transmit, frame_due, after_transmit}

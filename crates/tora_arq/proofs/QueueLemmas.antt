@@ -5,8 +5,8 @@ use Rattle.std.proofs.lemmas.Bool.Decides.{nat_tests}
 use Rattle.std.proofs.lemmas.List.{take-append-drop, drop-set-lt, take_more_set}
 use Rattle.std.proofs.lemmas.Option.{slice_get_within}
 use Rattle.tora_packet.specs.declared.Packet.{Packet}
-use Rattle.tora_arq.specs.declared.Times.{Times}
-use Rattle.tora_arq.specs.declared.queue.QueuedPacket.{QueuedPacket}
+use Rattle.tora_arq.specs.declared.times.Times.{Times}
+use Rattle.tora_arq.specs.declared.queued_packet.QueuedPacket.{QueuedPacket}
 use Rattle.tora_arq.specs.SendQueue.{retried, is_ready, is_given_up, has_given_up, ReadyRun, no_run, with_ready, ready_run, DueBatch, first_due, AreLate}
 use Rattle.tora_arq.specs.EndRange.{AreUntried}
 

@@ -9,7 +9,7 @@ use Rattle.tora_frame.specs.declared.parts.Header.{Header}
 use Rattle.tora_frame.specs.declared.parts.Body.{Body}
 use Rattle.tora_frame.specs.declared.parts.Body.TheVariants.{Hello, Data, Ack}
 use Rattle.tora_frame.specs.FrameParts.{IsBatchSize, IsBody}
-use Rattle.tora_arq.specs.declared.Life.{Life}
+use Rattle.tora_arq.specs.declared.life.Life.{Life}
 use Rattle.tora_arq.specs.Held.{hold_at}
 use Rattle.tora_arq.specs.LinkEnd.{EndState, after_release, after_delivery, after_packet, after_packets}
 use Rattle.tora_arq.specs.EndRange.{IsNumbered}

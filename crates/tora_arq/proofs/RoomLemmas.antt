@@ -2,8 +2,8 @@
 use Rattle.std.proofs.Common.{◌≡◌, ℕ, suc, ◌-◌, ◌<◌, ◌≤◌, nat_le, List, [], ◌∷◌, length, Option, Some, None, ap, refl, arith, length-append, leb-true}
 use Rattle.std.proofs.lemmas.Bool.{cond_both, leb-false}
 use Rattle.tora_packet.specs.declared.Packet.{Packet}
-use Rattle.tora_arq.specs.declared.Life.{Life}
-use Rattle.tora_arq.specs.declared.LinkEvent.TheVariants.{Deliver}
+use Rattle.tora_arq.specs.declared.life.Life.{Life}
+use Rattle.tora_arq.specs.declared.link_event.LinkEvent.TheVariants.{Deliver}
 use Rattle.tora_arq.specs.LinkEnd.{EndState, after_delivery, after_release, after_hold, after_packet}
 use Rattle.tora_arq.specs.EndRange.{HasRoom}
 use Rattle.tora_arq.proofs.HeldLemmas.{length-hold_at}

@@ -5,12 +5,12 @@ use Rattle.std.proofs.lemmas.Bool.{lt-leb, ltb-false, or_from}
 use Rattle.tora_frame.specs.declared.parts.Version.TheVariants.{One}
 use Rattle.tora_frame.specs.declared.parts.Body.TheVariants.{Hello, Ack}
 use Rattle.tora_frame.specs.FrameParts.{FrameParts}
-use Rattle.tora_arq.specs.declared.Life.{Life}
-use Rattle.tora_arq.specs.declared.Times.{Times}
-use Rattle.tora_arq.specs.declared.Reason.TheVariants as Because
-use Rattle.tora_arq.specs.declared.state.Phase.{Phase}
-use Rattle.tora_arq.specs.declared.state.Phase.TheVariants.{Closed, Unbound, Bound}
-use Rattle.tora_arq.specs.declared.queue.QueuedPacket.{QueuedPacket}
+use Rattle.tora_arq.specs.declared.life.Life.{Life}
+use Rattle.tora_arq.specs.declared.times.Times.{Times}
+use Rattle.tora_arq.specs.declared.reason.Reason.TheVariants as Because
+use Rattle.tora_arq.specs.declared.phase.Phase.{Phase}
+use Rattle.tora_arq.specs.declared.phase.Phase.TheVariants.{Closed, Unbound, Bound}
+use Rattle.tora_arq.specs.declared.queued_packet.QueuedPacket.{QueuedPacket}
 use Rattle.tora_arq.specs.Settings.{Settings, IsTimes, ticks_passed}
 use Rattle.tora_arq.specs.SendQueue.{has_given_up, first_due}
 use Rattle.tora_arq.specs.LinkEnd.{EndState, after_end, frame_sent, after_hello, after_old_hello, is_silent, after_tick_in, after_tick, has_hello_passed, is_hello_due, is_old_hello_due, data_version, most_packets, on_hello, due_of, on_transmit_due, on_transmit_in, on_transmit, frame_due}

@@ -4,8 +4,8 @@ use Rattle.tora_packet.specs.declared.Packet.{Packet}
 use Rattle.tora_frame.specs.declared.parts.Version.TheVariants.{Two}
 use Rattle.tora_frame.specs.declared.parts.Body.TheVariants.{Data}
 use Rattle.tora_frame.specs.FrameParts.{FrameParts, batch}
-use Rattle.tora_arq.specs.declared.Life.{Life}
-use Rattle.tora_arq.specs.declared.state.Phase.TheVariants.{Bound}
+use Rattle.tora_arq.specs.declared.life.Life.{Life}
+use Rattle.tora_arq.specs.declared.phase.Phase.TheVariants.{Bound}
 use Rattle.tora_arq.specs.Settings.{Settings}
 use Rattle.tora_arq.specs.LinkEnd.{EndState, after_submit, is_hello_due, frame_sent}
 

@@ -1,12 +1,12 @@
 -- Lives of a link.
 use Rattle.std.specs.Prelude.{ℕ, Bool, ◌==◌, ◌&&◌}
-use Rattle.tora_arq.specs.declared.Life.{Life}
-use Rattle.tora_arq.specs.declared.LinkEvent.{LinkEvent}
-use Rattle.tora_arq.specs.declared.LinkEvent.TheVariants.{Up, Deliver, Down}
-use Rattle.tora_arq.specs.declared.Reason.{Reason}
-use Rattle.tora_arq.specs.declared.Reason.TheVariants.{Silent, NewPeer, Full, Cut, Spent}
-use Rattle.tora_arq.specs.declared.SubmitError.{SubmitError}
-use Rattle.tora_arq.specs.declared.SubmitError.TheVariants as Refusal
+use Rattle.tora_arq.specs.declared.life.Life.{Life}
+use Rattle.tora_arq.specs.declared.link_event.LinkEvent.{LinkEvent}
+use Rattle.tora_arq.specs.declared.link_event.LinkEvent.TheVariants.{Up, Deliver, Down}
+use Rattle.tora_arq.specs.declared.reason.Reason.{Reason}
+use Rattle.tora_arq.specs.declared.reason.Reason.TheVariants.{Silent, NewPeer, Full, Cut, Spent}
+use Rattle.tora_arq.specs.declared.submit_error.SubmitError.{SubmitError}
+use Rattle.tora_arq.specs.declared.submit_error.SubmitError.TheVariants as Refusal
 
 abbrev pub life_of : ℕ → ℕ → Life
 life_of own peer = record { own = own; peer = peer }

@@ -1,8 +1,8 @@
 -- The packets that were submitted and are not acknowledged, and which of them is due.
 use Rattle.std.specs.Prelude.{◌≡◌, ℕ, zero, suc, ◌<◌, Bool, true, false, nat_lt, nat_le, min, ◌==◌, ◌||◌, ◌&&◌, if◌then◌else◌, List, [], ◌∷◌, map, slice_get, Option, Some, None}
 use Rattle.tora_packet.specs.declared.Packet.{Packet}
-use Rattle.tora_arq.specs.declared.Times.{Times}
-use Rattle.tora_arq.specs.declared.queue.QueuedPacket.{QueuedPacket}
+use Rattle.tora_arq.specs.declared.times.Times.{Times}
+use Rattle.tora_arq.specs.declared.queued_packet.QueuedPacket.{QueuedPacket}
 use Rattle.tora_arq.specs.Settings.{ticks_passed}
 
 abbrev pub packet_in : QueuedPacket → Packet

@@ -2,7 +2,7 @@
 use Rattle.std.specs.Prelude.{◌≢◌, ℕ, ◌-◌, ◌<◌}
 use Rattle.tora_packet.specs.PacketParts.{IsId}
 use Rattle.tora_frame.specs.declared.parts.Version.{Version}
-use Rattle.tora_arq.specs.declared.Times.{Times}
+use Rattle.tora_arq.specs.declared.times.Times.{Times}
 use Rattle.tora_arq.specs.declared.TheConstants.{WINDOW}
 
 -- the newest version that it speaks, its node, the node at the other end, its times, and how many packets may be under way

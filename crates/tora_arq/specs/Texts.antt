@@ -1,13 +1,13 @@
 -- Lives, verdicts, reasons and errors as text.
 use Rattle.std.specs.Prelude.{ℕ, codes, List, ◌++◌}
 use Rattle.std.specs.Fmt.{decimal}
-use Rattle.tora_arq.specs.declared.Life.{Life}
-use Rattle.tora_arq.specs.declared.Verdict.{Verdict}
-use Rattle.tora_arq.specs.declared.Verdict.TheVariants as Judged
-use Rattle.tora_arq.specs.declared.Reason.{Reason}
-use Rattle.tora_arq.specs.declared.Reason.TheVariants as Because
-use Rattle.tora_arq.specs.declared.SubmitError.{SubmitError}
-use Rattle.tora_arq.specs.declared.SubmitError.TheVariants as Refusal
+use Rattle.tora_arq.specs.declared.life.Life.{Life}
+use Rattle.tora_arq.specs.declared.verdict.Verdict.{Verdict}
+use Rattle.tora_arq.specs.declared.verdict.Verdict.TheVariants as Judged
+use Rattle.tora_arq.specs.declared.reason.Reason.{Reason}
+use Rattle.tora_arq.specs.declared.reason.Reason.TheVariants as Because
+use Rattle.tora_arq.specs.declared.submit_error.SubmitError.{SubmitError}
+use Rattle.tora_arq.specs.declared.submit_error.SubmitError.TheVariants as Refusal
 
 -- a life as OWN/PEER
 abbrev pub written_life : Life → List ℕ

@@ -16,7 +16,7 @@ pub struct EventQueue {
 
 impl Model for EventQueue {
     ghost use Rattle.std.specs.Prelude.{◌≡◌, List};
-    ghost use Rattle.tora_arq.specs.declared.LinkEvent.{LinkEvent};
+    ghost use Rattle.tora_arq.specs.declared.link_event.LinkEvent.{LinkEvent};
     ghost use Rattle.tora_arq.specs.declared.TheConstants.{EVENT_PLACES};
 
     ghost Value = { List LinkEvent };

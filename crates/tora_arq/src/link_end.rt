@@ -7,8 +7,9 @@ ghost use Rattle.tora_arq.specs.NextDue.{IsNextDue};
 ghost use Rattle.tora_arq.specs.Still.{still_until};
 ghost use Rattle.tora_frame.specs.declared.parts.Version.TheVariants.{One, Two};
 
+use crate::phase::Phase;
 use crate::settings::Settings;
-use crate::state::{Phase, State};
+use crate::state::State;
 use crate::{ArqError, EVENT_PLACES, Life, LinkEvent, QUEUE_PLACES, SubmitError, Times, Verdict};
 use std::alloc::Global;
 use std::marker::Model;

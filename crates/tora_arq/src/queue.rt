@@ -5,6 +5,7 @@ ghost use Rattle.tora_arq.specs.SendQueue.{untried, retried, is_retry_time, is_r
 ghost use Rattle.tora_arq.specs.EndRange.{AreUntried};
 ghost use Rattle.tora_arq.specs.NextDue.{has_begun, is_packet_due};
 
+use crate::queued_packet::QueuedPacket;
 use crate::rings::{push, set};
 use crate::settings::{earlier, tick_behind, ticks_passed};
 use crate::{QUEUE_PLACES, Times, WINDOW};
@@ -14,73 +15,6 @@ use std::marker::Model;
 use tora_frame::{MOST_PACKETS, Packets};
 use tora_packet::Packet;
 
-/// A packet that was submitted and is not acknowledged.
-#[derive(Clone, Copy, Debug, PartialEq, Eq, Hash)]
-pub struct QueuedPacket {
-    pub packet: Packet,
-    /// How many times it was transmitted.
-    pub tries: u64,
-    /// The tick at which it was transmitted last.
-    pub last_try: u64,
-}
-
-impl QueuedPacket {
-    /// A packet that was never transmitted.
-    fn untried(packet: Packet) -> QueuedPacket
-        ensures { result ≡ untried packet }
-    {
-        QueuedPacket {
-            packet,
-            tries: 0,
-            last_try: 0,
-        }
-    }
-
-    /// The packet once it is transmitted again.
-    fn retried(self, now: u64) -> QueuedPacket
-        requires { self.tries + 1 < 2 ^ 64 }
-        ensures { result ≡ retried self now }
-    {
-        QueuedPacket {
-            packet: self.packet,
-            tries: self.tries + 1,
-            last_try: now,
-        }
-    }
-
-    fn is_retry_time(&self, times: &Times, now: u64) -> bool
-        ensures { result ≡ is_retry_time times.now now self.now }
-    {
-        ticks_passed(self.last_try, now) >= times.retry
-    }
-
-    /// Whether the packet is due.
-    fn is_ready(&self, times: &Times, now: u64) -> bool
-        ensures ready { result ≡ is_ready times.now now self.now }
-        ensures room { IsTrue result → self.now.tries + 1 < 2 ^ 64 }
-    {
-        self.tries == 0 || (self.tries < times.tries && self.is_retry_time(times, now))
-    }
-
-    fn is_given_up(&self, times: &Times, now: u64) -> bool
-        ensures { result ≡ is_given_up times.now now self.now }
-    {
-        self.tries >= times.tries && self.is_retry_time(times, now)
-    }
-
-    /// The tick from which on the packet is due, or given up.
-    fn due_tick(&self, times: &Times) -> Option<u64>
-        requires retry { 0 < times.now.retry }
-        requires tries { 0 < times.now.tries }
-        ensures { (tick : ℕ) → tick < 2 ^ 64 → has_begun result tick ≡ is_packet_due times.now tick self.now }
-    {
-        if self.tries == 0 {
-            return Some(0);
-        }
-        tick_behind(self.last_try, times.retry)
-    }
-}
-
 /// The packets that were submitted and are not acknowledged, in order, `QUEUE_PLACES` at most.
 #[derive(Debug, Drop)]
 pub struct SendQueue {
@@ -89,7 +23,7 @@ pub struct SendQueue {
 
 impl Model for SendQueue {
     ghost use Rattle.std.specs.Prelude.{◌≡◌, List};
-    ghost use Rattle.tora_arq.specs.declared.queue.QueuedPacket.{QueuedPacket};
+    ghost use Rattle.tora_arq.specs.declared.queued_packet.QueuedPacket.{QueuedPacket};
     ghost use Rattle.tora_arq.specs.declared.TheConstants.{QUEUE_PLACES};
 
     ghost Value = { List QueuedPacket };

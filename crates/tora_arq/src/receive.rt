@@ -7,8 +7,9 @@ ghost use Rattle.tora_arq.specs.LinkEnd.{count_of, passed, on_life_told, after_r
 ghost use Rattle.tora_arq.specs.EndRange.{HasRoom, IsNumbered};
 ghost use Rattle.tora_arq.specs.StateView.{settings_in, state_in};
 
+use crate::phase::Phase;
 use crate::settings::Settings;
-use crate::state::{Phase, State};
+use crate::state::State;
 use crate::transmit::is_two;
 use crate::{EVENT_PLACES, Life, PLACES_OF_A_FRAME, Reason, Verdict, WINDOW};
 use tora_frame::{BorrowedBody, BorrowedFrame, Version};

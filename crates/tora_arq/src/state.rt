@@ -6,23 +6,13 @@ ghost use Rattle.tora_arq.specs.StateView.{settings_in, state_in};
 
 use crate::events::EventQueue;
 use crate::held::HeldPackets;
+use crate::phase::Phase;
 use crate::queue::SendQueue;
 use crate::settings::{Settings, ticks_passed};
 use crate::{EVENT_PLACES, Life, LinkEvent, QUEUE_PLACES, Reason, SubmitError};
 use std::alloc::{AllocError, Global};
 use tora_frame::GREATEST_NUMBER;
 use tora_packet::Packet;
-
-/// Whether a link end is open, and in which life. Own profile.
-#[derive(Clone, Copy, Debug, PartialEq, Eq, Hash)]
-pub enum Phase {
-    /// Closed.
-    Closed,
-    /// Open with an own number, 1 to 2^62, and not bound.
-    Unbound(u64),
-    /// Open and bound.
-    Bound(Life),
-}
 
 /// The state of a link end.
 #[derive(Debug, Drop)]

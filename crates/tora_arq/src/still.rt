@@ -3,8 +3,9 @@ ghost use Rattle.std.specs.Prelude.{◌≡◌};
 ghost use Rattle.tora_arq.specs.StateView.{settings_in, state_in};
 ghost use Rattle.tora_arq.specs.Still.{tick_behind, hello_tick, owes_any_hello, owes_any, still_until};
 
+use crate::phase::Phase;
 use crate::settings::Settings;
-use crate::state::{Phase, State};
+use crate::state::State;
 
 /// The tick that comes so many behind another; the last one at most.
 fn tick_behind(earlier: u64, ticks: u64) -> u64

@@ -9,8 +9,9 @@ ghost use Rattle.tora_arq.specs.NextDue.{is_any_due, is_due_in, IsNextDue, has_b
 ghost use Rattle.tora_arq.specs.StateView.{settings_in, state_in};
 
 use crate::Life;
+use crate::phase::Phase;
 use crate::settings::{Settings, earlier, tick_behind, ticks_passed};
-use crate::state::{Phase, State};
+use crate::state::State;
 use tora_frame::{BorrowedFrame, Header, MOST_PACKETS, Packets, Version};
 
 impl Settings {

@@ -1,7 +1,7 @@
 -- How a drive ended, and with which status.
 use Rattle.std.specs.Prelude.{◌≡◌, ◌⊎◌, ℕ, Bool, false, List, Option}
 use Rattle.std.specs.Io.KnownBytes.{Appends}
-use Rattle.tora_arq.specs.declared.Times.{Times}
+use Rattle.tora_arq.specs.declared.times.Times.{Times}
 use Rattle.tora_world.specs.declared.limits.Limits.{Limits}
 use Rattle.tora_lines.specs.LineText.{Rules}
 use Rattle.tora_drive.specs.DriveText.{DriveView, drive_rules, greeting}

@@ -1,7 +1,7 @@
 -- The times of a world's link ends, as a word of the command line.
 use Rattle.std.specs.Prelude.{ℕ, nat_lt, if◌then◌else◌, List, Option, Some, None}
-use Rattle.tora_arq.specs.declared.Times.{Times}
-use Rattle.tora_arq.specs.declared.TheConstants.Times.{STANDARD}
+use Rattle.tora_arq.specs.declared.times.Times.{Times}
+use Rattle.tora_arq.specs.declared.times.TheConstants.Times.{STANDARD}
 use Rattle.tora_lines.specs.Words.{cut, number_of}
 use Rattle.tora_lines.specs.Fronts.{◌>>=◌}
 

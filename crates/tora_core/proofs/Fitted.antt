@@ -1,7 +1,7 @@
 -- Computed heights that are in range.
 use Rattle.std.proofs.Common.{◌≡◌, ap, ℕ, pos, Some, arith}
 use Rattle.std.proofs.lemmas.Int.{ints}
-use Rattle.tora_height.specs.declared.Level.{Level}
+use Rattle.tora_height.specs.declared.level.Level.{Level}
 use Rattle.tora_height.specs.Height.{Quintuple, quintuple, IsLevel, IsHeight}
 use Rattle.tora_height.proofs.Ranges.{height_has_no_fault}
 use Rattle.tora_packet.specs.PacketParts.{IsId}

@@ -6,8 +6,8 @@ use Rattle.std.proofs.lemmas.Bool.{cond_both}
 use Rattle.std.proofs.lemmas.Bool.Decides.{nat_tests}
 use Rattle.std.proofs.lemmas.Int.{ints}
 use Rattle.std.specs.Ordering.{is_lt, is_eq}
-use Rattle.tora_height.specs.declared.Level.{Level}
-use Rattle.tora_height.specs.declared.HeightError.{HeightError}
+use Rattle.tora_height.specs.declared.level.Level.{Level}
+use Rattle.tora_height.specs.declared.height_error.HeightError.{HeightError}
 use Rattle.tora_height.specs.Height.{Quintuple, quintuple, destination_height, level_of, IsLevel, IsHeight, IsHeightOf, height_fault}
 use Rattle.tora_height.specs.HeightOrder.{level_cmp}
 use Rattle.tora_height.proofs.Ranges.{no_fault_is_height}

@@ -10,8 +10,8 @@ use Rattle.std.proofs.lemmas.Bool.{cond_both}
 use Rattle.std.proofs.lemmas.List.{length-take-le, take-append-drop, take_more, take_more_set}
 use Rattle.std.proofs.lemmas.List.Filters.{length-filter_more}
 use Rattle.std.proofs.lemmas.Bool.Decides.{nat_tests}
-use Rattle.tora_height.specs.declared.Direction.{Direction}
-use Rattle.tora_height.specs.declared.Direction.TheVariants.{Undirected}
+use Rattle.tora_height.specs.declared.direction.Direction.{Direction}
+use Rattle.tora_height.specs.declared.direction.Direction.TheVariants.{Undirected}
 use Rattle.tora_height.specs.Height.{Quintuple}
 use Rattle.tora_height.specs.HeightOrder.{direction_by, height_cmp, link_status}
 use Rattle.tora_core.specs.declared.rows.Row.{Row}

@@ -3,8 +3,8 @@ use Rattle.std.proofs.Common.{◌≡◌, ◌⊎◌, inl, inr, refl, ℕ, ◌<◌
 use Rattle.std.specs.Prelude.{if◌then◌else◌}
 use Rattle.std.specs.List.{list_all}
 use Rattle.std.proofs.lemmas.Bool.{cond_both}
-use Rattle.tora_height.specs.declared.Level.{Level}
-use Rattle.tora_height.specs.declared.HeightError.{HeightError}
+use Rattle.tora_height.specs.declared.level.Level.{Level}
+use Rattle.tora_height.specs.declared.height_error.HeightError.{HeightError}
 use Rattle.tora_height.specs.Height.{Quintuple, quintuple, destination_height, IsLevel, IsHeight, height_fault}
 use Rattle.tora_height.proofs.Ranges.{no_fault_is_height, height_has_no_fault}
 use Rattle.tora_packet.specs.declared.Packet.{Packet}

@@ -10,8 +10,8 @@ use Rattle.std.proofs.lemmas.Cmp.{upto, tied_itself}
 use Rattle.std.specs.Ordering.{is_lt, is_eq, is_gt, ordering_reverse}
 use Rattle.std.specs.declared.cmp.Ordering.{Ordering}
 use Rattle.std.specs.declared.cmp.Ordering.TheVariants.{Less, Equal, Greater}
-use Rattle.tora_height.specs.declared.Level.{Level}
-use Rattle.tora_height.specs.declared.HeightError.{HeightError}
+use Rattle.tora_height.specs.declared.level.Level.{Level}
+use Rattle.tora_height.specs.declared.height_error.HeightError.{HeightError}
 use Rattle.tora_height.specs.Height.{Quintuple, quintuple, level_of, IsHeight, height_fault}
 use Rattle.tora_height.specs.HeightOrder.{IsLower, IsLowerLevel, level_cmp, height_cmp}
 use Rattle.tora_height.proofs.OrderLemmas.{height_cmp_total, level_cmp_total, level_cmp-Equal, lower_level-cmp, cmp-lower_level, lower-height_cmp, height_cmp-lower}

@@ -2,7 +2,7 @@
 use Rattle.std.proofs.Common.{◌≡◌, ◌≢◌, ◌↔◌, ◌⊎◌, inl, inr, refl, ap, sym, subst, ◌∙◌, ℕ, ℤ, ◌==◌, Bool, true, false, not, ◌&&◌, List, [], ◌∷◌, map, Option, Some, None, nat_lt}
 use Rattle.std.specs.Prelude.{fold, option_map, if◌then◌else◌}
 use Rattle.std.proofs.lemmas.Bool.{cond_both}
-use Rattle.tora_height.specs.declared.Level.{Level}
+use Rattle.tora_height.specs.declared.level.Level.{Level}
 use Rattle.tora_height.specs.Height.{Quintuple, level_of}
 use Rattle.tora_core.specs.declared.rows.Row.{Row}
 use Rattle.tora_core.specs.View.{View, all_cleared, all_erased, all_told, cleared_row, downstream_rows, erased_row, greatest_level, is_at, is_downstream, is_entry_at, known_heights, least_delta, lower_row_of, next_hop_of, row_with_entry, told_row, with_entry, with_row, without_row}

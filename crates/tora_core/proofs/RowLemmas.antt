@@ -5,7 +5,7 @@ use Rattle.std.specs.List.{AllByRecursion, list_any, cons_option}
 use Rattle.std.proofs.lemmas.Bool.{cond_both}
 use Rattle.std.proofs.lemmas.Bool.Decides.{nat_tests}
 use Rattle.std.specs.Ordering.{is_lt}
-use Rattle.tora_height.specs.declared.Level.{Level}
+use Rattle.tora_height.specs.declared.level.Level.{Level}
 use Rattle.tora_height.specs.Height.{Quintuple, level_of}
 use Rattle.tora_height.specs.HeightOrder.{level_cmp, height_cmp}
 use Rattle.tora_core.specs.declared.rows.Row.{Row}

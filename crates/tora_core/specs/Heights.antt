@@ -1,6 +1,6 @@
 -- Times and heights that a node computes.
 use Rattle.std.specs.Prelude.{ℕ, ◌+◌, max, List, fold, Option, None, Some}
-use Rattle.tora_height.specs.declared.HeightError.{HeightError}
+use Rattle.tora_height.specs.declared.height_error.HeightError.{HeightError}
 use Rattle.tora_height.specs.Height.{Quintuple, height_fault}
 use Rattle.tora_core.specs.View.{View, known_heights}
 

@@ -3,8 +3,8 @@
 use Rattle.std.specs.Prelude.{◌≡◌, ◌≢◌, ℕ, zero, suc, Bool, true, false, List, [], ◌∷◌, length, map, filter, Option, None, Some}
 use Rattle.std.specs.List.{AllByRecursion, items_where_true}
 use Rattle.std.specs.Ordering.{is_lt}
-use Rattle.tora_height.specs.declared.Direction.{Direction}
-use Rattle.tora_height.specs.declared.Direction.TheVariants.{Down, Up, Undirected}
+use Rattle.tora_height.specs.declared.direction.Direction.{Direction}
+use Rattle.tora_height.specs.declared.direction.Direction.TheVariants.{Down, Up, Undirected}
 use Rattle.tora_height.specs.Height.{Quintuple}
 use Rattle.tora_height.specs.HeightOrder.{height_cmp, link_status}
 use Rattle.tora_core.specs.declared.rows.Row.{Row}

@@ -1,6 +1,6 @@
 -- TORA's rules for one destination as a relation: what an input makes of a view, one case for each line of the rules.
 use Rattle.std.specs.Prelude.{◌≡◌, ◌≢◌, ◌⊎◌, ℕ, ◌<◌, ◌≤◌, ℤ, pos, ◌+ℤ◌, ◌-ℤ◌, ◌≤ℤ◌, true, false, Option, None, Some, IsSome, IfSome, Contains}
-use Rattle.tora_height.specs.declared.Level.{Level}
+use Rattle.tora_height.specs.declared.level.Level.{Level}
 use Rattle.tora_height.specs.Height.{Quintuple, quintuple, destination_height, level_of, IsHeight}
 use Rattle.tora_height.specs.HeightOrder.{IsLower, IsLowerLevel}
 use Rattle.tora_packet.specs.declared.Packet.{Packet}

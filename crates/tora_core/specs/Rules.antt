@@ -1,7 +1,7 @@
 -- TORA's rules for one destination: what an input makes of a view, and what is broadcast.
 use Rattle.std.specs.Prelude.{ℕ, ◌==◌, true, false, not, ◌&&◌, if◌then◌else◌, Option, None, Some, is_none, option_map, ℤ, pos, ◌+ℤ◌, ◌-ℤ◌}
 use Rattle.std.specs.List.{list_all}
-use Rattle.tora_height.specs.declared.Level.{Level}
+use Rattle.tora_height.specs.declared.level.Level.{Level}
 use Rattle.tora_height.specs.Height.{Quintuple, quintuple, destination_height}
 use Rattle.tora_packet.specs.declared.Packet.{Packet}
 use Rattle.tora_packet.specs.declared.Packet.TheVariants.{Qry, Upd, Clr}

@@ -2,8 +2,8 @@
 use Rattle.std.specs.Prelude.{ℕ, Bool, true, false, codes, List, [], ◌∷◌, ◌++◌, Option, None, Some}
 use Rattle.std.specs.List.{flat_map}
 use Rattle.std.specs.Fmt.{decimal}
-use Rattle.tora_height.specs.declared.Direction.{Direction}
-use Rattle.tora_height.specs.declared.Direction.TheVariants.{Up, Down, Undirected}
+use Rattle.tora_height.specs.declared.direction.Direction.{Direction}
+use Rattle.tora_height.specs.declared.direction.Direction.TheVariants.{Up, Down, Undirected}
 use Rattle.tora_height.specs.Height.{Quintuple}
 use Rattle.tora_height.specs.HeightText.{written_height}
 use Rattle.tora_height.specs.HeightOrder.{link_status}

@@ -2,7 +2,7 @@
 use Rattle.std.specs.Prelude.{ℕ, ◌==◌, Bool, true, false, not, ◌&&◌, nat_lt, if◌then◌else◌, List, [], ◌∷◌, length, map, filter, filter_map, fold, Option, None, Some, is_some, is_none, option_map, ℤ, int_lt}
 use Rattle.std.specs.List.{list_any, list_all}
 use Rattle.std.specs.Ordering.{is_lt, is_eq}
-use Rattle.tora_height.specs.declared.Level.{Level}
+use Rattle.tora_height.specs.declared.level.Level.{Level}
 use Rattle.tora_height.specs.Height.{Quintuple, destination_height, level_of}
 use Rattle.tora_height.specs.HeightOrder.{level_cmp, height_cmp}
 use Rattle.tora_core.specs.declared.rows.Row.{Row}

@@ -2,7 +2,7 @@
 //! told, and who was told.
 ghost use Rattle.std.specs.Prelude.{◌≡◌, ◌≢◌, ◌↔◌, ◌⊎◌, ℕ, true, None, Some};
 ghost use Rattle.tora_height.specs.Height.{Quintuple, level_of};
-ghost use Rattle.tora_height.specs.declared.Level.{Level};
+ghost use Rattle.tora_height.specs.declared.level.Level.{Level};
 ghost use Rattle.tora_core.specs.declared.rows.Row.{Row};
 ghost use Rattle.tora_core.specs.View.{View, all_cleared, all_erased, all_told, greatest_level, known_heights, least_delta, next_hop_of, with_entry, with_row, without_row};
 ghost use Rattle.tora_core.specs.Reacts.{HasNoDownstream, IsEntry, IsKnown, IsTold, IsUp, KnowsNone};

@@ -1,7 +1,7 @@
 //! TORA's rules as a relation: the rule that computes gives what the relation says, and the relation says nothing else.
 ghost use Rattle.std.specs.Prelude.{◌≡◌, ◌↔◌, ℕ, ℤ, true, Option, None, Some, option_map, Contains};
 ghost use Rattle.tora_height.specs.Height.{Quintuple};
-ghost use Rattle.tora_height.specs.declared.Level.{Level};
+ghost use Rattle.tora_height.specs.declared.level.Level.{Level};
 ghost use Rattle.tora_core.specs.declared.Input.{Input};
 ghost use Rattle.tora_core.specs.declared.destination.Broadcast.{Broadcast};
 ghost use Rattle.tora_core.specs.View.{View, greatest_level, has_downstream, known_heights, least_delta, least_height, next_hop_of};

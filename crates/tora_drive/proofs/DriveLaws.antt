@@ -1,6 +1,6 @@
 -- An answer, as the text that goes on.
 use Rattle.std.proofs.Common.{◌≡◌, ℕ, ◌+◌, ◌≤◌, List, ◌∷◌, length, true, false, Some, refl, sym, ap, ◌∙◌}
-use Rattle.tora_arq.specs.declared.Times.{Times}
+use Rattle.tora_arq.specs.declared.times.Times.{Times}
 use Rattle.tora_world.specs.declared.limits.Limits.{Limits}
 use Rattle.tora_lines.specs.LineText.{prepend, text_from}
 use Rattle.tora_lines.proofs.KindLaws.{goes_on}

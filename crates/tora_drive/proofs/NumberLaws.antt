@@ -2,8 +2,8 @@
 use Rattle.std.proofs.Common.{ℕ, zero, suc, Bool, true, false, List, [], ◌∷◌, ◌++◌, if◌then◌else◌, is_some}
 use Rattle.std.specs.List.{AllByRecursion}
 use Rattle.tora_packet.specs.PacketParts.{IsId}
-use Rattle.tora_world.specs.declared.Event.{Event}
-use Rattle.tora_world.specs.declared.Event.TheVariants.{Tick, Transmit, CoreTurn}
+use Rattle.tora_world.specs.declared.event.Event.{Event}
+use Rattle.tora_world.specs.declared.event.Event.TheVariants.{Tick, Transmit, CoreTurn}
 use Rattle.tora_world.specs.World.{World, is_empty, refusal_of, world_after, world_after_all}
 use Rattle.tora_script.specs.declared.rounds.EndTurn.{EndTurn}
 use Rattle.tora_script.specs.declared.rounds.EndTurn.TheVariants as turn

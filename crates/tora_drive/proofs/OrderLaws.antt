@@ -5,7 +5,7 @@ use Rattle.std.specs.Result.{result_ok}
 use Rattle.hex.specs.Hex.{decode_of}
 use Rattle.tora_lines.specs.Words.{cut, number_of, id_of}
 use Rattle.tora_lines.specs.Fronts.{after, or_else, ◌>>=◌}
-use Rattle.tora_world.specs.declared.Event.TheVariants.{Deliver}
+use Rattle.tora_world.specs.declared.event.Event.TheVariants.{Deliver}
 use Rattle.tora_world.specs.World.{World}
 use Rattle.tora_script.specs.declared.script_line.SimulationLine.{SimulationLine}
 use Rattle.tora_script.specs.SimulationLines.{is_word, pair_of, for_pair, simulation_line_of}

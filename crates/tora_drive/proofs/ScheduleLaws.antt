@@ -1,8 +1,8 @@
 -- The worlds of drives are worlds of schedules, so that the laws of all schedules hold of them.
 use Rattle.std.proofs.Common.{◌≡◌, ℕ, Bool, true, false, List, [], ◌∷◌, ◌++◌, if◌then◌else◌, is_some, fold, Option, Some, None, refl, sym, ap, subst, ◌∙◌}
-use Rattle.tora_arq.specs.declared.Times.{Times}
+use Rattle.tora_arq.specs.declared.times.Times.{Times}
 use Rattle.tora_core.specs.declared.errors.CoreError.{CoreError}
-use Rattle.tora_world.specs.declared.Event.TheVariants.{Tick}
+use Rattle.tora_world.specs.declared.event.Event.TheVariants.{Tick}
 use Rattle.tora_world.specs.declared.limits.Limits.{Limits}
 use Rattle.tora_world.specs.Topology.{Topology, IsWithinLimits, is_link, is_node, topology_fault_within}
 use Rattle.tora_world.specs.World.{World, own_choice, first_world}

@@ -1,6 +1,6 @@
 -- Passes of a step, one after the other.
 use Rattle.std.proofs.Common.{◌≡◌, ℕ, zero, suc, Bool, true, false, not, List, [], ◌∷◌, refl, sym, ap, ◌∙◌}
-use Rattle.tora_world.specs.declared.Event.{Event}
+use Rattle.tora_world.specs.declared.event.Event.{Event}
 use Rattle.tora_world.specs.World.{World, is_empty, world_after_all}
 use Rattle.tora_script.specs.Rounds.{plan_then, Happened}
 use Rattle.tora_script.proofs.RoundLaws.{after_then}

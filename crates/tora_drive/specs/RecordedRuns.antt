@@ -1,8 +1,8 @@
 -- Which worlds a drive has that is recorded.
 use Rattle.std.specs.Prelude.{◌≡◌, ℕ, if◌then◌else◌, List, [], map, Some}
-use Rattle.tora_arq.specs.declared.Times.{Times}
+use Rattle.tora_arq.specs.declared.times.Times.{Times}
 use Rattle.tora_lines.specs.LineText.{state_behind}
-use Rattle.tora_world.specs.declared.Event.{Event}
+use Rattle.tora_world.specs.declared.event.Event.{Event}
 use Rattle.tora_world.specs.declared.limits.Limits.{Limits}
 use Rattle.tora_world.specs.World.{World, world_after_all}
 use Rattle.tora_world.specs.Walks.{AreIds}

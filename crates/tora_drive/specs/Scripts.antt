@@ -3,11 +3,11 @@ use Rattle.std.specs.Prelude.{◌≡◌, ℕ, ◌<◌, ◌^◌, Bool, if◌then�
 use Rattle.std.specs.List.{AllByRecursion}
 use Rattle.std.specs.Option.{option_map_or, option_and_then}
 use Rattle.hex.specs.Hex.{IsBytes}
-use Rattle.tora_arq.specs.declared.Times.{Times}
+use Rattle.tora_arq.specs.declared.times.Times.{Times}
 use Rattle.tora_lines.specs.LineText.{state_behind}
 use Rattle.tora_packet.specs.PacketParts.{IsId}
-use Rattle.tora_world.specs.declared.Event.{Event}
-use Rattle.tora_world.specs.declared.Event.TheVariants as Happen
+use Rattle.tora_world.specs.declared.event.Event.{Event}
+use Rattle.tora_world.specs.declared.event.Event.TheVariants as Happen
 use Rattle.tora_world.specs.declared.limits.Limits.{Limits}
 use Rattle.tora_world.specs.World.{World}
 use Rattle.tora_script.specs.declared.script_line.SimulationLine.{SimulationLine}

@@ -1,7 +1,7 @@
 -- A step: a round in which nothing is delivered, and silent ends send nothing.
 use Rattle.std.specs.Prelude.{ℕ, zero, suc, ◌==◌, ◌&&◌, Bool, if◌then◌else◌, List, []}
 use Rattle.std.specs.List.{list_any}
-use Rattle.tora_world.specs.declared.Event.TheVariants.{Tick, Transmit}
+use Rattle.tora_world.specs.declared.event.Event.TheVariants.{Tick, Transmit}
 use Rattle.tora_world.specs.World.{is_empty}
 use Rattle.tora_script.specs.declared.rounds.EndTurn.TheVariants as turn
 use Rattle.tora_script.specs.Rounds.{Plan, once, while_possible, plan_then, each, each_core, each_end_once, each_end}

@@ -7,7 +7,7 @@ use Rattle.tora_frame.specs.FrameParts.{FrameParts}
 use Rattle.tora_frame.specs.FrameGrammar.{frame_spelling}
 use Rattle.tora_lines.specs.Words.{cut, id_of}
 use Rattle.tora_lines.specs.Fronts.{after, or_else, ◌>>=◌}
-use Rattle.tora_world.specs.declared.Event.TheVariants.{Deliver}
+use Rattle.tora_world.specs.declared.event.Event.TheVariants.{Deliver}
 use Rattle.tora_world.specs.World.{World, datagram}
 use Rattle.tora_script.specs.declared.script_line.SimulationLine.TheVariants.{Happens}
 use Rattle.tora_script.specs.SimulationLines.{is_word}

@@ -5,7 +5,7 @@ use Rattle.std.proofs.lemmas.Int.{ints}
 use Rattle.std.specs.Cmp.{IsTotalOrder}
 use Rattle.std.proofs.lemmas.Cmp.{on_total, then_total, nat_cmp_total, int_cmp_total}
 use Rattle.std.specs.Ordering.{nat_cmp, int_cmp, ordering_then}
-use Rattle.tora_height.specs.declared.Level.{Level}
+use Rattle.tora_height.specs.declared.level.Level.{Level}
 use Rattle.tora_height.specs.Height.{Quintuple, level_of}
 use Rattle.tora_height.specs.HeightOrder.{IsLower, IsLowerLevel, level_cmp, height_cmp}
 

@@ -1,8 +1,8 @@
 -- Heights: five parts, and their ranges.
 use Rattle.std.specs.Prelude.{◌≡◌, ◌≢◌, ℕ, ℤ, pos, neg_ℤ, ◌≤ℤ◌, ◌<◌, ◌≤◌, ◌^◌, ◌==◌, ◌&&◌, not, Bool, nat_lt, int_lt, if◌then◌else◌, Option, None, Some}
-use Rattle.tora_height.specs.declared.Level.{Level}
-use Rattle.tora_height.specs.declared.HeightError.{HeightError}
-use Rattle.tora_height.specs.declared.HeightError.TheVariants as Fault
+use Rattle.tora_height.specs.declared.level.Level.{Level}
+use Rattle.tora_height.specs.declared.height_error.HeightError.{HeightError}
+use Rattle.tora_height.specs.declared.height_error.HeightError.TheVariants as Fault
 
 -- the five parts of a height
 pub record Quintuple : Type 0 where

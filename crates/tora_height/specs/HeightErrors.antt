@@ -1,7 +1,7 @@
 -- The numbers of the errors, as texts print them.
 use Rattle.std.specs.Prelude.{ℕ}
-use Rattle.tora_height.specs.declared.HeightError.{HeightError}
-use Rattle.tora_height.specs.declared.HeightError.TheVariants.{Tau, Delta, Level, Id}
+use Rattle.tora_height.specs.declared.height_error.HeightError.{HeightError}
+use Rattle.tora_height.specs.declared.height_error.HeightError.TheVariants.{Tau, Delta, Level, Id}
 
 abbrev pub height_error_number : HeightError → ℕ
 height_error_number Tau = 1

@@ -3,9 +3,9 @@ use Rattle.std.specs.Prelude.{◌≡◌, ◌<ℤ◌, ◌<◌, ◌⊎◌, Option,
 use Rattle.std.specs.Ordering.{nat_cmp, int_cmp, ordering_then}
 use Rattle.std.specs.declared.cmp.Ordering.{Ordering}
 use Rattle.std.specs.declared.cmp.Ordering.TheVariants.{Less, Equal, Greater}
-use Rattle.tora_height.specs.declared.Level.{Level}
-use Rattle.tora_height.specs.declared.Direction.{Direction}
-use Rattle.tora_height.specs.declared.Direction.TheVariants as Link
+use Rattle.tora_height.specs.declared.level.Level.{Level}
+use Rattle.tora_height.specs.declared.direction.Direction.{Direction}
+use Rattle.tora_height.specs.declared.direction.Direction.TheVariants as Link
 use Rattle.tora_height.specs.Height.{Quintuple, level_of}
 
 -- a level is lower than another: by its time, else by its originator, else by its reflection bit

@@ -8,7 +8,7 @@ use mathlib.Core.Option.{some, some-ne-none, some-injective}
 use lib.ListN.{get_elem?}
 use Rattle.crossbeam_channel.specs.Fifo.{Pushes, Pops, Forks, Merges, Learns}
 use Rattle.atomic_table.proofs.Lists.{at_set}
-use Rattle.tora_seat.specs.declared.Item.{Item}
+use Rattle.tora_seat.specs.declared.item.Item.{Item}
 use Rattle.tora_lane.specs.declared.rule.LaneView.{LaneView}
 use Rattle.tora_lane.specs.declared.rule.LaneView.TheVariants.{Seat, Core, Spent}
 use Rattle.tora_lane.specs.LaneRule.{items_of, IsNumbered, AreSettled, Fits, KeepsLanes, after_put, after_take, IsNext, with_new_seat, new_seat, with_settled, LastSettled}

@@ -5,7 +5,7 @@ use Rattle.std.proofs.lemmas.List.{append-nil, set-get_or, length-set}
 use Rattle.std.proofs.Common.{append_assoc}
 use Rattle.std.proofs.lemmas.Option.{slice_get_read, slice_get_within}
 use Rattle.std.proofs.lemmas.Bool.Decides.{eqb_tells}
-use Rattle.tora_seat.specs.declared.Cargo.{Cargo}
+use Rattle.tora_seat.specs.declared.cargo.Cargo.{Cargo}
 use Rattle.tora_seat.specs.Serving.{Offer, put_to}
 use Rattle.tora_seat.specs.Offers.{AreOffered, place_of}
 use Rattle.tora_lane.specs.declared.limits.TheConstants.{OUT_LANE_ROOM}

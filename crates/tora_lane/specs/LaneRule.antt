@@ -3,7 +3,7 @@ use Rattle.std.specs.Prelude.{◌≡◌, ℕ, suc, ◌+◌, ◌<◌, ◌≤◌, 
 use Rattle.std.specs.List.{filter}
 use mathlib.Core.Option.{some}
 use lib.ListN.{get_elem?}
-use Rattle.tora_seat.specs.declared.Item.{Item}
+use Rattle.tora_seat.specs.declared.item.Item.{Item}
 use Rattle.tora_lane.specs.declared.rule.LaneView.{LaneView}
 use Rattle.tora_lane.specs.declared.rule.LaneView.TheVariants.{Seat, Core, Spent}
 

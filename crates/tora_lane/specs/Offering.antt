@@ -1,6 +1,6 @@
 -- Cargoes that are offered to the lanes to the neighbours.
 use Rattle.std.specs.Prelude.{◌≡◌, ℕ, ◌<◌, ◌≤◌, Bool, true, false, List, [], ◌∷◌, ◌++◌, length, Option, Some, None, slice_get, slice_set}
-use Rattle.tora_seat.specs.declared.Cargo.{Cargo}
+use Rattle.tora_seat.specs.declared.cargo.Cargo.{Cargo}
 use Rattle.tora_seat.specs.Serving.{Offer, put_to}
 use Rattle.tora_seat.specs.Offers.{AreOffered, place_of}
 use Rattle.tora_lane.specs.declared.limits.TheConstants.{OUT_LANE_ROOM, MOST_IN_ALL}

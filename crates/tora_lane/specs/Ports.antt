@@ -6,8 +6,8 @@ use Rattle.crossbeam_channel.specs.declared.flavors.array.Key.{Key}
 use Rattle.crossbeam_channel.specs.declared.flavors.array.Doing.{Doing}
 use Rattle.crossbeam_channel.specs.declared.flavors.array.Rows.{Rows}
 use Rattle.crossbeam_channel.specs.Claims.{Pass, IsKeyed}
-use Rattle.tora_seat.specs.declared.Item.{Item}
-use Rattle.tora_seat.specs.declared.What.{What}
+use Rattle.tora_seat.specs.declared.item.Item.{Item}
+use Rattle.tora_seat.specs.declared.what.What.{What}
 use Rattle.tora_lane.specs.declared.ports.Settled.{Settled}
 use Rattle.tora_lane.specs.declared.rule.LaneView.{LaneView}
 use Rattle.tora_lane.specs.declared.rule.LaneView.TheVariants.{Seat, Core, Spent}

@@ -5,9 +5,9 @@ use Rattle.std.proofs.lemmas.Grind.{flat_map-append}
 use Rattle.std.specs.Prelude.{map, is_err}
 use Rattle.tora_frame.specs.FrameParts.{FrameParts}
 use Rattle.tora_frame.specs.FrameGrammar.{frame_spelling}
-use Rattle.tora_arq.specs.declared.LinkEvent.{LinkEvent}
-use Rattle.tora_seat.specs.declared.Cargo.{Cargo}
-use Rattle.tora_seat.specs.declared.What.{What}
+use Rattle.tora_arq.specs.declared.link_event.LinkEvent.{LinkEvent}
+use Rattle.tora_seat.specs.declared.cargo.Cargo.{Cargo}
+use Rattle.tora_seat.specs.declared.what.What.{What}
 use Rattle.tora_lane.specs.declared.ports.Gone.{Gone}
 use Rattle.tora_neighbour.specs.declared.wire.WireError.{WireError}
 use Rattle.tora_neighbour.specs.Turns.{Turn, failed_calls, calls_failed, row_after, IsRow}

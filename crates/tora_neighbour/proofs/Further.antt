@@ -5,12 +5,12 @@ use Rattle.std.specs.Prelude.{map, slice_get}
 use Rattle.std.specs.Prelude.{Result, Ok, Err, OnErr}
 use Rattle.tora_frame.specs.FrameParts.{FrameParts}
 use Rattle.tora_frame.specs.FrameGrammar.{frame_spelling, frame_reading}
-use Rattle.tora_arq.specs.declared.LinkEvent.{LinkEvent}
+use Rattle.tora_arq.specs.declared.link_event.LinkEvent.{LinkEvent}
 use Rattle.tora_arq.specs.Settings.{Settings}
 use Rattle.tora_arq.specs.LinkEnd.{EndState, frame_due, after_transmit}
 use Rattle.tora_arq.specs.EndRange.{LinkEndView, link_end_of}
 use Rattle.tora_neighbour.specs.Datagrams.{IsReceived}
-use Rattle.tora_seat.specs.declared.Cargo.{Cargo}
+use Rattle.tora_seat.specs.declared.cargo.Cargo.{Cargo}
 use Rattle.tora_neighbour.specs.declared.hub.Put.{Put}
 use Rattle.tora_seat.specs.Between.{after_cargo}
 use Rattle.tora_neighbour.specs.Turns.{after_cargoes, after_frames, AreDue, Tells}

@@ -5,8 +5,8 @@ use Rattle.tora_arq.specs.Settings.{Settings}
 use Rattle.tora_arq.specs.LinkEnd.{EndState, after_tick, after_transmit}
 use Rattle.tora_arq.specs.LinkFacts.{LinkCall, EveryCall, OpensWith, IsPossible, after_call}
 use Rattle.tora_arq.specs.LinkFacts.LinkCall.{Tick, Submit, Cut, Transmit, Frame}
-use Rattle.tora_seat.specs.declared.Cargo.{Cargo}
-use Rattle.tora_seat.specs.declared.Cargo.TheVariants as Goods
+use Rattle.tora_seat.specs.declared.cargo.Cargo.{Cargo}
+use Rattle.tora_seat.specs.declared.cargo.Cargo.TheVariants as Goods
 use Rattle.tora_neighbour.specs.Intake.{Reading, after_came}
 use Rattle.tora_seat.specs.Between.{after_cargo}
 use Rattle.tora_neighbour.specs.Turns.{after_cargoes, after_frames}

@@ -1,8 +1,8 @@
 -- What the calls of a hub over lanes make of its two ends.
 use Rattle.std.specs.Prelude.{◌≡◌, ℕ, ◌+◌, true, false, [], ◌∷◌, ◌++◌, length, Option, Some, None, Result, Ok, Err}
 use mathlib.Core.List.{IsPrefix}
-use Rattle.tora_seat.specs.declared.Cargo.{Cargo}
-use Rattle.tora_seat.specs.declared.What.{What}
+use Rattle.tora_seat.specs.declared.cargo.Cargo.{Cargo}
+use Rattle.tora_seat.specs.declared.what.What.{What}
 use Rattle.tora_lane.specs.declared.ports.Gone.{Gone}
 use Rattle.tora_lane.specs.Ports.{InEnd, new_item}
 use Rattle.tora_lane.specs.Out.{ReceiveEnd}

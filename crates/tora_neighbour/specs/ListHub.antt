@@ -1,7 +1,7 @@
 -- What contracts see of a hub over lists, and what its calls make of it.
 use Rattle.std.specs.Prelude.{◌≡◌, ◌⊎◌, ℕ, ◌<◌, ◌≤◌, Bool, true, false, List, [], ◌∷◌, ◌++◌, length, Option, Some, None, Result, Ok, Err}
-use Rattle.tora_seat.specs.declared.Cargo.{Cargo}
-use Rattle.tora_seat.specs.declared.What.{What}
+use Rattle.tora_seat.specs.declared.cargo.Cargo.{Cargo}
+use Rattle.tora_seat.specs.declared.what.What.{What}
 use Rattle.tora_lane.specs.declared.ports.Gone.{Gone}
 use Rattle.tora_neighbour.specs.declared.hub.Put.{Put}
 use Rattle.tora_neighbour.specs.Puts.{put_of}

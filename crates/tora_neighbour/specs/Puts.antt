@@ -1,7 +1,7 @@
 -- What a neighbour's thread puts.
 use Rattle.std.specs.Prelude.{ℕ}
-use Rattle.tora_seat.specs.declared.What.{What}
-use Rattle.tora_seat.specs.declared.Item.{Item}
+use Rattle.tora_seat.specs.declared.what.What.{What}
+use Rattle.tora_seat.specs.declared.item.Item.{Item}
 use Rattle.tora_neighbour.specs.declared.hub.Put.{Put}
 
 abbrev pub put_of : ℕ → What → Put

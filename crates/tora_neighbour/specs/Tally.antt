@@ -2,8 +2,8 @@
 use Rattle.std.specs.Prelude.{ℕ, ◌+◌, ◌-◌, ◌^◌, ◌==◌, min, if◌then◌else◌, Option, Some, None}
 use Rattle.tora_frame.specs.declared.FrameError.{FrameError}
 use Rattle.tora_frame.specs.declared.FrameError.TheVariants as Fault
-use Rattle.tora_arq.specs.declared.Verdict.{Verdict}
-use Rattle.tora_arq.specs.declared.Verdict.TheVariants.{Accepted, Repeated, Ahead, Stale, Foreign, Busy}
+use Rattle.tora_arq.specs.declared.verdict.Verdict.{Verdict}
+use Rattle.tora_arq.specs.declared.verdict.Verdict.TheVariants.{Accepted, Repeated, Ahead, Stale, Foreign, Busy}
 use Rattle.tora_neighbour.specs.declared.tally.Tally.{Tally}
 use Rattle.tora_neighbour.specs.declared.intake.Intake.{Intake}
 use Rattle.tora_neighbour.specs.declared.intake.Intake.TheVariants.{Bad, Seen}

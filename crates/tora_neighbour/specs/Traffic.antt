@@ -3,11 +3,11 @@ use Rattle.std.specs.Prelude.{◌≡◌, ℕ, suc, Bool, List, [], ◌∷◌, �
 use Rattle.std.specs.List.{flat_map}
 use Rattle.tora_frame.specs.FrameParts.{FrameParts}
 use Rattle.tora_frame.specs.FrameGrammar.{frame_spelling, frame_reading}
-use Rattle.tora_arq.specs.declared.LinkEvent.{LinkEvent}
+use Rattle.tora_arq.specs.declared.link_event.LinkEvent.{LinkEvent}
 use Rattle.tora_arq.specs.LinkFacts.{list_of}
-use Rattle.tora_seat.specs.declared.Cargo.{Cargo}
+use Rattle.tora_seat.specs.declared.cargo.Cargo.{Cargo}
 use Rattle.tora_seat.specs.Between.{what_of}
-use Rattle.tora_seat.specs.declared.What.TheVariants as Put
+use Rattle.tora_seat.specs.declared.what.What.TheVariants as Put
 use Rattle.tora_neighbour.specs.declared.hub.Put.{Put as Entry}
 use Rattle.tora_neighbour.specs.declared.link.Link.{Link}
 use Rattle.tora_neighbour.specs.Puts.{put_of}

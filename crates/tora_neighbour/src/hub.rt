@@ -1,8 +1,8 @@
 //! What a neighbour's thread puts, and where its cargoes come from.
 ghost use Rattle.std.specs.Prelude.{◌≡◌, ◌++◌, ◌∷◌, [], true, Bool, ℕ, Option, Result, List, OnOk, OnErr};
 ghost use Rattle.tora_arq.specs.LinkFacts.{list_of};
-ghost use Rattle.tora_seat.specs.declared.Cargo.{Cargo};
-ghost use Rattle.tora_seat.specs.declared.What.{What};
+ghost use Rattle.tora_seat.specs.declared.cargo.Cargo.{Cargo};
+ghost use Rattle.tora_seat.specs.declared.what.What.{What};
 ghost use Rattle.tora_lane.specs.declared.ports.Gone.{Gone};
 ghost use Rattle.tora_neighbour.specs.Puts.{put_of};
 ghost use Rattle.tora_neighbour.specs.declared.hub.Put.{Put};

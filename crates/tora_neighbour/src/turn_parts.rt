@@ -2,10 +2,10 @@
 ghost use Rattle.std.specs.Prelude.{◌≡◌, [], ◌∷◌, ◌++◌, ◌+◌, ℕ, ◌≤◌, ◌<◌, List, Option, Result, Some, None, is_err, length, map, true, false, IsTrue, IfErr, OnOk, OnErr};
 ghost use Rattle.tora_frame.specs.FrameParts.{FrameParts};
 ghost use Rattle.tora_frame.specs.FrameGrammar.{frame_spelling};
-ghost use Rattle.tora_arq.specs.declared.LinkEvent.{LinkEvent};
+ghost use Rattle.tora_arq.specs.declared.link_event.LinkEvent.{LinkEvent};
 ghost use Rattle.tora_arq.specs.LinkEnd.{is_closed, frame_due, after_transmit};
 ghost use Rattle.tora_arq.specs.LinkFacts.{list_of};
-ghost use Rattle.tora_seat.specs.declared.Cargo.{Cargo};
+ghost use Rattle.tora_seat.specs.declared.cargo.Cargo.{Cargo};
 ghost use Rattle.tora_neighbour.specs.Datagrams.{RoseBy};
 ghost use Rattle.tora_neighbour.specs.Intake.{Reading, intake_in, after_came};
 ghost use Rattle.tora_neighbour.specs.Tally.{counted_in};

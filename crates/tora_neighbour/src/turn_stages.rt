@@ -2,11 +2,11 @@
 ghost use Rattle.std.specs.Prelude.{◌≡◌, [], ◌∷◌, ◌++◌, ◌+◌, ℕ, ◌≤◌, ◌<◌, List, Option, Result, Err, Some, None, length, map, true, false, IsTrue, IfErr, OnOk, OnErr, if◌then◌else◌};
 ghost use Rattle.tora_frame.specs.FrameParts.{FrameParts};
 ghost use Rattle.tora_frame.specs.FrameGrammar.{frame_spelling};
-ghost use Rattle.tora_arq.specs.declared.LinkEvent.{LinkEvent};
+ghost use Rattle.tora_arq.specs.declared.link_event.LinkEvent.{LinkEvent};
 ghost use Rattle.tora_arq.specs.LinkEnd.{is_closed, bound_life, after_tick};
 ghost use Rattle.tora_arq.specs.LinkFacts.{list_of};
-ghost use Rattle.tora_seat.specs.declared.Cargo.{Cargo};
-ghost use Rattle.tora_seat.specs.declared.What.TheVariants as Says;
+ghost use Rattle.tora_seat.specs.declared.cargo.Cargo.{Cargo};
+ghost use Rattle.tora_seat.specs.declared.what.What.TheVariants as Says;
 ghost use Rattle.tora_seat.specs.declared.TheConstants.{MOST_CARGOES};
 ghost use Rattle.tora_lane.specs.declared.ports.Gone.{Gone as AnyGone};
 ghost use Rattle.tora_neighbour.specs.Datagrams.{RoseBy};

@@ -9,9 +9,9 @@ use Rattle.tora_lines.specs.Fronts.{after}
 use Rattle.tora_lines.specs.Words.{id_of, number_of}
 use Rattle.tora_node.specs.CommandText.{asked_by, is_word}
 use Rattle.tora_lane.specs.Ports.{InEnd}
-use Rattle.tora_seat.specs.declared.Item.{Item}
-use Rattle.tora_seat.specs.declared.What.{What}
-use Rattle.tora_seat.specs.declared.What.TheVariants as Tells
+use Rattle.tora_seat.specs.declared.item.Item.{Item}
+use Rattle.tora_seat.specs.declared.what.What.{What}
+use Rattle.tora_seat.specs.declared.what.What.TheVariants as Tells
 use Rattle.tora_node.specs.declared.commands.Command.{Command}
 use Rattle.tora_node.specs.declared.commands.Command.TheVariants as Asks
 use Rattle.tora_node.specs.declared.commands.CommandsEnd.{CommandsEnd}

@@ -1,7 +1,7 @@
 -- What the calls of a thread keep of its hub and its lanes, and which of them are calls of its wire.
 use Rattle.std.proofs.Common.{◌≡◌, ◌∙◌, sym, ap, ℕ, zero, suc, Bool, true, false, List, [], ◌∷◌, map, Option, None, Some, Result, Ok, Err, ⊎_elim}
 use Rattle.std.specs.Prelude.{slice_get, slice_set}
-use Rattle.tora_arq.specs.declared.LinkEvent.{LinkEvent}
+use Rattle.tora_arq.specs.declared.link_event.LinkEvent.{LinkEvent}
 use Rattle.tora_lane.specs.Offering.{DidOffer}
 use Rattle.tora_lane.specs.Out.{Ring, SendEnd, ReceiveEnd, with_sent}
 use Rattle.tora_lane.specs.Ports.{InEnd, Lane}
@@ -15,8 +15,8 @@ use Rattle.tora_neighbour.specs.declared.ending.Ending.TheVariants.{NoNumber, Br
 use Rattle.tora_neighbour.specs.declared.wire.WireError.{WireError}
 use Rattle.tora_seat.specs.Offers.{AreOffered, place_of}
 use Rattle.tora_seat.specs.Serving.{Offer}
-use Rattle.tora_seat.specs.declared.Cargo.{Cargo}
-use Rattle.tora_seat.specs.declared.What.{What}
+use Rattle.tora_seat.specs.declared.cargo.Cargo.{Cargo}
+use Rattle.tora_seat.specs.declared.what.What.{What}
 use Rattle.tora_node.specs.declared.wake.WakingLanes.{WakingLanes}
 use Rattle.tora_node.specs.WireCalls.{AreWireCalls, LastWireCalls}
 

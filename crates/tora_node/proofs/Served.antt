@@ -5,11 +5,11 @@ use Rattle.std.specs.Prelude.{◌⊎◌, Bool, true, false, is_some}
 use Rattle.std.specs.Io.KnownBytes.{Appends}
 use Rattle.tora_core.specs.declared.Input.{Input}
 use Rattle.tora_core.specs.CoreRun.{CoreView, core_after, core_after_all}
-use Rattle.tora_seat.specs.declared.Item.{Item}
-use Rattle.tora_seat.specs.declared.Cargo.{Cargo}
-use Rattle.tora_seat.specs.declared.Status.TheVariants as Asked
-use Rattle.tora_seat.specs.declared.What.{What}
-use Rattle.tora_seat.specs.declared.What.TheVariants as Tells
+use Rattle.tora_seat.specs.declared.item.Item.{Item}
+use Rattle.tora_seat.specs.declared.cargo.Cargo.{Cargo}
+use Rattle.tora_seat.specs.declared.status.Status.TheVariants as Asked
+use Rattle.tora_seat.specs.declared.what.What.{What}
+use Rattle.tora_seat.specs.declared.what.What.TheVariants as Tells
 use Rattle.tora_seat.specs.Serving.{Answers, Offer, SeatState, Serving, serving_of}
 use Rattle.tora_seat.specs.Offers.{AreOffered, Follows}
 use Rattle.tora_node.specs.CoreRuns.{ServedItem, answers_told, serving_told, AreServed, items_served, offers_made, inputs_stepped, text_of, told_anew, told_after, text_served, told_served, IsWatched, MayTell, MayFail, GoOn}

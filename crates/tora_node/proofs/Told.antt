@@ -3,7 +3,7 @@ use Rattle.std.proofs.Common.{◌≡◌, ℕ, List, [], ◌∷◌, ◌++◌, len
 use Rattle.std.specs.Prelude.{slice_get}
 use Rattle.tora_seat.specs.Serving.{Offer}
 use Rattle.tora_seat.specs.Offers.{Follows, AreOffered}
-use Rattle.tora_seat.specs.declared.Cargo.{Cargo}
+use Rattle.tora_seat.specs.declared.cargo.Cargo.{Cargo}
 use Rattle.std.specs.Prelude.{Bool}
 use Rattle.tora_node.specs.CoreRuns.{answers_told, was_put}
 

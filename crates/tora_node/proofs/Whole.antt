@@ -18,8 +18,8 @@ use Rattle.tora_neighbour.specs.declared.wire.Wire as Wire
 use Rattle.tora_neighbour.specs.declared.wire.WireError.{WireError}
 use Rattle.tora_seat.specs.Rows.{first_seat}
 use Rattle.tora_seat.specs.Serving.{put_to}
-use Rattle.tora_seat.specs.declared.Cargo.{Cargo}
-use Rattle.tora_seat.specs.declared.Item.{Item}
+use Rattle.tora_seat.specs.declared.cargo.Cargo.{Cargo}
+use Rattle.tora_seat.specs.declared.item.Item.{Item}
 use Rattle.tora_node.specs.declared.commands.CommandsEnd.{CommandsEnd}
 use Rattle.tora_node.specs.declared.core_task.CoreRest.{CoreRest}
 use Rattle.tora_node.specs.declared.link_task.LinkRest.{LinkRest}

@@ -3,9 +3,9 @@ use Rattle.std.specs.Prelude.{◌≡◌, ℕ, nat_lt, ◌==◌, if◌then◌else
 use Rattle.std.specs.Io.KnownBytes.{Consumes, IsAtEnd}
 use Rattle.tora_lane.specs.Ports.{InEnd}
 use Rattle.tora_neighbour.specs.LaneHub.{IsSamePort}
-use Rattle.tora_seat.specs.declared.Item.{Item}
-use Rattle.tora_seat.specs.declared.What.{What}
-use Rattle.tora_seat.specs.declared.What.TheVariants as Tells
+use Rattle.tora_seat.specs.declared.item.Item.{Item}
+use Rattle.tora_seat.specs.declared.what.What.{What}
+use Rattle.tora_seat.specs.declared.what.What.TheVariants as Tells
 use Rattle.tora_node.specs.declared.commands.Command.{Command}
 use Rattle.tora_node.specs.declared.commands.Command.TheVariants as Asks
 use Rattle.tora_node.specs.declared.commands.CommandsEnd.{CommandsEnd}

@@ -2,8 +2,8 @@
 use Rattle.std.specs.Prelude.{◌≡◌, ◌⊎◌, ◌<◌, ℕ, Bool, true, false, List, [], ◌++◌, length, Option, Some, None}
 use Rattle.std.specs.Io.KnownBytes.{Consumes, IsAtEnd}
 use Rattle.tora_lane.specs.Ports.{InEnd}
-use Rattle.tora_seat.specs.declared.Item.{Item}
-use Rattle.tora_seat.specs.declared.What.{What}
+use Rattle.tora_seat.specs.declared.item.Item.{Item}
+use Rattle.tora_seat.specs.declared.what.What.{What}
 use Rattle.tora_node.specs.declared.commands.Command.{Command}
 use Rattle.tora_node.specs.declared.commands.CommandsEnd.{CommandsEnd}
 use Rattle.tora_node.specs.declared.commands.CommandsEnd.TheVariants as Ends

@@ -2,7 +2,7 @@
 use Rattle.std.specs.Prelude.{ℕ, Bool, ◌==◌, ◌&&◌, if◌then◌else◌, codes, is_some, List, length, Option, Some, None}
 use Rattle.tora_lines.specs.Fronts.{after}
 use Rattle.tora_lines.specs.Words.{id_of}
-use Rattle.tora_seat.specs.declared.Status.TheVariants as Of
+use Rattle.tora_seat.specs.declared.status.Status.TheVariants as Of
 use Rattle.tora_node.specs.declared.commands.Command.{Command}
 use Rattle.tora_node.specs.declared.commands.Command.TheVariants as Asks
 

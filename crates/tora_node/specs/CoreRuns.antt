@@ -7,12 +7,12 @@ use Rattle.tora_core.specs.ShowText.{show_text}
 use Rattle.tora_core.specs.CoreRun.{CoreView}
 use Rattle.tora_node.specs.declared.fault.NodeError.{NodeError}
 use Rattle.tora_node.specs.declared.fault.NodeError.TheVariants as Fault
-use Rattle.tora_seat.specs.declared.Item.{Item}
-use Rattle.tora_seat.specs.declared.Status.TheVariants as Asked
-use Rattle.tora_seat.specs.declared.What.{What}
-use Rattle.tora_seat.specs.declared.What.TheVariants as Tells
-use Rattle.tora_seat.specs.declared.Answer.{Answer}
-use Rattle.tora_seat.specs.declared.Answer.TheVariants as Says
+use Rattle.tora_seat.specs.declared.item.Item.{Item}
+use Rattle.tora_seat.specs.declared.status.Status.TheVariants as Asked
+use Rattle.tora_seat.specs.declared.what.What.{What}
+use Rattle.tora_seat.specs.declared.what.What.TheVariants as Tells
+use Rattle.tora_seat.specs.declared.answer.Answer.{Answer}
+use Rattle.tora_seat.specs.declared.answer.Answer.TheVariants as Says
 use Rattle.tora_seat.specs.Serving.{Answers, Offer, SeatState, Serving, serving_of}
 use Rattle.tora_node.specs.declared.watch.Told.{Told}
 use Rattle.tora_node.specs.StatusJson.{json_text}

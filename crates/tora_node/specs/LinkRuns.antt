@@ -2,7 +2,7 @@
 use Rattle.std.specs.Prelude.{◌≡◌, ◌⊎◌, ℕ, List, [], ◌∷◌, ◌++◌, map, slice_get, Option, Some, None}
 use Rattle.tora_arq.specs.LinkEnd.{EndState, first_end}
 use Rattle.tora_arq.specs.Settings.{Settings, settings_of}
-use Rattle.tora_arq.specs.declared.TheConstants.Times.{STANDARD}
+use Rattle.tora_arq.specs.declared.times.TheConstants.Times.{STANDARD}
 use Rattle.tora_core.specs.CoreRun.{CoreView}
 use Rattle.tora_frame.specs.declared.parts.Version.TheVariants.{Two}
 use Rattle.tora_life.specs.declared.disk.Disk as Disk

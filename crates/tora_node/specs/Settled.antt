@@ -4,7 +4,7 @@ use Rattle.tora_lane.specs.LaneRule.{items_of}
 use Rattle.tora_lane.specs.Ports.{InEnd}
 use Rattle.tora_node.specs.declared.fault.NodeError.{NodeError}
 use Rattle.tora_node.specs.declared.fault.NodeError.TheVariants as Fault
-use Rattle.tora_seat.specs.declared.Item.{Item}
+use Rattle.tora_seat.specs.declared.item.Item.{Item}
 use Rattle.tora_node.specs.declared.core_task.CoreRest.{CoreRest}
 use Rattle.tora_node.specs.declared.link_task.LinkRest.{LinkRest}
 use Rattle.tora_node.specs.NodeRuns.{EndedView, first_fault}

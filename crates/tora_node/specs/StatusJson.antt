@@ -4,7 +4,7 @@ use Rattle.std.specs.List.{flat_map}
 use Rattle.std.specs.Fmt.{decimal, signed_decimal}
 use Rattle.tora_height.specs.Height.{Quintuple}
 use Rattle.tora_height.specs.HeightOrder.{link_status}
-use Rattle.tora_arq.specs.declared.Life.{Life}
+use Rattle.tora_arq.specs.declared.life.Life.{Life}
 use Rattle.tora_core.specs.ShowText.{direction_text}
 use Rattle.tora_core.specs.CoreRun.{CoreView, height_of, entry_of, flag_of, hop_of}
 use Rattle.tora_core.specs.Kept.{destinations_of}

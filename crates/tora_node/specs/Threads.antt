@@ -15,8 +15,8 @@ use Rattle.tora_neighbour.specs.declared.wire.Wire as Wire
 use Rattle.tora_neighbour.specs.declared.wire.WireError.{WireError}
 use Rattle.tora_seat.specs.Offers.{AreOffered}
 use Rattle.tora_seat.specs.Rows.{SeatView, state_of}
-use Rattle.tora_seat.specs.declared.Cargo.{Cargo}
-use Rattle.tora_seat.specs.declared.Item.{Item}
+use Rattle.tora_seat.specs.declared.cargo.Cargo.{Cargo}
+use Rattle.tora_seat.specs.declared.item.Item.{Item}
 use Rattle.tora_node.specs.declared.core_task.CoreRest.{CoreRest}
 use Rattle.tora_node.specs.declared.link_task.LinkRest.{LinkRest}
 use Rattle.tora_node.specs.declared.link_task.Outcome.{Outcome}

@@ -8,7 +8,7 @@ use Rattle.std.proofs.lemmas.List.{take-append-drop, length-take, length-drop, g
 use Rattle.std.proofs.lemmas.Nat.{be_bytes_4, be_bytes_8}
 use Rattle.tora_height.specs.Height.{Quintuple}
 use Rattle.tora_height.specs.Height.{height_fault}
-use Rattle.tora_height.specs.declared.HeightError.{HeightError}
+use Rattle.tora_height.specs.declared.height_error.HeightError.{HeightError}
 use Rattle.tora_packet.specs.PacketGrammar.{u32_at, u64_at, kind_of, is_kind, length_of, is_reserved_zero, is_bad_value, packet_fault}
 use Rattle.tora_packet.specs.declared.PacketError.{PacketError}
 use Rattle.tora_packet.specs.declared.PacketError.TheVariants as errors

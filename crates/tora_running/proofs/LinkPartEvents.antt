@@ -3,11 +3,11 @@ use Rattle.std.proofs.Common.{◌≡◌, ℕ, zero, suc, ◌<◌, ◌≤◌, ◌
 use Rattle.std.proofs.lemmas.Bool.{cond_both}
 use Rattle.std.specs.Prelude.{is_some, not, drop, slice_get, IsTrue}
 use Rattle.tora_frame.specs.FrameParts.{FrameParts}
-use Rattle.tora_arq.specs.declared.LinkEvent.{LinkEvent}
-use Rattle.tora_arq.specs.declared.state.Phase.{Phase}
-use Rattle.tora_arq.specs.declared.state.Phase.TheVariants.{Closed, Unbound, Bound}
-use Rattle.tora_arq.specs.declared.Verdict.{Verdict}
-use Rattle.tora_arq.specs.declared.Verdict.TheVariants.{Accepted, Repeated, Ahead, Stale, Foreign, Busy}
+use Rattle.tora_arq.specs.declared.link_event.LinkEvent.{LinkEvent}
+use Rattle.tora_arq.specs.declared.phase.Phase.{Phase}
+use Rattle.tora_arq.specs.declared.phase.Phase.TheVariants.{Closed, Unbound, Bound}
+use Rattle.tora_arq.specs.declared.verdict.Verdict.{Verdict}
+use Rattle.tora_arq.specs.declared.verdict.Verdict.TheVariants.{Accepted, Repeated, Ahead, Stale, Foreign, Busy}
 use Rattle.tora_arq.specs.Settings.{Settings}
 use Rattle.tora_arq.specs.LinkEnd.{EndState, is_closed, bound_life, after_open, after_tick, after_frame, verdict_of, frame_due, after_transmit, first_event}
 use Rattle.tora_arq.specs.LinkFacts.{LinkCall, frame_sent_by, IsFrameSent, IsFrameSentIn}
@@ -16,16 +16,17 @@ use Rattle.tora_life.specs.LifeRun.{LifeDisk, owner_in, after_event, drawn_by}
 use Rattle.tora_life.specs.LifeRun.LifeDisk.{Opened, Unopened}
 use Rattle.tora_life.specs.LifeRun.LifeEvent.{Draw}
 use Rattle.tora_life.specs.declared.tags.Owner.{Owner}
-use Rattle.tora_seat.specs.declared.What.TheVariants as Told
-use Rattle.tora_seat.specs.declared.Cargo.{Cargo}
+use Rattle.tora_seat.specs.declared.what.What.TheVariants as Told
+use Rattle.tora_seat.specs.declared.cargo.Cargo.{Cargo}
 use Rattle.tora_seat.specs.Serving.{put_one}
-use Rattle.tora_world.specs.declared.Event.TheVariants.{Open, Pull, Transmit, Deliver}
-use Rattle.tora_world.specs.declared.SimError.TheVariants as Refused
+use Rattle.tora_world.specs.declared.event.Event.TheVariants.{Open, Pull, Transmit, Deliver}
+use Rattle.tora_world.specs.declared.sim_error.SimError.TheVariants as Refused
 use Rattle.tora_world.specs.Topology.{is_link}
 use Rattle.tora_world.specs.Lists.{IsIn}
 use Rattle.tora_world.specs.LinkMachine.{put_at}
 use Rattle.tora_seat.specs.Between.{after_cargo}
-use Rattle.tora_world.specs.World.{World, Choice, Sending, settings, neighbours, place_of, datagram, is_empty, effect_by, with_end, with_item, open_with, after_pull, with_datagram, after_sending, after_receiving, after_pump}
+use Rattle.tora_world.specs.World.{World, Choice, Sending, settings, neighbours, datagram, is_empty, effect_by, with_end, with_item, open_with, after_pull, with_datagram, after_sending, after_receiving, after_pump}
+use Rattle.tora_seat.specs.Offers.{place_of}
 use Rattle.tora_world.specs.World.Sending.{Goes, IsLost, IsGone}
 use Rattle.tora_seat.specs.Between.{after_cut_of_bound}
 use Rattle.tora_world.specs.FreeWorld.{MayBecome, after_schedule}

@@ -2,13 +2,13 @@
 use Rattle.std.proofs.Common.{◌∙◌, sym, ap, ℕ, List, [], ◌∷◌, ◌++◌, map, None}
 use Rattle.tora_arq.specs.LinkEnd.{first_end}
 use Rattle.tora_arq.specs.Settings.{settings_of}
-use Rattle.tora_arq.specs.declared.TheConstants.Times.{STANDARD}
+use Rattle.tora_arq.specs.declared.times.TheConstants.Times.{STANDARD}
 use Rattle.tora_frame.specs.declared.parts.Version.TheVariants.{Two}
 use Rattle.tora_neighbour.specs.declared.tally.Tally.{Tally}
 use Rattle.tora_node.specs.LinkRuns.{name_of, IsLinkRun, AreLinkRuns, AreFaultless}
 use Rattle.tora_running.specs.Histories.{parts_of_turns, parts_of_last}
 use Rattle.tora_node.specs.WholeRuns.{LinkExchanged}
-use Rattle.tora_seat.specs.declared.Cargo.{Cargo}
+use Rattle.tora_seat.specs.declared.cargo.Cargo.{Cargo}
 use Rattle.tora_running.specs.Nodes.{HasHistory, HasExchanged, HaveHistories}
 use Rattle.tora_running.proofs.ThreadHistories.{run_is}
 use Rattle.tora_running.proofs.ThreadExchanges.{run_exchanges}

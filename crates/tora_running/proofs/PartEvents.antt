@@ -3,12 +3,12 @@ use Rattle.std.proofs.Common.{◌≡◌, ℕ, Bool, true, false, true≢false, L
 use Rattle.std.specs.Prelude.{is_some, not, drop}
 use Rattle.tora_frame.specs.FrameParts.{FrameParts}
 use Rattle.tora_life.specs.LifeRun.{LifeDisk}
-use Rattle.tora_seat.specs.declared.Item.{Item}
-use Rattle.tora_seat.specs.declared.What.{What}
+use Rattle.tora_seat.specs.declared.item.Item.{Item}
+use Rattle.tora_seat.specs.declared.what.What.{What}
 use Rattle.tora_seat.specs.Serving.{Offer, Serving, put_one, put_to, stepped_from}
-use Rattle.tora_world.specs.declared.Event.{Event}
-use Rattle.tora_world.specs.declared.Event.TheVariants.{CoreTurn, Restart}
-use Rattle.tora_world.specs.declared.SimError.TheVariants as Refused
+use Rattle.tora_world.specs.declared.event.Event.{Event}
+use Rattle.tora_world.specs.declared.event.Event.TheVariants.{CoreTurn, Restart}
+use Rattle.tora_world.specs.declared.sim_error.SimError.TheVariants as Refused
 use Rattle.tora_world.specs.Topology.{is_node}
 use Rattle.tora_world.specs.Lists.{IsIn}
 use Rattle.tora_world.specs.World.{World, Choice, Arms, refusal_by, is_empty, unless_possible, effect_by, world_by, after_restart, after_serving, after_turn, command_seat, with_item}

@@ -2,8 +2,8 @@
 use Rattle.std.proofs.Common.{◌≡◌, ℕ, ◌+◌, ◌≤◌, ◌&&◌, Bool, true, false, if◌then◌else◌, List, [], ◌∷◌, ◌++◌, refl, sym, ap, ◌∙◌, subst, arith}
 use Rattle.std.specs.Prelude.{not}
 use Rattle.tora_frame.specs.FrameParts.{FrameParts}
-use Rattle.tora_arq.specs.declared.Life.{Life}
-use Rattle.tora_arq.specs.declared.Times.{Times}
+use Rattle.tora_arq.specs.declared.life.Life.{Life}
+use Rattle.tora_arq.specs.declared.times.Times.{Times}
 use Rattle.tora_world.specs.Topology.{Topology}
 use Rattle.tora_world.specs.World.{World, first_world, owner_of}
 use Rattle.tora_world.specs.FreeWorld.{Schedule, free_by, after_schedule}

@@ -6,9 +6,9 @@ use Rattle.tora_core.specs.CoreRun.{height_of, entry_of, hop_of}
 use Rattle.tora_world.specs.Topology.{Topology, nodes_in, is_node, is_link}
 use Rattle.tora_world.specs.World.{World}
 use Rattle.tora_arq.specs.LinkEnd.{EndState, bound_life}
-use Rattle.tora_seat.specs.declared.Item.{Item}
-use Rattle.tora_seat.specs.declared.Cargo.{Cargo}
-use Rattle.tora_world.specs.Lists.{reversed}
+use Rattle.tora_seat.specs.declared.item.Item.{Item}
+use Rattle.tora_seat.specs.declared.cargo.Cargo.{Cargo}
+use Rattle.tora_arq.specs.Lives.{reversed}
 use Rattle.tora_world.specs.Rest.{IsAtRest, EntriesAreHeights, LacksHeight, IsReached, itself, further, life_at}
 use Rattle.tora_world.specs.Walks.{height_at, hop_at, entry_at, IsExact, LeadsOn, FallsFrom, walk_within, Arrives}
 

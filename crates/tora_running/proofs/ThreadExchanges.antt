@@ -2,11 +2,11 @@
 use Rattle.std.proofs.Common.{◌≡◌, ℕ, Bool, true, false, IsFalse, List, [], ◌∷◌, ◌++◌, map, flat_map, Option, Some, None, Result, Ok, Err, refl, sym, ap, ap₂, ◌∙◌, append-nil}
 use Rattle.std.proofs.lemmas.List.Concat.{flat_map-append}
 use Rattle.tora_frame.specs.FrameParts.{FrameParts}
-use Rattle.tora_arq.specs.declared.LinkEvent.{LinkEvent}
+use Rattle.tora_arq.specs.declared.link_event.LinkEvent.{LinkEvent}
 use Rattle.tora_arq.specs.Settings.{Settings}
 use Rattle.tora_arq.specs.LinkEnd.{EndState}
 use Rattle.tora_arq.specs.LinkFacts.{list_of}
-use Rattle.tora_seat.specs.declared.Cargo.{Cargo}
+use Rattle.tora_seat.specs.declared.cargo.Cargo.{Cargo}
 use Rattle.tora_neighbour.specs.declared.wire.WireError.{WireError}
 use Rattle.tora_neighbour.specs.declared.ending.Ending.{Ending}
 use Rattle.tora_neighbour.specs.declared.ending.Ending.TheVariants.{NoNumber, Broken, Refused}

@@ -3,15 +3,15 @@ use Rattle.std.proofs.Common.{◌≡◌, ℕ, Bool, true, false, List, [], ◌�
 use Rattle.std.proofs.lemmas.Bool.{cond_both}
 use Rattle.std.specs.Prelude.{slice_get, drop}
 use Rattle.tora_frame.specs.FrameParts.{FrameParts}
-use Rattle.tora_arq.specs.declared.Life.{Life}
-use Rattle.tora_arq.specs.declared.LinkEvent.{LinkEvent}
-use Rattle.tora_arq.specs.declared.state.Phase.{Phase}
-use Rattle.tora_arq.specs.declared.state.Phase.TheVariants.{Closed, Unbound, Bound}
+use Rattle.tora_arq.specs.declared.life.Life.{Life}
+use Rattle.tora_arq.specs.declared.link_event.LinkEvent.{LinkEvent}
+use Rattle.tora_arq.specs.declared.phase.Phase.{Phase}
+use Rattle.tora_arq.specs.declared.phase.Phase.TheVariants.{Closed, Unbound, Bound}
 use Rattle.tora_arq.specs.Settings.{Settings}
 use Rattle.tora_arq.specs.SendQueue.{DueBatch}
 use Rattle.tora_arq.specs.LinkEnd.{EndState, bound_life, frame_due, after_transmit, after_poll_event, is_old_hello_due, is_hello_due, due_of, on_transmit_due, on_hello, on_transmit_in, on_transmit}
-use Rattle.tora_seat.specs.declared.Cargo.{Cargo}
-use Rattle.tora_seat.specs.declared.Cargo.TheVariants.{Packet, Cut}
+use Rattle.tora_seat.specs.declared.cargo.Cargo.{Cargo}
+use Rattle.tora_seat.specs.declared.cargo.Cargo.TheVariants.{Packet, Cut}
 use Rattle.tora_neighbour.specs.declared.wire.WireError.{WireError}
 use Rattle.tora_neighbour.specs.declared.ending.Ending.{Ending}
 use Rattle.tora_neighbour.specs.declared.ending.Ending.TheVariants.{NoNumber, Broken, Refused}
@@ -19,7 +19,7 @@ use Rattle.tora_neighbour.specs.declared.ending.BrokenAt.TheVariants.{Send, Rece
 use Rattle.tora_neighbour.specs.Intake.{Reading, after_came}
 use Rattle.tora_neighbour.specs.Turns as turns
 use Rattle.tora_neighbour.specs.Turns.{Turn, IsOpening, AreDue, Begins, IsTurn, AreTurns, IsLastTurn, IsTurnRun, after_opening, after_cargoes, after_frames, when_ticked, when_served, when_sent, when_none_due, when_heard}
-use Rattle.tora_seat.specs.declared.Item.{Item}
+use Rattle.tora_seat.specs.declared.item.Item.{Item}
 use Rattle.tora_seat.specs.Serving.{SeatState}
 use Rattle.tora_node.specs.CoreRuns.{ServedItem, serving_told, AreServed, items_served}
 use Rattle.tora_world.specs.Topology.{is_node}

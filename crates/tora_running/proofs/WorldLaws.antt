@@ -1,14 +1,15 @@
 -- The laws of the free world, read of a network.
 use Rattle.std.proofs.Common.{◌≡◌, ℕ, true, List, [], Some, None, sym, ap, ap₂, ◌∙◌, subst}
-use Rattle.tora_arq.specs.declared.Life.{Life}
-use Rattle.tora_arq.specs.declared.Times.{Times}
+use Rattle.tora_arq.specs.declared.life.Life.{Life}
+use Rattle.tora_arq.specs.declared.times.Times.{Times}
 use Rattle.tora_core.specs.declared.Input.{Input}
 use Rattle.tora_core.specs.CoreRun.{core_after_all, has_destination}
-use Rattle.tora_seat.specs.declared.Cargo.{Cargo}
-use Rattle.tora_seat.specs.declared.Item.{Item}
+use Rattle.tora_seat.specs.declared.cargo.Cargo.{Cargo}
+use Rattle.tora_seat.specs.declared.item.Item.{Item}
 use Rattle.tora_seat.specs.Serving.{SeatState, Parcel, serving_of}
 use Rattle.tora_world.specs.Topology.{Topology, IsWithinLimits, neighbours_of, new_core, is_link}
-use Rattle.tora_world.specs.Lists.{reversed, packets_of, parcels_in, Begins}
+use Rattle.tora_world.specs.Lists.{packets_of, parcels_in, Begins}
+use Rattle.tora_arq.specs.Lives.{reversed}
 use Rattle.tora_world.specs.World.{World, first_world}
 use Rattle.tora_world.specs.FreeWorld.{after_schedule}
 use Rattle.tora_world.specs.Law as world

@@ -2,8 +2,8 @@
 use Rattle.std.specs.Prelude.{◌≡◌, ℕ, List, [], ◌∷◌, Ok, Err}
 use Rattle.std.specs.List.{flat_map}
 use Rattle.tora_frame.specs.FrameParts.{FrameParts}
-use Rattle.tora_seat.specs.declared.Cargo.{Cargo}
-use Rattle.tora_seat.specs.declared.What.TheVariants as Told
+use Rattle.tora_seat.specs.declared.cargo.Cargo.{Cargo}
+use Rattle.tora_seat.specs.declared.what.What.TheVariants as Told
 use Rattle.tora_neighbour.specs.declared.hub.Put.{Put}
 use Rattle.tora_neighbour.specs.Puts.{put_of}
 use Rattle.tora_neighbour.specs.Intake.{Reading}

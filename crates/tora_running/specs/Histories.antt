@@ -1,9 +1,9 @@
 -- The parts that the turns of a link's thread and the items of a core's thread are.
 use Rattle.std.specs.Prelude.{◌≡◌, ℕ, ◌==◌, ◌&&◌, Bool, IsFalse, if◌then◌else◌, List, [], ◌∷◌, ◌++◌, Option, Some, None, Result, Ok, Err}
 use Rattle.tora_frame.specs.FrameParts.{FrameParts}
-use Rattle.tora_arq.specs.declared.LinkEvent.{LinkEvent}
+use Rattle.tora_arq.specs.declared.link_event.LinkEvent.{LinkEvent}
 use Rattle.tora_arq.specs.LinkEnd.{EndState, first_event, after_poll_event}
-use Rattle.tora_seat.specs.declared.Cargo.{Cargo}
+use Rattle.tora_seat.specs.declared.cargo.Cargo.{Cargo}
 use Rattle.tora_world.specs.World.{Sending}
 use Rattle.tora_world.specs.World.Sending.{Goes, IsGone}
 use Rattle.tora_neighbour.specs.declared.wire.WireError.{WireError}

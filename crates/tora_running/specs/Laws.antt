@@ -3,11 +3,12 @@ use Rattle.std.specs.Prelude.{◌≡◌, ℕ, ◌+◌, ◌≤◌, ◌&&◌, true
 use Rattle.tora_height.specs.Height.{Quintuple}
 use Rattle.tora_packet.specs.declared.Packet.{Packet}
 use Rattle.tora_frame.specs.FrameParts.{FrameParts}
-use Rattle.tora_arq.specs.declared.Life.{Life}
-use Rattle.tora_arq.specs.declared.Times.{Times}
+use Rattle.tora_arq.specs.declared.life.Life.{Life}
+use Rattle.tora_arq.specs.declared.times.Times.{Times}
 use Rattle.tora_core.specs.CoreRun.{core_after_all}
 use Rattle.tora_world.specs.Topology.{Topology, IsWithinLimits, new_core, is_link}
-use Rattle.tora_world.specs.Lists.{reversed, Begins, IsIn}
+use Rattle.tora_world.specs.Lists.{Begins, IsIn}
+use Rattle.tora_arq.specs.Lives.{reversed}
 use Rattle.tora_world.specs.World.{World, first_world}
 use Rattle.tora_world.specs.FreeWorld.{Schedule, after_schedule}
 use Rattle.tora_world.specs.Law.{is_bound_to}

@@ -2,23 +2,24 @@
 use Rattle.std.specs.Prelude.{◌≡◌, ◌⊎◌, ℕ, suc, ◌<◌, ◌≤◌, ◌^◌, ◌==◌, IsTrue, if◌then◌else◌, List, [], ◌∷◌, ◌++◌, length, drop}
 use Rattle.tora_packet.specs.declared.Packet.{Packet}
 use Rattle.tora_frame.specs.FrameParts.{FrameParts}
-use Rattle.tora_arq.specs.declared.Life.{Life}
-use Rattle.tora_arq.specs.declared.Times.{Times}
-use Rattle.tora_arq.specs.declared.Verdict.{Verdict}
-use Rattle.tora_arq.specs.declared.Verdict.TheVariants.{Accepted, Repeated, Ahead, Stale, Foreign, Busy}
+use Rattle.tora_arq.specs.declared.life.Life.{Life}
+use Rattle.tora_arq.specs.declared.times.Times.{Times}
+use Rattle.tora_arq.specs.declared.verdict.Verdict.{Verdict}
+use Rattle.tora_arq.specs.declared.verdict.Verdict.TheVariants.{Accepted, Repeated, Ahead, Stale, Foreign, Busy}
 use Rattle.tora_arq.specs.Settings.{Settings, settings_of}
 use Rattle.tora_arq.specs.LinkEnd.{EndState, first_end, verdict_of}
 use Rattle.tora_core.specs.declared.Input.{Input}
-use Rattle.tora_seat.specs.declared.What.{What}
-use Rattle.tora_seat.specs.declared.What.TheVariants as Told
-use Rattle.tora_seat.specs.declared.Item.{Item}
-use Rattle.tora_seat.specs.declared.Cargo.{Cargo}
+use Rattle.tora_seat.specs.declared.what.What.{What}
+use Rattle.tora_seat.specs.declared.what.What.TheVariants as Told
+use Rattle.tora_seat.specs.declared.item.Item.{Item}
+use Rattle.tora_seat.specs.declared.cargo.Cargo.{Cargo}
 use Rattle.tora_seat.specs.Serving.{SeatState, Parcel, Offer, Serving, put_one, put_to, stepped_from}
 use Rattle.tora_world.specs.Topology.{Topology, version_at, neighbours_of, is_node, is_link}
 use Rattle.tora_world.specs.Lists.{packets_of, parcels_in, IsIn}
 use Rattle.tora_world.specs.LinkMachine.{put_at}
 use Rattle.tora_seat.specs.Between.{what_of}
-use Rattle.tora_world.specs.World.{first_seat, place_of, with_datagram}
+use Rattle.tora_world.specs.World.{first_seat, with_datagram}
+use Rattle.tora_seat.specs.Offers.{place_of}
 use Rattle.tora_world.specs.FreeWorld.{TellsNoLife}
 use Rattle.tora_node.specs.CoreRuns.{serving_told}
 use Rattle.tora_running.specs.Parts.{LinkPart, end_after, IsPossible}

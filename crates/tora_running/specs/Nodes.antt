@@ -3,7 +3,7 @@ use Rattle.std.specs.Prelude.{◌≡◌, ℕ, List, [], ◌∷◌, ◌++◌, map
 use Rattle.std.specs.List.{flat_map}
 use Rattle.tora_arq.specs.LinkEnd.{EndState, first_end}
 use Rattle.tora_arq.specs.Settings.{settings_of}
-use Rattle.tora_arq.specs.declared.TheConstants.Times.{STANDARD}
+use Rattle.tora_arq.specs.declared.times.TheConstants.Times.{STANDARD}
 use Rattle.tora_frame.specs.declared.parts.Version.TheVariants.{Two}
 use Rattle.tora_lane.specs.LaneRule.{items_of}
 use Rattle.tora_neighbour.specs.Puts.{put_in as put_of_item}
@@ -12,8 +12,8 @@ use Rattle.tora_neighbour.specs.Turns.{Turn, tally_after}
 use Rattle.tora_neighbour.specs.declared.tally.Tally.{Tally}
 use Rattle.tora_node.specs.CoreRuns.{ServedItem, items_served, offers_made}
 use Rattle.tora_seat.specs.Serving.{put_to}
-use Rattle.tora_seat.specs.declared.Cargo.{Cargo}
-use Rattle.tora_seat.specs.declared.Item.{Item}
+use Rattle.tora_seat.specs.declared.cargo.Cargo.{Cargo}
+use Rattle.tora_seat.specs.declared.item.Item.{Item}
 use Rattle.tora_running.specs.Parts.{LinkPart, AreLinkParts}
 use Rattle.tora_running.specs.Exchanges.{ExchangeTheSame, cargo_in, put_in}
 

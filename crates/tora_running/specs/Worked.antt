@@ -4,16 +4,16 @@ use Rattle.std.specs.Prelude.{◌≡◌, ℕ, Bool, true, false, List, [], ◌�
 use Rattle.tora_frame.specs.FrameParts.{FrameParts, frame_of}
 use Rattle.tora_frame.specs.declared.parts.Version.TheVariants.{One}
 use Rattle.tora_frame.specs.declared.parts.Body.TheVariants.{Hello}
-use Rattle.tora_arq.specs.declared.Life.{Life}
-use Rattle.tora_arq.specs.declared.LinkEvent.{LinkEvent}
-use Rattle.tora_arq.specs.declared.state.Phase.TheVariants.{Closed, Bound}
+use Rattle.tora_arq.specs.declared.life.Life.{Life}
+use Rattle.tora_arq.specs.declared.link_event.LinkEvent.{LinkEvent}
+use Rattle.tora_arq.specs.declared.phase.Phase.TheVariants.{Closed, Bound}
 use Rattle.tora_arq.specs.LinkEnd.{frame_due, first_event}
 use Rattle.tora_core.specs.CoreRun.{hop_of}
-use Rattle.tora_seat.specs.declared.What.TheVariants as Told
-use Rattle.tora_seat.specs.declared.Item.{Item}
-use Rattle.tora_seat.specs.declared.Cargo.{Cargo}
+use Rattle.tora_seat.specs.declared.what.What.TheVariants as Told
+use Rattle.tora_seat.specs.declared.item.Item.{Item}
+use Rattle.tora_seat.specs.declared.cargo.Cargo.{Cargo}
 use Rattle.tora_seat.specs.Serving.{serving_of}
-use Rattle.tora_world.specs.Lists.{reversed}
+use Rattle.tora_arq.specs.Lives.{reversed}
 use Rattle.tora_world.specs.World.{Sending}
 use Rattle.tora_world.specs.World.Sending.{Goes, IsLost, IsGone}
 use Rattle.tora_world.specs.Worked.{pair, times, life, update}

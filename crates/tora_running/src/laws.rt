@@ -13,7 +13,7 @@ ghost use Rattle.tora_node.specs.WholeRuns.{LinkExchanged};
 ghost use Rattle.tora_node.specs.LinkRuns.{AreFaultless, IsThreadsFault, links_of};
 ghost use Rattle.tora_node.specs.CoreRuns.{ServedItem, AreServed, items_served};
 ghost use Rattle.tora_seat.specs.Serving.{SeatState};
-ghost use Rattle.tora_seat.specs.declared.Item.{Item};
+ghost use Rattle.tora_seat.specs.declared.item.Item.{Item};
 ghost use Rattle.tora_world.specs.Topology.{is_node};
 ghost use Rattle.tora_running.specs.Exchanges.{ExchangeTheSame};
 ghost use Rattle.tora_running.specs.Histories.{IsAfterRefused, IsNotStarted, parts_of_last, parts_of_link, parts_of_turns, parts_served, served_in};

@@ -6,7 +6,7 @@ use Rattle.tora_channel.specs.declared.channel.Place.{Place}
 use Rattle.tora_channel.specs.Channel as Base
 use Rattle.tora_channel.specs.Channel.{copies_of}
 use Rattle.tora_channel.specs.Table.{clear, channel_on, copies_on}
-use Rattle.tora_world.specs.declared.Event.TheVariants.{Deliver}
+use Rattle.tora_world.specs.declared.event.Event.TheVariants.{Deliver}
 use Rattle.tora_world.specs.World.{World, datagram}
 use Rattle.tora_script.specs.Air.{MomentView, copies_in, at_once, later_copies, put_off_of, put_off}
 use Rattle.tora_script.specs.Rounds.{is_parted, repeats, arrival_of, delivery_of, delivery}

@@ -1,8 +1,8 @@
 -- How a plan of events is carried out, step by step.
 use Rattle.std.proofs.Common.{◌≡◌, ℕ, zero, suc, ◌+◌, ◌-◌, ◌<◌, ◌≤◌, Bool, true, false, not, ◌||◌, List, [], ◌∷◌, ◌++◌, length, drop, get_or, is_some, None, Some, refl, sym, ap, ◌∙◌, subst, arith}
 use Rattle.std.proofs.lemmas.List.{drop_more, drop_all}
-use Rattle.tora_world.specs.declared.Event.{Event}
-use Rattle.tora_world.specs.declared.SimError.{SimError}
+use Rattle.tora_world.specs.declared.event.Event.{Event}
+use Rattle.tora_world.specs.declared.sim_error.SimError.{SimError}
 use Rattle.tora_world.specs.World.{World, is_empty, refusal_of, world_by, world_after, world_after_all}
 use Rattle.tora_channel.specs.Table.{Channels}
 use Rattle.tora_script.specs.Air.{MomentView}

@@ -2,8 +2,8 @@
 pub use Rattle.tora_script.specs.Parted.{is_same_pair, is_parted}
 use Rattle.std.specs.Prelude.{◌≡◌, ℕ, zero, suc, ◌+◌, ◌-◌, Bool, not, nat_lt, is_some, if◌then◌else◌, List, [], ◌∷◌, ◌++◌, length, Option, Some, None}
 use Rattle.tora_frame.specs.FrameParts.{FrameParts}
-use Rattle.tora_world.specs.declared.Event.{Event}
-use Rattle.tora_world.specs.declared.Event.TheVariants.{Tick, Open, Pull, Transmit, Deliver, Pump, CoreTurn}
+use Rattle.tora_world.specs.declared.event.Event.{Event}
+use Rattle.tora_world.specs.declared.event.Event.TheVariants.{Tick, Open, Pull, Transmit, Deliver, Pump, CoreTurn}
 use Rattle.tora_world.specs.World.{World, datagram, is_empty, refusal_of, world_after, world_after_all}
 use Rattle.tora_channel.specs.Table.{Channels}
 use Rattle.tora_script.specs.Air.{MomentView, AirView, air_view, copies_in, at_once, after_air}

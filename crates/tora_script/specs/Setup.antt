@@ -1,6 +1,6 @@
 -- What a simulation is made with.
 use Rattle.std.specs.Prelude.{false, None}
-use Rattle.tora_arq.specs.declared.Times.{Times}
+use Rattle.tora_arq.specs.declared.times.Times.{Times}
 use Rattle.tora_channel.specs.Channel.{clear}
 use Rattle.tora_world.specs.Topology.{standard_limits}
 use Rattle.tora_script.specs.declared.setup.Setup.{Setup}

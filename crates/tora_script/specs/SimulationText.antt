@@ -4,11 +4,11 @@ use Rattle.std.specs.List.{flat_map, list_any}
 use Rattle.std.specs.Option.{option_and_then}
 use Rattle.std.specs.Fmt.{decimal}
 use Rattle.tora_height.specs.Height.{Quintuple}
-use Rattle.tora_arq.specs.declared.Times.{Times}
+use Rattle.tora_arq.specs.declared.times.Times.{Times}
 use Rattle.tora_core.specs.Numbers.{has_number}
 use Rattle.tora_core.specs.ShowText.{height_text, hop_text}
-use Rattle.tora_world.specs.declared.Event.{Event}
-use Rattle.tora_world.specs.declared.SimError.{SimError}
+use Rattle.tora_world.specs.declared.event.Event.{Event}
+use Rattle.tora_world.specs.declared.sim_error.SimError.{SimError}
 use Rattle.tora_world.specs.Errors.{sim_error_number}
 use Rattle.tora_world.specs.World.{World, refusal_of, world_after, sent_packets, taken_packets}
 use Rattle.tora_lines.specs.LineText.{Rules, numbered, whole_text, fault_of, IsFirstFaultBy}

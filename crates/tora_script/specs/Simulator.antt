@@ -1,7 +1,7 @@
 -- What a simulator does.
 use Rattle.std.specs.Prelude.{◌≡◌, ℕ, ◌<◌, Bool, not, is_some, if◌then◌else◌, fold, List, Option, Some, None, Result, Ok, Err}
 use Rattle.std.specs.List.{All}
-use Rattle.tora_arq.specs.declared.Times.{Times}
+use Rattle.tora_arq.specs.declared.times.Times.{Times}
 use Rattle.tora_core.specs.declared.errors.CoreError.{CoreError}
 use Rattle.tora_core.specs.declared.errors.CoreError.TheVariants.{Memory, TooMany, Repeated, OwnId}
 use Rattle.tora_world.specs.declared.limits.Limits.{Limits}

@@ -1,7 +1,7 @@
 //! Rounds of a simulation.
 ghost use Rattle.std.specs.Prelude.{◌≡◌, ◌||◌, IfOk};
 ghost use Rattle.tora_world.specs.World.{World, datagram, world_after_all};
-ghost use Rattle.tora_world.specs.declared.Event.TheVariants.{CoreTurn};
+ghost use Rattle.tora_world.specs.declared.event.Event.TheVariants.{CoreTurn};
 ghost use Rattle.tora_channel.specs.Table.{over, alone};
 ghost use Rattle.tora_script.specs.Air.{moment_on};
 ghost use Rattle.tora_script.specs.Rounds.{repeats, while_possible, each, each_core, each_end, end_event, arrival_of, arrival, arrivals, delivery, deliveries, new_deliveries, pass, passes, round, after_round, rounds, sky_of, Happened};

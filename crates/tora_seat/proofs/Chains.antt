@@ -1,7 +1,7 @@
 -- Offers and their answers, one list after another.
 use Rattle.std.specs.Option.{option_map_or}
 use Rattle.std.proofs.Common.{◌≡◌, ℕ, zero, suc, ◌<◌, Bool, List, [], ◌∷◌, ◌++◌, take, drop, length, set, get_or, refl, sym, ap, subst, append_assoc, append-nil, arith, slice_get, Some, false}
-use Rattle.tora_seat.specs.declared.Cargo.{Cargo}
+use Rattle.tora_seat.specs.declared.cargo.Cargo.{Cargo}
 use Rattle.tora_seat.specs.Serving.{Offer, Answers}
 use Rattle.tora_seat.specs.Offers.{AreOffered, Follows, answers_in}
 

@@ -1,16 +1,16 @@
 -- How many inputs an item steps.
 use Rattle.std.proofs.Common.{◌≡◌, ℕ, zero, suc, ◌+◌, ◌≤◌, Bool, true, false, not, ◌||◌, ◌⊎◌, inl, inr, List, [], ◌∷◌, ◌++◌, length, Option, Some, None, nat_eq, slice_get, if◌then◌else◌, refl, sym, ap, ◌∙◌, subst, eqb-true, arith, length-append}
 use Rattle.std.proofs.lemmas.Bool.{cond_both, cases_Bool, or_parts}
-use Rattle.tora_arq.specs.declared.Life.{Life}
+use Rattle.tora_arq.specs.declared.life.Life.{Life}
 use Rattle.tora_core.specs.declared.Input.{Input}
 use Rattle.tora_core.specs.declared.Input.TheVariants as In
 use Rattle.tora_core.specs.declared.errors.StepError.{StepError}
 use Rattle.tora_core.specs.declared.errors.StepError.TheVariants as Fault
 use Rattle.tora_core.specs.Numbers.{has_number, with_number, has_repeat}
 use Rattle.tora_core.specs.CoreRun.{CoreView, refusal_of, up_after, sends_of}
-use Rattle.tora_seat.specs.declared.What.{What}
-use Rattle.tora_seat.specs.declared.What.TheVariants as Tells
-use Rattle.tora_seat.specs.declared.Item.{Item}
+use Rattle.tora_seat.specs.declared.what.What.{What}
+use Rattle.tora_seat.specs.declared.what.What.TheVariants as Tells
+use Rattle.tora_seat.specs.declared.item.Item.{Item}
 use Rattle.tora_seat.specs.Serving.{SeatState, Serving, Answers, with_current, after_cuts_tried, after_broadcasts, accepting, after_answer, after_step, first_cut, after_settling, after_input, after_down, after_old_down, after_up, after_link_item, after_other_item, after_item_of, begin_serving, serving_of, is_current}
 use Rattle.tora_seat.proofs.Places.{turned}
 use Rattle.tora_core.proofs.AfterInputs.{has-with, same-neighbours}

@@ -3,14 +3,14 @@ use Rattle.std.proofs.Common.{◌≡◌, ℕ, zero, suc, ◌<◌, ◌≤◌, Boo
 use Rattle.std.proofs.lemmas.Bool.{cond_both, cases_Bool, or_right, or_parts}
 use Rattle.std.specs.Prelude.{is_none, is_some}
 use Rattle.tora_packet.specs.declared.Packet.{Packet}
-use Rattle.tora_arq.specs.declared.Life.{Life}
+use Rattle.tora_arq.specs.declared.life.Life.{Life}
 use Rattle.tora_core.specs.declared.Input.{Input}
 use Rattle.tora_core.specs.declared.Input.TheVariants as In
 use Rattle.tora_core.specs.declared.errors.StepError.{StepError}
 use Rattle.tora_core.specs.Numbers.{has_number, without_number, has_repeat}
 use Rattle.tora_core.specs.CoreRun.{CoreView, refusal_of, up_after, core_after, core_after_all, sends_of}
-use Rattle.tora_seat.specs.declared.Cargo.{Cargo}
-use Rattle.tora_seat.specs.declared.Cargo.TheVariants as Gives
+use Rattle.tora_seat.specs.declared.cargo.Cargo.{Cargo}
+use Rattle.tora_seat.specs.declared.cargo.Cargo.TheVariants as Gives
 use Rattle.tora_seat.specs.Serving.{SeatState, Offer, Serving, Answers, put_one, offered, with_current, with_pending, after_cut_tried, after_cuts_tried, after_sent, after_broadcast, after_broadcasts, accepting, after_answer, after_step, first_cut, after_settling, after_input, after_down, after_old_down, after_up, begin_serving}
 use Rattle.tora_seat.specs.SeatLaws.{is_packet, packet_in, has_back, NothingAfterBack, packets_put, IsOfLife, AreOfLife, broadcast_to, is_link_down, has_link_down, Begins}
 use Rattle.tora_seat.proofs.Places.{turned}

@@ -3,14 +3,14 @@ use Rattle.std.proofs.Common.{◌≡◌, ℕ, Bool, true, false, true≢false, i
 use Rattle.std.proofs.lemmas.Bool.{cond_both, cases_Bool, false≢true}
 use Rattle.std.specs.Prelude.{is_some}
 use Rattle.tora_packet.specs.declared.Packet.{Packet}
-use Rattle.tora_arq.specs.declared.Life.{Life}
+use Rattle.tora_arq.specs.declared.life.Life.{Life}
 use Rattle.tora_core.specs.declared.Input.TheVariants as In
 use Rattle.tora_core.specs.Numbers.{has_number, has_repeat}
-use Rattle.tora_seat.specs.declared.What.{What}
-use Rattle.tora_seat.specs.declared.What.TheVariants as Tells
-use Rattle.tora_seat.specs.declared.Item.{Item}
-use Rattle.tora_seat.specs.declared.Answer.{Answer}
-use Rattle.tora_seat.specs.declared.Answer.TheVariants as Says
+use Rattle.tora_seat.specs.declared.what.What.{What}
+use Rattle.tora_seat.specs.declared.what.What.TheVariants as Tells
+use Rattle.tora_seat.specs.declared.item.Item.{Item}
+use Rattle.tora_seat.specs.declared.answer.Answer.{Answer}
+use Rattle.tora_seat.specs.declared.answer.Answer.TheVariants as Says
 use Rattle.tora_seat.specs.Serving.{SeatState, Serving, Answers, Step, with_pending, after_cuts_tried, after_up, after_down, after_old_down, after_link_item, after_other_item, after_item_of, begin_serving, serving_of, is_current}
 use Rattle.tora_seat.specs.SeatLaws.{IsInStep, has_back, packets_put, broadcast_to, has_link_down, Begins, life_brought, life_served, HasNoGap, EndsAtBack}
 use Rattle.tora_seat.proofs.ItemFacts.{Stands, Keeps, Ended, Started, started, keeps_start, ended_start, input_ends, down_ends, forget_off, forget_on, down_off, up_off, up_on}

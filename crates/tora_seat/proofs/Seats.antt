@@ -2,7 +2,7 @@
 use Rattle.std.proofs.Common.{◌≡◌, ℕ, zero, suc, ◌<◌, ◌≤◌, ◌+◌, ◌*◌, Bool, true, false, ◌&&◌, ◌||◌, ne_eqb, List, [], ◌∷◌, ◌++◌, map, length, set, get_or, slice_get, find, option_map, Option, Some, None, if◌then◌else◌, refl, sym, ap, ap₂, ◌∙◌, subst, append_assoc, arith}
 use mathlib.Core.Path.{fun_ext}
 use Rattle.std.specs.Prelude.{MatchOption, is_none}
-use Rattle.tora_arq.specs.declared.Life.{Life}
+use Rattle.tora_arq.specs.declared.life.Life.{Life}
 use Rattle.tora_core.specs.CoreRun.{CoreView}
 use Rattle.std.specs.List.{AllByRecursion}
 use Rattle.tora_core.specs.Kept.{IsCore}

@@ -1,11 +1,11 @@
 -- What the parts of serving an item do, whatever the lanes answer.
 use Rattle.std.specs.Prelude.{◌≡◌, ◌+◌, ◌*◌, ◌≤◌, ℕ, Bool, false, if◌then◌else◌, List, ◌++◌, length, Option, None, Some}
 use Rattle.tora_packet.specs.declared.Packet.{Packet}
-use Rattle.tora_arq.specs.declared.Life.{Life}
+use Rattle.tora_arq.specs.declared.life.Life.{Life}
 use Rattle.tora_core.specs.CoreRun.{CoreView}
 use Rattle.tora_core.specs.Numbers.{has_repeat}
-use Rattle.tora_seat.specs.declared.Cargo.{Cargo}
-use Rattle.tora_seat.specs.declared.Cargo.TheVariants as Gives
+use Rattle.tora_seat.specs.declared.cargo.Cargo.{Cargo}
+use Rattle.tora_seat.specs.declared.cargo.Cargo.TheVariants as Gives
 use Rattle.tora_seat.specs.declared.rows.LinkRow.{LinkRow}
 use Rattle.tora_seat.specs.Serving.{Offer, Answers, Serving}
 use Rattle.tora_seat.specs.Offers.{AreOffered, Follows}

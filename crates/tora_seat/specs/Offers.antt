@@ -1,7 +1,7 @@
 -- Cargoes that are offered to the lanes of a node, one after another.
 use Rattle.std.specs.Option.{option_map_or}
 use Rattle.std.specs.Prelude.{false, slice_get, length, ◌≡◌, ℕ, suc, ◌==◌, Bool, if◌then◌else◌, List, [], ◌∷◌, ◌++◌}
-use Rattle.tora_seat.specs.declared.Cargo.{Cargo}
+use Rattle.tora_seat.specs.declared.cargo.Cargo.{Cargo}
 use Rattle.tora_seat.specs.Serving.{Offer, Answers}
 
 -- the place of a number in a list, or the length of the list where it is not there

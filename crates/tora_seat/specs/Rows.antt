@@ -1,13 +1,13 @@
 -- What the core's seat keeps: the core, a row for each neighbour, and what the last item came to.
 use Rattle.std.specs.Prelude.{ℕ, ◌==◌, Bool, if◌then◌else◌, List, [], ◌∷◌, map, find, option_map, is_none, ◌&&◌, Option, None, Some}
-use Rattle.tora_arq.specs.declared.Life.{Life}
+use Rattle.tora_arq.specs.declared.life.Life.{Life}
 use Rattle.tora_core.specs.declared.Input.{Input}
 use Rattle.tora_core.specs.CoreRun.{CoreView}
 use Rattle.tora_core.specs.Numbers.{has_number}
-use Rattle.tora_seat.specs.declared.Answer.{Answer}
-use Rattle.tora_seat.specs.declared.Answer.TheVariants as Says
+use Rattle.tora_seat.specs.declared.answer.Answer.{Answer}
+use Rattle.tora_seat.specs.declared.answer.Answer.TheVariants as Says
 use Rattle.tora_seat.specs.declared.rows.LinkRow.{LinkRow}
-use Rattle.tora_seat.specs.declared.Stepped.{Stepped}
+use Rattle.tora_seat.specs.declared.stepped.Stepped.{Stepped}
 use Rattle.tora_seat.specs.Serving.{SeatState, Serving, Step, Offer}
 
 -- the seat as its calls see it

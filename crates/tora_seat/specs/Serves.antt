@@ -1,19 +1,19 @@
 -- Serving an item as a relation: one case for each kind of item and each situation. Whether a lane takes a cargo is left open; each answer stands in the offer.
 use Rattle.std.specs.Prelude.{◌≡◌, ◌≢◌, ℕ, ◌≤◌, true, false, List, [], ◌∷◌, ◌++◌, slice_get, Option, None, Some}
 use Rattle.tora_packet.specs.declared.Packet.{Packet}
-use Rattle.tora_arq.specs.declared.Life.{Life}
-use Rattle.tora_arq.specs.declared.Reason.{Reason}
+use Rattle.tora_arq.specs.declared.life.Life.{Life}
+use Rattle.tora_arq.specs.declared.reason.Reason.{Reason}
 use Rattle.tora_core.specs.declared.Input.{Input}
 use Rattle.tora_core.specs.declared.Input.TheVariants as In
 use Rattle.tora_core.specs.declared.errors.StepError.{StepError}
 use Rattle.tora_core.specs.Numbers.{has_number}
 use Rattle.tora_core.specs.CoreRun.{refusal_of, sends_of}
-use Rattle.tora_seat.specs.declared.Status.{Status}
-use Rattle.tora_seat.specs.declared.What.{What}
-use Rattle.tora_seat.specs.declared.What.TheVariants as Tells
-use Rattle.tora_seat.specs.declared.Item.{Item}
-use Rattle.tora_seat.specs.declared.Cargo.TheVariants as Gives
-use Rattle.tora_seat.specs.declared.Answer.TheVariants as Says
+use Rattle.tora_seat.specs.declared.status.Status.{Status}
+use Rattle.tora_seat.specs.declared.what.What.{What}
+use Rattle.tora_seat.specs.declared.what.What.TheVariants as Tells
+use Rattle.tora_seat.specs.declared.item.Item.{Item}
+use Rattle.tora_seat.specs.declared.cargo.Cargo.TheVariants as Gives
+use Rattle.tora_seat.specs.declared.answer.Answer.TheVariants as Says
 use Rattle.tora_seat.specs.Serving.{SeatState, Serving, offered, with_current, with_pending, accepting, begin_serving}
 
 -- something is done with each of a list, one after another

@@ -4,14 +4,14 @@ use Rattle.std.specs.Fmt.{decimal}
 use Rattle.tora_packet.specs.PacketText.{written_packet}
 use Rattle.tora_arq.specs.Texts.{written_life, written_reason}
 use Rattle.tora_core.specs.Errors.{written_step_error}
-use Rattle.tora_seat.specs.declared.Status.TheVariants as Asked
-use Rattle.tora_seat.specs.declared.What.{What}
-use Rattle.tora_seat.specs.declared.What.TheVariants as Tells
-use Rattle.tora_seat.specs.declared.Item.{Item}
-use Rattle.tora_seat.specs.declared.Cargo.{Cargo}
-use Rattle.tora_seat.specs.declared.Cargo.TheVariants as Gives
-use Rattle.tora_seat.specs.declared.Answer.{Answer}
-use Rattle.tora_seat.specs.declared.Answer.TheVariants as Says
+use Rattle.tora_seat.specs.declared.status.Status.TheVariants as Asked
+use Rattle.tora_seat.specs.declared.what.What.{What}
+use Rattle.tora_seat.specs.declared.what.What.TheVariants as Tells
+use Rattle.tora_seat.specs.declared.item.Item.{Item}
+use Rattle.tora_seat.specs.declared.cargo.Cargo.{Cargo}
+use Rattle.tora_seat.specs.declared.cargo.Cargo.TheVariants as Gives
+use Rattle.tora_seat.specs.declared.answer.Answer.{Answer}
+use Rattle.tora_seat.specs.declared.answer.Answer.TheVariants as Says
 
 -- a word, and behind it the life, the packet, the reason or the destination
 abbrev pub written_what : What → List ℕ

@@ -1,10 +1,10 @@
 -- The end of a life that is current, of one whose cut is pending, and of another: lives whose numbers differ.
 use Rattle.std.specs.Prelude.{◌≡◌, false, [], ◌∷◌, Some, None}
-use Rattle.tora_arq.specs.declared.Life.{Life}
-use Rattle.tora_arq.specs.declared.Reason.TheVariants as Because
+use Rattle.tora_arq.specs.declared.life.Life.{Life}
+use Rattle.tora_arq.specs.declared.reason.Reason.TheVariants as Because
 use Rattle.tora_core.specs.declared.Input.TheVariants as In
 use Rattle.tora_core.specs.CoreRun.{CoreView, first_core, core_after}
-use Rattle.tora_seat.specs.declared.What.TheVariants as Tells
+use Rattle.tora_seat.specs.declared.what.What.TheVariants as Tells
 use Rattle.tora_seat.specs.Serving.{SeatState, Serving, serving_of}
 
 abbrev pub uneven : Life

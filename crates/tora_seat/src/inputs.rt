@@ -4,7 +4,7 @@ ghost use Rattle.std.specs.List.{AllByRecursion};
 ghost use Rattle.tora_core.specs.declared.Input.{Input};
 ghost use Rattle.tora_core.specs.CoreRun.{core_after_all};
 ghost use Rattle.tora_seat.specs.Serving.{Answers, SeatState, serving_of};
-ghost use Rattle.tora_seat.specs.declared.Item.{Item};
+ghost use Rattle.tora_seat.specs.declared.item.Item.{Item};
 
 /// The core after an item is the run of the inputs that it accepted in it, each with the tick of the item.
 pub fn accepted_inputs_make_the_core()

@@ -1,6 +1,6 @@
 //! The lanes from the core to the neighbours, as the seat sees them.
 ghost use Rattle.std.specs.Prelude.{◌≡◌, ◌<◌, ℕ, Bool};
-ghost use Rattle.tora_seat.specs.declared.Cargo.{Cargo};
+ghost use Rattle.tora_seat.specs.declared.cargo.Cargo.{Cargo};
 
 use crate::Cargo;
 

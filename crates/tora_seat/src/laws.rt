@@ -1,7 +1,7 @@
 //! Laws on serving items, whatever the lanes answer.
 ghost use Rattle.std.specs.Prelude.{[], ◌≡◌, ◌≤◌, ◌+◌, ℕ, List, length, true, false};
 ghost use Rattle.tora_core.specs.Numbers.{has_number, has_repeat};
-ghost use Rattle.tora_seat.specs.declared.Item.{Item};
+ghost use Rattle.tora_seat.specs.declared.item.Item.{Item};
 ghost use Rattle.tora_seat.specs.Offers.{Follows, answers_in};
 ghost use Rattle.tora_seat.specs.Serving.{Answers, Offer, SeatState, serving_of};
 ghost use Rattle.tora_seat.specs.SeatLaws.{IsInStep, HasNoGap, EndsAtBack};

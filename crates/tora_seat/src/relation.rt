@@ -2,7 +2,7 @@
 ghost use Rattle.std.specs.Prelude.{◌≡◌, ℕ, true, List, Some};
 ghost use Rattle.tora_core.specs.declared.Input.{Input};
 ghost use Rattle.tora_core.specs.Numbers.{has_number, IsAscending};
-ghost use Rattle.tora_seat.specs.declared.Item.{Item};
+ghost use Rattle.tora_seat.specs.declared.item.Item.{Item};
 ghost use Rattle.tora_seat.specs.Offers.{answers_in};
 ghost use Rattle.tora_seat.specs.Serving.{Answers, SeatState, Serving, after_input, first_cut, serving_of};
 ghost use Rattle.tora_seat.specs.Serves.{IsCut, Serves};

@@ -4,15 +4,15 @@ use Rattle.std.proofs.lemmas.Bool.{and_parts}
 use Rattle.std.specs.Prelude.{slice_index_or}
 use mathlib.Core.Path.{fun_ext}
 use Rattle.tora_frame.specs.FrameParts.{FrameParts}
-use Rattle.tora_arq.specs.declared.Times.{Times}
+use Rattle.tora_arq.specs.declared.times.Times.{Times}
 use Rattle.tora_life.specs.declared.state.DiskCall.{DiskCall}
 use Rattle.tora_life.specs.declared.state.DiskCall.TheVariants as Disk
 use Rattle.tora_life.specs.LifeRun.{LifeDisk, after_event}
 use Rattle.tora_life.specs.LifeRun.LifeEvent.{Arm as ArmsDisk}
-use Rattle.tora_world.specs.declared.Call.{Call}
-use Rattle.tora_world.specs.declared.Call.TheVariants as Fails
-use Rattle.tora_world.specs.declared.Event.TheVariants as Happens
-use Rattle.tora_world.specs.declared.SimError.TheVariants as Refused
+use Rattle.tora_world.specs.declared.call.Call.{Call}
+use Rattle.tora_world.specs.declared.call.Call.TheVariants as Fails
+use Rattle.tora_world.specs.declared.event.Event.TheVariants as Happens
+use Rattle.tora_world.specs.declared.sim_error.SimError.TheVariants as Refused
 use Rattle.tora_world.specs.Topology.{Topology, is_node, is_link}
 use Rattle.tora_world.specs.World.{World, refusal_of, effect_by, world_after, unless_possible, after_arming, with_armed_files}
 use Rattle.tora_seat.specs.Serving.{put_one}

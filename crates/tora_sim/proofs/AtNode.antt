@@ -2,7 +2,7 @@
 use Rattle.std.proofs.Common.{◌≡◌, ℕ, List, Some, ap, ◌∙◌, length, slice_get}
 use Rattle.std.specs.Prelude.{slice_index_or}
 use Rattle.tora_frame.specs.FrameParts.{FrameParts}
-use Rattle.tora_arq.specs.declared.Times.{Times}
+use Rattle.tora_arq.specs.declared.times.Times.{Times}
 use Rattle.tora_world.specs.Topology.{Topology, neighbours_of}
 use Rattle.tora_sim.specs.Keyed.{IsFirst}
 use Rattle.tora_sim.specs.Links.{LinkView}

@@ -3,11 +3,12 @@ use Rattle.std.proofs.Common.{◌≡◌, refl, sym, ap, ap₂, ◌∙◌, subst,
 use Rattle.std.specs.Prelude.{option_map}
 use Rattle.std.proofs.lemmas.List.{append_assoc, map_push, map_more, flat_map_more, length-append, length-map}
 use Rattle.std.proofs.lemmas.Option.{slice_get-map}
-use Rattle.tora_arq.specs.declared.Times.{Times}
+use Rattle.tora_arq.specs.declared.times.Times.{Times}
 use Rattle.tora_frame.specs.declared.parts.Version.{Version}
 use Rattle.tora_arq.specs.Settings.{settings_of}
 use Rattle.tora_world.specs.Topology.{version_at, Topology, neighbours_of}
-use Rattle.tora_world.specs.World.{place_of, owner_of}
+use Rattle.tora_world.specs.World.{owner_of}
+use Rattle.tora_seat.specs.Offers.{place_of}
 use Rattle.tora_sim.specs.Topologies.{IsTopology}
 use Rattle.tora_sim.specs.Links.{LinkView, key_of}
 use Rattle.tora_sim.specs.Nodes.{NodeView}

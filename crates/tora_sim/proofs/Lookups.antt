@@ -4,10 +4,10 @@ use Rattle.std.specs.Prelude.{option_to_list}
 use Rattle.std.proofs.lemmas.List.{at_drop_more, append_assoc, append-nil}
 use Rattle.std.proofs.lemmas.Option.{slice_get-get_or}
 use Rattle.tora_packet.specs.declared.Packet.{Packet}
-use Rattle.tora_arq.specs.declared.Life.{Life}
+use Rattle.tora_arq.specs.declared.life.Life.{Life}
 use Rattle.tora_core.specs.CoreRun.{height_of, entry_of, hop_of, flag_of}
-use Rattle.tora_seat.specs.declared.Cargo.{Cargo}
-use Rattle.tora_seat.specs.declared.Cargo.TheVariants as Gives
+use Rattle.tora_seat.specs.declared.cargo.Cargo.{Cargo}
+use Rattle.tora_seat.specs.declared.cargo.Cargo.TheVariants as Gives
 use Rattle.tora_world.specs.Topology.{is_node}
 use Rattle.tora_world.specs.World.{sent_packets, taken_packets}
 use Rattle.tora_world.specs.Lists.{packets_of, parcels_in, packet_where, parcel_of}

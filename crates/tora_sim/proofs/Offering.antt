@@ -5,11 +5,11 @@ use Rattle.std.proofs.lemmas.Bool.Decides.{nat_tests}
 use Rattle.std.proofs.lemmas.Option.{get_or_from_slice_get, slice_get_within}
 use Rattle.std.proofs.lemmas.List.{drop-append-le, length-append}
 use Rattle.tora_frame.specs.FrameParts.{FrameParts}
-use Rattle.tora_arq.specs.declared.Times.{Times}
-use Rattle.tora_seat.specs.declared.Cargo.{Cargo}
+use Rattle.tora_arq.specs.declared.times.Times.{Times}
+use Rattle.tora_seat.specs.declared.cargo.Cargo.{Cargo}
 use Rattle.tora_seat.specs.declared.TheConstants.{MOST_CARGOES}
 use Rattle.tora_seat.specs.Serving.{Offer, Parcel, Step, put_to, stepped_from, put_one}
-use Rattle.tora_seat.specs.declared.Stepped.{Stepped}
+use Rattle.tora_seat.specs.declared.stepped.Stepped.{Stepped}
 use Rattle.tora_seat.specs.Rows.{step_of}
 use Rattle.tora_seat.specs.Offers.{AreOffered, Follows, place_of}
 use Rattle.tora_world.specs.Topology.{Topology, neighbours_of}

@@ -6,7 +6,7 @@ use Rattle.std.proofs.lemmas.Bool.{cond_both}
 use Rattle.std.proofs.lemmas.Bool.Decides.{nat_tests}
 use Rattle.tora_core.specs.Numbers.{has_number, has_repeat, with_number, ascending, IsAscending}
 use Rattle.tora_world.specs.Topology.{Topology, Link, nodes_in, with_node, other_ends, neighbours_of, greatest_limits}
-use Rattle.tora_world.specs.World.{place_of}
+use Rattle.tora_seat.specs.Offers.{place_of}
 use Rattle.tora_sim.specs.Topologies.{IsTopology}
 use Rattle.tora_world.proofs.SoundTopology.{length-with_number}
 use Rattle.tora_sim.proofs.Sound.{sorted_on}

@@ -3,15 +3,16 @@ use Rattle.std.proofs.Common.{◌≡◌, ℕ, ◌<◌, inl, Bool, true, false, n
 use Rattle.std.proofs.lemmas.Bool.{and_parts}
 use Rattle.std.specs.Prelude.{slice_index_or}
 use Rattle.tora_frame.specs.FrameParts.{FrameParts}
-use Rattle.tora_arq.specs.declared.Times.{Times}
-use Rattle.tora_arq.specs.declared.LinkEvent.{LinkEvent}
+use Rattle.tora_arq.specs.declared.times.Times.{Times}
+use Rattle.tora_arq.specs.declared.link_event.LinkEvent.{LinkEvent}
 use Rattle.tora_arq.specs.LinkEnd.{first_event, after_poll_event}
-use Rattle.tora_world.specs.declared.Event.TheVariants as Happens
-use Rattle.tora_world.specs.declared.SimError.TheVariants as Refused
+use Rattle.tora_world.specs.declared.event.Event.TheVariants as Happens
+use Rattle.tora_world.specs.declared.sim_error.SimError.TheVariants as Refused
 use Rattle.tora_world.specs.LinkMachine.{put_at}
 use Rattle.tora_world.specs.Topology.{Topology, neighbours_of}
 use Rattle.tora_seat.specs.Between.{what_of}
-use Rattle.tora_world.specs.World.{World, refusal_of, effect_by, world_after, own_choice, unless_possible, is_empty, has_room, with_item, with_end, after_pump, place_of}
+use Rattle.tora_world.specs.World.{World, refusal_of, effect_by, world_after, own_choice, unless_possible, is_empty, has_room, with_item, with_end, after_pump}
+use Rattle.tora_seat.specs.Offers.{place_of}
 use Rattle.tora_sim.specs.Keyed.{IsFirst}
 use Rattle.tora_sim.specs.Links.{LinkView, is_at, with_state}
 use Rattle.tora_sim.specs.Nodes.{NodeView, is_of, after_item}

@@ -7,20 +7,20 @@ use Rattle.std.specs.Prelude.{replicate, slice_index_or}
 use Rattle.std.specs.List.{AllByRecursion}
 use mathlib.Core.Path.{fun_ext}
 use Rattle.tora_frame.specs.FrameParts.{FrameParts}
-use Rattle.tora_arq.specs.declared.Times.{Times}
-use Rattle.tora_arq.specs.declared.Life.{Life}
+use Rattle.tora_arq.specs.declared.times.Times.{Times}
+use Rattle.tora_arq.specs.declared.life.Life.{Life}
 use Rattle.tora_arq.specs.LinkEnd.{first_end}
 use Rattle.tora_life.specs.LifeRun.{LifeDisk}
 use Rattle.tora_core.specs.Numbers.{with_number, ascending, IsAscending}
 use Rattle.tora_core.specs.View.{first_view}
 use Rattle.tora_core.specs.CoreRun.{CoreView, first_core}
 use Rattle.tora_core.specs.Kept.{IsCore, destinations_of}
-use Rattle.tora_seat.specs.declared.Cargo.{Cargo}
+use Rattle.tora_seat.specs.declared.cargo.Cargo.{Cargo}
 use Rattle.tora_seat.specs.Serving.{put_one}
 use Rattle.tora_seat.specs.Rows.{SeatView, new_row, current_of, pending_of}
 use Rattle.tora_seat.specs.Rows as Rows
-use Rattle.tora_world.specs.declared.Event.TheVariants.{Restart}
-use Rattle.tora_world.specs.declared.SimError.TheVariants as Refused
+use Rattle.tora_world.specs.declared.event.Event.TheVariants.{Restart}
+use Rattle.tora_world.specs.declared.sim_error.SimError.TheVariants as Refused
 use Rattle.tora_world.specs.Topology.{Topology, is_link, neighbours_of, new_core}
 use Rattle.tora_world.specs.World.{World, refusal_of, effect_by, world_after, first_seat, after_restart, reopened}
 use Rattle.tora_sim.specs.Keyed.{IsFirst}

@@ -5,11 +5,12 @@ use Rattle.std.proofs.lemmas.Bool.{and_parts, false_from_ne_true}
 use Rattle.std.proofs.lemmas.Bool.Decides.{nat_tests}
 use Rattle.std.proofs.lemmas.List.{drop_all}
 use Rattle.std.proofs.lemmas.Option.{slice_get-get_or}
-use Rattle.tora_arq.specs.declared.Life.{Life}
+use Rattle.tora_arq.specs.declared.life.Life.{Life}
 use Rattle.tora_arq.specs.LinkEnd.{bound_life}
 use Rattle.tora_seat.specs.Rows.{current_of}
 use Rattle.tora_world.specs.Topology.{is_link, neighbours_of}
-use Rattle.tora_world.specs.World.{is_empty, place_of}
+use Rattle.tora_world.specs.World.{is_empty}
+use Rattle.tora_seat.specs.Offers.{place_of}
 use Rattle.tora_world.specs.Rest.{life_at, is_idle_end}
 use Rattle.tora_world.proofs.EndViews.{at_place}
 use Rattle.tora_sim.specs.Keyed.{IsFirst}

@@ -1,7 +1,7 @@
 -- Events, one after another.
 use Rattle.std.proofs.Common.{inl, inr, List, [], ◌∷◌, refl, subst}
-use Rattle.tora_world.specs.declared.Event.{Event}
-use Rattle.tora_world.specs.declared.SimError.{SimError}
+use Rattle.tora_world.specs.declared.event.Event.{Event}
+use Rattle.tora_world.specs.declared.sim_error.SimError.{SimError}
 use Rattle.tora_world.specs.World.{World}
 use Rattle.tora_sim.specs.Steps.{IsDone, IsRefused, AllAreDone, StopsWith}
 

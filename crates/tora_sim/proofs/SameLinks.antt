@@ -1,9 +1,9 @@
 -- Lists of link ends that differ only in what the order, the places and the settings of the ends do not see.
 use Rattle.std.proofs.Common.{◌≡◌, ℕ, zero, suc, ◌<◌, ◌≤◌, ◌+◌, Bool, true, false, ◌&&◌, inl, inr, List, [], ◌∷◌, map, length, get_or, slice_get, Option, Some, None, refl, sym, ap, ap₂, ◌∙◌, subst, arith, cond, is_some, option_map, nat_eq}
 use Rattle.tora_frame.specs.FrameParts.{FrameParts}
-use Rattle.tora_arq.specs.declared.Times.{Times}
+use Rattle.tora_arq.specs.declared.times.Times.{Times}
 use Rattle.tora_arq.specs.Settings.{settings_of}
-use Rattle.tora_world.specs.World.{place_of}
+use Rattle.tora_seat.specs.Offers.{place_of}
 use Rattle.tora_world.specs.Topology.{version_at, Topology, is_node, is_link, neighbours_of}
 use Rattle.tora_sim.specs.Links.{LinkView, is_at, key_of}
 use Rattle.tora_sim.specs.Nodes.{NodeView}

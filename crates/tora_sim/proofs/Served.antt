@@ -12,8 +12,8 @@ use Rattle.tora_core.specs.CoreRun.{CoreView, core_after, core_after_all, core_r
 use Rattle.tora_core.specs.Kept.{IsCore, IsNeighbour, destinations_of}
 use Rattle.tora_core.specs.declared.errors.CoreError.TheVariants as Refusal
 use Rattle.tora_core.specs.declared.TheConstants.{GREATEST_NEIGHBOURS, MOST_DESTINATIONS}
-use Rattle.tora_seat.specs.declared.Item.{Item}
-use Rattle.tora_seat.specs.declared.Stepped.{Stepped}
+use Rattle.tora_seat.specs.declared.item.Item.{Item}
+use Rattle.tora_seat.specs.declared.stepped.Stepped.{Stepped}
 use Rattle.tora_seat.specs.Serving.{Answers, Offer, SeatState, serving_of}
 use Rattle.tora_seat.specs.Offers.{AreOffered, Follows, answers_in}
 use Rattle.tora_seat.specs.Rows.{SeatView, serving_at, steps_of}

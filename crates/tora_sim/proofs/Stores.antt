@@ -6,9 +6,9 @@ use Rattle.std.proofs.lemmas.List.{get_or-set_same, get_or-set_other, length-set
 use Rattle.std.proofs.lemmas.Option.{get_or_from_slice_get, slice_get_within}
 use mathlib.Core.Path.{fun_ext}
 use Rattle.tora_frame.specs.FrameParts.{FrameParts}
-use Rattle.tora_arq.specs.declared.Times.{Times}
+use Rattle.tora_arq.specs.declared.times.Times.{Times}
 use Rattle.tora_arq.specs.Settings.{settings_of}
-use Rattle.tora_world.specs.World.{place_of}
+use Rattle.tora_seat.specs.Offers.{place_of}
 use Rattle.tora_world.specs.Topology.{version_at, Topology, is_node, is_link, neighbours_of}
 use Rattle.tora_core.specs.Kept.{destinations_of}
 use Rattle.tora_world.specs.LinkMachine.{put_at}

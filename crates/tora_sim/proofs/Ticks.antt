@@ -3,10 +3,10 @@ use Rattle.std.proofs.Common.{◌≡◌, ℕ, suc, ◌+◌, Bool, true, false, L
 use Rattle.std.proofs.lemmas.Bool.{and_parts}
 use mathlib.Core.Path.{fun_ext}
 use Rattle.tora_frame.specs.FrameParts.{FrameParts}
-use Rattle.tora_arq.specs.declared.Times.{Times}
+use Rattle.tora_arq.specs.declared.times.Times.{Times}
 use Rattle.tora_arq.specs.Settings.{Settings, settings_of}
 use Rattle.tora_arq.specs.LinkEnd.{EndState, after_tick}
-use Rattle.tora_world.specs.declared.Event.TheVariants.{Tick}
+use Rattle.tora_world.specs.declared.event.Event.TheVariants.{Tick}
 use Rattle.tora_world.specs.Topology.{version_at, Topology}
 use Rattle.tora_world.specs.World.{effect_by, world_by, world_after}
 use Rattle.tora_sim.specs.Links.{LinkView, is_at, ticked}

@@ -5,17 +5,17 @@ use Rattle.std.proofs.lemmas.Bool.{cases_Bool}
 use Rattle.tora_core.specs.Numbers.{has_number}
 use Rattle.std.specs.Prelude.{slice_index_or}
 use Rattle.tora_frame.specs.FrameParts.{FrameParts}
-use Rattle.tora_arq.specs.declared.Times.{Times}
+use Rattle.tora_arq.specs.declared.times.Times.{Times}
 use Rattle.tora_core.specs.declared.Input.{Input}
-use Rattle.tora_seat.specs.declared.Item.{Item}
-use Rattle.tora_seat.specs.declared.Stepped.{Stepped}
+use Rattle.tora_seat.specs.declared.item.Item.{Item}
+use Rattle.tora_seat.specs.declared.stepped.Stepped.{Stepped}
 use Rattle.tora_seat.specs.Serving.{Step, Serving, put_one, put_to, stepped_from, serving_of}
 use Rattle.tora_seat.specs.Offers.{AreOffered}
 use Rattle.tora_seat.specs.Rows.{serving_at, step_of, steps_of}
 use Rattle.tora_seat.specs.Rows as Rows
-use Rattle.tora_world.specs.declared.Event.TheVariants.{CoreTurn}
-use Rattle.tora_world.specs.declared.SimError.{SimError}
-use Rattle.tora_world.specs.declared.SimError.TheVariants as Refused
+use Rattle.tora_world.specs.declared.event.Event.TheVariants.{CoreTurn}
+use Rattle.tora_world.specs.declared.sim_error.SimError.{SimError}
+use Rattle.tora_world.specs.declared.sim_error.SimError.TheVariants as Refused
 use Rattle.tora_world.specs.Topology.{Topology, neighbours_of}
 use Rattle.tora_world.specs.World.{World, refusal_of, effect_by, world_after, own_choice, own_answers, unless_possible, is_empty, after_turn, after_serving}
 use Rattle.tora_sim.specs.Keyed.{IsFirst}

@@ -1,6 +1,6 @@
 -- A cut of the life of a link end, as where its link is broken.
 use Rattle.std.specs.Prelude.{ℕ, if◌then◌else◌}
-use Rattle.tora_world.specs.declared.Event.TheVariants.{Tick}
+use Rattle.tora_world.specs.declared.event.Event.TheVariants.{Tick}
 use Rattle.tora_world.specs.Topology.{is_link}
 use Rattle.tora_world.specs.World.{World, own_choice}
 use Rattle.tora_world.specs.FreeWorld.{free_by}

@@ -9,10 +9,6 @@ abbrev pub disk_of : FileSlot → LifeDisk
 disk_of (Slot.Opened file) = Opened file.owner file.numbers file.disk.state
 disk_of (Slot.Unopened owner disk) = Unopened owner disk.state
 
-abbrev pub list_of : {A : Type 0} → Option A → List A
-list_of None = []
-list_of (Some x) = x ∷ []
-
 -- a number is at most the last one that the file drew, where the file is open
 abbrev pub IsDrawn : ℕ → LifeDisk → Type 0
 IsDrawn number (Opened owner numbers s) = number ≤ numbers.drawn

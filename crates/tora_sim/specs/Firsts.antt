@@ -1,7 +1,7 @@
 -- Nodes and link ends as they are at the start.
 use Rattle.std.specs.Prelude.{◌≡◌, ℕ, suc, ◌+◌, ◌≤◌, false, List, [], ◌∷◌, ◌++◌, map, replicate, length, slice_get, Some}
 use Rattle.std.specs.List.{flat_map}
-use Rattle.tora_arq.specs.declared.Times.{Times}
+use Rattle.tora_arq.specs.declared.times.Times.{Times}
 use Rattle.tora_frame.specs.declared.parts.Version.{Version}
 use Rattle.tora_arq.specs.Settings.{settings_of}
 use Rattle.tora_arq.specs.LinkEnd.{first_end}
@@ -9,7 +9,8 @@ use Rattle.tora_life.specs.State.{fresh_state}
 use Rattle.tora_life.specs.LifeRun.{opened}
 use Rattle.tora_seat.specs.Rows.{first_seat}
 use Rattle.tora_world.specs.Topology.{Topology, version_at, neighbours_of, new_core}
-use Rattle.tora_world.specs.World.{place_of, owner_of}
+use Rattle.tora_world.specs.World.{owner_of}
+use Rattle.tora_seat.specs.Offers.{place_of}
 use Rattle.tora_sim.specs.declared.nodes.Sending.TheVariants.{Goes}
 use Rattle.tora_sim.specs.Links.{LinkView, key_of}
 use Rattle.tora_sim.specs.Nodes.{NodeView}

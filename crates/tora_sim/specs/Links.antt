@@ -10,8 +10,8 @@ use Rattle.tora_life.specs.LifeRun.{LifeDisk, after_event, drawn_by}
 use Rattle.tora_life.specs.LifeRun.LifeEvent.{Draw as DrawsNumber, Arm as ArmsDisk}
 use Rattle.tora_life.specs.declared.state.DiskCall.{DiskCall}
 use Rattle.tora_packet.specs.declared.Packet.{Packet}
-use Rattle.tora_arq.specs.declared.Life.{Life}
-use Rattle.tora_seat.specs.declared.Cargo.{Cargo}
+use Rattle.tora_arq.specs.declared.life.Life.{Life}
+use Rattle.tora_seat.specs.declared.cargo.Cargo.{Cargo}
 use Rattle.tora_seat.specs.Serving.{Parcel}
 use Rattle.tora_seat.specs.Between.{after_cargo}
 use Rattle.tora_world.specs.World.{open_with}

@@ -2,8 +2,8 @@
 use Rattle.std.specs.Prelude.{ℕ, suc, ◌==◌, ◌<◌, Bool, List, [], ◌∷◌, ◌++◌, set, slice_index}
 use Rattle.tora_core.specs.declared.Input.{Input}
 use Rattle.tora_seat.specs.Rows.{SeatView}
-use Rattle.tora_seat.specs.declared.What.{What}
-use Rattle.tora_seat.specs.declared.Item.{Item}
+use Rattle.tora_seat.specs.declared.what.What.{What}
+use Rattle.tora_seat.specs.declared.item.Item.{Item}
 use Rattle.tora_world.specs.World.{Sending as SendingOfWorld}
 use Rattle.tora_world.specs.World.Sending.{Goes, IsLost, IsGone}
 use Rattle.tora_sim.specs.declared.nodes.Sending.{Sending}

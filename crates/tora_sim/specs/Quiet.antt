@@ -3,7 +3,7 @@ use Rattle.std.specs.Prelude.{◌≡◌, ℕ, ◌<◌, ◌==◌, Bool, true, fal
 use Rattle.std.specs.List.{list_all}
 use Rattle.tora_arq.specs.Settings.{Settings}
 use Rattle.tora_arq.specs.LinkEnd.{EndState, is_closed, first_event, frame_due, after_tick}
-use Rattle.tora_world.specs.declared.Event.TheVariants.{Open, Pull, Transmit, Pump, CoreTurn}
+use Rattle.tora_world.specs.declared.event.Event.TheVariants.{Open, Pull, Transmit, Pump, CoreTurn}
 use Rattle.tora_world.specs.World.{World, refusal_of}
 use Rattle.tora_sim.specs.Links.{LinkView}
 use Rattle.tora_sim.specs.Nodes.{NodeView}

@@ -1,24 +1,25 @@
 -- What the simulator stores, and the world that it is.
 use Rattle.std.specs.Prelude.{◌≡◌, ℕ, zero, suc, ◌≤◌, ◌+◌, true, false, is_some, List, [], length, slice_get, slice_index, map, Option, Some, None, find}
 use Rattle.tora_frame.specs.FrameParts.{FrameParts}
-use Rattle.tora_arq.specs.declared.Times.{Times}
+use Rattle.tora_arq.specs.declared.times.Times.{Times}
 use Rattle.tora_arq.specs.Settings.{settings_of}
 use Rattle.tora_arq.specs.LinkEnd.{EndState, first_end}
 use Rattle.tora_life.specs.State.{fresh_state}
 use Rattle.tora_life.specs.LifeRun.{LifeDisk, opened}
 use Rattle.tora_life.specs.declared.state.DiskCall.{DiskCall}
 use Rattle.tora_life.specs.declared.state.DiskCall.TheVariants as Disk
-use Rattle.tora_world.specs.declared.Call.{Call}
-use Rattle.tora_world.specs.declared.Call.TheVariants as Fails
-use Rattle.tora_seat.specs.declared.Item.{Item}
-use Rattle.tora_seat.specs.declared.Cargo.{Cargo}
+use Rattle.tora_world.specs.declared.call.Call.{Call}
+use Rattle.tora_world.specs.declared.call.Call.TheVariants as Fails
+use Rattle.tora_seat.specs.declared.item.Item.{Item}
+use Rattle.tora_seat.specs.declared.cargo.Cargo.{Cargo}
 use Rattle.tora_core.specs.declared.Input.{Input}
 use Rattle.tora_core.specs.Numbers.{ascending}
 use Rattle.tora_core.specs.Kept.{destinations_of}
 use Rattle.tora_seat.specs.Serving.{SeatState, Parcel}
 use Rattle.tora_seat.specs.Rows as Rows
 use Rattle.tora_world.specs.Topology.{Topology, version_at, is_node, is_link, neighbours_of}
-use Rattle.tora_world.specs.World.{World, Arms, first_seat, place_of, owner_of}
+use Rattle.tora_world.specs.World.{World, Arms, first_seat, owner_of}
+use Rattle.tora_seat.specs.Offers.{place_of}
 use Rattle.tora_world.specs.World.Sending.{Goes}
 use Rattle.tora_sim.specs.Links.{LinkView, is_at, key_of, waiting}
 use Rattle.tora_sim.specs.Nodes.{NodeView, is_of, sending_of}

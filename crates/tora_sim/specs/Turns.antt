@@ -1,14 +1,14 @@
 -- What an item made of a node and its link ends.
 use Rattle.std.specs.Prelude.{◌≡◌, ℕ, ◌+◌, List, [], ◌∷◌, ◌++◌, map, slice_get, slice_set, Option, Some, None, Result, MatchResult}
 use Rattle.tora_core.specs.Kept.{destinations_of}
-use Rattle.tora_seat.specs.declared.Item.{Item}
-use Rattle.tora_seat.specs.declared.Stepped.{Stepped}
+use Rattle.tora_seat.specs.declared.item.Item.{Item}
+use Rattle.tora_seat.specs.declared.stepped.Stepped.{Stepped}
 use Rattle.tora_seat.specs.Serving.{Answers, Offer, serving_of}
 use Rattle.tora_seat.specs.Offers.{AreOffered, Follows}
 use Rattle.tora_seat.specs.Rows.{serving_at}
 use Rattle.tora_seat.specs.Rows as Rows
-use Rattle.tora_world.specs.declared.SimError.{SimError}
-use Rattle.tora_world.specs.declared.SimError.TheVariants as Refused
+use Rattle.tora_world.specs.declared.sim_error.SimError.{SimError}
+use Rattle.tora_world.specs.declared.sim_error.SimError.TheVariants as Refused
 use Rattle.tora_sim.specs.Links.{LinkView}
 use Rattle.tora_sim.specs.Nodes.{NodeView}
 use Rattle.tora_sim.specs.Lanes.{LanesView, lanes_of, DidOffer}

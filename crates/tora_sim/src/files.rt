@@ -3,7 +3,8 @@ ghost use Rattle.std.specs.Prelude.{◌≡◌, ◌≢◌, ◌<◌, ◌≤◌, �
 ghost use Rattle.tora_life.specs.LifeRun.{opened, after_event, drawn_by, owner_in};
 ghost use Rattle.tora_life.specs.LifeRun.LifeEvent.{Draw, Arm};
 ghost use Rattle.tora_world.specs.World.{reopened};
-ghost use Rattle.tora_sim.specs.Files.{disk_of, list_of, IsDrawn};
+ghost use Rattle.tora_sim.specs.Files.{disk_of, IsDrawn};
+ghost use Rattle.tora_arq.specs.LinkFacts.{list_of};
 
 use tora_life::{DiskCall, LifeFile, MemDisk, Owner};
 

@@ -1,6 +1,6 @@
 //! A world at its start.
 ghost use Rattle.std.specs.Prelude.{◌≡◌, ◌≢◌, ◌<◌, IfErr, IfOk, MatchResult};
-ghost use Rattle.tora_arq.specs.declared.TheConstants.Times.{STANDARD};
+ghost use Rattle.tora_arq.specs.declared.times.TheConstants.Times.{STANDARD};
 ghost use Rattle.tora_arq.specs.Settings.{IsTimes};
 ghost use Rattle.tora_seat.specs.Rows.{first_seat};
 ghost use Rattle.tora_world.specs.Topology.{neighbours_of, new_core};

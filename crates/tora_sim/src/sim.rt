@@ -1,6 +1,6 @@
 //! The simulator.
 ghost use Rattle.std.specs.Prelude.{◌≡◌, ◌<◌, true};
-ghost use Rattle.tora_world.specs.declared.Event.TheVariants.{Tick, Open, Pull, Need, Transmit, Deliver, Pump, CoreTurn, Arm, Restart};
+ghost use Rattle.tora_world.specs.declared.event.Event.TheVariants.{Tick, Open, Pull, Need, Transmit, Deliver, Pump, CoreTurn, Arm, Restart};
 ghost use Rattle.tora_world.specs.World.{with_datagram};
 ghost use Rattle.tora_sim.specs.Nodes.{is_of, sending_of};
 ghost use Rattle.tora_sim.specs.Store.{numbered, call_of};

@@ -1,7 +1,7 @@
 //! The simulation of a file of lines in the simulator of the program.
 ghost use Rattle.std.specs.Prelude.{◌≡◌, ◌≢◌, Ok, IfOk, IfErr, IfSome};
 ghost use Rattle.std.specs.Io.KnownBytes.{IsAtEnd};
-ghost use Rattle.tora_arq.specs.declared.TheConstants.Times.{STANDARD};
+ghost use Rattle.tora_arq.specs.declared.times.TheConstants.Times.{STANDARD};
 ghost use Rattle.tora_arq.specs.Settings.{IsTimes};
 ghost use Rattle.tora_lines.specs.LineText.{fault_of};
 ghost use Rattle.tora_script.specs.SimulationText.{first_simulation_fault, Simulates, IsSimulationBegun};

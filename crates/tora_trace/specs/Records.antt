@@ -5,7 +5,7 @@ use Rattle.tora_height.specs.Height.{Quintuple}
 use Rattle.tora_height.specs.HeightText.{written_height}
 use Rattle.tora_packet.specs.declared.Packet.{Packet}
 use Rattle.tora_packet.specs.declared.Packet.TheVariants.{Qry, Upd, Clr}
-use Rattle.tora_arq.specs.declared.Life.{Life}
+use Rattle.tora_arq.specs.declared.life.Life.{Life}
 use Rattle.tora_core.specs.ShowText.{height_text, hop_text}
 use Rattle.tora_trace.specs.declared.counts.FrameCounts.{FrameCounts}
 

@@ -5,15 +5,15 @@ use Rattle.tora_packet.specs.declared.Packet.{Packet}
 use Rattle.tora_frame.specs.declared.parts.Body.{Body}
 use Rattle.tora_frame.specs.declared.parts.Body.TheVariants.{Hello, Data, Ack}
 use Rattle.tora_frame.specs.FrameParts.{FrameParts}
-use Rattle.tora_arq.specs.declared.Life.{Life}
-use Rattle.tora_arq.specs.declared.state.Phase.{Phase}
-use Rattle.tora_arq.specs.declared.state.Phase.TheVariants.{Closed, Unbound, Bound}
-use Rattle.tora_arq.specs.Lives.{life_of}
+use Rattle.tora_arq.specs.declared.life.Life.{Life}
+use Rattle.tora_arq.specs.declared.phase.Phase.{Phase}
+use Rattle.tora_arq.specs.declared.phase.Phase.TheVariants.{Closed, Unbound, Bound}
+use Rattle.tora_arq.specs.Lives.{life_of, reversed}
 use Rattle.tora_arq.specs.LinkEnd.{after_open, life_in}
 use Rattle.tora_arq.specs.LinkFacts.{LinkCall, after_call, HandsInFrameOf}
 use Rattle.tora_life.specs.LifeRun.{LifeDisk, IsFloor}
 use Rattle.tora_seat.specs.Serving.{Parcel}
-use Rattle.tora_world.specs.Lists.{reversed, packets_of, Begins, IsIn, Each}
+use Rattle.tora_world.specs.Lists.{packets_of, Begins, IsIn, Each}
 use Rattle.tora_world.specs.LinkMachine.{put_at, MachineEnd, Machine, MachineStep, MayStep, after_machine_step, machine_after, IsMachineRun, drawing, binding, sending, taking, closing, made}
 use Rattle.tora_world.specs.LinkMachine.MachineStep.{Draw, Bind, Send, Take, Close}
 use Rattle.tora_world.specs.MachineRun.{steps_of_binding, steps_of_end, steps_of_restart}

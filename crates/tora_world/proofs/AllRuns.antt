@@ -1,17 +1,17 @@
 -- Every run keeps what is said of all ends.
 use Rattle.std.proofs.Common.{◌≡◌, ℕ, List, Bool, true, false, true≢false, ◌⊎◌, inl, inr, ⊎_elim, [], ◌∷◌, Some, None, if◌then◌else◌, refl, subst, arith}
 use Rattle.std.specs.Prelude.{is_some, not, ◌&&◌}
-use Rattle.tora_arq.specs.declared.Life.{Life}
-use Rattle.tora_arq.specs.declared.Times.{Times}
-use Rattle.tora_arq.specs.declared.state.Phase.TheVariants.{Bound}
+use Rattle.tora_arq.specs.declared.life.Life.{Life}
+use Rattle.tora_arq.specs.declared.times.Times.{Times}
+use Rattle.tora_arq.specs.declared.phase.Phase.TheVariants.{Bound}
 use Rattle.tora_arq.specs.LinkEnd.{frame_due, bound_life}
 use Rattle.tora_life.specs.LifeFile.{file_value}
-use Rattle.tora_seat.specs.declared.What.TheVariants as Tells
-use Rattle.tora_world.specs.declared.Event.{Event}
-use Rattle.tora_world.specs.declared.Event.TheVariants.{Need, Tick, Open, Pull, Transmit, Deliver, Pump, CoreTurn, Arm, Restart}
-use Rattle.tora_world.specs.declared.SimError.TheVariants as Refused
+use Rattle.tora_seat.specs.declared.what.What.TheVariants as Tells
+use Rattle.tora_world.specs.declared.event.Event.{Event}
+use Rattle.tora_world.specs.declared.event.Event.TheVariants.{Need, Tick, Open, Pull, Transmit, Deliver, Pump, CoreTurn, Arm, Restart}
+use Rattle.tora_world.specs.declared.sim_error.SimError.TheVariants as Refused
 use Rattle.tora_world.specs.Topology.{Topology, is_link}
-use Rattle.tora_world.specs.Lists.{reversed}
+use Rattle.tora_arq.specs.Lives.{reversed}
 use Rattle.tora_world.specs.LinkMachine.{MachineStep, machine_after, made}
 use Rattle.tora_world.specs.MachineRun.{steps_of_effect, steps_by, free_steps_by, machine_steps}
 use Rattle.tora_world.specs.World.{owner_of, World, Choice, settings, datagram, first_world, is_empty, has_room, unless_possible, refusal_by, effect_by, world_by, world_after, world_after_all}

@@ -1,7 +1,7 @@
 -- What comes to the core: one arrival more at its end, or one less at its front.
 use Rattle.tora_packet.specs.declared.Packet.{Packet}
 use Rattle.std.proofs.Common.{◌≡◌, ℕ, ◌<◌, ◌≤◌, Bool, true, false, ◌&&◌, inr, if◌then◌else◌, map, List, [], ◌∷◌, ◌++◌, refl, sym, ap, ◌∙◌, subst, append_assoc, arith}
-use Rattle.tora_arq.specs.declared.Life.{Life}
+use Rattle.tora_arq.specs.declared.life.Life.{Life}
 use Rattle.tora_arq.specs.Lives.{is_same_life}
 use Rattle.tora_world.specs.Lists.{Each}
 use Rattle.tora_world.proofs.PacketLists.{same_false, Each_at}

@@ -1,7 +1,7 @@
 -- Worlds at rest that events reach: what their entries are, and where walks lead.
 use Rattle.std.proofs.Common.{◌≡◌, ◌≢◌, ℕ, true, List, [], Some, sym, ap, ◌∙◌, subst}
 use Rattle.tora_height.specs.Height.{Quintuple}
-use Rattle.tora_arq.specs.declared.Times.{Times}
+use Rattle.tora_arq.specs.declared.times.Times.{Times}
 use Rattle.tora_world.specs.Topology.{Topology, is_node, IsWithinLimits}
 use Rattle.tora_world.specs.World.{World, first_world}
 use Rattle.tora_world.specs.FreeWorld.{Schedule, after_schedule}

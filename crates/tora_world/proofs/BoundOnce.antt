@@ -3,11 +3,11 @@ use Rattle.std.proofs.Common.{◌≡◌, ◌≢◌, ℕ, ◌+◌, ◌<◌, ◌�
 use Rattle.std.proofs.lemmas.Bool.{cond_both, cases_Bool, and_parts}
 use Rattle.std.specs.Prelude.{is_some}
 use Rattle.tora_frame.specs.FrameParts.{FrameParts}
-use Rattle.tora_arq.specs.declared.Life.{Life}
-use Rattle.tora_arq.specs.declared.Times.{Times}
-use Rattle.tora_arq.specs.declared.LinkEvent.{LinkEvent}
-use Rattle.tora_arq.specs.declared.state.Phase.{Phase}
-use Rattle.tora_arq.specs.declared.state.Phase.TheVariants.{Closed, Unbound, Bound}
+use Rattle.tora_arq.specs.declared.life.Life.{Life}
+use Rattle.tora_arq.specs.declared.times.Times.{Times}
+use Rattle.tora_arq.specs.declared.link_event.LinkEvent.{LinkEvent}
+use Rattle.tora_arq.specs.declared.phase.Phase.{Phase}
+use Rattle.tora_arq.specs.declared.phase.Phase.TheVariants.{Closed, Unbound, Bound}
 use Rattle.tora_arq.specs.Lives.{is_same_life}
 use Rattle.tora_arq.specs.Settings.{Settings}
 use Rattle.tora_arq.specs.LinkEnd.{EndState, first_end, after_frame, after_tick, after_cut, after_transmit, frame_due, bound_life, first_event, after_poll_event}
@@ -19,14 +19,14 @@ use Rattle.tora_life.specs.State.{after_crash}
 use Rattle.tora_life.specs.LifeFile.{file_value}
 use Rattle.tora_life.specs.LifeRun.{LifeDisk, IsFloor, after_event, drawn_by, state_in}
 use Rattle.tora_life.specs.LifeRun.LifeEvent.{Draw as DrawsNumber, Arm as ArmsDisk, Restart as OpensAnew}
-use Rattle.tora_seat.specs.declared.Item.{Item}
-use Rattle.tora_seat.specs.declared.Cargo.{Cargo}
-use Rattle.tora_seat.specs.declared.Cargo.TheVariants as Gives
+use Rattle.tora_seat.specs.declared.item.Item.{Item}
+use Rattle.tora_seat.specs.declared.cargo.Cargo.{Cargo}
+use Rattle.tora_seat.specs.declared.cargo.Cargo.TheVariants as Gives
 use Rattle.tora_seat.specs.Serving.{put_one}
-use Rattle.tora_world.specs.declared.Event.{Event}
-use Rattle.tora_world.specs.declared.Event.TheVariants.{Need, Tick, Open, Pull, Transmit, Deliver, Pump, CoreTurn, Arm, Restart}
-use Rattle.tora_world.specs.declared.Call.{Call}
-use Rattle.tora_world.specs.declared.Call.TheVariants as Fails
+use Rattle.tora_world.specs.declared.event.Event.{Event}
+use Rattle.tora_world.specs.declared.event.Event.TheVariants.{Need, Tick, Open, Pull, Transmit, Deliver, Pump, CoreTurn, Arm, Restart}
+use Rattle.tora_world.specs.declared.call.Call.{Call}
+use Rattle.tora_world.specs.declared.call.Call.TheVariants as Fails
 use Rattle.tora_world.specs.Topology.{Topology, is_link}
 use Rattle.tora_world.specs.LinkMachine.{put_at}
 use Rattle.tora_seat.specs.Between.{after_cargo}

@@ -2,12 +2,12 @@
 use Rattle.std.proofs.Common.{◌≡◌, ℕ, true, false, ◌⊎◌, inl, inr, List, [], ◌∷◌, ◌++◌, Option, nat_eq, if◌then◌else◌, refl, sym, ap, ap₂, ◌∙◌, subst, eqb-true}
 use Rattle.std.proofs.lemmas.Bool.{cond_both, cases_Bool}
 use Rattle.std.specs.Prelude.{is_some}
-use Rattle.tora_arq.specs.declared.Times.{Times}
+use Rattle.tora_arq.specs.declared.times.Times.{Times}
 use Rattle.tora_core.specs.declared.Input.{Input}
 use Rattle.tora_core.specs.CoreRun.{CoreView, core_after, core_after_all}
-use Rattle.tora_seat.specs.declared.Item.{Item}
+use Rattle.tora_seat.specs.declared.item.Item.{Item}
 use Rattle.tora_seat.specs.Serving.{Serving, put_one, serving_of}
-use Rattle.tora_world.specs.declared.Event.{Event}
+use Rattle.tora_world.specs.declared.event.Event.{Event}
 use Rattle.tora_world.specs.Topology.{Topology, new_core}
 use Rattle.tora_world.specs.World.{World, Choice, neighbours, first_seat, first_world, refusal_by, after_serving, after_turn, effect_by, world_by, after_restart}
 use Rattle.tora_world.specs.FreeWorld.{FreeEvent, free_by, Schedule, after_schedule}

@@ -2,22 +2,23 @@
 use Rattle.std.proofs.Common.{◌≡◌, ℕ, suc, Bool, true, false, List, [], ◌∷◌, ◌++◌, map, length, Option, Some, None, nat_eq, if◌then◌else◌, refl, sym, ap, ◌∙◌, append_assoc, eqb-true, true≢false, ◌||◌}
 use Rattle.std.specs.Prelude.{slice_get}
 use Rattle.tora_core.specs.Numbers.{has_number}
-use Rattle.tora_arq.specs.declared.Life.{Life}
-use Rattle.tora_arq.specs.declared.LinkEvent.{LinkEvent}
-use Rattle.tora_arq.specs.declared.LinkEvent.TheVariants.{Up, Deliver, Down}
+use Rattle.tora_arq.specs.declared.life.Life.{Life}
+use Rattle.tora_arq.specs.declared.link_event.LinkEvent.{LinkEvent}
+use Rattle.tora_arq.specs.declared.link_event.LinkEvent.TheVariants.{Up, Deliver, Down}
 use Rattle.tora_arq.specs.Settings.{Settings}
 use Rattle.tora_arq.specs.LinkEnd.{EndState}
 use Rattle.tora_arq.specs.LinkFacts.{LinkCall, after_call, IsPossible, events_left, events_queued}
 use Rattle.tora_life.specs.LifeRun.{LifeDisk}
-use Rattle.tora_seat.specs.declared.What.{What}
-use Rattle.tora_seat.specs.declared.What.TheVariants as Tells
-use Rattle.tora_seat.specs.declared.Item.{Item}
-use Rattle.tora_seat.specs.declared.Cargo.{Cargo}
-use Rattle.tora_seat.specs.declared.Cargo.TheVariants as Gives
+use Rattle.tora_seat.specs.declared.what.What.{What}
+use Rattle.tora_seat.specs.declared.what.What.TheVariants as Tells
+use Rattle.tora_seat.specs.declared.item.Item.{Item}
+use Rattle.tora_seat.specs.declared.cargo.Cargo.{Cargo}
+use Rattle.tora_seat.specs.declared.cargo.Cargo.TheVariants as Gives
 use Rattle.tora_seat.specs.Serving.{Parcel}
 use Rattle.tora_world.specs.Lists.{parcels_in, parcel_of}
 use Rattle.tora_seat.specs.Between.{what_of}
-use Rattle.tora_world.specs.World.{World, settings, neighbours, place_of}
+use Rattle.tora_world.specs.World.{World, settings, neighbours}
+use Rattle.tora_seat.specs.Offers.{place_of}
 use Rattle.tora_world.specs.Layers.{LinkLaws}
 use Rattle.tora_world.proofs.Invariant.{Arrival, EndView, arrival_of}
 use Rattle.tora_world.proofs.Invariant.Arrival.{LifeComes, PacketComes, OtherComes}

@@ -5,10 +5,10 @@ use Rattle.std.specs.Prelude.{find, option_map, option_and_then, is_some}
 use Rattle.std.specs.List.{AllByRecursion}
 use Rattle.tora_height.specs.Height.{Quintuple, destination_height}
 use Rattle.tora_packet.specs.PacketParts.{IsId}
-use Rattle.tora_arq.specs.declared.Life.{Life}
-use Rattle.tora_arq.specs.declared.Times.{Times}
-use Rattle.tora_arq.specs.declared.state.Phase.{Phase}
-use Rattle.tora_arq.specs.declared.state.Phase.TheVariants.{Closed, Unbound, Bound}
+use Rattle.tora_arq.specs.declared.life.Life.{Life}
+use Rattle.tora_arq.specs.declared.times.Times.{Times}
+use Rattle.tora_arq.specs.declared.phase.Phase.{Phase}
+use Rattle.tora_arq.specs.declared.phase.Phase.TheVariants.{Closed, Unbound, Bound}
 use Rattle.tora_arq.specs.LinkEnd.{life_in}
 use Rattle.tora_core.specs.declared.rows.Row.{Row}
 use Rattle.tora_core.specs.Numbers.{has_number, ascending, IsAscending}
@@ -16,7 +16,8 @@ use Rattle.tora_core.specs.View.{View, first_view}
 use Rattle.tora_core.specs.CoreRun.{CoreView, core_after_all, view_of, height_of, entry_in, entry_of}
 use Rattle.tora_core.specs.Kept.{IsRow, destinations_of}
 use Rattle.tora_world.specs.Topology.{Topology, neighbours_of, is_node, is_link, new_core, IsWithinLimits}
-use Rattle.tora_world.specs.Lists.{reversed, packets_of, parcels_in}
+use Rattle.tora_world.specs.Lists.{packets_of, parcels_in}
+use Rattle.tora_arq.specs.Lives.{reversed}
 use Rattle.tora_world.specs.World.{World, first_world}
 use Rattle.tora_world.specs.FreeWorld.{Schedule, after_schedule}
 use Rattle.tora_world.specs.Gaps.{broadcast_packets}

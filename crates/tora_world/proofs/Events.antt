@@ -8,16 +8,16 @@ use Rattle.tora_frame.specs.declared.parts.Version.{Version}
 use Rattle.tora_frame.specs.declared.parts.Body.{Body}
 use Rattle.tora_frame.specs.declared.parts.Body.TheVariants.{Hello, Data, Ack}
 use Rattle.tora_frame.specs.FrameParts.{FrameParts}
-use Rattle.tora_arq.specs.declared.Life.{Life}
-use Rattle.tora_arq.specs.declared.LinkEvent.{LinkEvent}
-use Rattle.tora_arq.specs.declared.state.Phase.{Phase}
-use Rattle.tora_arq.specs.declared.state.Phase.TheVariants.{Closed, Unbound, Bound}
-use Rattle.tora_arq.specs.Lives.{is_same_life, life_of}
+use Rattle.tora_arq.specs.declared.life.Life.{Life}
+use Rattle.tora_arq.specs.declared.link_event.LinkEvent.{LinkEvent}
+use Rattle.tora_arq.specs.declared.phase.Phase.{Phase}
+use Rattle.tora_arq.specs.declared.phase.Phase.TheVariants.{Closed, Unbound, Bound}
+use Rattle.tora_arq.specs.Lives.{is_same_life, life_of, reversed}
 use Rattle.tora_arq.specs.Settings.{settings_of}
 use Rattle.tora_arq.specs.LinkEnd.{EndState, first_end, bound_life, count_of, after_open, after_tick, after_frame, after_transmit, frame_due, frame_sent, after_poll_event}
 use Rattle.tora_arq.specs.LinkFacts.{LinkCall, IsPossible, after_call, packet_submitted, packet_where_ok, HandsInFrameOf, IsFrameOf, IsFrameSent, IsFrameSentIn, IsBodyOf, IsPacketAt, BodyTells, events_left}
 use Rattle.tora_arq.specs.LinkFacts.LinkCall.{Frame as Hears, Tick as Ticks, Submit as Submits, Transmit as Transmits, Cut as Cuts}
-use Rattle.tora_arq.specs.declared.Times.{Times}
+use Rattle.tora_arq.specs.declared.times.Times.{Times}
 use Rattle.tora_life.specs.declared.state.DiskCall.{DiskCall}
 use Rattle.tora_life.specs.declared.state.DiskCall.TheVariants as Disk
 use Rattle.tora_life.specs.declared.numbers.LifeError.{LifeError}
@@ -26,18 +26,19 @@ use Rattle.tora_life.specs.InMemory.{draw_answer}
 use Rattle.tora_life.specs.LifeRun.LifeDisk.{Opened, Unopened}
 use Rattle.tora_life.specs.LifeRun.LifeEvent.{Draw as DrawsNumber, Arm as ArmsDisk, Restart as OpensAnew}
 use Rattle.tora_life.specs.LifeRun.{LifeDisk, IsFloor, after_event, drawn_by, state_in, number_in}
-use Rattle.tora_seat.specs.declared.What.{What}
-use Rattle.tora_seat.specs.declared.Item.{Item}
-use Rattle.tora_seat.specs.declared.Cargo.{Cargo}
-use Rattle.tora_seat.specs.declared.Cargo.TheVariants as Gives
+use Rattle.tora_seat.specs.declared.what.What.{What}
+use Rattle.tora_seat.specs.declared.item.Item.{Item}
+use Rattle.tora_seat.specs.declared.cargo.Cargo.{Cargo}
+use Rattle.tora_seat.specs.declared.cargo.Cargo.TheVariants as Gives
 use Rattle.tora_seat.specs.Serving.{Parcel, put_one}
-use Rattle.tora_world.specs.declared.Call.{Call}
-use Rattle.tora_world.specs.declared.Call.TheVariants as Fails
+use Rattle.tora_world.specs.declared.call.Call.{Call}
+use Rattle.tora_world.specs.declared.call.Call.TheVariants as Fails
 use Rattle.tora_world.specs.Topology.{version_at, is_link}
-use Rattle.tora_world.specs.Lists.{reversed, packet_where, packets_of, parcels_in, parcel_of, Begins, IsIn}
+use Rattle.tora_world.specs.Lists.{packet_where, packets_of, parcels_in, parcel_of, Begins, IsIn}
 use Rattle.tora_world.specs.LinkMachine.{put_at, MachineEnd, Machine, MachineStep, machine_after, made, IsLast}
 use Rattle.tora_seat.specs.Between.{what_of}
-use Rattle.tora_world.specs.World.{World, Choice, Sending, settings, neighbours, place_of, datagram, first_seat, with_end, with_item, open_with, after_opening, after_pull, with_datagram, after_sending, after_receiving, after_pump, is_file_of, with_armed_files, after_arming, reopened, after_restart}
+use Rattle.tora_world.specs.World.{World, Choice, Sending, settings, neighbours, datagram, first_seat, with_end, with_item, open_with, after_opening, after_pull, with_datagram, after_sending, after_receiving, after_pump, is_file_of, with_armed_files, after_arming, reopened, after_restart}
+use Rattle.tora_seat.specs.Offers.{place_of}
 use Rattle.tora_world.specs.World.Sending.{Goes, IsLost, IsGone}
 use Rattle.tora_world.specs.MachineRun.{steps_of_opening, steps_of_binding, steps_of_frame, steps_of_restart}
 use Rattle.tora_world.specs.Layers.{LinkLaws, LifeLaws}

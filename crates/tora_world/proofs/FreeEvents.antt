@@ -1,12 +1,12 @@
 -- What only threads do changes at most ends, life files and lanes into the cores, but for a start, which is a Restart with other life files.
 use Rattle.std.proofs.Common.{ℕ, List, [], ◌∷◌, Option, Some, None, refl}
 use Rattle.std.proofs.lemmas.Bool.{cond_both}
-use Rattle.tora_arq.specs.declared.LinkEvent.{LinkEvent}
+use Rattle.tora_arq.specs.declared.link_event.LinkEvent.{LinkEvent}
 use Rattle.tora_arq.specs.LinkEnd.{EndState, first_event}
 use Rattle.tora_life.specs.LifeRun.{LifeDisk}
-use Rattle.tora_seat.specs.declared.Item.{Item}
-use Rattle.tora_world.specs.declared.Event.{Event}
-use Rattle.tora_world.specs.declared.Event.TheVariants.{Restart}
+use Rattle.tora_seat.specs.declared.item.Item.{Item}
+use Rattle.tora_world.specs.declared.event.Event.{Event}
+use Rattle.tora_world.specs.declared.event.Event.TheVariants.{Restart}
 use Rattle.tora_world.specs.Topology.{is_link}
 use Rattle.tora_world.specs.World.{World, Choice, after_pump, world_by}
 use Rattle.tora_world.specs.FreeWorld.{FreeEvent, if_happens, free_by}

@@ -3,7 +3,7 @@ use Rattle.std.proofs.Common.{◌≡◌, ◌≢◌, ℕ, Bool, true, false, true
 use Rattle.std.proofs.lemmas.Bool.{cond_both, cases_Bool, false_from_ne_true}
 use Rattle.std.specs.Prelude.{is_some, is_none, not, ◌==◌, find, option_map, option_and_then, pos}
 use Rattle.std.specs.List.{list_all, AllByRecursion}
-use Rattle.tora_height.specs.declared.Level.{Level}
+use Rattle.tora_height.specs.declared.level.Level.{Level}
 use Rattle.tora_height.specs.Height.{Quintuple, quintuple, destination_height}
 use Rattle.tora_packet.specs.declared.Packet.{Packet}
 use Rattle.tora_packet.specs.declared.Packet.TheVariants.{Qry, Upd, Clr}

@@ -6,18 +6,18 @@ use Rattle.tora_packet.specs.declared.Packet.{Packet}
 use Rattle.tora_frame.specs.declared.parts.Body.{Body}
 use Rattle.tora_frame.specs.declared.parts.Body.TheVariants.{Hello, Data, Ack}
 use Rattle.tora_frame.specs.FrameParts.{FrameParts}
-use Rattle.tora_arq.specs.declared.Life.{Life}
-use Rattle.tora_arq.specs.declared.LinkEvent.{LinkEvent}
-use Rattle.tora_arq.specs.declared.LinkEvent.TheVariants.{Up, Deliver, Down}
-use Rattle.tora_arq.specs.declared.state.Phase.{Phase}
-use Rattle.tora_arq.specs.declared.state.Phase.TheVariants.{Closed, Unbound, Bound}
-use Rattle.tora_arq.specs.Lives.{is_same_life, life_of}
+use Rattle.tora_arq.specs.declared.life.Life.{Life}
+use Rattle.tora_arq.specs.declared.link_event.LinkEvent.{LinkEvent}
+use Rattle.tora_arq.specs.declared.link_event.LinkEvent.TheVariants.{Up, Deliver, Down}
+use Rattle.tora_arq.specs.declared.phase.Phase.{Phase}
+use Rattle.tora_arq.specs.declared.phase.Phase.TheVariants.{Closed, Unbound, Bound}
+use Rattle.tora_arq.specs.Lives.{is_same_life, life_of, reversed}
 use Rattle.tora_arq.specs.Settings.{Settings}
 use Rattle.tora_arq.specs.LinkEnd.{EndState}
 use Rattle.tora_arq.specs.LinkFacts.{IsEnd, IsQueueOf, IsPacketAt, BodyTells, AreHeld}
 use Rattle.tora_life.specs.LifeRun.{LifeDisk, IsFloor}
 use Rattle.tora_seat.specs.Serving.{Parcel}
-use Rattle.tora_world.specs.Lists.{reversed, packets_of, Begins, IsIn, Each}
+use Rattle.tora_world.specs.Lists.{packets_of, Begins, IsIn, Each}
 use Rattle.tora_world.specs.LinkMachine.{MachineEnd, Machine, MachineStep, IsMachineRun, machine_after, IsLast}
 
 -- what comes to the core from one neighbour

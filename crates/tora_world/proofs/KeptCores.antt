@@ -6,8 +6,8 @@ use Rattle.std.specs.List.{AllByRecursion, cons_option}
 use Rattle.tora_packet.specs.declared.Packet.{Packet}
 use Rattle.tora_packet.specs.PacketParts.{IsId}
 use Rattle.tora_packet.specs.AnyPacket.{IsPacket}
-use Rattle.tora_arq.specs.declared.Life.{Life}
-use Rattle.tora_arq.specs.declared.Times.{Times}
+use Rattle.tora_arq.specs.declared.life.Life.{Life}
+use Rattle.tora_arq.specs.declared.times.Times.{Times}
 use Rattle.tora_core.specs.declared.Input.{Input}
 use Rattle.tora_core.specs.declared.Input.TheVariants as In
 use Rattle.tora_core.specs.declared.errors.StepError.{StepError}
@@ -20,15 +20,16 @@ use Rattle.tora_core.specs.CoreRun.{CoreView, refusal_of, concerns, next_packet,
 use Rattle.tora_core.specs.Kept.{MakesPacket, CanTake, IsCore, IsInput, AreInputs}
 use Rattle.tora_core.proofs.Broadcasts.{broadcasts-make_packets}
 use Rattle.tora_core.proofs.CoreLemmas.{all-can_take}
-use Rattle.tora_seat.specs.declared.What.{What}
-use Rattle.tora_seat.specs.declared.What.TheVariants as Tells
-use Rattle.tora_seat.specs.declared.Item.{Item}
-use Rattle.tora_seat.specs.declared.Cargo.{Cargo}
-use Rattle.tora_seat.specs.declared.Cargo.TheVariants as Gives
+use Rattle.tora_seat.specs.declared.what.What.{What}
+use Rattle.tora_seat.specs.declared.what.What.TheVariants as Tells
+use Rattle.tora_seat.specs.declared.item.Item.{Item}
+use Rattle.tora_seat.specs.declared.cargo.Cargo.{Cargo}
+use Rattle.tora_seat.specs.declared.cargo.Cargo.TheVariants as Gives
 use Rattle.tora_seat.specs.Serving.{SeatState, Offer, Serving, Answers, with_current, after_cut_tried, after_cuts_tried, after_sent, after_broadcast, after_broadcasts, accepting, after_answer, after_step, first_cut, after_settling, after_input, is_current, after_old_down, after_link_item, after_other_item, after_item_of, begin_serving, serving_of, put_to}
-use Rattle.tora_world.specs.declared.Event.{Event}
+use Rattle.tora_world.specs.declared.event.Event.{Event}
 use Rattle.tora_world.specs.Topology.{Topology, neighbours_of, new_core}
-use Rattle.tora_world.specs.Lists.{reversed, parcel_of, Each}
+use Rattle.tora_world.specs.Lists.{parcel_of, Each}
+use Rattle.tora_arq.specs.Lives.{reversed}
 use Rattle.tora_world.specs.LinkMachine.{MachineStep, made}
 use Rattle.tora_world.specs.MachineRun.{free_steps_by}
 use Rattle.tora_world.specs.World.{World, Choice, neighbours, first_seat, first_world, refusal_by, after_serving, after_turn, after_restart, effect_by, world_by}

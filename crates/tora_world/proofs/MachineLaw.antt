@@ -1,8 +1,9 @@
 -- In every run of the machine, what was taken begins what was sent.
 use Rattle.std.proofs.Common.{◌≡◌, ℕ, List, [], ◌∷◌, length, Some, sym, subst}
-use Rattle.tora_arq.specs.declared.Life.{Life}
+use Rattle.tora_arq.specs.declared.life.Life.{Life}
 use Rattle.std.specs.Prelude.{slice_get}
-use Rattle.tora_world.specs.Lists.{reversed, packets_of, Begins}
+use Rattle.tora_world.specs.Lists.{packets_of, Begins}
+use Rattle.tora_arq.specs.Lives.{reversed}
 use Rattle.tora_world.specs.LinkMachine.{put_at, MachineEnd, MachineStep, Machine, MayStep, after_machine_step, machine_after, IsMachineRun, drawing, binding, sending, taking, closing}
 use Rattle.tora_world.specs.LinkMachine.MachineStep.{Draw, Bind, Send, Take, Close}
 use Rattle.tora_world.proofs.PacketLists.{put_cases, of_push_both, begins_refl, begins_nil, begins_trans, begins_append, begins_more}

@@ -3,18 +3,18 @@ use Rattle.std.proofs.Common.{◌≡◌, ◌≢◌, ℕ, suc, ◌+◌, ◌<◌, 
 use Rattle.std.proofs.lemmas.Bool.{cases_Bool, and_parts}
 use Rattle.std.specs.Prelude.{slice_get}
 use Rattle.tora_packet.specs.declared.Packet.{Packet}
-use Rattle.tora_arq.specs.declared.Life.{Life}
-use Rattle.tora_arq.specs.declared.LinkEvent.{LinkEvent}
-use Rattle.tora_arq.specs.declared.LinkEvent.TheVariants.{Up, Deliver}
-use Rattle.tora_arq.specs.declared.state.Phase.{Phase}
-use Rattle.tora_arq.specs.declared.state.Phase.TheVariants.{Closed, Unbound, Bound}
-use Rattle.tora_arq.specs.Lives.{is_same_life}
+use Rattle.tora_arq.specs.declared.life.Life.{Life}
+use Rattle.tora_arq.specs.declared.link_event.LinkEvent.{LinkEvent}
+use Rattle.tora_arq.specs.declared.link_event.LinkEvent.TheVariants.{Up, Deliver}
+use Rattle.tora_arq.specs.declared.phase.Phase.{Phase}
+use Rattle.tora_arq.specs.declared.phase.Phase.TheVariants.{Closed, Unbound, Bound}
+use Rattle.tora_arq.specs.Lives.{is_same_life, reversed}
 use Rattle.tora_arq.specs.LinkEnd.{EndState, first_end, after_open, life_in, after_poll_event}
 use Rattle.tora_arq.specs.LinkFacts.{LinkCall, after_call, IsPossible, events_queued, packet_submitted, IsEndIn, IsUnboundEnd, OpensWith, IsPacketAt, AreHeld, AreFrom, CallTells, DeliversNext, packets_delivered, AreEventsBetween, IsCountOfCall}
 use Rattle.tora_arq.specs.LinkFacts.LinkCall.{PollEvent}
 use Rattle.tora_life.specs.LifeRun.{LifeDisk, IsFloor}
 use Rattle.tora_seat.specs.Serving.{Parcel}
-use Rattle.tora_world.specs.Lists.{reversed, packet_where, packets_of, Begins, IsIn, Each}
+use Rattle.tora_world.specs.Lists.{packet_where, packets_of, Begins, IsIn, Each}
 use Rattle.tora_world.specs.LinkMachine.{MachineEnd, IsLast, drawing, binding, sending, taking, closing}
 use Rattle.tora_world.specs.Layers.{LinkLaws}
 use Rattle.tora_world.proofs.PacketLists.{same_refl, same_true, of-push, only_other, begins_trans, begins_front, begins_many, at_begins, at_middle, Each_mono, Each_at}

@@ -2,7 +2,7 @@
 use Rattle.tora_packet.specs.declared.Packet.{Packet}
 use Rattle.std.proofs.Common.{◌≡◌, ◌≢◌, ℕ, zero, suc, ◌+◌, Bool, true, false, true≢false, ◌&&◌, inl, inr, ⊎_elim, List, [], ◌∷◌, ◌++◌, length, Some, nat_eq, if◌then◌else◌, refl, sym, ap, ◌∙◌, subst, append_assoc, append-nil, eqb-true, eq-eqb, arith, length-append}
 use Rattle.std.proofs.lemmas.Bool.{and_parts, and_from, cases_Bool, false_from_ne_true}
-use Rattle.tora_arq.specs.declared.Life.{Life}
+use Rattle.tora_arq.specs.declared.life.Life.{Life}
 use Rattle.std.specs.Prelude.{slice_get}
 use Rattle.tora_arq.specs.Lives.{is_same_life}
 use Rattle.tora_arq.specs.LinkFacts.{AreFrom, IsPacketAt}

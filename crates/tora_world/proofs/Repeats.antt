@@ -3,19 +3,20 @@ use Rattle.std.proofs.Common.{◌≡◌, ℕ, zero, suc, ◌+◌, ◌<◌, ◌�
 use Rattle.std.proofs.lemmas.Bool.{cases_Bool}
 use Rattle.std.specs.Prelude.{slice_get}
 use Rattle.tora_frame.specs.FrameParts.{FrameParts}
-use Rattle.tora_arq.specs.declared.LinkEvent.{LinkEvent}
+use Rattle.tora_arq.specs.declared.link_event.LinkEvent.{LinkEvent}
 use Rattle.tora_arq.specs.Settings.{Settings}
 use Rattle.tora_arq.specs.LinkEnd.{EndState, frame_due, after_transmit}
 use Rattle.tora_arq.specs.Polls.{after_polls}
 use Rattle.tora_seat.specs.declared.TheConstants.{MOST_ITEMS, MOST_CARGOES}
-use Rattle.tora_seat.specs.declared.Item.{Item}
-use Rattle.tora_seat.specs.declared.Cargo.{Cargo}
+use Rattle.tora_seat.specs.declared.item.Item.{Item}
+use Rattle.tora_seat.specs.declared.cargo.Cargo.{Cargo}
 use Rattle.tora_seat.specs.Serving.{put_to, serving_of}
-use Rattle.tora_world.specs.declared.Event.{Event}
-use Rattle.tora_world.specs.declared.Event.TheVariants.{Pull, Transmit, Pump, CoreTurn}
-use Rattle.tora_world.specs.declared.SimError.{SimError}
+use Rattle.tora_world.specs.declared.event.Event.{Event}
+use Rattle.tora_world.specs.declared.event.Event.TheVariants.{Pull, Transmit, Pump, CoreTurn}
+use Rattle.tora_world.specs.declared.sim_error.SimError.{SimError}
 use Rattle.tora_seat.specs.Between.{what_of}
-use Rattle.tora_world.specs.World.{World, Choice, own_choice, own_answers, settings, neighbours, place_of, is_empty, has_room, after_pull, after_sending, after_pump, after_turn, refusal_of, effect_by, world_by, world_after, world_after_all}
+use Rattle.tora_world.specs.World.{World, Choice, own_choice, own_answers, settings, neighbours, is_empty, has_room, after_pull, after_sending, after_pump, after_turn, refusal_of, effect_by, world_by, world_after, world_after_all}
+use Rattle.tora_seat.specs.Offers.{place_of}
 use Rattle.tora_world.specs.FreeWorld.{happening, after_schedule}
 use Rattle.tora_world.specs.Frames.{ChangesAt, ChangesAtEnd}
 use Rattle.tora_world.specs.Table.{IsStepBy, refused, needed, ticked, opened, stays_closed, packet_pulled, cut_pulled, sent, send_lost, send_gone, received, receive_failed, pumped, turned, send_lost_armed, send_gone_armed, receive_armed, read_armed, write_armed, sync_armed, restarted}

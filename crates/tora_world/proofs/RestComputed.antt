@@ -3,13 +3,12 @@ use Rattle.std.proofs.Common.{◌≡◌, ℕ, Bool, true, false, true≢false, �
 use Rattle.std.proofs.lemmas.Bool.{and_from, and_parts, or_right}
 use Rattle.std.specs.Prelude.{option_map}
 use Rattle.std.specs.List.{list_all}
-use Rattle.tora_arq.specs.declared.Life.{Life}
-use Rattle.tora_arq.specs.Lives.{is_same_life}
+use Rattle.tora_arq.specs.declared.life.Life.{Life}
+use Rattle.tora_arq.specs.Lives.{is_same_life, reversed}
 use Rattle.tora_arq.specs.LinkEnd.{bound_life}
 use Rattle.tora_core.specs.Numbers.{has_number}
 use Rattle.tora_seat.specs.Serving.{is_current}
 use Rattle.tora_world.specs.Topology.{nodes_in, neighbours_of, is_node, is_link}
-use Rattle.tora_world.specs.Lists.{reversed}
 use Rattle.tora_world.specs.World.{World, is_empty}
 use Rattle.tora_world.specs.Layers.{CoreLaws}
 use Rattle.tora_world.specs.Rest.{life_at, IsIdleEnd, IsAtRest, is_idle_end, is_one_life, is_link_at_rest, is_node_at_rest, rests}

@@ -4,22 +4,22 @@ use Rattle.std.proofs.lemmas.Bool.{cond_both, cases_Bool}
 use Rattle.std.specs.Prelude.{slice_get, is_some}
 use Rattle.tora_packet.specs.declared.Packet.{Packet}
 use Rattle.tora_frame.specs.FrameParts.{FrameParts}
-use Rattle.tora_arq.specs.declared.Life.{Life}
-use Rattle.tora_arq.specs.declared.Times.{Times}
-use Rattle.tora_arq.specs.declared.LinkEvent.{LinkEvent}
+use Rattle.tora_arq.specs.declared.life.Life.{Life}
+use Rattle.tora_arq.specs.declared.times.Times.{Times}
+use Rattle.tora_arq.specs.declared.link_event.LinkEvent.{LinkEvent}
 use Rattle.tora_arq.specs.LinkEnd.{frame_due, after_transmit, after_frame, first_event}
 use Rattle.tora_core.specs.declared.Input.{Input}
 use Rattle.tora_core.specs.Numbers.{has_number, has_repeat}
 use Rattle.tora_core.specs.CoreRun.{core_after_all}
-use Rattle.tora_seat.specs.declared.What.{What}
-use Rattle.tora_seat.specs.declared.What.TheVariants as Tells
-use Rattle.tora_seat.specs.declared.Item.{Item}
-use Rattle.tora_seat.specs.declared.Cargo.{Cargo}
+use Rattle.tora_seat.specs.declared.what.What.{What}
+use Rattle.tora_seat.specs.declared.what.What.TheVariants as Tells
+use Rattle.tora_seat.specs.declared.item.Item.{Item}
+use Rattle.tora_seat.specs.declared.cargo.Cargo.{Cargo}
 use Rattle.tora_seat.specs.Serving.{SeatState, Serving, Parcel, put_one, serving_of, put_to}
-use Rattle.tora_world.specs.declared.Event.{Event}
-use Rattle.tora_world.specs.declared.Event.TheVariants.{Need, Tick, Open, Pull, Transmit, Deliver, Pump, CoreTurn, Arm, Restart}
-use Rattle.tora_world.specs.declared.Call.{Call}
-use Rattle.tora_world.specs.declared.Call.TheVariants as Fails
+use Rattle.tora_world.specs.declared.event.Event.{Event}
+use Rattle.tora_world.specs.declared.event.Event.TheVariants.{Need, Tick, Open, Pull, Transmit, Deliver, Pump, CoreTurn, Arm, Restart}
+use Rattle.tora_world.specs.declared.call.Call.{Call}
+use Rattle.tora_world.specs.declared.call.Call.TheVariants as Fails
 use Rattle.tora_world.specs.Topology.{Topology, neighbours_of, new_core, is_link}
 use Rattle.tora_world.specs.Lists.{packets_of, parcels_in, Begins}
 use Rattle.tora_world.specs.LinkMachine.{MachineStep, machine_after, made}

@@ -2,14 +2,15 @@
 use Rattle.std.proofs.Common.{◌≡◌, ℕ, zero, suc, ◌≤◌, true, ◌⊎◌, inl, inr, List, [], ◌∷◌, ◌++◌, map, length, Option, Some, refl, sym, ap, ap₂, ◌∙◌, subst, append-nil, arith}
 use Rattle.std.specs.Prelude.{drop}
 use Rattle.tora_packet.specs.declared.Packet.{Packet}
-use Rattle.tora_arq.specs.declared.Life.{Life}
-use Rattle.tora_arq.specs.declared.Times.{Times}
-use Rattle.tora_arq.specs.declared.state.Phase.TheVariants.{Bound}
+use Rattle.tora_arq.specs.declared.life.Life.{Life}
+use Rattle.tora_arq.specs.declared.times.Times.{Times}
+use Rattle.tora_arq.specs.declared.phase.Phase.TheVariants.{Bound}
 use Rattle.tora_arq.specs.SendQueue.{packets_in}
 use Rattle.tora_arq.specs.LinkEnd.{EndState}
 use Rattle.tora_seat.specs.Serving.{Parcel}
 use Rattle.tora_world.specs.Topology.{Topology}
-use Rattle.tora_world.specs.Lists.{reversed, packets_of, parcels_in, Begins}
+use Rattle.tora_world.specs.Lists.{packets_of, parcels_in, Begins}
+use Rattle.tora_arq.specs.Lives.{reversed}
 use Rattle.tora_world.specs.LinkMachine.{MachineEnd, machine_after}
 use Rattle.tora_world.specs.World.{World, first_world, neighbours}
 use Rattle.tora_world.specs.FreeWorld.{Schedule, after_schedule}

@@ -1,9 +1,9 @@
 -- What comes to a core and tells no life changes nothing that the invariant says.
 use Rattle.std.proofs.Common.{◌≡◌, ℕ, Bool, List, [], ◌∷◌, ◌++◌, length, ap, ◌∙◌, refl, sym, subst}
-use Rattle.tora_arq.specs.declared.Life.{Life}
-use Rattle.tora_arq.specs.Lives.{is_same_life}
+use Rattle.tora_arq.specs.declared.life.Life.{Life}
+use Rattle.tora_arq.specs.Lives.{is_same_life, reversed}
 use Rattle.tora_seat.specs.Serving.{Parcel}
-use Rattle.tora_world.specs.Lists.{reversed, packets_of, Begins}
+use Rattle.tora_world.specs.Lists.{packets_of, Begins}
 use Rattle.tora_world.specs.LinkMachine.{MachineEnd}
 use Rattle.tora_world.proofs.Invariant.{Arrival, EndView, awaited, lives, given, is_the_current, AreRising, ComesOf, Counted, FollowsMachine, number_of}
 use Rattle.tora_world.proofs.Invariant.Arrival.{LifeComes, PacketComes, OtherComes}

@@ -2,30 +2,31 @@
 use Rattle.std.proofs.Common.{◌≡◌, ℕ, suc, true, false, true≢false, not, List, [], ◌∷◌, ◌++◌, length, Option, Some, None, is_some, if◌then◌else◌, refl, sym, ap, subst, slice_get, ltb-true}
 use Rattle.std.proofs.lemmas.Bool.{cond_both}
 use Rattle.tora_frame.specs.FrameParts.{FrameParts}
-use Rattle.tora_arq.specs.declared.LinkEvent.{LinkEvent}
-use Rattle.tora_arq.specs.declared.state.Phase.TheVariants.{Closed}
+use Rattle.tora_arq.specs.declared.link_event.LinkEvent.{LinkEvent}
+use Rattle.tora_arq.specs.declared.phase.Phase.TheVariants.{Closed}
 use Rattle.tora_arq.specs.LinkEnd.{EndState, first_end, after_frame, after_poll_event, frame_due, after_transmit}
 use Rattle.tora_life.specs.declared.state.DiskCall.TheVariants as Disk
 use Rattle.tora_life.specs.State.{after_crash}
 use Rattle.tora_life.specs.LifeRun.{state_in, after_event, drawn_by}
 use Rattle.tora_life.specs.LifeRun.LifeEvent.{Draw as DrawsNumber, Arm as ArmsDisk, Restart as OpensAnew}
-use Rattle.tora_seat.specs.declared.What.{What}
-use Rattle.tora_seat.specs.declared.What.TheVariants as Tells
-use Rattle.tora_seat.specs.declared.Item.{Item}
-use Rattle.tora_seat.specs.declared.Cargo.{Cargo}
-use Rattle.tora_seat.specs.declared.Cargo.TheVariants as Gives
+use Rattle.tora_seat.specs.declared.what.What.{What}
+use Rattle.tora_seat.specs.declared.what.What.TheVariants as Tells
+use Rattle.tora_seat.specs.declared.item.Item.{Item}
+use Rattle.tora_seat.specs.declared.cargo.Cargo.{Cargo}
+use Rattle.tora_seat.specs.declared.cargo.Cargo.TheVariants as Gives
 use Rattle.tora_seat.specs.Serving.{Serving, put_one, put_to, stepped_from, serving_of}
 use Rattle.tora_seat.specs.declared.TheConstants.{MOST_ITEMS}
-use Rattle.tora_world.specs.declared.Event.{Event}
-use Rattle.tora_world.specs.declared.Event.TheVariants.{Need, Tick, Open, Pull, Transmit, Deliver, Pump, CoreTurn, Arm, Restart}
-use Rattle.tora_world.specs.declared.Call.{Call}
-use Rattle.tora_world.specs.declared.Call.TheVariants as Fails
-use Rattle.tora_world.specs.declared.SimError.{SimError}
-use Rattle.tora_world.specs.declared.SimError.TheVariants as Refused
+use Rattle.tora_world.specs.declared.event.Event.{Event}
+use Rattle.tora_world.specs.declared.event.Event.TheVariants.{Need, Tick, Open, Pull, Transmit, Deliver, Pump, CoreTurn, Arm, Restart}
+use Rattle.tora_world.specs.declared.call.Call.{Call}
+use Rattle.tora_world.specs.declared.call.Call.TheVariants as Fails
+use Rattle.tora_world.specs.declared.sim_error.SimError.{SimError}
+use Rattle.tora_world.specs.declared.sim_error.SimError.TheVariants as Refused
 use Rattle.tora_world.specs.Topology.{is_node, is_link}
 use Rattle.tora_world.specs.LinkMachine.{put_at}
 use Rattle.tora_seat.specs.Between.{what_of}
-use Rattle.tora_world.specs.World.{World, Choice, Sending, Goes, IsLost, IsGone, Arms, first_seat, settings, neighbours, command_seat, place_of, datagram, is_empty, has_room, with_item, open_with, after_pull, with_datagram, after_sending, after_receiving, after_pump, after_serving, after_turn, after_arming, after_restart, refusal_by, effect_by, world_by}
+use Rattle.tora_world.specs.World.{World, Choice, Sending, Goes, IsLost, IsGone, Arms, first_seat, settings, neighbours, command_seat, datagram, is_empty, has_room, with_item, open_with, after_pull, with_datagram, after_sending, after_receiving, after_pump, after_serving, after_turn, after_arming, after_restart, refusal_by, effect_by, world_by}
+use Rattle.tora_seat.specs.Offers.{place_of}
 use Rattle.tora_world.specs.Frames.{ChangesAt, PutsItem, LeavesServed}
 use Rattle.tora_world.specs.Table.{IsStepBy, refused, needed, ticked, opened, stays_closed, packet_pulled, cut_pulled, sent, send_lost, send_gone, received, receive_failed, pumped, turned, send_lost_armed, send_gone_armed, receive_armed, read_armed, write_armed, sync_armed, restarted}
 use Rattle.tora_world.proofs.TableWords.{both_true, one_changes, end_changes, one_same, end_same, ends_of, change_files, is_datagram, is_seat, is_told}

@@ -2,22 +2,22 @@
 use Rattle.std.proofs.Common.{◌≡◌, ℕ, Bool, true, false, not, ◌&&◌, List, [], ◌∷◌, length, Option, Some, None, is_some, if◌then◌else◌, refl, sym, ap, ap₂, ◌∙◌, slice_get, lt-ltb}
 use mathlib.Core.Path.{fun_ext}
 use Rattle.tora_frame.specs.FrameParts.{FrameParts}
-use Rattle.tora_arq.specs.declared.LinkEvent.{LinkEvent}
+use Rattle.tora_arq.specs.declared.link_event.LinkEvent.{LinkEvent}
 use Rattle.tora_arq.specs.LinkEnd.{first_end, is_closed_in, after_frame, after_tick, after_poll_event, after_transmit}
 use Rattle.tora_life.specs.declared.state.DiskCall.TheVariants as Disk
 use Rattle.tora_life.specs.State.{after_crash}
 use Rattle.tora_life.specs.LifeRun.{state_in, after_event}
 use Rattle.tora_life.specs.LifeRun.LifeEvent.{Arm as ArmsDisk, Restart as OpensAnew}
-use Rattle.tora_seat.specs.declared.What.{What}
-use Rattle.tora_seat.specs.declared.What.TheVariants as Tells
-use Rattle.tora_seat.specs.declared.Cargo.TheVariants as Gives
+use Rattle.tora_seat.specs.declared.what.What.{What}
+use Rattle.tora_seat.specs.declared.what.What.TheVariants as Tells
+use Rattle.tora_seat.specs.declared.cargo.Cargo.TheVariants as Gives
 use Rattle.tora_seat.specs.Serving.{put_one, serving_of}
 use Rattle.tora_seat.specs.declared.TheConstants.{MOST_ITEMS}
-use Rattle.tora_world.specs.declared.Event.{Event}
-use Rattle.tora_world.specs.declared.Event.TheVariants.{Need, Tick, Open, Pull, Transmit, Deliver, Pump, CoreTurn, Arm, Restart}
-use Rattle.tora_world.specs.declared.Call.TheVariants as Fails
-use Rattle.tora_world.specs.declared.SimError.{SimError}
-use Rattle.tora_world.specs.declared.SimError.TheVariants as Refused
+use Rattle.tora_world.specs.declared.event.Event.{Event}
+use Rattle.tora_world.specs.declared.event.Event.TheVariants.{Need, Tick, Open, Pull, Transmit, Deliver, Pump, CoreTurn, Arm, Restart}
+use Rattle.tora_world.specs.declared.call.Call.TheVariants as Fails
+use Rattle.tora_world.specs.declared.sim_error.SimError.{SimError}
+use Rattle.tora_world.specs.declared.sim_error.SimError.TheVariants as Refused
 use Rattle.tora_world.specs.LinkMachine.{put_at}
 use Rattle.tora_world.specs.World.{World, Choice, Goes, settings, neighbours, command_seat, datagram, is_empty, with_end, with_item, open_with, after_opening, after_pull, with_datagram, after_sending, after_receiving, after_pump, after_serving, after_turn, after_arming, after_restart, refusal_by, effect_by, world_by}
 use Rattle.tora_world.specs.Table.{IsStepBy, refused, needed, ticked, opened, stays_closed, packet_pulled, cut_pulled, sent, send_lost, send_gone, received, receive_failed, pumped, turned, send_lost_armed, send_gone_armed, receive_armed, read_armed, write_armed, sync_armed, restarted}

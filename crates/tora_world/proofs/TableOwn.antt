@@ -4,9 +4,9 @@ use Rattle.std.proofs.lemmas.Bool.{ltb_from_iff}
 use mathlib.Core.Path.{fun_ext}
 use Rattle.tora_seat.specs.Serving.{Offer, Answers, put_to}
 use Rattle.tora_seat.specs.declared.TheConstants.{MOST_CARGOES}
-use Rattle.tora_world.specs.declared.Event.{Event}
-use Rattle.tora_world.specs.declared.Event.TheVariants.{Need, Tick, Open, Pull, Transmit, Deliver, Pump, CoreTurn, Arm, Restart}
-use Rattle.tora_world.specs.declared.SimError.{SimError}
+use Rattle.tora_world.specs.declared.event.Event.{Event}
+use Rattle.tora_world.specs.declared.event.Event.TheVariants.{Need, Tick, Open, Pull, Transmit, Deliver, Pump, CoreTurn, Arm, Restart}
+use Rattle.tora_world.specs.declared.sim_error.SimError.{SimError}
 use Rattle.tora_world.specs.World.{World, Choice, tick_of, node_of, own_answers, own_choice, refusal_by, refusal_of, effect_by, world_by, world_after}
 use Rattle.tora_world.specs.Table.{IsTickOf, IsOwnChoice, IsStep, IsStepBy, IsRefused, IsRefusedBy}
 use Rattle.tora_world.proofs.TableRefusals.{refused_leads, refused_holds}

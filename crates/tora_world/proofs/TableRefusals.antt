@@ -1,15 +1,15 @@
 -- Why an event is refused: the columns of the table beside the computing definition.
 use Rattle.std.proofs.Common.{◌≡◌, ◌≢◌, ℕ, ◌≤◌, Bool, true, false, true≢false, not, ◌&&◌, ◌⊎◌, inl, inr, List, [], ◌∷◌, length, Option, Some, None, is_some, if◌then◌else◌, refl, sym, ap, ap₂, ◌∙◌, subst, slice_get, ltb-false, le-ltb}
 use Rattle.tora_frame.specs.FrameParts.{FrameParts}
-use Rattle.tora_arq.specs.declared.LinkEvent.{LinkEvent}
-use Rattle.tora_arq.specs.declared.state.Phase.{Phase}
-use Rattle.tora_arq.specs.declared.state.Phase.TheVariants.{Closed, Unbound, Bound}
+use Rattle.tora_arq.specs.declared.link_event.LinkEvent.{LinkEvent}
+use Rattle.tora_arq.specs.declared.phase.Phase.{Phase}
+use Rattle.tora_arq.specs.declared.phase.Phase.TheVariants.{Closed, Unbound, Bound}
 use Rattle.tora_arq.specs.LinkEnd.{is_closed, is_closed_in, frame_due}
 use Rattle.tora_seat.specs.declared.TheConstants.{MOST_ITEMS}
-use Rattle.tora_world.specs.declared.Event.{Event}
-use Rattle.tora_world.specs.declared.Event.TheVariants.{Need, Tick, Open, Pull, Transmit, Deliver, Pump, CoreTurn, Arm, Restart}
-use Rattle.tora_world.specs.declared.SimError.{SimError}
-use Rattle.tora_world.specs.declared.SimError.TheVariants as Refused
+use Rattle.tora_world.specs.declared.event.Event.{Event}
+use Rattle.tora_world.specs.declared.event.Event.TheVariants.{Need, Tick, Open, Pull, Transmit, Deliver, Pump, CoreTurn, Arm, Restart}
+use Rattle.tora_world.specs.declared.sim_error.SimError.{SimError}
+use Rattle.tora_world.specs.declared.sim_error.SimError.TheVariants as Refused
 use Rattle.tora_world.specs.World.{World, Choice, settings, datagram, is_empty, has_room, unless_possible, refusal_by}
 use Rattle.tora_world.specs.Table.{is_there, IsImpossible, IsRefusedBy, no_node, no_datagram, not_possible}
 use Rattle.tora_world.proofs.TableWords.{no_datagram_past, past_no_datagram}

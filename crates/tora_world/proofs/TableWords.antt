@@ -4,16 +4,17 @@ use Rattle.std.proofs.lemmas.Bool.{cases_Bool, or_parts}
 use Rattle.std.proofs.lemmas.Option.{slice_get_past}
 use mathlib.Core.Path.{fun_ext}
 use Rattle.tora_frame.specs.FrameParts.{FrameParts}
-use Rattle.tora_arq.specs.declared.LinkEvent.{LinkEvent}
-use Rattle.tora_arq.specs.declared.LinkEvent.TheVariants as Link
+use Rattle.tora_arq.specs.declared.link_event.LinkEvent.{LinkEvent}
+use Rattle.tora_arq.specs.declared.link_event.LinkEvent.TheVariants as Link
 use Rattle.tora_core.specs.Numbers.{has_number}
 use Rattle.tora_life.specs.LifeRun.{LifeDisk}
-use Rattle.tora_seat.specs.declared.What.{What}
+use Rattle.tora_seat.specs.declared.what.What.{What}
 use Rattle.tora_seat.specs.Serving.{put_one}
 use Rattle.tora_world.specs.Topology.{is_link}
 use Rattle.tora_world.specs.LinkMachine.{put_at}
 use Rattle.tora_seat.specs.Between.{what_of}
-use Rattle.tora_world.specs.World.{World, place_of, datagram, is_file_of}
+use Rattle.tora_world.specs.World.{World, datagram, is_file_of}
+use Rattle.tora_seat.specs.Offers.{place_of}
 use Rattle.tora_world.specs.Frames.{ChangesAt, ChangesAtEnd, ChangesFiles}
 use Rattle.tora_world.specs.Table.{IsDatagram, IsSeatOf, IsTold, up_told, packet_told, down_told}
 

@@ -2,14 +2,14 @@
 use Rattle.std.proofs.Common.{◌≡◌, ℕ, suc, ◌⊎◌, inl, inr, List, [], ◌∷◌, ◌++◌, map, Option, Some, None, nat_eq, if◌then◌else◌, refl, sym, ap, ◌∙◌, subst, append_assoc, append-nil, eqb-true}
 use Rattle.std.proofs.lemmas.Bool.{cond_both}
 use Rattle.std.specs.Prelude.{slice_get}
-use Rattle.tora_arq.specs.declared.Life.{Life}
+use Rattle.tora_arq.specs.declared.life.Life.{Life}
 use Rattle.tora_arq.specs.LinkEnd.{after_tick}
 use Rattle.tora_arq.specs.LinkFacts.{LinkCall, IsPossible, after_call, HandsInFrameOf, events_left}
 use Rattle.tora_arq.specs.LinkFacts.LinkCall.{Tick as Ticks, Cut as Cuts}
 use Rattle.tora_life.specs.LifeRun.{LifeDisk, IsFloor}
-use Rattle.tora_seat.specs.declared.What.{What}
-use Rattle.tora_seat.specs.declared.What.TheVariants as Tells
-use Rattle.tora_seat.specs.declared.Item.{Item}
+use Rattle.tora_seat.specs.declared.what.What.{What}
+use Rattle.tora_seat.specs.declared.what.What.TheVariants as Tells
+use Rattle.tora_seat.specs.declared.item.Item.{Item}
 use Rattle.tora_seat.specs.Serving.{Parcel}
 use Rattle.tora_world.specs.Topology.{is_link}
 use Rattle.tora_world.specs.LinkMachine.{put_at, MachineEnd, MachineStep, machine_after}

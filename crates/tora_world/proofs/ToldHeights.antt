@@ -4,7 +4,7 @@ use Rattle.tora_seat.specs.SeatLaws.{is_link_down}
 use Rattle.std.proofs.lemmas.Bool.{cond_both, cases_Bool, false_from_ne_true}
 use Rattle.std.specs.Prelude.{is_some, is_none, not, ◌==◌, find, filter_map, option_map, pos}
 use Rattle.std.specs.List.{list_all, cons_option, AllByRecursion}
-use Rattle.tora_height.specs.declared.Level.{Level}
+use Rattle.tora_height.specs.declared.level.Level.{Level}
 use Rattle.tora_height.specs.Height.{Quintuple, quintuple, destination_height}
 use Rattle.tora_packet.specs.declared.Packet.{Packet}
 use Rattle.tora_packet.specs.declared.Packet.TheVariants.{Qry, Upd, Clr}

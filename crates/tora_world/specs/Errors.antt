@@ -1,7 +1,7 @@
 -- The numbers of the errors, as texts print them.
 use Rattle.std.specs.Prelude.{ℕ}
-use Rattle.tora_world.specs.declared.SimError.{SimError}
-use Rattle.tora_world.specs.declared.SimError.TheVariants.{Memory, NoNode, NoDatagram, NotPossible}
+use Rattle.tora_world.specs.declared.sim_error.SimError.{SimError}
+use Rattle.tora_world.specs.declared.sim_error.SimError.TheVariants.{Memory, NoNode, NoDatagram, NotPossible}
 
 abbrev pub sim_error_number : SimError → ℕ
 sim_error_number Memory = 1

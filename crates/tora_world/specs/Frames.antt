@@ -1,9 +1,9 @@
 -- What two worlds have in common, and how a part of a world may change.
 use Rattle.std.specs.Prelude.{◌≡◌, ◌≢◌, ℕ, suc, ◌==◌, ◌||◌, Bool, true, false, List, [], ◌∷◌, ◌++◌}
 use Rattle.tora_life.specs.LifeRun.{LifeDisk}
-use Rattle.tora_seat.specs.declared.What.{What}
+use Rattle.tora_seat.specs.declared.what.What.{What}
 use Rattle.tora_seat.specs.Serving.{Serving, put_to, stepped_from}
-use Rattle.tora_seat.specs.declared.Item.{Item}
+use Rattle.tora_seat.specs.declared.item.Item.{Item}
 use Rattle.tora_world.specs.Topology.{is_link}
 use Rattle.tora_world.specs.World.{World}
 

@@ -1,13 +1,13 @@
 -- What holds of every run of the world.
 use Rattle.std.specs.Prelude.{◌≡◌, ℕ, ◌≤◌, ◌⊎◌, ◌+◌, Bool, false, not, ◌&&◌, if◌then◌else◌, List, [], ◌∷◌}
-use Rattle.tora_arq.specs.declared.Life.{Life}
-use Rattle.tora_arq.specs.declared.Times.{Times}
-use Rattle.tora_arq.specs.declared.state.Phase.{Phase}
-use Rattle.tora_arq.specs.declared.state.Phase.TheVariants.{Closed, Unbound, Bound}
-use Rattle.tora_arq.specs.Lives.{is_same_life}
+use Rattle.tora_arq.specs.declared.life.Life.{Life}
+use Rattle.tora_arq.specs.declared.times.Times.{Times}
+use Rattle.tora_arq.specs.declared.phase.Phase.{Phase}
+use Rattle.tora_arq.specs.declared.phase.Phase.TheVariants.{Closed, Unbound, Bound}
+use Rattle.tora_arq.specs.Lives.{is_same_life, reversed}
 use Rattle.tora_core.specs.CoreRun.{core_after_all}
 use Rattle.tora_world.specs.Topology.{Topology, new_core}
-use Rattle.tora_world.specs.Lists.{reversed, parcels_in, Begins}
+use Rattle.tora_world.specs.Lists.{parcels_in, Begins}
 use Rattle.tora_world.specs.LinkMachine.{MachineStep, machine_after, IsMachineRun}
 use Rattle.tora_world.specs.World.{World, first_world, sent_packets, taken_packets}
 use Rattle.tora_world.specs.FreeWorld.{Schedule, free_by, after_schedule}

@@ -1,10 +1,10 @@
 -- The link machine: no frames, windows, timers, retries or files.
 use Rattle.std.specs.Prelude.{◌≡◌, ◌≢◌, ℕ, ◌<◌, ◌==◌, ◌&&◌, List, [], ◌∷◌, ◌++◌, length, slice_get, Some, if◌then◌else◌}
 use Rattle.tora_packet.specs.declared.Packet.{Packet}
-use Rattle.tora_arq.specs.declared.Life.{Life}
-use Rattle.tora_arq.specs.Lives.{life_of}
+use Rattle.tora_arq.specs.declared.life.Life.{Life}
+use Rattle.tora_arq.specs.Lives.{life_of, reversed}
 use Rattle.tora_seat.specs.Serving.{Parcel}
-use Rattle.tora_world.specs.Lists.{reversed, parcel_of, packets_of, IsIn, Each}
+use Rattle.tora_world.specs.Lists.{parcel_of, packets_of, IsIn, Each}
 
 -- what there is of one end of a link
 pub record MachineEnd : Type 0 where

@@ -1,15 +1,11 @@
 -- Packets by the lives that they go in.
 use Rattle.std.specs.Prelude.{◌≡◌, ◌⊎◌, if◌then◌else◌, List, [], ◌∷◌, ◌++◌}
 use Rattle.tora_packet.specs.declared.Packet.{Packet}
-use Rattle.tora_arq.specs.declared.Life.{Life}
+use Rattle.tora_arq.specs.declared.life.Life.{Life}
 use Rattle.tora_arq.specs.Lives.{is_same_life}
-use Rattle.tora_seat.specs.declared.Cargo.{Cargo}
-use Rattle.tora_seat.specs.declared.Cargo.TheVariants as Gives
+use Rattle.tora_seat.specs.declared.cargo.Cargo.{Cargo}
+use Rattle.tora_seat.specs.declared.cargo.Cargo.TheVariants as Gives
 use Rattle.tora_seat.specs.Serving.{Parcel}
-
--- the same life, as the other end writes it
-abbrev pub reversed : Life → Life
-reversed life = record { own = life.peer; peer = life.own }
 
 abbrev pub parcel_of : Life → Packet → Parcel
 parcel_of life packet = record { life = life; packet = packet }

@@ -1,6 +1,6 @@
 -- How often an event can happen one time after another, with no other in between.
 use Rattle.std.specs.Prelude.{◌≡◌, ◌⊎◌, ℕ, zero, suc, true, is_some}
-use Rattle.tora_world.specs.declared.Event.{Event}
+use Rattle.tora_world.specs.declared.event.Event.{Event}
 use Rattle.tora_world.specs.World.{World, refusal_of, world_after}
 
 -- it happens so many times at most, and then it is refused

@@ -2,12 +2,11 @@
 use Rattle.std.specs.Prelude.{◌≡◌, ◌≢◌, ◌⊎◌, ℕ, ◌≤◌, ◌&&◌, Bool, true, false, if◌then◌else◌, List, [], ◌∷◌, length, Option, Some, None, option_map}
 use Rattle.std.specs.List.{list_all}
 use Rattle.tora_height.specs.Height.{Quintuple}
-use Rattle.tora_arq.specs.declared.Life.{Life}
-use Rattle.tora_arq.specs.Lives.{is_same_life}
+use Rattle.tora_arq.specs.declared.life.Life.{Life}
+use Rattle.tora_arq.specs.Lives.{is_same_life, reversed}
 use Rattle.tora_arq.specs.LinkEnd.{bound_life}
 use Rattle.tora_seat.specs.Serving.{is_current}
 use Rattle.tora_world.specs.Topology.{nodes_in, neighbours_of, is_node, is_link}
-use Rattle.tora_world.specs.Lists.{reversed}
 use Rattle.tora_world.specs.World.{World, is_empty}
 use Rattle.tora_world.specs.Walks.{height_at, hop_at, entry_at, IsBelow}
 

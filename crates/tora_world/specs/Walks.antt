@@ -5,7 +5,7 @@ use Rattle.std.specs.Ordering.{is_eq}
 use Rattle.tora_height.specs.Height.{Quintuple}
 use Rattle.tora_height.specs.HeightOrder.{IsLower, height_cmp}
 use Rattle.tora_packet.specs.PacketParts.{IsId}
-use Rattle.tora_arq.specs.declared.Times.{Times}
+use Rattle.tora_arq.specs.declared.times.Times.{Times}
 use Rattle.tora_core.specs.CoreRun.{height_of, entry_of, hop_of}
 use Rattle.tora_world.specs.Topology.{Topology, Link, IsWithinLimits, nodes_in, neighbours_of, is_node}
 use Rattle.tora_world.specs.World.{World, first_world}

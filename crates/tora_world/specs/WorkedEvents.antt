@@ -1,14 +1,14 @@
 -- What single events do, computed: armed calls, full lanes, refused events, the clock, and a restart.
 use Rattle.std.specs.Prelude.{◌≡◌, ℕ, zero, suc, ◌++◌, true, false, List, [], ◌∷◌, length, Some, None}
-use Rattle.tora_arq.specs.declared.state.Phase.TheVariants.{Closed}
+use Rattle.tora_arq.specs.declared.phase.Phase.TheVariants.{Closed}
 use Rattle.tora_arq.specs.LinkEnd.{first_end}
-use Rattle.tora_seat.specs.declared.Item.{Item}
-use Rattle.tora_seat.specs.declared.Cargo.TheVariants as Gives
-use Rattle.tora_seat.specs.declared.What.TheVariants as Tells
-use Rattle.tora_world.specs.declared.Event.{Event}
-use Rattle.tora_world.specs.declared.Event.TheVariants.{Need, Tick, Open, Pull, Transmit, Deliver, Pump, CoreTurn, Arm, Restart}
-use Rattle.tora_world.specs.declared.Call.TheVariants as Fails
-use Rattle.tora_world.specs.declared.SimError.TheVariants as Refused
+use Rattle.tora_seat.specs.declared.item.Item.{Item}
+use Rattle.tora_seat.specs.declared.cargo.Cargo.TheVariants as Gives
+use Rattle.tora_seat.specs.declared.what.What.TheVariants as Tells
+use Rattle.tora_world.specs.declared.event.Event.{Event}
+use Rattle.tora_world.specs.declared.event.Event.TheVariants.{Need, Tick, Open, Pull, Transmit, Deliver, Pump, CoreTurn, Arm, Restart}
+use Rattle.tora_world.specs.declared.call.Call.TheVariants as Fails
+use Rattle.tora_world.specs.declared.sim_error.SimError.TheVariants as Refused
 use Rattle.tora_world.specs.World.{World, Goes, first_seat, sent_packets, taken_packets, own_answers, refusal_of, world_after_all}
 use Rattle.tora_world.specs.Worked.{pair, start, life, update, binding, meeting}
 

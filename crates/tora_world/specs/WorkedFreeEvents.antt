@@ -2,9 +2,9 @@
 use Rattle.std.specs.Prelude.{◌≡◌, ℕ, ◌≤◌, ◌++◌, max, refl, true, false, if◌then◌else◌, List, [], ◌∷◌, length, Some, None}
 use Rattle.std.proofs.Common.{arith, ap, ap₂, sym, ◌∙◌, subst}
 use Rattle.std.proofs.lemmas.Bool.{cond_both}
-use Rattle.tora_arq.specs.declared.LinkEvent.TheVariants.{Down}
-use Rattle.tora_arq.specs.declared.Reason.TheVariants.{Cut}
-use Rattle.tora_arq.specs.declared.state.Phase.TheVariants.{Closed, Unbound, Bound}
+use Rattle.tora_arq.specs.declared.link_event.LinkEvent.TheVariants.{Down}
+use Rattle.tora_arq.specs.declared.reason.Reason.TheVariants.{Cut}
+use Rattle.tora_arq.specs.declared.phase.Phase.TheVariants.{Closed, Unbound, Bound}
 use Rattle.tora_life.specs.declared.numbers.Numbers.{Numbers}
 use Rattle.tora_life.specs.declared.state.State.{State}
 use Rattle.tora_life.specs.declared.tags.Owner.{Owner}
@@ -13,10 +13,10 @@ use Rattle.tora_life.specs.LifeRun.LifeDisk.{Opened, Unopened}
 use Rattle.tora_life.specs.LifeRun.{LifeDisk, IsFloor, IsFloorOfOpen}
 use Rattle.tora_life.specs.Numbers.{value_of}
 use Rattle.tora_life.specs.State.{MayLeave}
-use Rattle.tora_seat.specs.declared.What.TheVariants as Tells
-use Rattle.tora_world.specs.declared.Event.{Event}
-use Rattle.tora_world.specs.declared.Event.TheVariants.{Open, Transmit, Deliver, Pump, CoreTurn, Restart}
-use Rattle.tora_world.specs.declared.SimError.TheVariants as Refused
+use Rattle.tora_seat.specs.declared.what.What.TheVariants as Tells
+use Rattle.tora_world.specs.declared.event.Event.{Event}
+use Rattle.tora_world.specs.declared.event.Event.TheVariants.{Open, Transmit, Deliver, Pump, CoreTurn, Restart}
+use Rattle.tora_world.specs.declared.sim_error.SimError.TheVariants as Refused
 use Rattle.tora_world.specs.LinkMachine.MachineStep.{Draw, Send, Close}
 use Rattle.tora_world.specs.World.{World, Choice, refusal_of}
 use Rattle.tora_world.specs.FreeWorld.{FreeEvent, ForgetsNothing, Schedule, after_schedule, own_schedule}

@@ -1,18 +1,18 @@
 -- Rows of the table, computed: lives whose numbers differ, torn slots, armed calls, lanes at their limits, and ticks.
 use Rattle.std.specs.Prelude.{◌≡◌, ℕ, true, ◌++◌, List, [], ◌∷◌, length, map, Option, Some, None}
-use Rattle.tora_arq.specs.declared.Life.{Life}
-use Rattle.tora_arq.specs.declared.state.Phase.TheVariants.{Closed, Bound}
-use Rattle.tora_arq.specs.declared.queue.QueuedPacket.{QueuedPacket}
+use Rattle.tora_arq.specs.declared.life.Life.{Life}
+use Rattle.tora_arq.specs.declared.phase.Phase.TheVariants.{Closed, Bound}
+use Rattle.tora_arq.specs.declared.queued_packet.QueuedPacket.{QueuedPacket}
 use Rattle.tora_arq.specs.LinkEnd.{EndState, first_end, after_open, after_bind}
-use Rattle.tora_seat.specs.declared.Cargo.{Cargo}
-use Rattle.tora_seat.specs.declared.Cargo.TheVariants as Gives
-use Rattle.tora_seat.specs.declared.What.TheVariants as Tells
-use Rattle.tora_world.specs.declared.Event.{Event}
-use Rattle.tora_world.specs.declared.Event.TheVariants.{Need, Tick, Open, Pull, Transmit, Deliver, Pump, CoreTurn, Arm, Restart}
-use Rattle.tora_world.specs.declared.Call.TheVariants as Fails
-use Rattle.tora_world.specs.declared.SimError.TheVariants as Refused
+use Rattle.tora_seat.specs.declared.cargo.Cargo.{Cargo}
+use Rattle.tora_seat.specs.declared.cargo.Cargo.TheVariants as Gives
+use Rattle.tora_seat.specs.declared.what.What.TheVariants as Tells
+use Rattle.tora_world.specs.declared.event.Event.{Event}
+use Rattle.tora_world.specs.declared.event.Event.TheVariants.{Need, Tick, Open, Pull, Transmit, Deliver, Pump, CoreTurn, Arm, Restart}
+use Rattle.tora_world.specs.declared.call.Call.TheVariants as Fails
+use Rattle.tora_world.specs.declared.sim_error.SimError.TheVariants as Refused
 use Rattle.tora_world.specs.Topology.{Topology}
-use Rattle.tora_world.specs.Lists.{reversed}
+use Rattle.tora_arq.specs.Lives.{reversed}
 use Rattle.tora_world.specs.World.{World, IsLost, first_world, refusal_of, world_after, world_after_all}
 use Rattle.tora_world.specs.Worked.{start, times, life, update, binding, meeting, met}
 use Rattle.tora_world.specs.WorkedEvents.{after, copies, with_items}

@@ -2,9 +2,9 @@
 use Rattle.std.specs.Prelude.{ℕ, zero, suc, ◌==◌, ◌&&◌, Bool, true, false, not, is_some, nat_lt, if◌then◌else◌, List, [], ◌∷◌, ◌++◌, length, slice_get, Option, Some, None}
 use Rattle.tora_packet.specs.declared.Packet.{Packet}
 use Rattle.tora_frame.specs.FrameParts.{FrameParts}
-use Rattle.tora_arq.specs.declared.Life.{Life}
-use Rattle.tora_arq.specs.declared.Times.{Times}
-use Rattle.tora_arq.specs.declared.LinkEvent.{LinkEvent}
+use Rattle.tora_arq.specs.declared.life.Life.{Life}
+use Rattle.tora_arq.specs.declared.times.Times.{Times}
+use Rattle.tora_arq.specs.declared.link_event.LinkEvent.{LinkEvent}
 use Rattle.tora_arq.specs.Settings.{Settings, settings_of}
 use Rattle.tora_arq.specs.LinkEnd.{EndState, first_end, is_closed, after_open, after_frame, after_tick, first_event, after_poll_event, frame_due, after_transmit}
 use Rattle.tora_core.specs.declared.Input.{Input}
@@ -15,21 +15,22 @@ use Rattle.tora_life.specs.declared.tags.Owner.{Owner}
 use Rattle.tora_life.specs.LifeRun.{LifeDisk, opened, state_in, after_event, drawn_by}
 use Rattle.tora_life.specs.LifeRun.LifeEvent.{Draw as DrawsNumber, Arm as ArmsDisk, Restart as OpensAnew}
 use Rattle.tora_seat.specs.Between.{what_of, after_cargo}
-use Rattle.tora_seat.specs.declared.What.{What}
-use Rattle.tora_seat.specs.declared.What.TheVariants as Tells
-use Rattle.tora_seat.specs.declared.Item.{Item}
-use Rattle.tora_seat.specs.declared.Cargo.{Cargo}
+use Rattle.tora_seat.specs.declared.what.What.{What}
+use Rattle.tora_seat.specs.declared.what.What.TheVariants as Tells
+use Rattle.tora_seat.specs.declared.item.Item.{Item}
+use Rattle.tora_seat.specs.declared.cargo.Cargo.{Cargo}
 use Rattle.tora_seat.specs.Serving.{SeatState, Parcel, Answers, Serving, put_one, serving_of, put_to, stepped_from}
 use Rattle.tora_seat.specs.declared.TheConstants.{MOST_ITEMS, MOST_CARGOES}
-use Rattle.tora_world.specs.declared.Event.{Event}
-use Rattle.tora_world.specs.declared.Event.TheVariants.{Need, Tick, Open, Pull, Transmit, Deliver, Pump, CoreTurn, Arm, Restart}
-use Rattle.tora_world.specs.declared.Call.{Call}
-use Rattle.tora_world.specs.declared.Call.TheVariants as Fails
-use Rattle.tora_world.specs.declared.SimError.{SimError}
-use Rattle.tora_world.specs.declared.SimError.TheVariants as Refused
+use Rattle.tora_world.specs.declared.event.Event.{Event}
+use Rattle.tora_world.specs.declared.event.Event.TheVariants.{Need, Tick, Open, Pull, Transmit, Deliver, Pump, CoreTurn, Arm, Restart}
+use Rattle.tora_world.specs.declared.call.Call.{Call}
+use Rattle.tora_world.specs.declared.call.Call.TheVariants as Fails
+use Rattle.tora_world.specs.declared.sim_error.SimError.{SimError}
+use Rattle.tora_world.specs.declared.sim_error.SimError.TheVariants as Refused
 use Rattle.tora_world.specs.Topology.{Topology, version_at, neighbours_of, is_node, is_link, new_core}
 use Rattle.tora_world.specs.Lists.{packets_of, parcels_in}
 use Rattle.tora_world.specs.LinkMachine.{put_at}
+use Rattle.tora_seat.specs.Offers.{place_of}
 
 -- what becomes of a datagram that is sent
 pub data Sending : Type 0 where
@@ -96,11 +97,6 @@ neighbours w n = neighbours_of w.topology n
 -- the commands have the seat behind those of the links
 abbrev pub command_seat : World → ℕ → ℕ
 command_seat w n = length (neighbours w n)
-
--- the place of a number in a list, or the length of the list where it is not there
-abbrev pub place_of : ℕ → List ℕ → ℕ
-place_of k [] = 0
-place_of k (j ∷ js) = if j == k then 0 else suc (place_of k js)
 
 -- the packets that the core of a put into the lane to b in a life, as a's end writes it
 abbrev pub sent_packets : World → ℕ → ℕ → Life → List Packet

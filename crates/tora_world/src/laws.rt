@@ -2,8 +2,8 @@
 ghost use Rattle.std.specs.Prelude.{◌≡◌, ◌↔◌, ℕ, suc, ◌≤◌, true, List, [], ◌∷◌, length, Some, None};
 ghost use Rattle.tora_height.specs.Height.{Quintuple};
 ghost use Rattle.tora_packet.specs.declared.Packet.TheVariants.{Qry};
-ghost use Rattle.tora_arq.specs.declared.Times.{Times};
-ghost use Rattle.tora_world.specs.declared.Event.{Event};
+ghost use Rattle.tora_arq.specs.declared.times.Times.{Times};
+ghost use Rattle.tora_world.specs.declared.event.Event.{Event};
 ghost use Rattle.tora_world.specs.Layers.{LinkLaws, LifeLaws, CoreLaws, SeatLaws, RuleLaws};
 ghost use Rattle.tora_world.specs.Topology.{Topology, nodes_in};
 ghost use Rattle.tora_world.specs.Walks.{EveryWorld, height_at, IsExact, exact_in, IsWalk, walk_of, Arrives};
@@ -15,7 +15,7 @@ ghost use Rattle.tora_world.specs.Law.{EveryRun, TakenBeginsSent, IsOfMachine, C
 ghost use Rattle.tora_world.specs.Refusals.{OnlyNeedsAreRefused, SteppedAreAccepted};
 ghost use Rattle.tora_world.specs.Gaps.{EveryEnd, IsWithoutGap, SendsInLatest, broadcast_packets};
 ghost use Rattle.tora_world.specs.LinkMachine.MachineStep.{Draw, Bind, Send, Take, Close};
-ghost use Rattle.tora_world.specs.Lists.{reversed};
+ghost use Rattle.tora_arq.specs.Lives.{reversed};
 ghost use Rattle.tora_world.specs.WorkedEvents.{ArmedCalls, Lanes, AreRefused, StartsAnew};
 ghost use Rattle.tora_world.specs.FreeWorld.FreeEvent.{TicksEnd};
 ghost use Rattle.tora_world.specs.WorkedFreeEvents.{left, TicksOne, PumpsOverOne, PutsBeats, CutsOne, ChangesOne, StartsOne};

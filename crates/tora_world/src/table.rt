@@ -1,7 +1,7 @@
 //! The table of events as a relation: the definition that computes does what the table says, and the table says nothing else.
 ghost use Rattle.std.specs.Prelude.{◌≡◌, ◌↔◌, ◌+◌, ◌≤◌, ℕ, List, length, Some};
 ghost use Rattle.tora_arq.specs.Settings.{IsTimes};
-ghost use Rattle.tora_arq.specs.declared.Times.{Times};
+ghost use Rattle.tora_arq.specs.declared.times.Times.{Times};
 ghost use Rattle.tora_seat.specs.declared.TheConstants.{MOST_CARGOES, MOST_ITEMS};
 ghost use Rattle.tora_world.specs.FreeWorld.{after_schedule, happening};
 ghost use Rattle.tora_world.specs.Repeats.{HappensAtMost};
@@ -9,9 +9,9 @@ ghost use Rattle.tora_world.specs.Table.{IsRefused, IsRefusedBy, IsStep, IsStepB
 ghost use Rattle.tora_world.specs.Topology.{Topology};
 ghost use Rattle.tora_world.specs.WorkedTable.{Crashes, Meetings, Pulls, Pumps, Rooms, Ticks, Tries};
 ghost use Rattle.tora_world.specs.World.{Choice, World, first_world, refusal_by, refusal_of, world_after, world_after_all, world_by};
-ghost use Rattle.tora_world.specs.declared.Event.TheVariants.{CoreTurn, Pull, Pump, Transmit};
-ghost use Rattle.tora_world.specs.declared.Event.{Event};
-ghost use Rattle.tora_world.specs.declared.SimError.{SimError};
+ghost use Rattle.tora_world.specs.declared.event.Event.TheVariants.{CoreTurn, Pull, Pump, Transmit};
+ghost use Rattle.tora_world.specs.declared.event.Event.{Event};
+ghost use Rattle.tora_world.specs.declared.sim_error.SimError.{SimError};
 
 use tora_arq::{WINDOW, polls_of_a_tick_end};
 

@@ -1,5 +1,5 @@
 use Rattle.std.proofs.Common.{refl}
-use Rattle.tora_arq.specs.declared.Verdict.TheVariants.{Stale, Foreign, Busy}
+use Rattle.tora_arq.specs.declared.verdict.Verdict.TheVariants.{Stale, Foreign, Busy}
 use Rattle.tora_arq.proofs.RefusalLemmas.{refused_keeps}
 use Rattle.tora_arq.proofs.facts.refused_frames_change_nothing.Goals as goal
 

@@ -1,6 +1,6 @@
 use Rattle.std.proofs.Common.{◌≡◌, ◌∙◌, sym, ap, ℕ, ◌+◌, ◌<◌, ◌≤◌, Bool, true, false, length, arith}
 use Rattle.std.specs.Prelude.{slice_index_or, slice_set, if◌then◌else◌}
-use Rattle.tora_height.specs.declared.Direction.{Direction}
+use Rattle.tora_height.specs.declared.direction.Direction.{Direction}
 use Rattle.tora_core.specs.Links.{downstream_in, is_down}
 use Rattle.tora_core.proofs.LinkLemmas.{directions-next, downstream-next, one_if}
 use Rattle.std.proofs.Common.{take}

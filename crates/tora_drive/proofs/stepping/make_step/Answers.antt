@@ -1,4 +1,4 @@
-use Rattle.tora_world.specs.declared.Event.TheVariants.{Tick}
+use Rattle.tora_world.specs.declared.event.Event.TheVariants.{Tick}
 use Rattle.tora_script.specs.declared.rounds.EndTurn.TheVariants as turn
 use Rattle.tora_script.specs.Rounds.{once, plan_then, each_end_once}
 use Rattle.tora_drive.specs.Steps.{step_passes, step}

@@ -1,5 +1,5 @@
 use Rattle.std.proofs.Common.{string_bytes}
-use Rattle.tora_world.specs.declared.Event.TheVariants.{CoreTurn}
+use Rattle.tora_world.specs.declared.event.Event.TheVariants.{CoreTurn}
 use Rattle.tora_script.specs.Rounds.{while_possible, each_core}
 use Rattle.tora_drive.proofs.TellLaws.{told_part}
 use Rattle.tora_drive.proofs.telling.tell_cores.Goals as goal

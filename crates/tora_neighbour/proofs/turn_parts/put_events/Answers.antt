@@ -2,7 +2,7 @@ use Rattle.std.proofs.Common.{◌++◌, [], ◌∷◌, refl, sym, ap, ◌∙◌,
 use Rattle.tora_arq.specs.EndRange.{LinkEndView}
 use Rattle.tora_neighbour.specs.Puts.{put_of}
 use Rattle.tora_neighbour.proofs.Further.{told_none, told_more, told_all}
-use Rattle.tora_seat.specs.declared.What.{What}
+use Rattle.tora_seat.specs.declared.what.What.{What}
 use Rattle.tora_neighbour.proofs.Chains.{puts_more}
 use Rattle.tora_neighbour.proofs.turn_parts.put_events.Goals as goal
 

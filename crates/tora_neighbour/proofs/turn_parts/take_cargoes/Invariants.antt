@@ -1,5 +1,5 @@
 use Rattle.std.proofs.Common.{◌≡◌, ◌++◌, List, length}
-use Rattle.tora_seat.specs.declared.Cargo.{Cargo}
+use Rattle.tora_seat.specs.declared.cargo.Cargo.{Cargo}
 use Rattle.tora_neighbour.specs.Calls.{TakesSome}
 use Rattle.tora_neighbour.specs.Turns.{after_cargoes}
 use Rattle.tora_neighbour.proofs.turn_parts.take_cargoes.Given as goal

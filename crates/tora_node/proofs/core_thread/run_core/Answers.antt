@@ -1,10 +1,10 @@
 use Rattle.std.proofs.Common.{◌++◌, ◌∷◌, [], ℕ, List, length, refl, sym, ap, subst, ◌∙◌, inl, inr, arith}
 use Rattle.std.specs.Prelude.{Option, is_some}
 use Rattle.std.specs.Io.KnownBytes.{Appends}
-use Rattle.tora_seat.specs.declared.Item.{Item}
+use Rattle.tora_seat.specs.declared.item.Item.{Item}
 use Rattle.tora_seat.specs.Rows.{state_of, serving_at}
-use Rattle.tora_seat.specs.declared.Answer.{Answer}
-use Rattle.tora_seat.specs.declared.What.{What}
+use Rattle.tora_seat.specs.declared.answer.Answer.{Answer}
+use Rattle.tora_seat.specs.declared.what.What.{What}
 use Rattle.tora_node.specs.CoreRuns.{reply_text, MayFail, IsWatched}
 use Rattle.tora_node.specs.StatusLines.{told_in}
 use Rattle.tora_node.specs.declared.watch.Told.{Told}

@@ -1,4 +1,4 @@
-use Rattle.tora_world.specs.declared.Event.TheVariants.{CoreTurn}
+use Rattle.tora_world.specs.declared.event.Event.TheVariants.{CoreTurn}
 use Rattle.tora_script.proofs.RoundLaws.{idle}
 use Rattle.tora_script.proofs.rounds.turn_core.Goals as goal
 

@@ -1,4 +1,4 @@
-use Rattle.tora_world.specs.declared.Event.TheVariants.{CoreTurn}
+use Rattle.tora_world.specs.declared.event.Event.TheVariants.{CoreTurn}
 use Rattle.tora_script.specs.Rounds.{while_possible, each_core}
 use Rattle.tora_script.proofs.RoundLaws.{each_part, all_idle}
 use Rattle.tora_script.proofs.rounds.turn_cores.Goals as goal

@@ -1,5 +1,5 @@
 use Rattle.std.proofs.Common.{◌+◌, List, length, drop, ap, sym, ◌∙◌, arith}
-use Rattle.tora_seat.specs.declared.Cargo.{Cargo}
+use Rattle.tora_seat.specs.declared.cargo.Cargo.{Cargo}
 use Rattle.tora_world.specs.Lists.{packets_of, parcels_in}
 use Rattle.tora_sim.proofs.Lookups.{turn, put_in_turn, one_more, none_more}
 use Rattle.tora_sim.proofs.readers.count_put.Goals as goal

@@ -1,6 +1,6 @@
 use Rattle.std.proofs.Common.{◌+◌, List, length, drop, map, ap, sym, ◌∙◌, arith}
 use Rattle.tora_packet.specs.declared.Packet.{Packet}
-use Rattle.tora_arq.specs.declared.Life.{Life}
+use Rattle.tora_arq.specs.declared.life.Life.{Life}
 use Rattle.tora_world.specs.Lists.{packets_of}
 use Rattle.tora_sim.specs.Links.{parcel_in}
 use Rattle.tora_sim.proofs.Lookups.{turn, steps_in_turn, one_more, none_more}

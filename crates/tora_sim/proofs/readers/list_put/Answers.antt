@@ -1,5 +1,5 @@
 use Rattle.std.proofs.Common.{◌+◌, List, drop, ap, ◌∙◌}
-use Rattle.tora_seat.specs.declared.Cargo.{Cargo}
+use Rattle.tora_seat.specs.declared.cargo.Cargo.{Cargo}
 use Rattle.tora_world.specs.Lists.{packets_of, parcels_in}
 use Rattle.tora_sim.proofs.Lookups.{turn, put_in_turn, put_more, put_none}
 use Rattle.tora_sim.proofs.readers.list_put.Goals as goal

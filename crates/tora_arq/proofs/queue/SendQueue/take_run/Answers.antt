@@ -1,6 +1,6 @@
 use Rattle.std.proofs.Common.{◌≡◌, ◌+◌, ◌-◌, List, ◌++◌, take, drop, length, slice_set, refl, sym, ap, subst, ◌∙◌, arith, length-set}
 use Rattle.circular_buffer.specs.Buffer.{Buffer}
-use Rattle.tora_arq.specs.declared.queue.QueuedPacket.{QueuedPacket}
+use Rattle.tora_arq.specs.declared.queued_packet.QueuedPacket.{QueuedPacket}
 use Rattle.tora_arq.specs.SendQueue.{retried, ready_run}
 use Rattle.tora_arq.proofs.QueueLemmas.{Taking, taking_on, taking_stops, taking_ends}
 use Rattle.tora_arq.proofs.queue.SendQueue.take_run.Goals as goal

@@ -1,5 +1,5 @@
 use Rattle.std.proofs.Common.{◌≡◌, [], ◌∷◌, length, drop, Some, None, sym, ap, ◌∙◌, arith, length-append}
-use Rattle.tora_arq.specs.declared.LinkEvent.TheVariants.{Deliver}
+use Rattle.tora_arq.specs.declared.link_event.LinkEvent.TheVariants.{Deliver}
 use Rattle.tora_arq.specs.Held.{first_held}
 use Rattle.tora_arq.specs.LinkEnd.{EndState}
 use Rattle.tora_arq.specs.StateView.{state_in}

@@ -1,7 +1,7 @@
 use Rattle.std.proofs.Common.{◌≡◌, ◌≢◌, ◌∙◌, refl, sym, ap, subst, ℕ, ◌+◌, ◌<◌, false, true, Bool, List, Option, length, arith}
 use Rattle.std.specs.Prelude.{if◌then◌else◌, slice_index_or, slice_set}
 use Rattle.std.specs.List.{AllByRecursion, refill}
-use Rattle.tora_height.specs.declared.Direction.{Direction}
+use Rattle.tora_height.specs.declared.direction.Direction.{Direction}
 use Rattle.tora_height.specs.HeightOrder.{link_status}
 use Rattle.tora_core.specs.declared.TheConstants.{GREATEST_NEIGHBOURS}
 use Rattle.tora_core.specs.declared.rows.Row.{Row}

@@ -1,7 +1,7 @@
 use Rattle.std.proofs.Common.{◌≡◌, ◌∙◌, sym, ap, subst, ℕ, ◌+◌, ◌<◌, false, true, List, Option, Some, length, arith}
 use Rattle.std.specs.Prelude.{IfSome, slice_index_or, slice_set, if◌then◌else◌}
 use Rattle.std.specs.List.{refill}
-use Rattle.tora_height.specs.declared.Direction.{Direction}
+use Rattle.tora_height.specs.declared.direction.Direction.{Direction}
 use Rattle.tora_core.specs.declared.rows.Row.{Row}
 use Rattle.tora_core.specs.declared.TheConstants.{GREATEST_NEIGHBOURS}
 use Rattle.tora_core.specs.Numbers.{IsAscending, has_number}

@@ -3,7 +3,7 @@ use Rattle.tora_sim.specs.Files.{disk_of}
 use Rattle.std.proofs.lemmas.Option.{slice_get_read}
 use Rattle.std.specs.Prelude.{slice_get, vec_capacity}
 use Rattle.tora_arq.specs.EndRange.{LinkEndView}
-use Rattle.tora_seat.specs.declared.Cargo.{Cargo}
+use Rattle.tora_seat.specs.declared.cargo.Cargo.{Cargo}
 use Rattle.tora_seat.specs.Between.{after_cargo}
 use Rattle.tora_world.specs.World.{owner_of}
 use Rattle.tora_sim.specs.Links.{LinkView, link_of, after_pull_at}

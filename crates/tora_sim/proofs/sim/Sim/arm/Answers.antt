@@ -1,6 +1,6 @@
 use Rattle.std.proofs.Common.{subst, arith}
 use Rattle.std.specs.Prelude.{slice_set}
-use Rattle.tora_world.specs.declared.Event.TheVariants.{Arm}
+use Rattle.tora_world.specs.declared.event.Event.TheVariants.{Arm}
 use Rattle.tora_sim.specs.Keyed.{IsFirst}
 use Rattle.tora_sim.specs.Nodes.{is_of}
 use Rattle.tora_sim.specs.declared.nodes.Sending.TheVariants as Sends

@@ -1,5 +1,5 @@
 use Rattle.std.proofs.Common.{◌≡◌, ℕ, map, ap, sym, subst, ◌∙◌, arith}
-use Rattle.tora_world.specs.declared.Event.TheVariants.{Arm}
+use Rattle.tora_world.specs.declared.event.Event.TheVariants.{Arm}
 use Rattle.tora_sim.specs.Keyed.{IsFirst}
 use Rattle.tora_sim.specs.Links.{AreChanged, after_arm}
 use Rattle.tora_sim.specs.Nodes.{NodeView, is_of}

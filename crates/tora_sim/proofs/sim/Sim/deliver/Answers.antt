@@ -1,7 +1,7 @@
 use Rattle.std.proofs.Common.{◌≡◌, true, None, ap, sym, ◌∙◌, subst, find, arith}
 use Rattle.std.specs.Prelude.{slice_set}
 use Rattle.tora_frame.specs.declared.parts.Header.{Header}
-use Rattle.tora_world.specs.declared.Event.TheVariants.{Deliver}
+use Rattle.tora_world.specs.declared.event.Event.TheVariants.{Deliver}
 use Rattle.tora_sim.specs.Keyed.{IsFirst}
 use Rattle.tora_sim.specs.Links.{is_at}
 use Rattle.tora_sim.specs.Nodes.{NodeView, is_of}

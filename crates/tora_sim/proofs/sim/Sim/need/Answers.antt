@@ -1,9 +1,9 @@
 use Rattle.std.proofs.Common.{◌≡◌, ◌<◌, ◌≤◌, length, nat_lt, true, arith, MatchResult, ap, sym, ◌∙◌, subst}
 use Rattle.std.specs.Prelude.{slice_set}
 use Rattle.std.proofs.lemmas.Bool.{lt-ltb, le-ltb}
-use Rattle.tora_world.specs.declared.Event.TheVariants.{Need}
-use Rattle.tora_world.specs.declared.SimError.TheVariants as Refused
-use Rattle.tora_seat.specs.declared.What.TheVariants as Tells
+use Rattle.tora_world.specs.declared.event.Event.TheVariants.{Need}
+use Rattle.tora_world.specs.declared.sim_error.SimError.TheVariants as Refused
+use Rattle.tora_seat.specs.declared.what.What.TheVariants as Tells
 use Rattle.tora_sim.specs.Nodes.{NodeView, after_item}
 use Rattle.tora_sim.specs.Store.{SimState, state_of, world_of}
 use Rattle.tora_sim.specs.Steps.{IsRefused, Does}

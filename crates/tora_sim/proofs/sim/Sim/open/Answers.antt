@@ -1,6 +1,6 @@
 use Rattle.std.proofs.Common.{ap, sym, ◌∙◌, subst, arith}
-use Rattle.tora_world.specs.declared.Event.TheVariants.{Open}
-use Rattle.tora_world.specs.declared.SimError.TheVariants as Refused
+use Rattle.tora_world.specs.declared.event.Event.TheVariants.{Open}
+use Rattle.tora_world.specs.declared.sim_error.SimError.TheVariants as Refused
 use Rattle.tora_arq.specs.LinkEnd.{is_closed}
 use Rattle.tora_sim.specs.Links.{LinkView}
 use Rattle.tora_sim.specs.Store.{SimState, state_of, world_of}

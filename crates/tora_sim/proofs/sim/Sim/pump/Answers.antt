@@ -2,9 +2,9 @@ use Rattle.std.proofs.Common.{◌≡◌, ◌<◌, ◌≤◌, length, nat_lt, tru
 use Rattle.std.specs.Prelude.{slice_set, slice_index_or}
 use Rattle.std.proofs.lemmas.Bool.{lt-ltb, le-ltb}
 use Rattle.tora_arq.specs.LinkEnd.{after_poll_event}
-use Rattle.tora_world.specs.declared.Event.TheVariants.{Pump}
-use Rattle.tora_world.specs.declared.SimError.{SimError}
-use Rattle.tora_world.specs.declared.SimError.TheVariants as Refused
+use Rattle.tora_world.specs.declared.event.Event.TheVariants.{Pump}
+use Rattle.tora_world.specs.declared.sim_error.SimError.{SimError}
+use Rattle.tora_world.specs.declared.sim_error.SimError.TheVariants as Refused
 use Rattle.tora_seat.specs.Between.{what_of}
 use Rattle.tora_sim.specs.Links.{LinkView, with_state}
 use Rattle.tora_sim.specs.Nodes.{NodeView, after_item}

@@ -2,8 +2,8 @@ use Rattle.std.proofs.Common.{◌≡◌, List, Some, ap, sym, ◌∙◌, subst, 
 use Rattle.std.specs.Prelude.{slice_set}
 use Rattle.tora_frame.specs.FrameParts.{FrameParts}
 use Rattle.tora_arq.specs.LinkEnd.{frame_due}
-use Rattle.tora_world.specs.declared.Event.TheVariants.{Transmit}
-use Rattle.tora_world.specs.declared.SimError.TheVariants as Refused
+use Rattle.tora_world.specs.declared.event.Event.TheVariants.{Transmit}
+use Rattle.tora_world.specs.declared.sim_error.SimError.TheVariants as Refused
 use Rattle.tora_world.specs.World.{with_datagram}
 use Rattle.tora_sim.specs.Nodes.{sending_of}
 use Rattle.tora_sim.specs.Store.{SimState, IsStore, state_of, world_of}

@@ -1,0 +1,23 @@
+//! Why a link end is not made.
+use std::fmt;
+use thiserror::Error;
+
+/// Why a link end is not made. Own profile.
+#[derive(Clone, Copy, Debug, PartialEq, Eq, Hash, Error)]
+pub enum ArqError {
+    /// There is no memory for its rings.
+    Memory,
+}
+
+/// The cause in words.
+impl fmt::Display for ArqError {
+    ghost use Rattle.std.specs.Prelude.{Some, codes};
+
+    ghost output = { λ _. Some (codes "out of memory") };
+
+    fn fmt<W: fmt::Write>(&self, f: &mut fmt::Formatter<W>) -> fmt::Result {
+        match self {
+            ArqError::Memory => f.write_str("out of memory"),
+        }
+    }
+}

@@ -1,0 +1,30 @@
+//! What a link end tells its node.
+ghost use Rattle.std.specs.Prelude.{◌≡◌};
+ghost use Rattle.tora_arq.specs.Lives.{event_life};
+
+use crate::{Life, Reason};
+use tora_packet::Packet;
+
+/// What a link end tells its node. Own profile.
+#[derive(Clone, Copy, Debug, PartialEq, Eq, Hash)]
+pub enum LinkEvent {
+    /// A life was bound: the link is up.
+    Up(Life),
+    /// The next packet of the peer in a life.
+    Deliver(Life, Packet),
+    /// A life ended: the link is down.
+    Down(Life, Reason),
+}
+
+impl LinkEvent {
+    /// The life that the event is of.
+    pub fn life(&self) -> Life
+        ensures { result ≡ event_life self.now }
+    {
+        match self {
+            LinkEvent::Up(life) => *life,
+            LinkEvent::Deliver(life, _) => *life,
+            LinkEvent::Down(life, _) => *life,
+        }
+    }
+}

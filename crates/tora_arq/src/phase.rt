@@ -1,0 +1,13 @@
+//! Whether a link end is open.
+use crate::Life;
+
+/// Whether a link end is open, and in which life. Own profile.
+#[derive(Clone, Copy, Debug, PartialEq, Eq, Hash)]
+pub enum Phase {
+    /// Closed.
+    Closed,
+    /// Open with an own number, 1 to 2^62, and not bound.
+    Unbound(u64),
+    /// Open and bound.
+    Bound(Life),
+}

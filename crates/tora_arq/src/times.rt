@@ -1,0 +1,36 @@
+//! The times of a link end.
+
+/// The times of a link end, each at least 1. Own profile.
+#[derive(Clone, Copy, Debug, PartialEq, Eq, Hash)]
+pub struct Times {
+    /// How many ticks of 100 ms after a HELLO the next one is due.
+    pub hello: u64,
+    /// After how many ticks of 100 ms without hearing the peer a life ends.
+    pub silent: u64,
+    /// How many ticks of 100 ms after its last try a packet is due again, or is given up.
+    pub retry: u64,
+    /// How many times a packet is transmitted before it is given up.
+    pub tries: u64,
+}
+
+impl Times {
+    /// The times that the program uses: 1 s between HELLOs, 5 s of silence, 0.5 s between tries, 8 tries.
+    pub const STANDARD: Times = Times {
+        hello: 10,
+        silent: 50,
+        retry: 5,
+        tries: 8,
+    };
+}
+
+/// The times that the program uses.
+impl Default for Times {
+    ghost use Rattle.std.specs.Prelude.{◌≡◌};
+    ghost use Rattle.tora_arq.specs.declared.times.TheConstants.Times.{STANDARD};
+
+    ghost is_default = { λ t. t ≡ STANDARD };
+
+    fn default() -> Times {
+        Times::STANDARD
+    }
+}

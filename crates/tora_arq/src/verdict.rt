@@ -1,0 +1,38 @@
+//! What a link end makes of a frame.
+use std::fmt;
+
+/// What a link end makes of a frame. Own profile.
+#[derive(Clone, Copy, Debug, PartialEq, Eq, Hash)]
+pub enum Verdict {
+    /// The frame told something new, or was a HELLO of the life.
+    Accepted,
+    /// The frame told nothing new: a packet that was accepted before, or a count that did not grow.
+    Repeated,
+    /// A packet that came before one with a lesser number.
+    Ahead,
+    /// A frame of another life, or one that came to a closed end.
+    Stale,
+    /// A frame that no peer sends to this end.
+    Foreign,
+    /// The frame was not looked at, since too many events wait.
+    Busy,
+}
+
+/// A verdict in one lowercase word.
+impl fmt::Display for Verdict {
+    ghost use Rattle.std.specs.Prelude.{Some};
+    ghost use Rattle.tora_arq.specs.Texts.{written_verdict};
+
+    ghost output = { λ v. Some (written_verdict v) };
+
+    fn fmt<W: fmt::Write>(&self, f: &mut fmt::Formatter<W>) -> fmt::Result {
+        match self {
+            Verdict::Accepted => f.write_str("accepted"),
+            Verdict::Repeated => f.write_str("repeated"),
+            Verdict::Ahead => f.write_str("ahead"),
+            Verdict::Stale => f.write_str("stale"),
+            Verdict::Foreign => f.write_str("foreign"),
+            Verdict::Busy => f.write_str("busy"),
+        }
+    }
+}

@@ -1,0 +1,15 @@
+//! A packet of a neighbour that was handed to the core.
+use tora_arq::Life;
+use tora_height::Id;
+use tora_packet::Packet;
+
+/// A packet of a neighbour that was handed to the core.
+#[derive(Clone, Copy, Debug, PartialEq, Eq, Hash)]
+pub struct Stepped {
+    /// The neighbour.
+    pub from: Id,
+    /// The life that it came in.
+    pub life: Life,
+    /// The packet.
+    pub packet: Packet,
+}

@@ -1,0 +1,37 @@
+//! Why an event is refused.
+ghost use Rattle.std.specs.Prelude.{◌≡◌};
+ghost use Rattle.tora_world.specs.Errors.{sim_error_number};
+
+use thiserror::Error;
+
+/// Why an event is refused, in the order in which the causes are tested; memory comes last. A refused event changes
+/// nothing.
+#[derive(Clone, Copy, Debug, PartialEq, Eq, Error)]
+pub enum SimError {
+    /// There is not enough memory.
+    #[error("there is not enough memory")]
+    Memory,
+    /// There is no such node or link.
+    #[error("there is no such node or link")]
+    NoNode,
+    /// There is no such datagram.
+    #[error("there is no such datagram")]
+    NoDatagram,
+    /// The event is not possible now.
+    #[error("the event is not possible now")]
+    NotPossible,
+}
+
+impl SimError {
+    /// The number of the error: 1 `Memory`, 2 `NoNode`, 3 `NoDatagram`, 4 `NotPossible`.
+    pub fn number(self) -> u8
+        ensures { result ≡ sim_error_number self }
+    {
+        match self {
+            SimError::Memory => 1,
+            SimError::NoNode => 2,
+            SimError::NoDatagram => 3,
+            SimError::NotPossible => 4,
+        }
+    }
+}
