@@ -2,6 +2,7 @@ pub mod AirLaws
 pub mod ClearLaws
 pub mod LinkPairs
 pub mod RoundLaws
+pub mod KnownEnds
 pub mod SimulationFound
 pub mod SimulationHere
 pub mod SimulationLaws
