@@ -31,8 +31,9 @@ pub enum EndTurn {
 }
 
 impl EndTurn {
+    /// What an end does in such a turn.
     #[inline(always)]
-    fn event(self, end: (Id, Id)) -> Event
+    pub fn event(self, end: (Id, Id)) -> Event
         ensures { result ≡ end_event self end }
     {
         let (n, k) = end;
