@@ -36,6 +36,7 @@ pub fn first_line(alloc: Global, line: &[u8]) -> Result<LinkLines, LineError>
         dests,
         links: Vec::new(alloc),
         olds: Vec::new(alloc),
+        known: None,
     })
 }
 
@@ -62,6 +63,8 @@ pub fn is_linked(n: Id, links: &[(Id, Id)]) -> bool
 
 /// Takes an old node; it is a fault where no link names the node, or there is no topology of the links within
 /// the limits, and then changes nothing.
+///
+/// The topology is looked for at the first old node: no link comes behind it.
 pub fn take_old(limits: Limits, lines: &mut LinkLines, n: Id) -> Result<(), LineError>
     ensures gives { Gives (λ _. Progress.Links lines.new.dests.items lines.new.links.items lines.new.olds.items) result
         (with_old_line limits lines.old.dests.items lines.old.links.items lines.old.olds.items n) }
@@ -70,9 +73,14 @@ pub fn take_old(limits: Limits, lines: &mut LinkLines, n: Id) -> Result<(), Line
     if !is_linked(n, &lines.links) {
         return Err(LineError::Fault);
     }
+    if lines.is_known(limits) {
+        lines.push_old(n)?;
+        return Ok(());
+    }
     if topology_fault_within(limits, &lines.links, &lines.dests).is_some() {
         return Err(LineError::Fault);
     }
+    lines.note(limits);
     lines.push_old(n)?;
     Ok(())
 }
