@@ -1,5 +1,6 @@
 pub mod AirLaws
 pub mod ClearLaws
+pub mod KnownTopology
 pub mod LinkPairs
 pub mod RoundLaws
 pub mod KnownEnds
