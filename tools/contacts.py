@@ -7,6 +7,7 @@ SLACK = 1e-6  # metres that rounding may cost
 FEW = 256  # nodes of which every pair is looked at
 CLOSE = 12  # reaches from one side to the other below which every pair of more nodes is looked at, too
 WIDE = 100  # the same, from which on it never is: units would be too long
+REACHES = 1e-6, 1e9  # metres between which no square of a distance is too small or too large for lanes
 BITS = 20  # of the number of a node in the number of a pair
 LANE = 32  # bits that a node has in a number of lanes
 SIDE = 20_000  # units from one side to the other: twice the square of it is below the half of what a lane holds
@@ -60,7 +61,7 @@ def span_of(positions):
 def is_dense(positions, reach):
     """Whether every pair is looked at: there are few nodes, or most are near each other, and none is very far off."""
     span, _ = span_of(positions)
-    return span < reach * (WIDE if len(positions[0]) <= FEW else CLOSE)
+    return REACHES[0] < reach < REACHES[1] and span < reach * (WIDE if len(positions[0]) <= FEW else CLOSE)
 
 
 class Lanes:

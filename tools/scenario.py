@@ -279,6 +279,8 @@ def options_of(words):
     options = parser.parse_args(words)
     if not (0 < options.range < math.inf and 0 < options.degree < math.inf):
         parser.error("--range and --degree have to be above 0")
+    if options.range > MOST_METRES:
+        parser.error(f"--range is above {MOST_METRES}")
     if not (0 <= options.pause < math.inf and 0 <= options.settle < math.inf):
         parser.error("--pause and --settle have to be 0 or more")
     return options

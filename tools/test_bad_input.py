@@ -117,6 +117,12 @@ class ToolsTest(unittest.TestCase):
                 with written(text) as path:
                     self.told(1, f"{path}:2: ", "scenario.py", f"{work}/x", "--bonnmotion", path)
 
+    def test_range(self):
+        """A range beyond all places."""
+        with tempfile.TemporaryDirectory() as work:
+            done = subprocess.run([sys.executable, f"{HERE}/scenario.py", f"{work}/x", "--range", "1e300"], stderr=subprocess.PIPE, text=True)
+            self.assertEqual((done.returncode, done.stderr.splitlines()[-1], os.listdir(work)), (2, "scenario.py: error: --range is above 10000000", []))
+
 
 if __name__ == "__main__":
     unittest.main()

@@ -1,7 +1,9 @@
 pub mod AirLaws
 pub mod ClearLaws
+pub mod KnownTopology
 pub mod LinkPairs
 pub mod RoundLaws
+pub mod KnownEnds
 pub mod SimulationFound
 pub mod SimulationHere
 pub mod SimulationLaws

@@ -1,5 +1,6 @@
 pub mod Air
 pub mod Done
+pub mod KnownLimits
 pub mod Parted
 pub mod Rounds
 pub mod RunningView

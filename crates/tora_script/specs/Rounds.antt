@@ -1,11 +1,12 @@
 -- What a round of a simulation is: a list of events, and what it leaves in the air.
 pub use Rattle.tora_script.specs.Parted.{is_same_pair, is_parted}
-use Rattle.std.specs.Prelude.{◌≡◌, ℕ, zero, suc, ◌+◌, ◌-◌, Bool, not, nat_lt, is_some, if◌then◌else◌, List, [], ◌∷◌, ◌++◌, length, Option, Some, None}
+use Rattle.std.specs.Prelude.{◌≡◌, ℕ, zero, suc, ◌+◌, ◌-◌, Bool, true, not, nat_lt, is_some, if◌then◌else◌, List, [], ◌∷◌, ◌++◌, length, Option, Some, None}
 use Rattle.tora_frame.specs.FrameParts.{FrameParts}
 use Rattle.tora_world.specs.declared.event.Event.{Event}
 use Rattle.tora_world.specs.declared.event.Event.TheVariants.{Tick, Open, Pull, Transmit, Deliver, Pump, CoreTurn}
 use Rattle.tora_world.specs.World.{World, datagram, is_empty, refusal_of, world_after, world_after_all}
 use Rattle.tora_channel.specs.Table.{Channels}
+use Rattle.tora_sim.specs.Readers.{ends_in}
 use Rattle.tora_script.specs.Air.{MomentView, AirView, air_view, copies_in, at_once, after_air}
 use Rattle.tora_script.specs.declared.air.Air.{Air}
 use Rattle.tora_script.specs.declared.rounds.EndTurn.{EndTurn}
@@ -132,6 +133,10 @@ rounds zero nodes ends parted channel s = s
 rounds (suc r) nodes ends parted channel s = rounds r nodes ends parted channel (after_round nodes ends parted channel s)
 
 -- ---- what the code of a round does
+
+-- these are the link ends of the world, in their order, where that is known
+abbrev pub AreKnown : Bool → List (ℕ × ℕ) → World → Type 0
+AreKnown known ends w = known ≡ true → ends ≡ ends_in w.topology
 
 -- the events of a plan happened, and some did or none
 pub record Happened (before : World) (events : List Event) (after : World) (some : Bool) : Type 0 where

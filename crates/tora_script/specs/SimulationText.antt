@@ -228,6 +228,12 @@ abbrev pub behind_links : Setup → List ChannelLine → List ℕ → List (ℕ 
 behind_links setup table dests [] olds line = None
 behind_links setup table dests (link ∷ links) olds line = option_map left_by (first_run setup table dests (link ∷ links) olds line)
 
+-- the same at any stage: only links can have such a line behind them
+abbrev pub run_begun : Setup → List ChannelLine → Progress → List ℕ → Option (Progress × List ℕ)
+run_begun setup table First line = None
+run_begun setup table (Links dests links olds) line = behind_links setup table dests links olds line
+run_begun setup table (Runs s) line = None
+
 -- a line behind the first, which may say a link or an old node
 abbrev pub link_reply : Setup → List ChannelLine → List ℕ → List (ℕ × ℕ) → List ℕ → List ℕ → Option (ℕ × ℕ) → Option ℕ → Option (Progress × List ℕ)
 link_reply setup table dests links olds line (Some link) old = option_map silent (with_link dests links olds link)

@@ -1,10 +1,11 @@
 //! Rounds of a simulation.
-ghost use Rattle.std.specs.Prelude.{◌≡◌, ◌||◌, IfOk};
+ghost use Rattle.std.specs.Prelude.{◌≡◌, ◌<◌, ◌≤◌, ◌||◌, ℕ, Some, slice_get, IfOk};
+ghost use Rattle.tora_sim.specs.Quiet.{IsQuietEnd};
 ghost use Rattle.tora_world.specs.World.{World, datagram, world_after_all};
 ghost use Rattle.tora_world.specs.declared.event.Event.TheVariants.{CoreTurn};
 ghost use Rattle.tora_channel.specs.Table.{over, alone};
 ghost use Rattle.tora_script.specs.Air.{moment_on};
-ghost use Rattle.tora_script.specs.Rounds.{repeats, while_possible, each, each_core, each_end, end_event, arrival_of, arrival, arrivals, delivery, deliveries, new_deliveries, pass, passes, round, after_round, rounds, sky_of, Happened};
+ghost use Rattle.tora_script.specs.Rounds.{repeats, while_possible, each, each_core, each_end, end_event, arrival_of, arrival, arrivals, delivery, deliveries, new_deliveries, pass, passes, round, after_round, rounds, sky_of, Happened, AreKnown};
 
 use crate::air::{Air, Moment, at_once, copies};
 use crate::parted::is_parted;
@@ -30,8 +31,9 @@ pub enum EndTurn {
 }
 
 impl EndTurn {
+    /// What an end does in such a turn.
     #[inline(always)]
-    fn event(self, end: (Id, Id)) -> Event
+    pub fn event(self, end: (Id, Id)) -> Event
         ensures { result ≡ end_event self end }
     {
         let (n, k) = end;
@@ -120,6 +122,43 @@ pub fn turn_end<S: Simulator>(
     repeat(sim, place, &kind.event(end), most)
 }
 
+/// The first place from `place` on at which a link end may have something to do, where it is known that these are the ends of
+/// the simulator; else the place itself.
+#[inline(always)]
+fn next_place<S: Simulator>(sim: &S, known: bool, _ends: &[(Id, Id)], place: usize) -> usize
+    requires { AreKnown known _ends.now (S.world sim.now) }
+    ensures onward { place ≤ result }
+    ensures passed { (at : ℕ) (end : ℕ × ℕ) → place ≤ at → at < result → slice_get _ends.now at ≡ Some end → IsQuietEnd (S.world sim.now) end.0 end.1 }
+{
+    if known { sim.next_due(place) } else { place }
+}
+
+/// Gives each link end its turn, so many times at most. Where it is known that these are the ends of the simulator, those that
+/// have nothing to do are passed over.
+#[inline(always)]
+fn turn_known_ends<S: Simulator>(
+    sim: &mut S,
+    known: bool,
+    ends: &[(Id, Id)],
+    kind: EndTurn,
+    most: u64,
+) -> Result<bool, AllocError>
+    requires { AreKnown known ends.now (S.world sim.old) }
+    ensures { IfOk result (λ some. Happened (S.world sim.old) (each (λ e. repeats most (end_event kind e)) ends.now (S.world sim.old)) (S.world sim.new) some) }
+{
+    if sim.is_quiet() {
+        return Ok(false);
+    }
+    let mut some = false;
+    let mut place = next_place(sim, known, ends, 0);
+    while place < ends.len() {
+        let any = turn_end(sim, kind, place, ends[place], most)?;
+        some = either(some, any);
+        place = next_place(sim, known, ends, place + 1);
+    }
+    Ok(some)
+}
+
 /// Gives each link end its turn, so many times at most.
 #[inline(always)]
 pub fn turn_ends<S: Simulator>(
@@ -130,15 +169,8 @@ pub fn turn_ends<S: Simulator>(
 ) -> Result<bool, AllocError>
     ensures { IfOk result (λ some. Happened (S.world sim.old) (each (λ e. repeats most (end_event kind e)) ends.now (S.world sim.old)) (S.world sim.new) some) }
 {
-    if sim.is_quiet() {
-        return Ok(false);
-    }
-    let mut some = false;
-    for (place, end) in ends.iter().enumerate() {
-        let any = turn_end(sim, kind, place, *end, most)?;
-        some = either(some, any);
-    }
-    Ok(some)
+    let known = !sim.is_quiet() && sim.has_ends(ends);
+    turn_known_ends(sim, known, ends, kind, most)
 }
 
 /// Delivers a datagram that was sent before the round, unless its nodes are parted.
@@ -227,19 +259,21 @@ fn deliver_new<S: Simulator>(
 fn pass<S: Simulator>(
     sim: &mut S,
     nodes: &[Id],
+    known: bool,
     ends: &[(Id, Id)],
     parted: &[(Id, Id)],
     table: &ChannelTable,
     moment: Moment,
 ) -> Result<bool, AllocError>
+    requires { AreKnown known ends.now (S.world sim.old) }
     ensures { IfOk result (λ some. Happened (S.world sim.old) (pass nodes.now ends.now parted.now (moment_on table.now moment) (S.world sim.old)) (S.world sim.new) some) }
 {
     let first = sim.datagrams();
     let turned = turn_cores(sim, nodes)?;
-    let pulled = turn_ends(sim, ends, EndTurn::Pull, MOST_TIMES)?;
-    let sent = turn_ends(sim, ends, EndTurn::Transmit, MOST_TIMES)?;
+    let pulled = turn_known_ends(sim, known, ends, EndTurn::Pull, MOST_TIMES)?;
+    let sent = turn_known_ends(sim, known, ends, EndTurn::Transmit, MOST_TIMES)?;
     let delivered = deliver_new(sim, parted, table, moment, first)?;
-    let pumped = turn_ends(sim, ends, EndTurn::Pump, MOST_TIMES)?;
+    let pumped = turn_known_ends(sim, known, ends, EndTurn::Pump, MOST_TIMES)?;
     Ok(either(
         turned,
         either(pulled, either(sent, either(delivered, pumped))),
@@ -250,15 +284,17 @@ fn pass<S: Simulator>(
 fn make_passes<S: Simulator>(
     sim: &mut S,
     nodes: &[Id],
+    known: bool,
     ends: &[(Id, Id)],
     parted: &[(Id, Id)],
     table: &ChannelTable,
     moment: Moment,
 ) -> Result<(), AllocError>
+    requires { AreKnown known ends.now (S.world sim.old) }
     ensures { IfOk result (λ _. S.world sim.new ≡ world_after_all (S.world sim.old) (passes 1000 nodes.now ends.now parted.now (moment_on table.now moment) (S.world sim.old))) }
 {
     for _ in 0..MOST_PASSES {
-        if !pass(sim, nodes, ends, parted, table, moment)? {
+        if !pass(sim, nodes, known, ends, parted, table, moment)? {
             return Ok(());
         }
         sim.settle();
@@ -271,18 +307,20 @@ fn make_passes<S: Simulator>(
 fn round<S: Simulator>(
     sim: &mut S,
     nodes: &[Id],
+    known: bool,
     ends: &[(Id, Id)],
     parted: &[(Id, Id)],
     table: &ChannelTable,
     moment: Moment,
     later: &[(u64, u64)],
 ) -> Result<(), AllocError>
+    requires { AreKnown known ends.now (S.world sim.old) }
     ensures { IfOk result (λ _. S.world sim.new ≡ world_after_all (S.world sim.old) (round nodes.now ends.now parted.now (moment_on table.now moment) later.now (S.world sim.old))) }
 {
     repeat(sim, 0, &Event::Tick, 1)?;
-    turn_ends(sim, ends, EndTurn::Open, 1)?;
+    turn_known_ends(sim, known, ends, EndTurn::Open, 1)?;
     arrive_all(sim, parted, later)?;
-    make_passes(sim, nodes, ends, parted, table, moment)?;
+    make_passes(sim, nodes, known, ends, parted, table, moment)?;
     Ok(())
 }
 
@@ -291,12 +329,14 @@ fn round<S: Simulator>(
 fn make_round<S: Simulator>(
     sim: &mut S,
     nodes: &[Id],
+    known: bool,
     ends: &[(Id, Id)],
     parted: &[(Id, Id)],
     table: &ChannelTable,
     channel: Channel,
     air: &mut Air,
 ) -> Result<(), AllocError>
+    requires { AreKnown known ends.now (S.world sim.old) }
     ensures { IfOk result (λ _. sky_of S.world sim.new air.new ≡ after_round nodes.now ends.now parted.now (over table.now channel) (sky_of S.world sim.old air.old)) }
 {
     let moment = Moment {
@@ -304,7 +344,7 @@ fn make_round<S: Simulator>(
         round: air.round,
         start: sim.datagrams(),
     };
-    round(sim, nodes, ends, parted, table, moment, &air.later)?;
+    round(sim, nodes, known, ends, parted, table, moment, &air.later)?;
     air.go_on(sim, parted, table, moment)
 }
 
@@ -321,8 +361,9 @@ pub fn make_rounds_over<S: Simulator>(
 ) -> Result<(), AllocError>
     ensures { IfOk result (λ _. sky_of S.world sim.new air.new ≡ rounds count nodes.now ends.now parted.now (over table.now channel) (sky_of S.world sim.old air.old)) }
 {
+    let known = sim.has_ends(ends);
     for _ in 0..count {
-        make_round(sim, nodes, ends, parted, table, channel, air)?;
+        make_round(sim, nodes, known, ends, parted, table, channel, air)?;
     }
     Ok(())
 }

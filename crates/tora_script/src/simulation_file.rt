@@ -10,7 +10,7 @@ ghost use Rattle.tora_channel.specs.declared.line.ChannelLine.{ChannelLine as An
 ghost use Rattle.tora_channel.specs.Table.{lines_of};
 ghost use Rattle.tora_script.specs.RunningView.{running_view};
 ghost use Rattle.tora_script.specs.SimulationView.{progress_of, simulation_kind};
-ghost use Rattle.tora_script.specs.SimulationText.{Progress, first_progress, with_link, is_linked, with_old_line, first_run, behind_links, end_of_links, simulation_reply, first_simulation_fault, first_fault_with, IsFirstFaultWith, Simulates, IsSimulationBegun};
+ghost use Rattle.tora_script.specs.SimulationText.{Progress, first_progress, with_link, is_linked, with_old_line, first_run, behind_links, run_begun, end_of_links, simulation_reply, first_simulation_fault, first_fault_with, IsFirstFaultWith, Simulates, IsSimulationBegun};
 
 use crate::link_lines::LinkLines;
 use crate::parse;
@@ -36,6 +36,7 @@ pub fn first_line(alloc: Global, line: &[u8]) -> Result<LinkLines, LineError>
         dests,
         links: Vec::new(alloc),
         olds: Vec::new(alloc),
+        known: None,
     })
 }
 
@@ -62,6 +63,8 @@ pub fn is_linked(n: Id, links: &[(Id, Id)]) -> bool
 
 /// Takes an old node; it is a fault where no link names the node, or there is no topology of the links within
 /// the limits, and then changes nothing.
+///
+/// The topology is looked for at the first old node: no link comes behind it.
 pub fn take_old(limits: Limits, lines: &mut LinkLines, n: Id) -> Result<(), LineError>
     ensures gives { Gives (λ _. Progress.Links lines.new.dests.items lines.new.links.items lines.new.olds.items) result
         (with_old_line limits lines.old.dests.items lines.old.links.items lines.old.olds.items n) }
@@ -70,9 +73,14 @@ pub fn take_old(limits: Limits, lines: &mut LinkLines, n: Id) -> Result<(), Line
     if !is_linked(n, &lines.links) {
         return Err(LineError::Fault);
     }
+    if lines.is_known(limits) {
+        lines.push_old(n)?;
+        return Ok(());
+    }
     if topology_fault_within(limits, &lines.links, &lines.dests).is_some() {
         return Err(LineError::Fault);
     }
+    lines.note(limits);
     lines.push_old(n)?;
     Ok(())
 }
@@ -127,6 +135,44 @@ fn end_of_links(limits: Limits, lines: &LinkLines, number: u64) -> Option<u64>
     }
 }
 
+/// Takes the first line; the links come behind it.
+///
+/// As `begin_run` it stands in a function of its own, which is never put into its caller: else every line of the file would make room for
+/// a simulation.
+#[inline(never)]
+fn begin_links<S: Simulator>(
+    stage: &mut Stage<S>,
+    alloc: Global,
+    line: &[u8],
+) -> Result<(), LineError>
+    ensures { Gives (λ _. progress_of S.world stage.new) result (first_progress line.now) }
+{
+    *stage = Stage::Links(first_line(alloc, line)?);
+    Ok(())
+}
+
+/// Takes a line behind the links that is none of them and no old node; the simulation runs behind it. At any other stage there is no such
+/// line, and nothing changes.
+#[inline(never)]
+fn begin_run<S: Simulator>(
+    stage: &mut Stage<S>,
+    setup: Setup,
+    table: &ChannelTable,
+    alloc: Global,
+    line: &[u8],
+    text: &mut String,
+) -> Result<(), LineError>
+    requires times { IsTimes setup.times }
+    requires empty { string_bytes text.old ≡ [] }
+    ensures { Gives (λ _. (progress_of S.world stage.new, string_bytes text.new)) result (run_begun setup (lines_of table.now) (progress_of S.world stage.old) line.now) }
+{
+    let Stage::Links(lines) = stage else {
+        return Err(LineError::Fault);
+    };
+    *stage = Stage::Runs(behind_links(alloc, setup, table, lines, line, text)?);
+    Ok(())
+}
+
 /// Takes a line, and puts what is printed for it behind an empty text.
 #[tactic(auto, unfolding(crate::specs::SimulationText::simulation_reply))]
 fn take_line<S: Simulator>(
@@ -142,10 +188,7 @@ fn take_line<S: Simulator>(
     ensures { Gives (λ _. (progress_of S.world stage.new, string_bytes text.new)) result (simulation_reply setup (lines_of table.now) (progress_of S.world stage.old) line.now) }
 {
     match stage {
-        Stage::First => {
-            *stage = Stage::Links(first_line(alloc, line)?);
-            Ok(())
-        }
+        Stage::First => begin_links(stage, alloc, line),
         Stage::Links(lines) => {
             if let Some(link) = parse::link(line) {
                 return take_link(lines, link);
@@ -153,8 +196,7 @@ fn take_line<S: Simulator>(
             if let Some(n) = parse::old(line) {
                 return take_old(setup.limits, lines, n);
             }
-            *stage = Stage::Runs(behind_links(alloc, setup, table, lines, line, text)?);
-            Ok(())
+            begin_run(stage, setup, table, alloc, line, text)
         }
         Stage::Runs(running) => running.take(setup.until, table, line, text),
     }

@@ -1,10 +1,10 @@
 //! What the engine asks of a simulator.
-ghost use Rattle.std.specs.Prelude.{◌≡◌, true, false, is_some, length, option_map, IfOk};
+ghost use Rattle.std.specs.Prelude.{◌≡◌, ◌<◌, ◌≤◌, ℕ, true, false, Some, is_some, length, option_map, slice_get, IfOk};
 ghost use Rattle.tora_world.specs.World.{World, refusal_of, world_after, datagram, sent_packets, taken_packets};
 ghost use Rattle.tora_arq.specs.Settings.{IsTimes};
 ghost use Rattle.tora_script.specs.Simulator.{ArePairs, AreIds, Starts, nodes_of};
 ghost use Rattle.tora_sim.specs.Cuts.{after_cut_at};
-ghost use Rattle.tora_sim.specs.Quiet.{IsQuiet};
+ghost use Rattle.tora_sim.specs.Quiet.{IsQuiet, IsQuietEnd};
 ghost use Rattle.tora_sim.specs.Readers.{ends_in};
 ghost use Rattle.tora_world.specs.Walks.{height_at, hop_at, exact_in, walk_of};
 ghost use Rattle.tora_world.specs.Rest.{rests};
@@ -50,7 +50,20 @@ pub trait Simulator: Drop {
     fn is_quiet(&self) -> bool
         ensures { result ≡ true → IsQuiet (world self.now) };
 
-    /// Looks whether nothing is to be done, and until which tick, for `is_quiet` and the ticks that come; the world stays as it is.
+    /// Whether these are the link ends, in the order of `ends`.
+    fn has_ends(&self, ends: &[(Id, Id)]) -> bool
+        ensures { result ≡ true → ends.now ≡ ends_in (world self.now).topology };
+
+    /// The first place from `place` on at which a link end may have something to do, in the order of `ends` and from 0 on: of the
+    /// ends that are passed over `happen` refuses each `Open`, `Pull`, `Transmit` and `Pump`.
+    ///
+    /// It is asked before each end's turn in a part of a round. `settle` may make known what is passed over.
+    fn next_due(&self, place: usize) -> usize
+        ensures onward { place ≤ result }
+        ensures passed { (at : ℕ) (end : ℕ × ℕ) → place ≤ at → at < result → slice_get (ends_in (world self.now).topology) at ≡ Some end → IsQuietEnd (world self.now) end.0 end.1 };
+
+    /// Looks whether nothing is to be done, and until which tick, for `is_quiet`, `next_due` and the ticks that come; the world
+    /// stays as it is.
     fn settle(&mut self)
         ensures { world self.new ≡ world self.old };
 

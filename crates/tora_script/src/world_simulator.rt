@@ -57,6 +57,15 @@ impl Simulator for Sim {
         Sim::is_quiet(self)
     }
 
+    fn has_ends(&self, ends: &[(Id, Id)]) -> bool {
+        Sim::has_ends(self, ends)
+    }
+
+    #[inline(always)]
+    fn next_due(&self, place: usize) -> usize {
+        Sim::next_due(self, place)
+    }
+
     fn settle(&mut self) {
         Sim::settle(self);
     }

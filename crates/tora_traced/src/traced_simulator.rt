@@ -191,6 +191,15 @@ impl<S: Watched> Simulator for Traced<S> {
         self.sim.is_quiet()
     }
 
+    fn has_ends(&self, ends: &[(Id, Id)]) -> bool {
+        self.sim.has_ends(ends)
+    }
+
+    #[inline(always)]
+    fn next_due(&self, place: usize) -> usize {
+        self.sim.next_due(place)
+    }
+
     fn settle(&mut self) {
         self.sim.settle();
     }

@@ -45,6 +45,14 @@ impl Simulator for Recorder {
         self.sim.is_quiet()
     }
 
+    fn has_ends(&self, ends: &[(Id, Id)]) -> bool {
+        self.sim.has_ends(ends)
+    }
+
+    fn next_due(&self, place: usize) -> usize {
+        self.sim.next_due(place)
+    }
+
     fn settle(&mut self) {
         self.sim.settle();
     }
