@@ -1,5 +1,5 @@
 -- What a contract sees of the ports of the lane into the core.
-use Rattle.std.specs.Prelude.{◌≡◌, ◌<◌, ◌≤◌, ◌^◌, ◌++◌, ℕ, List, [], Bool, false, length, slice_index}
+use Rattle.std.specs.Prelude.{◌≡◌, ◌++◌, ℕ, List, [], Bool, false, length}
 use Rattle.atomic_table.specs.Seated.{TableId}
 use Rattle.atomic_table.specs.declared.badge.Badge.{Badge}
 use Rattle.crossbeam_channel.specs.declared.flavors.array.Key.{Key}
@@ -73,16 +73,6 @@ known_of Spent = []
 -- what the holder of the pass knows
 abbrev pub lane_view : Pass Item LaneView → LaneView
 lane_view p = p.me.0.client
-
--- the view is that of a seat that has put so many, 2^61 at most
-abbrev pub HasPut : LaneView → ℕ → ℕ → Type 0
-HasPut view seat count = (view ≡ Seat seat (own_of view)) × (count ≡ length (own_of view)) × (count ≤ 2 ^ 61)
-
--- the view is the core's, and the counts are how many it took of each seat
-abbrev pub IsCounted : LaneView → List ℕ → Type 0
-IsCounted view counts =
-    (view ≡ Core (length counts) (took_of view) (known_of view))
-    × ((s : ℕ) → s < length counts → slice_index counts s ≡ length (items_of s (took_of view)))
 
 -- what was taken of the seat and then what is left of it is what it has put, and these are their lengths
 abbrev pub IsSettled : CoreEnd → InEnd → Settled → Type 0

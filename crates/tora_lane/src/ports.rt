@@ -36,15 +36,17 @@ pub struct InPort {
 }
 
 impl Model for InPort {
+    ghost use Rattle.std.specs.Prelude.{◌≡◌, ◌^◌, ◌≤◌, length};
     ghost use Rattle.crossbeam_channel.specs.Claims.{IsSeatAt};
     ghost use Rattle.crossbeam_channel.specs.Ends.{sends_on};
-    ghost use Rattle.tora_lane.specs.Ports.{InEnd, HasPut, lane_of, lane_view, own_of};
+    ghost use Rattle.tora_lane.specs.declared.rule.LaneView.TheVariants.{Seat};
+    ghost use Rattle.tora_lane.specs.Ports.{InEnd, lane_of, lane_view, own_of};
 
     ghost Value = { InEnd };
 
     ghost view = { λ p. record { lane = lane_of p.pass; seat = p.seat; put = own_of (lane_view p.pass); gone = p.gone } };
 
-    ghost invariant = { λ p. IsSeatAt (sends_on p.sender) p.pass × HasPut (lane_view p.pass) p.seat p.count };
+    ghost invariant = { λ p. IsSeatAt (sends_on p.sender) p.pass × (lane_view p.pass ≡ Seat p.seat (own_of (lane_view p.pass))) × (p.count ≡ length (own_of (lane_view p.pass))) × (p.count ≤ 2 ^ 61) };
 }
 
 /// The core's port of the lane into the core. Contracts see its lane, how many seats there are, all that it has taken, and
@@ -58,16 +60,18 @@ pub struct CorePort {
 }
 
 impl Model for CorePort {
-    ghost use Rattle.std.specs.Prelude.{length};
+    ghost use Rattle.std.specs.Prelude.{◌≡◌, ◌<◌, ℕ, length, slice_index};
     ghost use Rattle.crossbeam_channel.specs.Claims.{IsSeatAt};
     ghost use Rattle.crossbeam_channel.specs.Ends.{receives_on};
-    ghost use Rattle.tora_lane.specs.Ports.{CoreEnd, IsCounted, lane_of, lane_view, took_of};
+    ghost use Rattle.tora_lane.specs.declared.rule.LaneView.TheVariants.{Core};
+    ghost use Rattle.tora_lane.specs.LaneRule.{items_of};
+    ghost use Rattle.tora_lane.specs.Ports.{CoreEnd, lane_of, lane_view, took_of, known_of};
 
     ghost Value = { CoreEnd };
 
     ghost view = { λ p. record { lane = lane_of p.pass; seats = length p.counts.items; taken = took_of (lane_view p.pass); gone = p.gone } };
 
-    ghost invariant = { λ p. IsSeatAt (receives_on p.receiver) p.pass × IsCounted (lane_view p.pass) p.counts.items };
+    ghost invariant = { λ p. IsSeatAt (receives_on p.receiver) p.pass × (lane_view p.pass ≡ Core (length p.counts.items) (took_of (lane_view p.pass)) (known_of (lane_view p.pass))) × ((s : ℕ) → s < length p.counts.items → slice_index p.counts.items s ≡ length (items_of s (took_of (lane_view p.pass)))) };
 }
 
 /// What the core has taken, once its port has ended: seats can still be settled. Contracts see what they see of the port.
@@ -79,14 +83,16 @@ pub struct Settling {
 }
 
 impl Model for Settling {
-    ghost use Rattle.std.specs.Prelude.{◌≡◌, [], length};
-    ghost use Rattle.tora_lane.specs.Ports.{CoreEnd, IsCounted, lane_of, lane_view, took_of};
+    ghost use Rattle.std.specs.Prelude.{◌≡◌, ◌<◌, ℕ, [], length, slice_index};
+    ghost use Rattle.tora_lane.specs.declared.rule.LaneView.TheVariants.{Core};
+    ghost use Rattle.tora_lane.specs.LaneRule.{items_of};
+    ghost use Rattle.tora_lane.specs.Ports.{CoreEnd, lane_of, lane_view, took_of, known_of};
 
     ghost Value = { CoreEnd };
 
     ghost view = { λ p. record { lane = lane_of p.pass; seats = length p.counts.items; taken = took_of (lane_view p.pass); gone = p.gone } };
 
-    ghost invariant = { λ p. (p.pass.me.1 ≡ []) × IsCounted (lane_view p.pass) p.counts.items };
+    ghost invariant = { λ p. (p.pass.me.1 ≡ []) × (lane_view p.pass ≡ Core (length p.counts.items) (took_of (lane_view p.pass)) (known_of (lane_view p.pass))) × ((s : ℕ) → s < length p.counts.items → slice_index p.counts.items s ≡ length (items_of s (took_of (lane_view p.pass)))) };
 }
 
 /// What a seat has put, and what became of it. Own profile.
