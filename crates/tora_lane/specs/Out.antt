@@ -1,12 +1,10 @@
 -- What a contract sees of a lane to a neighbour.
-use Rattle.std.specs.Prelude.{◌≡◌, ℕ, List, [], ◌∷◌, ◌++◌, length}
-use mathlib.Core.List.{IsPrefix}
+use Rattle.std.specs.Prelude.{◌≡◌, ℕ, List, [], ◌∷◌, ◌++◌}
 use denote.RawPtr.{Ptr}
 use Rattle.rtrb.specs.declared.producer.Producer.{Producer}
 use Rattle.rtrb.specs.declared.consumer.Consumer.{Consumer}
 use Rattle.rtrb.specs.Ring.{sent, received, known_items}
 use Rattle.tora_seat.specs.declared.cargo.Cargo.{Cargo}
-use Rattle.tora_lane.specs.declared.out.OutEnd.{OutEnd}
 
 -- which ring it is
 pub record Ring : Type 0 where
@@ -39,9 +37,3 @@ AreEndsOf s r = s.ring ≡ r.ring
 -- the end after it has sent one cargo more
 abbrev pub with_sent : SendEnd → Cargo → SendEnd
 with_sent end cargo = record end { sent = end.sent ++ cargo ∷ [] }
-
--- what was received and then what waits is what was sent, what was found comes first of what waits, and these are their lengths
-abbrev pub IsSettledOut : SendEnd → ReceiveEnd → OutEnd → Type 0
-IsSettledOut s r end =
-    (waiting : List Cargo) × (r.received ++ waiting ≡ s.sent) × IsPrefix r.found waiting × (end.sent ≡ length s.sent)
-    × (end.received ≡ length r.received) × (end.waiting ≡ length waiting)

@@ -1,5 +1,5 @@
 -- What a contract sees of the ports of the lane into the core.
-use Rattle.std.specs.Prelude.{◌≡◌, ◌++◌, ℕ, List, [], Bool, false, length}
+use Rattle.std.specs.Prelude.{◌≡◌, ℕ, List, [], Bool, false}
 use Rattle.atomic_table.specs.Seated.{TableId}
 use Rattle.atomic_table.specs.declared.badge.Badge.{Badge}
 use Rattle.crossbeam_channel.specs.declared.flavors.array.Key.{Key}
@@ -8,10 +8,8 @@ use Rattle.crossbeam_channel.specs.declared.flavors.array.Rows.{Rows}
 use Rattle.crossbeam_channel.specs.Claims.{Pass, IsKeyed}
 use Rattle.tora_seat.specs.declared.item.Item.{Item}
 use Rattle.tora_seat.specs.declared.what.What.{What}
-use Rattle.tora_lane.specs.declared.ports.Settled.{Settled}
 use Rattle.tora_lane.specs.declared.rule.LaneView.{LaneView}
 use Rattle.tora_lane.specs.declared.rule.LaneView.TheVariants.{Seat, Core, Spent}
-use Rattle.tora_lane.specs.LaneRule.{items_of}
 
 -- which lane it is
 pub record Lane : Type 0 where
@@ -73,9 +71,3 @@ known_of Spent = []
 -- what the holder of the pass knows
 abbrev pub lane_view : Pass Item LaneView → LaneView
 lane_view p = p.me.0.client
-
--- what was taken of the seat and then what is left of it is what it has put, and these are their lengths
-abbrev pub IsSettled : CoreEnd → InEnd → Settled → Type 0
-IsSettled c p s =
-    (left : List Item) × (items_of p.seat c.taken ++ left ≡ p.put) × (s.seat ≡ p.seat) × (s.put ≡ length p.put)
-    × (s.taken ≡ length (items_of p.seat c.taken)) × (s.left ≡ length left)

@@ -1,6 +1,7 @@
 //! The lane to a neighbour's thread.
-ghost use Rattle.std.specs.Prelude.{◌≡◌, ◌+◌, ◌^◌, ◌<◌, ◌≤◌, ◌++◌, ◌∷◌, [], length, IsOk, IsErr, OnOk, IfOk, IfErr, IfSome, IfNone};
-ghost use Rattle.tora_lane.specs.Out.{AreEndsOf, IsSettledOut, with_sent};
+ghost use Rattle.std.specs.Prelude.{◌≡◌, ◌+◌, ◌^◌, ◌<◌, ◌≤◌, ◌++◌, ◌∷◌, [], List, length, IsOk, IsErr, OnOk, IfOk, IfErr, IfSome, IfNone};
+ghost use Rattle.tora_lane.specs.Out.{AreEndsOf, with_sent};
+ghost use Rattle.tora_seat.specs.declared.cargo.Cargo.{Cargo};
 ghost use mathlib.Core.List.{IsPrefix};
 
 use crate::limits::{MOST_IN_ALL, OUT_LANE_ROOM};
@@ -113,7 +114,7 @@ impl OutTake {
 /// received and then what is left in the lane is what was sent, and what was found and not received is left first. Own profile.
 pub fn settle_out(put: OutPut, take: OutTake) -> OutEnd
     requires { AreEndsOf put take }
-    ensures { IsSettledOut put take result }
+    ensures { (waiting : List Cargo) × (take.received ++ waiting ≡ put.sent) × IsPrefix take.found waiting × (result.sent ≡ length put.sent) × (result.received ≡ length take.received) × (result.waiting ≡ length waiting) }
 {
     let OutPut {
         mut producer,

@@ -1,8 +1,9 @@
 //! The lane into the core: an in port for each seat, and the core's port.
-ghost use Rattle.std.specs.Prelude.{◌≡◌, ◌+◌, ◌^◌, ◌<◌, ◌≤◌, ◌++◌, ◌∷◌, [], true, false, length, IsErr, OnOk, OnErr, IfOk};
+ghost use Rattle.std.specs.Prelude.{◌≡◌, ◌+◌, ◌^◌, ◌<◌, ◌≤◌, ◌++◌, ◌∷◌, [], true, false, List, length, IsErr, OnOk, OnErr, IfOk};
 ghost use Rattle.crossbeam_channel.specs.Ends.{sends_on};
 ghost use Rattle.tora_lane.specs.LaneRule.{items_of};
-ghost use Rattle.tora_lane.specs.Ports.{IsPortOf, IsChannelOf, IsSettled, new_item, new_port, new_core};
+ghost use Rattle.tora_lane.specs.Ports.{IsPortOf, IsChannelOf, new_item, new_port, new_core};
+ghost use Rattle.tora_seat.specs.declared.item.Item.{Item};
 
 use crate::limits::{CORE_LANE_ROOM, MOST_IN_ALL};
 use crate::rule::{LaneRule, LaneView, NewSeat, Puts, Settles, Takes};
@@ -218,7 +219,7 @@ impl CorePort {
     pub fn settle<R: Wait>(&mut self, _rt: &R, port: InPort) -> Settled
         requires { IsPortOf self.old port }
         ensures same { self.new ≡ self.old }
-        ensures settled { IsSettled self.old port result }
+        ensures settled { (left : List Item) × (items_of port.seat self.old.taken ++ left ≡ port.put) × (result.seat ≡ port.seat) × (result.put ≡ length port.put) × (result.taken ≡ length (items_of port.seat self.old.taken)) × (result.left ≡ length left) }
     {
         let InPort {
             sender,
@@ -257,7 +258,7 @@ impl Settling {
     pub fn settle(&mut self, port: InPort) -> Settled
         requires { IsPortOf self.old port }
         ensures same { self.new ≡ self.old }
-        ensures settled { IsSettled self.old port result }
+        ensures settled { (left : List Item) × (items_of port.seat self.old.taken ++ left ≡ port.put) × (result.seat ≡ port.seat) × (result.put ≡ length port.put) × (result.taken ≡ length (items_of port.seat self.old.taken)) × (result.left ≡ length left) }
     {
         let InPort {
             sender,
