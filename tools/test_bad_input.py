@@ -286,7 +286,7 @@ class ToolsTest(unittest.TestCase):
     def test_full_disk_of_studies(self):
         """The same of the scripts."""
         with tempfile.TemporaryDirectory() as work:
-            for name in ("runs.txt", ".study.csv"):
+            for name in ("runs.txt",):
                 study = f"{work}/study-{name}"
                 os.makedirs(f"{study}/rows")
                 os.symlink("/dev/full", f"{study}/{name}")
