@@ -13,7 +13,7 @@ import sys
 
 from play_data import read_page
 from record import field, records
-from study import Usage, refused, run
+from study import Usage, reading, refused, run, shown
 from world import Rounds
 
 # Lines of a simulation file that print nothing, where nothing is refused, and leave the clock
@@ -43,14 +43,14 @@ class Fold:
 
 def printed_heights(simulation, output):
     """Yields (line of the output, clock, node, destination, height, next hop) of each printed line of a `heights`."""
-    with open(simulation, encoding="ascii", errors="replace") as source:
+    with reading(simulation) as source:
         lines = [line.split() or [""] for line in source]
     numbered = [(at, word) for at, words in enumerate(lines, 1) if words[0] == "link" for word in words[1:]]
     nodes = sorted({field(simulation, at, "i", word) for at, word in numbered})
     for at, words in enumerate(lines, 1):
         if words[0] in ("rounds", "heights"):
             field(simulation, at, "n", words[1] if len(words) == 2 else "")
-    with open(output, encoding="ascii", errors="replace") as source:
+    with reading(output) as source:
         told, clock = enumerate((line.split() for line in source), 1), 0
         for number, words in enumerate(lines, 1):
             if words[0] == "rounds":
@@ -64,7 +64,7 @@ def printed_heights(simulation, output):
                         raise refused(output, line or None, f"no height of node {node}, which {simulation}:{number} prints")
                     yield line, clock, node, int(words[1]), field(output, line, "h", text[2]), field(output, line, "k", text[4])
             elif words[0] not in QUIET:
-                raise refused(simulation, number, f"a line `{words[0]}` is not looked at here")
+                raise refused(simulation, number, f"a line `{shown(words[0])}` is not looked at here")
 
 
 def compare(simulation, output, trace):
@@ -74,6 +74,8 @@ def compare(simulation, output, trace):
         if fold.until(clock).of(node, destination) != (height, hop):
             raise refused(output, line, f"the trace tells another height or next hop of node {node} at {clock}")
         lines += 1
+    if not lines:
+        raise refused(simulation, None, "no line `heights`, so nothing is compared")
     return lines, len(fold.routes)
 
 

@@ -3,7 +3,7 @@
 
 usage: ./tora build [--jobs N] [CRATE ..]
 
-  --jobs N    uses at most N processors, in place of all
+  --jobs N    uses at most N processors, from 1 to 1024, in place of all
   CRATE ..    proves these crates and those below them, in place of `tora`
 
 Crates that don't stand on each other are proved side by side, as many as memory holds, and first those with the longest chain
@@ -19,6 +19,7 @@ import argparse
 import importlib.machinery
 import importlib.util
 import os
+import re
 import shutil
 import signal
 import sys
@@ -29,6 +30,8 @@ from concurrent.futures import FIRST_COMPLETED, ThreadPoolExecutor, wait
 
 TOP = os.path.dirname(os.path.dirname(os.path.realpath(__file__)))
 PROGRAM = "tora"
+MOST_JOBS = 1024
+NUMBER = re.compile("[1-9][0-9]{0,8}")
 # The times of the last build: a line `CRATE SECONDS JOBS` for each crate, and `whole SECONDS` for a build from nothing.
 TIMES = f"{TOP}/out/build-times"
 # What each further processor of a check adds to the memory that is planned for it: with four, none was seen to take more than half of the plan.
@@ -127,13 +130,15 @@ class Times:
         try:
             with open(TIMES) as text:
                 rows = [it.split() for it in text]
-        except OSError:
+        except (OSError, UnicodeDecodeError):
             rows = []
-        for row in rows:
-            if row[0] == "whole":
-                self.whole = int(row[1])
-            else:
-                self.rows[row[0]] = (int(row[1]), int(row[2]))
+        for row in rows:  # what is none, as where the file is cut, is passed over
+            numbers = [int(it) for it in row[1:] if NUMBER.fullmatch(it)]
+            if row and len(numbers) == len(row) - 1 == (1 if row[0] == "whole" else 2):
+                if row[0] == "whole":
+                    self.whole = numbers[0]
+                else:
+                    self.rows[row[0]] = tuple(numbers)
 
     def add(self, name, seconds, jobs, is_from_nothing):
         """Keeps a crate's time; of a crate that had kept work only where it took longer than was known."""
@@ -240,11 +245,11 @@ def main():
         print(text)
         return 0
     words = argparse.ArgumentParser(prog="./tora build", usage="./tora build [--jobs N] [CRATE ..]", add_help=False)
-    words.add_argument("--jobs", type=int)
+    words.add_argument("--jobs")
     words.add_argument("crates", nargs="*")
     asked = words.parse_args()
-    if asked.jobs is not None and asked.jobs < 1:
-        stop("--jobs takes a number from 1 on")
+    if asked.jobs is not None and not (NUMBER.fullmatch(asked.jobs) and int(asked.jobs) <= MOST_JOBS):
+        stop(f"--jobs takes a number from 1 to {MOST_JOBS}")
     start = time.time()
     rtlib = toolchain()
     # the process that ends all others starts before any thread does
@@ -262,7 +267,7 @@ def main():
         rtlib.stop_on_links(it.folder)
         it.held = []
     weights = {it.name: lines_of(rtlib, it, ".rt") + lines_of(rtlib, it, ".antt") / 8 for it in wanted}
-    build_all(rtlib, wanted, asked.jobs or processors(rtlib), Times(weights))
+    build_all(rtlib, wanted, int(asked.jobs or processors(rtlib)), Times(weights))
     if found[PROGRAM] in wanted:
         # an edit made since the start is newer than the program
         os.utime(f"{found[PROGRAM].folder}/out/{PROGRAM}", (start, start))

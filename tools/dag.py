@@ -21,7 +21,7 @@ import sys
 
 from record import records, until
 from scenario_file import load_scenario
-from study import TICKS_A_SECOND, Refused, Usage, ordered, run, writing
+from study import MOST_ID, MOST_TICKS, TICKS_A_SECOND, Refused, Usage, at_least, ordered, run, shown, writing
 from world import moments
 
 SIDE = 14 * 72  # points
@@ -159,8 +159,8 @@ def chosen_rounds(options, scenario):
     """The rounds to draw, ascending."""
     if options.rounds:
         words = options.rounds.split(",")
-        if not all(word.isascii() and word.isdecimal() and 1 <= int(word) <= scenario["rounds"] for word in words):
-            raise Usage(f"--rounds: `{options.rounds}` are no rounds from 1 to {scenario['rounds']}")
+        if not all(word.isascii() and word.isdecimal() and len(word) <= 20 and 1 <= int(word) <= scenario["rounds"] for word in words):
+            raise Usage(f"--rounds: `{shown(options.rounds)}` are no rounds from 1 to {scenario['rounds']}")
         return sorted({int(word) for word in words})
     found = breaks(scenario, options.trace, options.destination)
     if not 1 <= options.number <= len(found):
@@ -181,11 +181,11 @@ def options_of(words):
     parser = argparse.ArgumentParser(description=__doc__, formatter_class=argparse.RawDescriptionHelpFormatter)
     parser.add_argument("scenario", help="what scenario.py wrote: PREFIX.json")
     parser.add_argument("trace", help="what `tora sim --trace` wrote")
-    parser.add_argument("destination", type=int, help="one of the scenario's destinations")
+    parser.add_argument("destination", type=at_least(1, MOST_ID), help="one of the scenario's destinations")
     parser.add_argument("out", nargs="?", help="how the names of the pictures begin")
     which = parser.add_mutually_exclusive_group()
     which.add_argument("--rounds", default="", metavar="ROUND,..", help="draw the ends of these rounds")
-    which.add_argument("--break", type=int, default=1, dest="number", metavar="NUMBER", help="draw around this break of a route (1)")
+    which.add_argument("--break", type=at_least(1, MOST_TICKS), default=1, dest="number", metavar="NUMBER", help="draw around this break of a route (1)")
     which.add_argument("--list", action="store_true", help="list the breaks of routes")
     parser.add_argument("--format", default="png", metavar="KIND,..", help="kinds of pictures, as png,svg; dot: none (png)")
     return parser.parse_args(words)

@@ -3,7 +3,7 @@
 DERIVED = {
     "unavailable": (("available",), lambda share: round(1 - share, 4)),  # of the rounds with a path, those in which the route doesn't work
     "control": (("query", "update", "clear"), lambda *counts: sum(counts)),  # packets of TORA that are broadcast
-    "control_per_node": (("query", "update", "clear", "nodes"), lambda *counts: sum(counts[:3]) / counts[3]),
+    "control_per_node": (("query", "update", "clear", "nodes"), lambda *counts: sum(counts[:3]) / counts[3] if counts[3] else None),
     "rounds_lost_by_outage": (  # rounds with a path and without a route that works, those before the first route too, by outages
         ("available", "connected", "rounds", "flows", "outages"),
         lambda available, connected, rounds, flows, outages: (1 - available) * connected * rounds * flows / outages if outages else None,

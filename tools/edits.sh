@@ -2,7 +2,7 @@
 # Tries the wrong bodies that the merge gate leaves out, crates/NAME/edits/*.edit: the prover has to refuse each. They have
 # the form of the edits in crates/NAME/must-fail/, which `rt ci` tries.
 # usage: tools/edits.sh [-j NUMBER] [CRATE ..]     all crates that have such edits where none is named
-#   -j NUMBER   as many crates side by side, each with up to 4 GB; 1 without it
+#   -j NUMBER   as many crates side by side, 1 to 999, each with up to 4 GB; 1 without it
 # Each crate is tried on a copy, which is gone at the end, so that what is not committed is tried, too. The copy takes the
 # libraries of the crates below from their out/ (`rt all check` makes them), and proves those that are missing or old. The
 # first edit of a crate costs a proof of it, each further one 20 to 90 seconds.
@@ -12,10 +12,10 @@ top=$(cd "$(dirname "$0")/.." && pwd)
 many=1
 case ${1-} in
   -h | --help) sed -n '2,/^set -u/s/^# //p' "$0"; exit 0 ;;
-  -j) many=${2:?a number}; shift 2 ;;
+  -j) many=${2-}; shift; [ $# = 0 ] || shift ;;
   -*) echo "edits.sh: no option $1 (--help)" >&2; exit 2 ;;
 esac
-[[ $many =~ ^[1-9][0-9]*$ ]] || { echo "edits.sh: -j takes a number from 1 on, not '$many'" >&2; exit 2; }
+[[ $many =~ ^[1-9][0-9]{0,2}$ ]] || { echo "edits.sh: -j takes a number from 1 to 999, not '$many'" >&2; exit 2; }
 command -v rt >/dev/null || { echo "edits.sh: there is no command rt" >&2; exit 2; }
 cd "$top/crates" || exit 2
 [ $# -gt 0 ] || set -- $(for folder in */edits; do [ -d "$folder" ] && echo "${folder%/edits}"; done)

@@ -24,21 +24,24 @@ from summary import cell_text, read, row_groups
 
 COLUMNS = "unavailable restore_median restore_95 control control_per_delivered hops_mean".split()  # of plot-growth.gp
 
+MOST_LOGARITHM = 700  # of a number
+
 Fit = collections.namedtuple("Fit", "factor exponent low high")
 Fit.__doc__ = "A power law, and the ends of the confidence interval of its exponent."
 
 
 def fit_of(points):
-    """The power law of points (x, y) above 0, or None where they are under three or all over one x."""
-    if len(points) < 3 or len({x for x, _ in points}) < 2:
-        return None
+    """The power law of points (x, y) above 0, or None where they are under three or all over one x, or its factor is no number."""
     xs, ys = [math.log(x) for x, _ in points], [math.log(y) for _, y in points]
+    if len(points) < 3 or len(set(xs)) < 2:
+        return None
     middle, level = statistics.fmean(xs), statistics.fmean(ys)
     spread = sum((x - middle) ** 2 for x in xs)
     slope = sum((x - middle) * (y - level) for x, y in zip(xs, ys)) / spread
     rest = sum((y - level - slope * (x - middle)) ** 2 for x, y in zip(xs, ys))
     half = quantile_of_student(len(points) - 2) * math.sqrt(rest / (len(points) - 2) / spread)
-    return Fit(math.exp(level - slope * middle), slope, slope - half, slope + half)
+    constant = level - slope * middle
+    return Fit(math.exp(constant), slope, slope - half, slope + half) if abs(constant) < MOST_LOGARITHM else None
 
 
 def points_of(rows, by, column):

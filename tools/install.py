@@ -65,9 +65,12 @@ def uninstall(root):
 
 def main():
     words = sys.argv[2:]
-    if {"-h", "--help"} & {*words}:
+    if {"-h", "--help"} & {*sys.argv[1:]}:
         print(__doc__, end="")
         return 0
+    if sys.argv[1:2] not in (["install"], ["uninstall"]):
+        print(__doc__, end="", file=sys.stderr)
+        return 2
     if len(words) > 1 or words and not os.path.isabs(words[0]):
         print(f"tora: {sys.argv[1]} takes one PREFIX, a path from the root on (--help)", file=sys.stderr)
         return 2
@@ -75,8 +78,9 @@ def main():
     root = (os.environ.get("DESTDIR", "") + prefix).rstrip("/")
     try:
         (install if sys.argv[1] == "install" else uninstall)(root)
+        sys.stdout.flush()
     except OSError as error:
-        print(f"tora: {error.filename}: {error.strerror}", file=sys.stderr)
+        print(f"tora: {error.filename or 'standard output'}: {error.strerror}", file=sys.stderr)
         return 1
     return 0
 

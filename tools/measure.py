@@ -18,7 +18,7 @@ import traffic
 from record import PARTS, Ends, until
 from routes import Routes
 from scenario_file import load_scenario
-from study import Refused, Usage, at_least, run
+from study import MOST_TICKS, Refused, Usage, at_least, run
 from tally import Counts, counted, news
 from world import spans
 
@@ -88,9 +88,9 @@ def options_of(words):
     parser = argparse.ArgumentParser(description=__doc__, formatter_class=argparse.RawDescriptionHelpFormatter)
     parser.add_argument("--header", action="store_true", help="print the names of the columns alone")
     parser.add_argument("--loops", action="store_true", help="print the loops in place of the row")
-    parser.add_argument("--traffic", metavar="RATE", help="packets that each flow sends a second")
-    parser.add_argument("--hop", metavar="TICKS", type=at_least(1), default=1, help="ticks of 100 ms that a packet takes for a hop (1)")
-    parser.add_argument("--ttl", metavar="HOPS", type=at_least(1), default=32, help="hops that a packet may make (32)")
+    parser.add_argument("--traffic", metavar="RATE", help="packets that each flow sends a second: above 0, up to nine digits, and up to nine more behind a point")
+    parser.add_argument("--hop", metavar="TICKS", type=at_least(1, MOST_TICKS), default=1, help=f"ticks of 100 ms that a packet takes for a hop (1 to {MOST_TICKS}; 1)")
+    parser.add_argument("--ttl", metavar="HOPS", type=at_least(1, MOST_TICKS), default=32, help=f"hops that a packet may make (1 to {MOST_TICKS}; 32)")
     parser.add_argument("--version", metavar="TEXT", default="", help="what the simulator calls itself, for the row")
     parser.add_argument("scenario", nargs="?", help="what scenario.py wrote: PREFIX.json")
     parser.add_argument("trace", nargs="?", help="what `tora sim --trace` wrote")

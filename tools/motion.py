@@ -8,6 +8,8 @@ import math
 
 from motion_streets import manhattan
 
+LONG = 10_000  # times that a side is longer than the other from which on a rectangle is nearly a line
+
 Motion = collections.namedtuple("Motion", "nodes width height speeds pause settle until model_parameters")
 Motion.__doc__ = "What a model is told: metres, metres a second (least, most), seconds, and the parameters that are its own."
 
@@ -55,8 +57,7 @@ def steady_begin(motion, source):
     """
     least, most = motion.speeds
     diagonal = math.hypot(motion.width, motion.height)
-    slowness = math.log(most / least) / (most - least) if most > least else 1 / least  # the mean of 1/speed
-    leg = mean_length(motion.width, motion.height) * slowness
+    leg = mean_length(motion.width, motion.height) * slowness_of(least, most)
     if source.random() < motion.pause / 2 / (motion.pause / 2 + leg):
         place = source.uniform(0, motion.width), source.uniform(0, motion.height)
         return [(0.0, *place), (motion.pause * (1 - math.sqrt(source.random())), *place)]
@@ -73,8 +74,10 @@ def steady_begin(motion, source):
 
 
 def mean_length(width, height):
-    """The mean distance of two places in a rectangle."""
+    """The mean distance of two places in a rectangle; of one that is nearly a line, a third of it."""
     a, b, diagonal = width, height, math.hypot(width, height)
+    if max(a, b) > LONG * min(a, b):  # the terms below cancel each other
+        return max(a, b) / 3
     ends = a**3 / b**2 + b**3 / a**2 + diagonal * (3 - a**2 / b**2 - b**2 / a**2)
     return (ends + 5 / 2 * (b**2 / a * math.log((a + diagonal) / b) + a**2 / b * math.log((b + diagonal) / a))) / 15
 
@@ -125,6 +128,23 @@ def bounced(place, side):
     return min(max(place, 0.0), side), not 0 <= place <= side
 
 
+def way_points(model, motion):
+    """About how many way points a model makes of all nodes."""
+    own, least, most = motion.model_parameters, *motion.speeds
+    seconds, mean = motion.until, (least + most) / 2
+    if model == "gauss-markov":
+        return motion.nodes * seconds / own["interval"]
+    if model == "manhattan":
+        return motion.nodes * seconds * (1 + mean * own["blocks"] / min(motion.width, motion.height))
+    seconds += motion.settle if model == "waypoint" else 0
+    return motion.nodes * (2 if motion.pause else 1) * seconds / (mean_length(motion.width, motion.height) * slowness_of(least, most) + motion.pause / 2)
+
+
+def slowness_of(least, most):
+    """The mean of 1/speed of a speed between two."""
+    return math.log(most / least) / (most - least) if most > least else 1 / least
+
+
 MODELS = {"waypoint": waypoint, "waypoint-steady": waypoint_steady, "gauss-markov": gauss_markov, "manhattan": manhattan}
 
 # The parameters that are a model's own, with what they are without their option and what the help says of them.
@@ -143,4 +163,5 @@ OWN = {
     },
 }
 
-LIMITS = {"alpha": (0, 1), "interval": (0.1, 1000), "blocks": (1, 1000)}  # the least and the most of these; others are from 0
+# The least and the most of these; others are from 0 to MOST_METRES.
+LIMITS = {"alpha": (0, 1), "interval": (0.1, 1000), "blocks": (1, 1000), "direction_deviation": (0, 1000)}

@@ -4,15 +4,15 @@ import math
 import re
 import zlib
 
-from study import MOST_METRES, refused
+from study import MOST_METRES, naming, refused, shown
 from way import position
 
 NUMBER = r"([-+]?(?:\d+\.?\d*|\.\d+)(?:[eE][-+]?\d+)?)"
-START = re.compile(r"\$node_\((\d+)\)\s+set\s+([XYZ])_\s+" + NUMBER + "$")
+START = re.compile(r"\$node_\(([0-9]{1,20})\)\s+set\s+([XYZ])_\s+" + NUMBER + "$")
 MOVE = re.compile(
-    r"\$ns_\s+at\s+" + NUMBER + r'\s+"\$node_\((\d+)\)\s+setdest\s+' + NUMBER + r"\s+" + NUMBER + r"\s+" + NUMBER + r'"$'
+    r"\$ns_\s+at\s+" + NUMBER + r'\s+"\$node_\(([0-9]{1,20})\)\s+setdest\s+' + NUMBER + r"\s+" + NUMBER + r"\s+" + NUMBER + r'"$'
 )
-NODE = re.compile(r'"\$node_\((\d+)\)')
+NODE = re.compile(r'"\$node_\(([0-9]{1,20})\)')
 MOVE_WORDS = 8  # of a move
 IN_NUMBERS = b"0123456789.+-eE"
 PIECE = 1 << 16  # characters after which a piece of a file ends with its line
@@ -20,12 +20,14 @@ PIECE = 1 << 16  # characters after which a piece of a file ends with its line
 
 def read_text(path):
     """The text of a movement file, which may be compressed; its lines end with LF."""
-    opened = gzip.open(path, "rt", encoding="utf-8") if path.endswith(".gz") else open(path, encoding="utf-8")
     try:
-        with opened as source:
-            return source.read()
+        with naming(path), gzip.open(path, "rt", encoding="utf-8") if path.endswith(".gz") else open(path, encoding="utf-8") as source:
+            text = source.read()
     except (EOFError, UnicodeDecodeError, gzip.BadGzipFile, zlib.error):
         raise refused(path, None, "neither a text nor a compressed text") from None
+    if not text or text.isspace():
+        raise refused(path, 1, "the file is empty")
+    return text
 
 
 def numbered(text, first):
@@ -104,7 +106,7 @@ def parse_lines(path, lines, start):
             _, metres = numbers_of(path, number, (found[1], found[3]))
             start.setdefault(int(found[1]), {})[found[2]] = metres
         else:
-            raise refused(path, number, f"no line of a setdest file: {line}")
+            raise refused(path, number, f"no line of a setdest file: {shown(line)}")
     return moves
 
 
@@ -142,7 +144,7 @@ def read_bonnmotion(path, coordinates):
     ways, width = [], coordinates + 1
     for number, line in numbered(read_text(path), 1):
         try:
-            values = [float(word) for word in line.split()]
+            values = list(map(float, line.split()))
         except ValueError:
             raise refused(path, number, "a word is no number") from None
         if len(values) % width or not all(map(math.isfinite, values)):

@@ -13,28 +13,26 @@ place of the repository's `./tora sim`. docs/studies.md tells how to read a page
 """
 import argparse
 import os
-import shlex
+import re
 import subprocess
 import sys
 import tempfile
 
-from play_data import page_data, read_page, record_text
+from play_data import MOST_ROUNDS, page_data, read_page, record_text
 from play_place import places_by_force, places_by_hand
 from record import records, until
 from resting import scenario_of_simulation, scenario_of_trace
 from scenario_file import load_scenario
-from study import Refused, Usage, nodes_of, refused, run, writing
+from study import HERE, Refused, Usage, naming, nodes_of, reading, refused, run, simulator, writing
 from world import Fit, refuse_cut
 
-HERE = os.path.dirname(os.path.realpath(__file__))
 PARTS = f"{HERE}/page"
-MOST_ROUNDS = 10_000_000  # the page keeps a few numbers for each
 SCRIPTS = [f"{name}.js" for name in "data world routes summary entries stage marks strip legend ask time main".split()]
 
 
 def text_of(name):
     """The text of a part of the page."""
-    with open(f"{PARTS}/{name}", encoding="utf-8") as source:
+    with reading(f"{PARTS}/{name}", "utf-8") as source:
         return source.read()
 
 
@@ -48,14 +46,19 @@ def page_text(title, scenario, samples, given):
 
 
 def write_page(path, text):
-    """Writes a page whole, or not at all."""
+    """Writes a page whole, or not at all; into what is there and is no file, as a pipe, it writes at once."""
+    if os.path.exists(path) and not os.path.isfile(path):
+        with writing(path, "utf-8") as sink:
+            sink.write(text)
+        return
     part = f"{path}.part"
     try:
         with writing(part, "utf-8") as sink:
             sink.write(text)
-        os.replace(part, path)
+        with naming(path):
+            os.replace(part, path)
     finally:
-        if os.path.exists(part):
+        if os.path.lexists(part):
             os.remove(part)
 
 
@@ -64,14 +67,19 @@ def fitting(path, scenario, given):
     fit, found = Fit(scenario), list(given)
     if not found:
         raise refused(path, 1, "the trace is empty")
-    if scenario["rounds"] > MOST_ROUNDS:
-        raise refused(path, found[-1].line, f"{scenario['rounds']} rounds are too many for a page")
+    refuse_many(path, found[-1].line, scenario)
     for record in found:
         fit.check(path, record)
         if record.clock > scenario["rounds"]:
             raise refused(path, record.line, f"round {record.clock} of a run of {scenario['rounds']} rounds")
     refuse_cut(path, scenario, found[-1])
     return found
+
+
+def refuse_many(path, line, scenario):
+    """Refuses more rounds than a page has."""
+    if scenario["rounds"] > MOST_ROUNDS:
+        raise refused(path, line, f"{scenario['rounds']} rounds are too many for a page, which has at most {MOST_ROUNDS}")
 
 
 def moving_page(title, scenario_path, trace_path):
@@ -96,14 +104,14 @@ def resting_page(title, simulation_path, trace_path, place_path):
 
 def simulated(path, trace):
     """Runs a simulation file, with its trace put to a path."""
-    command = shlex.split(os.environ.get("TORA_SIM", "")) or [f"{HERE}/../tora", "sim"]
+    command = simulator()
     try:
-        done = subprocess.run([*command, "--trace", trace, path], stdout=subprocess.PIPE, stderr=subprocess.PIPE, text=True)
+        done = subprocess.run([*command, "--trace", trace, path], stdout=subprocess.PIPE, stderr=subprocess.PIPE, text=True, errors="replace")
     except OSError as cause:
         raise Usage(f"{command[0]}: {cause.strerror}") from None
     if done.returncode:
         last = done.stdout.splitlines()[-1:] or [""]
-        if last[0].startswith("fault "):
+        if re.fullmatch("fault [0-9]{1,20}", last[0]):
             raise refused(path, int(last[0].split()[1]), "the simulator calls this line a fault")
         said = (done.stderr.strip().splitlines() or ["nothing is said"])[-1]
         raise Refused(f"{path}: the simulator ends with status {done.returncode}: {said}")
@@ -124,9 +132,9 @@ def page_of(options):
     if files:
         return page, resting_page(title, options.simulation, files[0], options.place)
     with tempfile.TemporaryDirectory() as work:
-        scenario_of_simulation(named)  # refuses what is no simulation file before it is run
+        refuse_many(named, None, scenario_of_simulation(named))  # and what is no simulation file, before it is run
         simulated(named, f"{work}/trace")
-        if not os.path.getsize(f"{work}/trace"):
+        if not os.path.exists(f"{work}/trace") or not os.path.getsize(f"{work}/trace"):
             raise refused(named, None, "nothing happens in this simulation, so there is nothing to play")
         return page, resting_page(title, named, f"{work}/trace", options.place)
 

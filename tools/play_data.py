@@ -15,10 +15,12 @@ import json
 import re
 
 from record import GRAMMAR, Record
-from study import nodes_of, refused
+from study import GREATEST_NODES, MOST_ID, nodes_of, reading, refused
 
 KINDS = tuple(GRAMMAR)
 MOST_TICKS = 15
+MOST_BITS = 70  # of a varint: numbers of traces have up to twenty digits, and those of either sign one bit more
+MOST_ROUNDS = 10_000_000  # the page keeps a few numbers for each
 SCRIPT = '<script id="{}" type="application/octet-stream">'
 
 
@@ -115,6 +117,8 @@ class Decoder:
             shift += 7
             if byte < 128:
                 return value
+            if shift >= MOST_BITS:
+                raise ValueError("a number is too large")
 
     def height(self, words):
         """The next height; `words` are the fields before it."""
@@ -147,23 +151,37 @@ def script_of(path, text, name):
 
 def read_page(path):
     """The run, the samples of places and the records that a page holds."""
-    with open(path, encoding="utf-8", errors="replace") as source:
+    with reading(path, "utf-8") as source:
         text = source.read()
     try:
         return read_scripts(path, text)
-    except (ValueError, KeyError, IndexError, TypeError):
+    except (ValueError, KeyError, IndexError, TypeError, RecursionError):
         raise refused(path, None, "the data of this page is damaged") from None
+
+
+def check_run(run):
+    """Refuses, as a ValueError, the run of a page that is none of a page."""
+    for key, least, most in (("rounds", 0, MOST_ROUNDS), ("samples", 0, MOST_ROUNDS), ("records", 0, MOST_ID)):
+        if type(run[key]) is not int or not least <= run[key] <= most:
+            raise ValueError(key)
+    for key in ("nodes", "destinations"):
+        if not run[key] or len(run[key]) > GREATEST_NODES or not all(type(it) is int and 1 <= it <= MOST_ID for it in run[key]):
+            raise ValueError(key)
 
 
 def read_scripts(path, text):
     """What the two scripts of a page hold."""
     run = json.loads(script_of(path, text, "run"))
+    check_run(run)
     decoder = Decoder(path, base64.b64decode(script_of(path, text, "trace")))
     samples, before = [], [0] * (2 * len(run["nodes"]))
     for _ in range(run["samples"]):
         before = [value + unsigned(decoder.number()) for value in before]
         samples.append([(x / 10, y / 10) for x, y in zip(before[::2], before[1::2])])
-    return run, samples, [decoder.record(line) for line in range(1, run["records"] + 1)]
+    held = [decoder.record(line) for line in range(1, run["records"] + 1)]
+    if held and held[-1].clock > run["rounds"]:
+        raise ValueError("a record behind the last round")
+    return run, samples, held
 
 
 def record_text(record):

@@ -2,7 +2,7 @@
 import math
 
 from record import field
-from study import refused
+from study import reading, refused
 
 TURNS = 300
 
@@ -50,7 +50,7 @@ def places_by_force(nodes, links):
 def places_by_hand(path, nodes):
     """Places of nodes from a file: a line `NODE X Y` for each, `#` before a comment, Y growing upwards."""
     found = {}
-    with open(path, encoding="utf-8", errors="replace") as source:
+    with reading(path, "utf-8") as source:
         for number, line in enumerate(source, 1):
             words = line.split("#")[0].split()
             if not words:

@@ -4,7 +4,7 @@ import itertools
 import re
 from operator import getitem
 
-from study import Refused, refused
+from study import Refused, reading, refused, shown
 
 Record = collections.namedtuple("Record", "line clock kind words")
 Record.__doc__ = "One record of a trace: its line from 1, the clock, its word, and what follows (numbers, heights, None for `-`)."
@@ -31,10 +31,10 @@ def field(path, line, kind, word):
     if kind == "h":
         found = HEIGHT.match(word)
         if not found:
-            raise refused(path, line, f"`{word}` is no height")
+            raise refused(path, line, f"`{shown(word)}` is no height")
         return tuple(map(int, found.groups()))
     if not NUMBER.match(word) or (kind in "ik" and word == "0"):
-        raise refused(path, line, f"`{word}` is no {'number' if kind == 'n' else 'id'}")
+        raise refused(path, line, f"`{shown(word)}` is no {'number' if kind == 'n' else 'id'}")
     return int(word)
 
 
@@ -68,7 +68,7 @@ class Ends:
         if not text.endswith("\n"):
             raise refused(self.path, 1, "the line is cut: it does not end")
         if words[2] != "1":
-            raise refused(self.path, 1, f"a trace of version {words[2]}; 1 is read here")
+            raise refused(self.path, 1, f"a trace of version {shown(words[2])}; 1 is read here")
         if len(words) not in (3 + len(PARTS), 5 + len(PARTS)):
             raise refused(self.path, 1, f"`trace` has {1 + len(PARTS)} fields, not {len(words) - 2}")
         self.parts = {name: field(self.path, 1, "n", word) for name, word in zip(PARTS, words[3:])}
@@ -77,7 +77,7 @@ class Ends:
     def more(self, until="-", channel_file="-"):
         """The last round and the digest of the channel file, None where there is none."""
         if channel_file != "-" and not DIGEST.match(channel_file):
-            raise refused(self.path, 1, f"`{channel_file}` is no digest")
+            raise refused(self.path, 1, f"`{shown(channel_file)}` is no digest")
         return None if until == "-" else field(self.path, 1, "n", until), None if channel_file == "-" else channel_file
 
     def finish(self, number, text, before):
@@ -193,7 +193,7 @@ class Reader:
 
 def opened(path):
     """A trace as a file of lines."""
-    return open(path, encoding="ascii", errors="replace", newline="\n")
+    return reading(path, newline="\n")
 
 
 def records(path, ends=None):

@@ -9,22 +9,21 @@ is worth": each entry is NULL, the neighbour's height, or of a neighbour that ha
 arrive where nobody lacks a height. Heights, next hops, walks and whether entries are exact are printed by the simulator. No line
 prints an entry: it is what the neighbour has told in the life of the link, by the trace, and `taken` has to count all that. A clear
 may have made it NULL since; where that can't be told from the trace, the entry is counted as one or the other.
-With --keep the files of the networks stay in DIR. TORA_SIM is the command that runs a simulation file, in place of the repository's
+There are at most 1000000 networks. With --keep the files of the networks stay in DIR. TORA_SIM is the command that runs a simulation file, in place of the repository's
 `./tora sim`. The exit status is 0 where the laws hold in every network, and 1 with the first that breaks one.
 """
 import argparse
 import collections
 import os
 import random
-import shlex
 import subprocess
 import sys
 import tempfile
 
 from record import field, records
-from study import Refused, Usage, run
+from study import MOST_TICKS, Refused, Usage, at_least, refused, run, shown, simulator, writing
 
-HERE = os.path.dirname(os.path.realpath(__file__))
+MOST_NETWORKS = 1_000_000
 MOST_ROUNDS = 4000  # a network that isn't at rest then is told
 CALLS = ("send-lost", "send-gone", "receive")
 KINDS = {
@@ -142,6 +141,14 @@ class Broken(Refused):
     """A law that does not hold."""
 
 
+def of_words(line, first, count):
+    """The words of a printed line, which has so many, the first one this."""
+    words = line.split()
+    if len(words) != count or words[0] != first:
+        raise refused("printed", None, f"`{shown(line)}` is no line `{first}`")
+    return words
+
+
 class World:
     """A network at rest: what is printed of it, and what its trace tells."""
 
@@ -152,13 +159,13 @@ class World:
         lines = iter(printed)
         for destination in network.destinations:
             for node in network.nodes:
-                words = next(lines).split()
-                self.heights[node, destination] = field("printed", None, "h", words[2])
-                self.hops[node, destination] = field("printed", None, "k", words[4])
-            self.exact[destination] = next(lines) == "exact 1"
+                _, _, height, _, hop = of_words(next(lines), "node", 5)
+                self.heights[node, destination] = field("printed", None, "h", height)
+                self.hops[node, destination] = field("printed", None, "k", hop)
+            self.exact[destination] = of_words(next(lines), "exact", 2)[1] == "1"
             for node in network.nodes:
-                word = next(lines).split()[1]
-                self.walks[node, destination] = None if word == "-" else [int(it) for it in word.split(",")]
+                word = of_words(next(lines), "walk", 2)[1]
+                self.walks[node, destination] = None if word == "-" else [field("printed", None, "i", it) for it in word.split(",")]
 
     def holds(self, what, is_so):
         """Refuses what is not so."""
@@ -238,19 +245,22 @@ class World:
                     self.check_walk(node, destination, seen)
 
 
-def simulated(network, asked, folder):
-    """The lines that a network prints with these lines at its end, and the path of its trace."""
-    command = shlex.split(os.environ.get("TORA_SIM", "")) or [f"{HERE}/../tora", "sim"]
+def simulated(network, asked, folder, least):
+    """The lines that a network prints with these lines at its end, so many at least, and the path of its trace."""
+    command = simulator()
     path, trace = f"{folder}/network.sim", f"{folder}/network.trace"
-    with open(path, "w", encoding="ascii") as out:
+    with writing(path) as out:
         out.write(network.text(asked))
     try:
-        done = subprocess.run([*command, "--trace", trace, path], stdout=subprocess.PIPE, stderr=subprocess.PIPE, text=True)
+        done = subprocess.run([*command, "--trace", trace, path], stdout=subprocess.PIPE, stderr=subprocess.PIPE, text=True, errors="replace")
     except OSError as cause:
         raise Usage(f"{command[0]}: {cause.strerror}") from None
     if done.returncode:
         raise Refused(f"{path}: the simulator ends with status {done.returncode}: {done.stderr.strip()}")
-    return done.stdout.splitlines(), trace
+    lines = done.stdout.splitlines()
+    if len(lines) < least:
+        raise Refused(f"{path}: the simulator prints {len(lines)} lines, and {least} or more are asked for")
+    return lines, trace
 
 
 def asked_of(network):
@@ -267,7 +277,7 @@ def at_rest(network, folder):
     count = len(network.destinations) * (2 * len(network.nodes) + 1)
     while network.clock < MOST_ROUNDS:
         network.rounds(60)
-        printed, trace = simulated(network, [*asked, "rest"], folder)
+        printed, trace = simulated(network, [*asked, "rest"], folder, count + 1)
         if printed[-1] == "rest yes":
             return printed[-count - 1 : -1], Trace(network, trace)
     raise Broken(f"it is not at rest after {network.clock} rounds")
@@ -277,7 +287,7 @@ def check_taken(network, trace, folder):
     """All that was broadcast in the life of a link was taken in it."""
     ends = sorted(trace.lives)
     lines = ["taken {} {} {} {}".format(*end, *trace.lives[end]) for end in ends]
-    printed = simulated(network, lines, folder)[0]
+    printed = simulated(network, lines, folder, len(lines))[0]
     for end, line in zip(ends, printed[len(printed) - len(ends) :]):
         told = len(trace.told[end[::-1]])
         if line != f"count {told}":
@@ -299,12 +309,16 @@ def check_network(number, seed, folder, seen):
     )
 
 
-def main():
+def options_of():
     words = argparse.ArgumentParser(prog="rest.py", description=__doc__, formatter_class=argparse.RawDescriptionHelpFormatter)
-    words.add_argument("--networks", type=int, default=200)
-    words.add_argument("--seed", type=int, default=1)
+    words.add_argument("--networks", type=at_least(1, MOST_NETWORKS), default=200)
+    words.add_argument("--seed", type=at_least(0, MOST_TICKS), default=1)
     words.add_argument("--keep", metavar="DIR")
-    options = words.parse_args()
+    return words.parse_args()
+
+
+def check_all(options):
+    """Compares as many networks as are asked for."""
     seen = collections.Counter()
     with tempfile.TemporaryDirectory() as work:
         for number in range(1, options.networks + 1):
@@ -318,5 +332,10 @@ def main():
         print(f"{count} {what}")
 
 
+def main():
+    options = options_of()
+    return run("rest", lambda: check_all(options))
+
+
 if __name__ == "__main__":
-    sys.exit(run("rest.py", main))
+    sys.exit(main())

@@ -1,11 +1,11 @@
 """Scenarios without motion, for a trace that has none: of its simulation file, or of the trace itself."""
 from record import OF_LINKS, field
-from study import ordered, refused
+from study import GREATEST_NODES, nodes_of, ordered, reading, refused
 
 
 def simulation_words(path):
     """Yields the number and the words of each line of a simulation file."""
-    with open(path, encoding="ascii", errors="replace") as source:
+    with reading(path) as source:
         for number, line in enumerate(source, 1):
             yield number, line.rstrip("\n").split(" ")
 
@@ -29,7 +29,15 @@ def scenario_of_simulation(path):
             found["rounds"] += values[0] if values else 1
     if not found["links"]:
         raise refused(path, None, "no link in this simulation file")
-    return found
+    return of_few_nodes(path, found)
+
+
+def of_few_nodes(path, scenario):
+    """The scenario; refuses one of more nodes than a simulation has."""
+    count = len(nodes_of(scenario))
+    if count > GREATEST_NODES:
+        raise refused(path, None, f"{count} nodes; a simulation has at most {GREATEST_NODES}")
+    return scenario
 
 
 def scenario_of_trace(path, given):
@@ -46,4 +54,5 @@ def scenario_of_trace(path, given):
     if not links or not destinations:
         raise refused(path, None, f"the trace names no {'destination' if links else 'link'}, so there is nothing to play")
     asked = [(node, d) for node, d in flows if d in destinations and node != d]
-    return {"destinations": sorted(destinations), "links": sorted(links), "flows": asked, "rounds": given[-1].clock, "times": None}
+    found = {"destinations": sorted(destinations), "links": sorted(links), "flows": asked, "rounds": given[-1].clock, "times": None}
+    return of_few_nodes(path, found)

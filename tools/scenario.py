@@ -11,29 +11,40 @@ may be compressed (.gz). Two nodes are linked while they are within --range of e
 A simulation file declares the links that it will ever use, and a node has at most --limit of them. Where it would have
 more, links are declared in the order of their total contact time, the longest first (ties by ids), while both ends have
 room. The contact time that is lost so is told, and stands in the scenario (contact_kept), as do the nodes without a link.
+
+Numbers of rounds, seeds and times are at most 18446744073709551615 (2^64 - 1, as in a simulation file), and seconds a tenth of that;
+metres are from 0.01 (places are rounded to that) to 10000000, and speeds from 0.000001 to 10000000 m/s. A motion has at most
+1000000000 places of nodes in all samples, as many way points, and as many lines: what would have more is refused before it is made.
 """
 import argparse
 import gc
 import hashlib
 import json
 import math
+import os
 import random
 import re
 import sys
 
 from channel_lines import channel_lines
 from contacts import Contacts, declared_links
-from motion import LIMITS, MODELS, OWN, Motion
+from motion import LIMITS, MODELS, OWN, Motion, way_points
 from movement_files import read_bonnmotion, read_ns2
-from study import MOST_METRES, TICKS_A_SECOND, Refused, Usage, at_least, number_in, run, writing
+from study import (
+    GREATEST_NODES, MOST_METRES, MOST_SECONDS, MOST_TICKS, TICKS_A_SECOND, Refused, Usage, at_least, number_in, refused, run, shown, writing,
+)
 from way import positions
 
 TICK = 1 / TICKS_A_SECOND  # seconds of a round
-MOST_NODES = 64
-GREATEST_NODES = 1024  # with --large
+MOST_NODES = 64  # without --large
 MOST_NEIGHBOURS = 32
 GREATEST_NEIGHBOURS = 255  # with --large
 MOST_DESTINATIONS = 64
+MOST_PARTS = 1_000_000_000  # places of nodes in all samples, way points, and lines
+BYTES = {"places of nodes": 200, "way points": 100, "lines": 60}  # of memory that each takes at least, about
+LEAST_METRES = 0.01  # of a side and of the range: places are rounded to that
+LEAST_SPEED = 0.000_001  # metres a second
+MOST_DEGREE = 1_000_000
 MOST_TEXTS = 1 << 16  # coordinates whose text is kept
 LOSS_STEP = 10_000  # millionths to which a loss by distance is rounded
 EDGE_LOSS = 0.5  # without --edge-loss
@@ -68,18 +79,20 @@ def simulation_lines(scenario, changes, every, need):
 
 def pair_of(text, mark, name):
     """The two numbers of `AxB` or `A-B`."""
-    found = re.fullmatch(rf"(\d+(?:\.\d+)?){mark}(\d+(?:\.\d+)?)", text)
+    found = re.fullmatch(rf"(\d+(?:\.\d+)?){mark}(\d+(?:\.\d+)?)", text, re.ASCII)
     if not found:
-        raise Usage(f"{name}: `{text}` is not of the form A{mark}B")
+        raise Usage(f"{name}: `{shown(text)}` is not of the form A{mark}B")
     if max(float(found[1]), float(found[2])) > MOST_METRES:
-        raise Usage(f"{name}: a number in `{text}` is above {MOST_METRES}")
+        raise Usage(f"{name}: a number in `{shown(text)}` is above {MOST_METRES}")
     return float(found[1]), float(found[2])
 
 
 def times_of(text):
     """The times of a link end: HELLO,SILENCE,RETRY,TRIES."""
-    if not re.fullmatch(r"[1-9]\d*(,[1-9]\d*){3}", text):
-        raise Usage(f"--times: `{text}` is not four numbers from 1, as in 10,50,5,8")
+    if not re.fullmatch(r"[1-9][0-9]*(,[1-9][0-9]*){3}", text):
+        raise Usage(f"--times: `{shown(text)}` is not four numbers from 1, as in 10,50,5,8")
+    if any(len(word) > 20 or int(word) > MOST_TICKS for word in text.split(",")):
+        raise Usage(f"--times: a number in `{shown(text)}` is above {MOST_TICKS}")
     return [int(word) for word in text.split(",")]
 
 
@@ -87,16 +100,17 @@ def area_of(options):
     """Width and height of the area, in metres."""
     side = options.range * math.sqrt(math.pi * options.nodes / options.degree)
     width, height = pair_of(options.area, "x", "--area") if options.area else (side, side)
-    if not (width and height):
-        raise Usage("--area: a side is 0")
+    if not (LEAST_METRES <= width and LEAST_METRES <= height and max(width, height) <= MOST_METRES):
+        told = f"--area: a side of `{shown(options.area)}`" if options.area else f"--degree: the side of {side:.3g} m that it makes with --range and --nodes"
+        raise Usage(f"{told} is not {LEAST_METRES} to {MOST_METRES}")
     return width, height
 
 
 def speeds_of(options):
     """The least and the greatest speed, in metres a second."""
     speeds = pair_of(options.speed, "-", "--speed")
-    if not 0 < speeds[0] <= speeds[1]:
-        raise Usage("--speed: the least speed has to be above 0, or nodes grow slower for ever, and not above the most")
+    if not LEAST_SPEED <= speeds[0] <= speeds[1]:
+        raise Usage(f"--speed: the least speed has to be {LEAST_SPEED:f} or more, or nodes grow slower for ever, and not above the most")
     return speeds
 
 
@@ -132,12 +146,40 @@ def motion_of(options):
 
 def checked(options):
     """The options, once what their texts say was tried."""
-    if not (options.ns2 or options.bonnmotion):
-        motion_of(options)
+    check_parts(parts_of(options))
     if options.edge_loss is not None and not options.channel_file:
         raise Usage("--edge-loss is of --channel-file")
     times_of(options.times)
     return options
+
+
+def parts_of(options, nodes=2):
+    """About how many places, lines and way points a scenario has, each with the options that it is by; of a movement file as of so many nodes."""
+    is_made = not (options.ns2 or options.bonnmotion)
+    nodes, samples = options.nodes if is_made else nodes, -(-options.rounds // options.sample)
+    flows = min(options.flows or nodes, nodes * options.destinations)
+    heights = options.rounds // options.heights * (1 + options.destinations) if options.heights else 0
+    parts = {
+        "places of nodes": (nodes * samples, "--rounds, --sample"),
+        "lines": (samples + options.rounds // options.need * (1 + flows) + heights, "--rounds, --sample, --need, --heights"),
+    }
+    return parts | ({"way points": (way_points(options.model, motion_of(options)), "--rounds, --settle, --speed, --area")} if is_made else {})
+
+
+def check_parts(parts):
+    """Refuses more of something than a scenario has, before it is made."""
+    for what, (count, names) in parts.items():
+        if not count <= MOST_PARTS:
+            raise Usage(f"{names}: some {count:.3g} {what}, and a scenario has at most {MOST_PARTS}")
+
+
+def check_memory(parts):
+    """Refuses what the memory of this machine does not hold."""
+    need = sum(count * BYTES[what] for what, (count, _) in parts.items())
+    have = os.sysconf("SC_PHYS_PAGES") * os.sysconf("SC_PAGE_SIZE")
+    if need > have:
+        told = ", ".join(f"some {count:.3g} {what} ({names})" for what, (count, names) in parts.items())
+        raise Refused(f"this machine has {have / 1e9:.3g} GB of memory, and this takes {need / 1e9:.3g}: {told}")
 
 
 def edge_of(options):
@@ -162,11 +204,14 @@ def clamped(what, asked, most):
 
 def make(options):
     """The scenario and the lines of the simulation file."""
-    source = random.Random(checked(options).seed)
+    check_memory(parts_of(checked(options)))
+    source = random.Random(options.seed)
     ways, parameters = motion(options, source)
     most = GREATEST_NODES if options.large else MOST_NODES
     if not 2 <= len(ways) <= most:
-        raise Refused(f"{len(ways)} nodes; a simulated world has 2 to {most}")
+        more = "" if options.large else f", or to {GREATEST_NODES} with --large"
+        raise refused(options.ns2 or options.bonnmotion, None, f"{len(ways)} nodes; a simulated world has 2 to {most}{more}")
+    check_memory(parts_of(options, len(ways)))
     times = [at * TICK for at in range(0, options.rounds, options.sample)]
     places = list(zip(*(positions(way, times) for way in ways)))
     contacts = Contacts(places, options.range)
@@ -240,9 +285,10 @@ def add_models(parser):
     for model, parameters in OWN.items():
         group = parser.add_argument_group(f"of --model {model}")
         for name, (standard, text) in parameters.items():
-            least, most = LIMITS.get(name, (0, math.inf))
+            least, most = LIMITS.get(name, (0, MOST_METRES))
             kind = at_least(least, most) if isinstance(standard, int) else number_in(least, most)
-            group.add_argument(f"--{name.replace('_', '-')}", type=kind, metavar="NUMBER", help=text + (f" ({standard})" if standard else ""))
+            bounds = f" ({least} to {most}; {standard})" if standard else f" ({least} to {most})"
+            group.add_argument(f"--{name.replace('_', '-')}", type=kind, metavar="NUMBER", help=text + bounds)
 
 
 def options_of(words):
@@ -257,33 +303,28 @@ def options_of(words):
     large = "--large" in words
     nodes, neighbours = (GREATEST_NODES, GREATEST_NEIGHBOURS) if large else (MOST_NODES, MOST_NEIGHBOURS)
     add("--large", action="store_true", help=f"up to {GREATEST_NODES} nodes and {GREATEST_NEIGHBOURS} links of one, for `tora sim --large`")
-    add("--nodes", type=at_least(2, nodes), default=20, help="nodes of random waypoint (20)")
-    add("--seed", type=at_least(0), default=1, help="seed of motion, destinations and flows (1)")
+    add("--nodes", type=at_least(2, nodes), default=20, help=f"nodes of random waypoint (2 to {MOST_NODES}, or {GREATEST_NODES} with --large; 20)")
+    add("--seed", type=at_least(0, MOST_TICKS), default=1, help="seed of motion, destinations and flows (1)")
     add("--area", default="", metavar="WxH", help="metres; else a square with about --degree neighbours a node")
-    add("--degree", type=float, default=6.0, help="neighbours a node in the mean, where no --area is given (6)")
-    add("--range", type=float, default=100.0, help="metres that a link reaches (100)")
+    add("--degree", type=number_in(1 / MOST_DEGREE, MOST_DEGREE), default=6.0,
+        help=f"neighbours a node in the mean, where no --area is given ({1 / MOST_DEGREE:f} to {MOST_DEGREE}; 6)")
+    add("--range", type=number_in(LEAST_METRES, MOST_METRES), default=100.0, help=f"metres that a link reaches ({LEAST_METRES} to {MOST_METRES}; 100)")
     add("--speed", default="1-3", metavar="A-B", help="metres a second (1-3)")
-    add("--pause", type=float, default=10.0, help="most seconds at a way point (10)")
-    add("--settle", type=float, default=1000.0, help="seconds of motion before the first round (1000)")
-    add("--rounds", type=at_least(1), default=1200, help="rounds of 100 ms (1200)")
-    add("--sample", type=at_least(1, 10_000), default=10, help="rounds between looks at the positions (10)")
-    add("--heights", type=at_least(0), default=0, help="rounds between `heights` lines; 0: none, as a trace has them (0)")
-    add("--need", type=at_least(1), default=10, help="rounds between the needs of every flow (10)")
-    add("--limit", type=at_least(1, neighbours), default=neighbours, help="links of a node (32; 255 with --large)")
-    add("--destinations", type=at_least(1, MOST_DESTINATIONS), default=4, help="destinations, drawn by the seed (4)")
-    add("--flows", type=at_least(0), default=0, help="flows, drawn by the seed; 0: as many as nodes (0)")
+    add("--pause", type=number_in(0, MOST_SECONDS), default=10.0, help="most seconds at a way point (10)")
+    add("--settle", type=number_in(0, MOST_SECONDS), default=1000.0, help="seconds of motion before the first round (1000)")
+    add("--rounds", type=at_least(1, MOST_TICKS), default=1200, help="rounds of 100 ms (1200)")
+    add("--sample", type=at_least(1, 10_000), default=10, help="rounds between looks at the positions (1 to 10000; 10)")
+    add("--heights", type=at_least(0, MOST_TICKS), default=0, help="rounds between `heights` lines; 0: none, as a trace has them (0)")
+    add("--need", type=at_least(1, MOST_TICKS), default=10, help="rounds between the needs of every flow (10)")
+    add("--limit", type=at_least(1, neighbours), default=neighbours, help="links of a node (1 to 32; 1 to 255 with --large; the most)")
+    add("--destinations", type=at_least(1, MOST_DESTINATIONS), default=4, help=f"destinations, drawn by the seed (1 to {MOST_DESTINATIONS}; 4)")
+    add("--flows", type=at_least(0, GREATEST_NODES * MOST_DESTINATIONS), default=0,
+        help=f"flows, drawn by the seed; 0: as many as nodes (0 to {GREATEST_NODES * MOST_DESTINATIONS}; 0)")
     add("--times", default="10,50,5,8", metavar="HELLO,SILENCE,RETRY,TRIES", help="times of a link end (10,50,5,8)")
     add("--channel-file", metavar="PATH", help="write a channel file, too: losses that rise with the distance")
-    add("--edge-loss", type=number_in(0, 1), metavar="SHARE", help="of --channel-file: the loss at --range (0.5)")
+    add("--edge-loss", type=number_in(0, 1), metavar="SHARE", help="of --channel-file: the loss at --range (0 to 1; 0.5)")
     add_models(parser)
-    options = parser.parse_args(words)
-    if not (0 < options.range < math.inf and 0 < options.degree < math.inf):
-        parser.error("--range and --degree have to be above 0")
-    if options.range > MOST_METRES:
-        parser.error(f"--range is above {MOST_METRES}")
-    if not (0 <= options.pause < math.inf and 0 <= options.settle < math.inf):
-        parser.error("--pause and --settle have to be 0 or more")
-    return options
+    return parser.parse_args(words)
 
 
 def main():

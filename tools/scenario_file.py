@@ -4,7 +4,7 @@ import json
 import math
 
 from parameters import TEXTS
-from study import refused
+from study import GREATEST_NODES, MOST_METRES, MOST_TICKS, reading, refused
 
 # The keys of a scenario, with what each has to be.
 KEYS = {
@@ -13,12 +13,13 @@ KEYS = {
     "most_at_once": int, "breaks": int, "left_out": list, "positions": list,
 }
 MOST_ROUNDS = 2**53
+MOST_SAMPLE = 10_000
 
 
 def load_scenario(path):
     """The scenario of a file, its keys and their types tested; links and flows are pairs."""
     try:
-        with open(path, encoding="utf-8") as source:
+        with reading(path, "utf-8", "strict") as source:
             scenario = json.load(source)
     except json.JSONDecodeError as cause:
         raise refused(path, cause.lineno, cause.msg) from None
@@ -63,8 +64,9 @@ def check_numbers(path, scenario):
     for key, kind in KEYS.items():
         if kind is not list and not is_number(scenario[key]):
             raise refused(path, None, f"no scenario: `{key}` is no finite number")
-    if not 1 <= scenario["rounds"] <= MOST_ROUNDS:
-        raise refused(path, None, f"no scenario: `rounds` is not 1 to {MOST_ROUNDS}")
+    for key, least, most in (("rounds", 1, MOST_ROUNDS), ("nodes", 2, GREATEST_NODES), ("sample", 1, MOST_SAMPLE)):
+        if not least <= scenario[key] <= most:
+            raise refused(path, None, f"no scenario: `{key}` is not {least} to {most}")
     if not isinstance(scenario.get("digest", ""), str):
         raise refused(path, None, "no scenario: `digest` is no text")
     known = scenario.setdefault("parameters", {})
@@ -88,15 +90,15 @@ def check_shape(path, scenario):
         raise refused(path, None, "no scenario: `destinations` are no nodes with links")
     if not scenario["flows"] or not all(is_pair(f) and f[0] != f[1] and f[0] in linked and f[1] in destinations for f in scenario["flows"]):
         raise refused(path, None, "no scenario: `flows` are no pairs of a node and another, a destination")
-    if len(scenario["times"]) != 4 or not all(map(is_whole, scenario["times"])):
-        raise refused(path, None, "no scenario: `times` are not four whole numbers")
+    if len(scenario["times"]) != 4 or not all(is_whole(time) and 1 <= time <= MOST_TICKS for time in scenario["times"]):
+        raise refused(path, None, f"no scenario: `times` are not four whole numbers from 1 to {MOST_TICKS}")
     check_positions(path, scenario)
 
 
 def check_positions(path, scenario):
     """Refuses positions that are not of all nodes in all samples."""
     positions = scenario["positions"]
-    if scenario["sample"] < 1 or len(positions) * scenario["sample"] < scenario["rounds"]:
+    if len(positions) * scenario["sample"] < scenario["rounds"]:
         raise refused(path, None, "no scenario: too few positions for its rounds")
     if not (are_lists(positions, scenario["nodes"]) and are_places(list(itertools.chain.from_iterable(positions)))):
         raise refused(path, None, "no scenario: `positions` are not those of its nodes")
@@ -108,11 +110,8 @@ def are_lists(values, length):
 
 
 def are_places(values):
-    """Whether all values are lists of two numbers."""
+    """Whether all values are lists of two numbers, none of which is farther than places are."""
     if not are_lists(values, 2):
         return False
     numbers = list(itertools.chain.from_iterable(values))
-    try:
-        return set(map(type, numbers)) <= {int, float} and all(map(math.isfinite, numbers))
-    except OverflowError:
-        return False
+    return set(map(type, numbers)) <= {int, float} and all([-MOST_METRES <= number <= MOST_METRES for number in numbers])

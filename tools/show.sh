@@ -12,24 +12,49 @@
 set -eu
 here=$(cd "$(dirname "$0")" && pwd)
 case ${1:---help} in -h | --help) sed -n '2,/^set -eu/{/^# /s/^# //p}' "$0"; exit 0 ;; esac
+
+fail() {
+  echo "show: $2" >&2
+  exit "$1"
+}
+
+# Runs a command whose output goes into a file, which is told where the command fails.
+into() {
+  local file=$1
+  shift
+  "$@" >"$file" || fail 1 "$file: it is not whole: ${2##*/} ended with status $?"
+}
+
+# A picture that gnuplot drew has to be whole: gnuplot says nothing of a disk that is full.
+draw() {
+  local file=$1
+  shift
+  gnuplot "$@"
+  if [ -f "$file" ] && [ "$(tail -c 8 "$file" | head -c 4)" != IEND ]; then fail 1 "$file: the picture is not whole"; fi
+}
+
 dir=$1 page='' by='' growth='' interval=median
 shift
 while [ $# -gt 0 ]; do
   case $1 in
     --page) page=1; shift ;;
-    --by) by=${2:?}; shift 2 ;;
+    --by) by=${2-}; [ -n "$by" ] || fail 2 "--by: its value is missing (--help)"; shift 2 ;;
     --log-log) growth=1; shift ;;
-    --interval) interval=${2:?}; shift 2 ;;
+    --interval)
+      interval=${2-}
+      [[ $interval =~ ^(mean|median)$ ]] || fail 2 "--interval: \"$interval\" is not mean or median (--help)"
+      shift 2
+      ;;
     *) break ;;
   esac
 done
-command -v python3 >/dev/null || { echo "show: python3 is missing (package python3)" >&2; exit 2; }
-command -v gnuplot >/dev/null || { echo "show: gnuplot is missing (package gnuplot-nox)" >&2; exit 2; }
-[ -e "$dir/study.csv" ] || { echo "show: $dir/study.csv: there is no study" >&2; exit 1; }
-{ : >>"$dir/summary.txt"; } 2>/dev/null || { echo "show: $dir: the folder can't be written" >&2; exit 1; }
-python3 "$here/summary.py" "$dir/study.csv" >"$dir/summary.txt"
-python3 "$here/summary.py" --data "$dir/study.csv" >"$dir/study.dat"
-gnuplot -e "data='$dir/study.dat'; picture='$dir/study.png'" "$here/plot.gp"
+command -v python3 >/dev/null || fail 2 'python3 is missing (package python3)'
+command -v gnuplot >/dev/null || fail 2 'gnuplot is missing (package gnuplot-nox)'
+[ -e "$dir/study.csv" ] || fail 1 "$dir/study.csv: there is no study"
+{ : >>"$dir/summary.txt"; } 2>/dev/null || fail 1 "$dir: the folder can't be written"
+into "$dir/summary.txt" python3 "$here/summary.py" "$dir/study.csv"
+into "$dir/study.dat" python3 "$here/summary.py" --data "$dir/study.csv"
+draw "$dir/study.png" -e "data='$dir/study.dat'; picture='$dir/study.png'" "$here/plot.gp"
 echo "$dir/study.png: the plot; $dir/summary.txt: its figures"
 [ -z "$growth" ] || by=${by:-nodes}
 if [ -n "$by" ]; then
@@ -40,17 +65,17 @@ if [ -n "$by" ]; then
   words="data='$name.dat'; picture='$name.png'; by='${by%%,*}'; kind='$interval'"
   [ -z "$second" ] || words+="; second='${second#,}'"
   if [ -n "$growth" ]; then
-    python3 "$here/growth.py" --by "$by" "$dir/study.csv" >"$name.txt"
-    python3 "$here/growth.py" --by "$by" --fits "$dir/study.csv" >"$name.fits"
+    into "$name.txt" python3 "$here/growth.py" --by "$by" "$dir/study.csv"
+    into "$name.fits" python3 "$here/growth.py" --by "$by" --fits "$dir/study.csv"
     read -r -a figures <<<"$(sed -n "s/^figures = '\(.*\)'$/\1/p" "$name.fits")"
     words+="; fits='$name.fits'"
   else
-    "${summarize[@]}" "$dir/study.csv" >"$name.txt"
+    into "$name.txt" "${summarize[@]}" "$dir/study.csv"
     figures=(available restore_median stretch_mean update)
   fi
-  "${summarize[@]}" --data "$dir/study.csv" "${figures[@]}" >"$name.dat"
+  into "$name.dat" "${summarize[@]}" --data "$dir/study.csv" "${figures[@]}"
   [ -n "$growth" ] || [ -z "$second" ] || words+="; values='$(sed 1d "$name.dat" | cut -d ' ' -f 2 | sort -u | paste -sd ' ')'"
-  gnuplot -e "$words" "$here/plot-$kind.gp"
+  draw "$name.png" -e "$words" "$here/plot-$kind.gp"
   echo "$name.png: the plot over ${by/,/ and }; $name.txt: its figures"
 fi
 if [ -n "$page" ]; then

@@ -9,8 +9,17 @@
 set -eu
 here=$(cd "$(dirname "$0")" && pwd)
 case ${1:---help} in -h | --help) sed -n '2,/^set -eu/s/^# //p' "$0"; exit 0 ;; esac
+
+# Runs a command whose output goes into a file, which is told where the command fails.
+into() {
+  local file=$1 status=0
+  shift
+  "$@" >"$file" || status=$?
+  [ "$status" = 0 ] || { echo "study-one: $file: it is not whole: $1 ended with status $status" >&2; exit "$status"; }
+}
+
 name=''
-case $1 in --name) name=${2:?}; shift 2 ;; esac
+case $1 in --name) name=${2-}; shift; shift 2>/dev/null || true ;; esac
 [ $# -ge 3 ] || { echo "study-one: DIR, NODES and SEED are needed (--help)" >&2; exit 2; }
 dir=$1 nodes=$2 seed=$3
 shift 3
@@ -29,9 +38,9 @@ python3 "$here/scenario.py" "$run" --nodes "$nodes" --seed "$seed" ${channel[@]+
 times=$(sed -n 's/^ "times": \[\(.*\)\],$/\1/p' "$run.json")
 [ "$times" = 10,50,5,8 ] || simulate+=(--times "$times")
 if grep -q '^ "large": true' "$run.json"; then simulate+=(--large); fi
-"${simulate[@]}" ${channel[@]+"${channel[@]}"} --trace "$run.trace" "$run.sim" >"$run.out"
+into "$run.out" "${simulate[@]}" ${channel[@]+"${channel[@]}"} --trace "$run.trace" "$run.sim"
 version=$("${simulate[0]}" --version 2>/dev/null </dev/null | head -n 1) || version=''
-python3 "$here/measure.py" ${measure[@]+"${measure[@]}"} --version "$version" "$run.json" "$run.trace" >"$run.csv"
+into "$run.csv" python3 "$here/measure.py" ${measure[@]+"${measure[@]}"} --version "$version" "$run.json" "$run.trace"
 if [ -n "${PAGE:-}" ]; then python3 "$here/play.py" "$run.json" "$run.trace" -o "$run.html"; fi
 mkdir -p "$dir" 2>/dev/null || { echo "study-one: $dir: the folder can't be made" >&2; exit 1; }
 if [ -n "${PAGE:-}" ]; then cp "$run.html" "$dir/"; fi

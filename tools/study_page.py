@@ -12,8 +12,8 @@ import os
 import sys
 
 from play import moving_page, write_page
-from study import run
-from summary import cell_text, figure_columns, groups, read, spread_text
+from study import reading, run
+from summary import cell_text, figure_columns, groups, read, row_groups, spread_text
 
 STYLE = """:root { color-scheme: light dark; }
 body { font: 0.9rem/1.4 system-ui, "DejaVu Sans", sans-serif; margin: 1rem auto; max-width: 75rem; padding: 0 1rem; }
@@ -58,7 +58,7 @@ def run_names(folder, rows):
     plain = [f"{row['nodes']:g}-{row['seed']:g}" for row in rows]
     if len(set(plain)) == len(plain) or not os.path.exists(f"{folder}/runs.txt"):
         return plain
-    with open(f"{folder}/runs.txt", encoding="ascii", errors="replace") as source:
+    with reading(f"{folder}/runs.txt") as source:
         names = [line.split("\t")[0] for line in source]
     return [name for name in names if os.path.exists(f"{folder}/rows/{name}.csv")] or plain
 
@@ -75,6 +75,7 @@ def runs_text(folder, names, rows):
 def index_text(folder):
     """The whole page of a study."""
     names, rows = read(f"{folder}/study.csv")
+    row_groups(f"{folder}/study.csv", names, rows, ["nodes", "seed"], [])  # refuses a study without these
     title = html.escape(os.path.basename(os.path.realpath(folder)))
     plot = '<p><img src="study.png" alt="plot of the study"></p>' if os.path.exists(f"{folder}/study.png") else ""
     parts = [

@@ -19,7 +19,9 @@ import sys
 from derived import with_derived
 from interval import INTERVALS
 from parameters import TEXTS
-from study import Usage, refused, run
+from study import Usage, reading, refused, run
+
+MOST_CELL = 1e21  # no number of a trace is greater
 
 
 def value_of(path, line, name, cell):
@@ -30,12 +32,14 @@ def value_of(path, line, name, cell):
         value = math.nan
     if isinstance(value, float) and not math.isfinite(value):
         raise refused(path, line, "a cell is no number")
+    if isinstance(value, float) and abs(value) > MOST_CELL:
+        raise refused(path, line, f"the cell of {name} is above {MOST_CELL:g}")
     return value
 
 
 def read(path):
     """The columns' names and the rows of a CSV, each cell a number, a word of `TEXTS` or None; refuses a cell that is neither."""
-    with open(path, encoding="ascii", errors="replace", newline="") as source:
+    with reading(path, newline="") as source:
         reader = csv.reader(source)
         try:
             names, *lines = [(reader.line_num, cells) for cells in reader] or [(1, None)]

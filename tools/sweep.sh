@@ -4,14 +4,14 @@
 #                       [--channel-file] [--until ROUNDS] [--slurm[=OPTIONS]] DIR "SIZES" SEEDS [OPTION OF scenario.py]..
 #   DIR               holds the rows, the job log (joblog) and what the study is (study.txt)
 #   SIZES             numbers of nodes, as "10 20 40"
-#   SEEDS             how many seeds: 1 to SEEDS
+#   SEEDS             how many seeds: 1 to SEEDS. A study has at most 1000000 runs
 #   --vary NAME=VALUE,..  runs with each value of an option of scenario.py, as speed=1-3,1-20; it may stand several times, and
 #                     then every value stands with every other. A run is named NODES-SEED-NAME=VALUE.. (sweep_runs.py)
 #   --traffic RATE, --hop TICKS, --ttl HOPS  columns of data packets (measure.py)
 #   --channel-file    each run has losses that rise with the distance, in a channel file of its own (scenario.py --channel-file);
 #                     --edge-loss SHARE behind SEEDS, or --vary edge-loss=SHARE,.., is the loss at the range
 #   --until ROUNDS    simulate, and measure, so many rounds of each scenario
-#   --jobs N          runs at a time on each machine; as many as processors without it
+#   --jobs N          runs at a time on each machine, 1 to 9999; as many as processors without it
 #   --sshlogin HOSTS  machines as GNU parallel names them, as 4/first,8/second; `:` is this one. Each needs ssh, rsync and
 #                     python3; the tools and the program are copied there for the time of the study
 #   --slurm, --slurm="OPTIONS OF sbatch"  send the runs to Slurm as job arrays, as --slurm="--partition=long --time=10"; every
@@ -32,19 +32,30 @@ need() {
   command -v "$1" >/dev/null || fail 2 "$1 is missing (package $2)"
 }
 
+# The value of an option.
+value() {
+  [ -n "${2-}" ] || fail 2 "$1: its value is missing (--help)"
+}
+
+# Writes standard input to a file.
+put() {
+  local cause
+  cause=$({ cat >"$1"; } 2>&1) || fail 1 "$1: ${cause##*: }"
+}
+
 jobs='' hosts='' keep='' page='' slurm='' sbatch='' channel='' until='' vary=() measure=()
 while [ $# -gt 0 ]; do
   case $1 in
     -h | --help) sed -n '2,/^set -eu/{/^# /s/^# //p}' "$0"; exit 0 ;;
-    --jobs) jobs=${2:?}; shift 2 ;;
-    --sshlogin) hosts=${2:?}; shift 2 ;;
+    --jobs) value "$@"; jobs=$2; shift 2 ;;
+    --sshlogin) value "$@"; hosts=$2; shift 2 ;;
     --keep) keep=1; shift ;;
     --slurm) slurm=1; shift ;;
     --slurm=*) slurm=1 sbatch=${1#*=}; shift ;;
-    --vary) vary+=(--vary "${2:?}"); shift 2 ;;
-    --traffic | --hop | --ttl) measure+=("$1" "${2:?}"); shift 2 ;;
+    --vary) value "$@"; vary+=(--vary "$2"); shift 2 ;;
+    --traffic | --hop | --ttl) value "$@"; measure+=("$1" "$2"); shift 2 ;;
     --channel-file) channel=1; shift ;;
-    --until) until=${2:?}; shift 2 ;;
+    --until) value "$@"; until=$2; shift 2 ;;
     --page) page=1; shift ;;
     -*) fail 2 "no option $1 (--help)" ;;
     *) break ;;
@@ -55,9 +66,9 @@ dir=$1 sizes=$2 seeds=$3
 shift 3
 [[ $sizes =~ ^[1-9][0-9]*(\ [1-9][0-9]*)*$ ]] || fail 2 "\"$sizes\" are no sizes, as \"10 20 40\""
 [[ $seeds =~ ^[1-9][0-9]*$ ]] || fail 2 "\"$seeds\" is no number of seeds"
-[[ $until =~ ^([1-9][0-9]*)?$ ]] || fail 2 "\"$until\" is no number of rounds"
+[[ $jobs =~ ^([1-9][0-9]{0,3}%?)?$ ]] || fail 2 "--jobs: \"$jobs\" is not 1 to 9999"
 need python3 python3
-runs=$(python3 "$here/sweep_runs.py" "$sizes" "$seeds" ${vary[@]+"${vary[@]}"} ${channel:+--channel-file} -- "$@") || exit
+runs=$(python3 "$here/sweep_runs.py" "$sizes" "$seeds" ${vary[@]+"${vary[@]}"} ${channel:+--channel-file} ${until:+--until "$until"} -- "$@") || exit
 header=$(python3 "$here/measure.py" ${measure[@]+"${measure[@]}"} --header) || exit
 if [ -n "$slurm" ]; then
   [ -z "$jobs$hosts" ] || fail 2 "--jobs and --sshlogin are not for --slurm"
@@ -83,8 +94,8 @@ want="sizes $sizes seeds $seeds options $*${vary[*]+ vary ${vary[*]}}${measure[*
 if [ -e "$dir/study.txt" ] && [ "$(cat "$dir/study.txt")" != "$want" ]; then
   fail 1 "$dir holds another study: $(cat "$dir/study.txt")"
 fi
-echo "$runs" >"$dir/runs.txt"
-echo "$want" >"$dir/study.txt" # --resume counts runs and does not compare what they are
+put "$dir/runs.txt" <<<"$runs"
+put "$dir/study.txt" <<<"$want" # --resume counts runs and does not compare what they are
 
 # What a run needs stands in one folder, so that it can be copied to other machines as it is.
 bundle=$dir/bundle
@@ -125,13 +136,19 @@ else
   run_in_parallel "$@" || status=1
 fi
 
-{
+# The header and the rows that there are.
+table() {
+  local name
   echo "$header"
   while IFS=$'\t' read -r name _; do
-    row=$dir/rows/$name.csv
-    if [ -e "$row" ]; then cat "$row"; else status=1; echo "sweep: no row of the run $name" >&2; fi
+    if [ -e "$dir/rows/$name.csv" ]; then cat "$dir/rows/$name.csv"; fi
   done <"$dir/runs.txt"
-} >"$dir/.study.csv"
+}
+
+while IFS=$'\t' read -r name _; do
+  [ -e "$dir/rows/$name.csv" ] || { status=1; echo "sweep: no row of the run $name" >&2; }
+done <"$dir/runs.txt"
+table 2>/dev/null | put "$dir/.study.csv"
 mv "$dir/.study.csv" "$dir/study.csv"
 if [ -n "$page" ]; then
   python3 "$here/study_page.py" "$dir" || status=1

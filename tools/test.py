@@ -3,7 +3,7 @@
 
 usage: ./tora test [--jobs N] [CRATE ..]
 
-  --jobs N    N crates at a time, in place of two
+  --jobs N    N crates at a time, from 1 to 1024, in place of two
   CRATE ..    the tests of these crates alone
 
 `rt try --test` compiles each crate with its tests and runs them with checks at run time. Each crate is told as it ends, and
@@ -21,6 +21,7 @@ import time
 from concurrent.futures import ThreadPoolExecutor, as_completed
 
 TOP = os.path.dirname(os.path.dirname(os.path.realpath(__file__)))
+MOST_JOBS = 1024
 TEST = re.compile(r"#\s*\[[^]]*\btest\b")
 # The runs that go on.
 running = set()
@@ -74,20 +75,20 @@ def main():
         print(__doc__, end="")
         return 0
     words = argparse.ArgumentParser(prog="./tora test", usage="./tora test [--jobs N] [CRATE ..]", add_help=False)
-    words.add_argument("--jobs", type=int, default=2)
+    words.add_argument("--jobs", default="2")
     words.add_argument("crates", nargs="*")
     asked = words.parse_args()
     for it in asked.crates:
         if it not in crates():
             words.error(f"no crate {it} in crates.txt")
-    if asked.jobs < 1:
-        words.error("--jobs takes a number from 1 on")
+    if not re.fullmatch("[1-9][0-9]{0,8}", asked.jobs) or int(asked.jobs) > MOST_JOBS:
+        words.error(f"--jobs takes a number from 1 to {MOST_JOBS}")
     lines = {it: [text.count("\n") for text in sources(it)] for it in crates()}
     have = [it for it in asked.crates or crates() if any(TEST.search(text) for text in sources(it))]
     # what takes longest first: a crate with much below it, which a try reads whole
     have.sort(key=lambda it: -sum(lines[it]))
     passed = failed = 0
-    with ThreadPoolExecutor(asked.jobs) as pool:
+    with ThreadPoolExecutor(int(asked.jobs)) as pool:
         for ended in as_completed([pool.submit(run, it) for it in have]):
             crate, seconds, status, said = ended.result()
             found = outcome(said)

@@ -1,7 +1,10 @@
 """What the unit tests share: scenarios of a few nodes, and files with a text."""
 import contextlib
+import io
 import os
+import sys
 import tempfile
+from unittest import mock
 
 
 def scenario_of(links, flows, rounds, **more):
@@ -18,9 +21,21 @@ def scenario_of(links, flows, rounds, **more):
 
 @contextlib.contextmanager
 def written(text):
-    """The path of a file with a text, as long as it is needed."""
+    """The path of a file with a text or with bytes, as long as it is needed."""
     with tempfile.TemporaryDirectory() as work:
         path = os.path.join(work, "file")
-        with open(path, "w", encoding="utf-8", newline="\n") as sink:
-            sink.write(text)
+        with open(path, "wb") as sink:
+            sink.write(text if isinstance(text, bytes) else text.encode())
         yield path
+
+
+def ended(main, *words, **environment):
+    """How a tool's main ends with these words of the command line: its status, and what it says on standard error."""
+    sink, told = io.TextIOWrapper(io.BytesIO(), encoding="utf-8"), io.StringIO()
+    with contextlib.redirect_stdout(sink), contextlib.redirect_stderr(told), \
+            mock.patch.object(sys, "argv", ["tool", *words]), mock.patch.dict(os.environ, environment):
+        try:
+            status = main()
+        except SystemExit as cause:
+            status = cause.code
+    return status, told.getvalue()

@@ -20,7 +20,7 @@ import re
 from fractions import Fraction
 
 from counted import mean_of, median_of, share_95_of
-from study import TICKS_A_SECOND, Usage, ordered
+from study import TICKS_A_SECOND, Usage, ordered, shown
 
 COLUMNS = (
     "sent delivered delivery_ratio lost_no_hop lost_parted lost_loop lost_ttl under_way delay_median delay_95 "
@@ -34,8 +34,8 @@ Load.__doc__ = "What flows send: packets a second (a Fraction), ticks of a hop, 
 
 def load_of(rate, hop, ttl):
     """The load of words of the command line."""
-    if not re.fullmatch(r"\d{1,9}(\.\d{1,9})?", rate) or not Fraction(rate):
-        raise Usage(f"--traffic: `{rate}` is no number of packets a second above 0")
+    if not re.fullmatch(r"[0-9]{1,9}(\.[0-9]{1,9})?", rate) or not Fraction(rate):
+        raise Usage(f"--traffic: `{shown(rate)}` is no number of packets a second above 0, of up to nine digits and up to nine more behind a point")
     return Load(Fraction(rate), hop, ttl)
 
 
