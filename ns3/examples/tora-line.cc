@@ -17,6 +17,62 @@
 
 using namespace ns3;
 
+namespace
+{
+
+/**
+ * Puts nodes on a line, 200 m apart, and gives them radios of 250 m.
+ *
+ * \param nodes the nodes
+ * \param phy the helper of their radios, which takes the channel
+ * \returns the radios
+ */
+NetDeviceContainer
+MakeRadios(const NodeContainer& nodes, YansWifiPhyHelper& phy)
+{
+    MobilityHelper mobility;
+    mobility.SetPositionAllocator("ns3::GridPositionAllocator", "DeltaX", DoubleValue(200));
+    mobility.SetMobilityModel("ns3::ConstantPositionMobilityModel");
+    mobility.Install(nodes);
+
+    YansWifiChannelHelper channel;
+    channel.SetPropagationDelay("ns3::ConstantSpeedPropagationDelayModel");
+    channel.AddPropagationLoss("ns3::RangePropagationLossModel", "MaxRange", DoubleValue(250));
+    phy.SetChannel(channel.Create());
+    WifiMacHelper mac;
+    mac.SetType("ns3::AdhocWifiMac");
+    WifiHelper wifi;
+    wifi.SetStandard(WIFI_STANDARD_80211b);
+    return wifi.Install(phy, mac, nodes);
+}
+
+/**
+ * Installs IP and TORA.
+ *
+ * \param nodes the nodes
+ * \param devices their radios
+ * \param program the engine
+ * \param record the file for the engine's record of the run, or nothing
+ * \returns their interfaces
+ */
+Ipv4InterfaceContainer
+MakeRouting(const NodeContainer& nodes,
+            const NetDeviceContainer& devices,
+            const std::string& program,
+            const std::string& record)
+{
+    ToraHelper tora;
+    tora.Set("Program", StringValue(program));
+    tora.Set("Record", StringValue(record));
+    InternetStackHelper stack;
+    stack.SetRoutingHelper(tora);
+    stack.Install(nodes);
+    Ipv4AddressHelper addresses("10.1.1.0", "255.255.255.0");
+    return addresses.Assign(devices);
+}
+
+} // namespace
+
 int
 main(int argc, char* argv[])
 {
@@ -30,30 +86,9 @@ main(int argc, char* argv[])
     cmd.Parse(argc, argv);
 
     NodeContainer nodes(3);
-    MobilityHelper mobility;
-    mobility.SetPositionAllocator("ns3::GridPositionAllocator", "DeltaX", DoubleValue(200));
-    mobility.SetMobilityModel("ns3::ConstantPositionMobilityModel");
-    mobility.Install(nodes);
-
-    YansWifiChannelHelper channel;
-    channel.SetPropagationDelay("ns3::ConstantSpeedPropagationDelayModel");
-    channel.AddPropagationLoss("ns3::RangePropagationLossModel", "MaxRange", DoubleValue(250));
     YansWifiPhyHelper phy;
-    phy.SetChannel(channel.Create());
-    WifiMacHelper mac;
-    mac.SetType("ns3::AdhocWifiMac");
-    WifiHelper wifi;
-    wifi.SetStandard(WIFI_STANDARD_80211b);
-    NetDeviceContainer devices = wifi.Install(phy, mac, nodes);
-
-    ToraHelper tora;
-    tora.Set("Program", StringValue(program));
-    tora.Set("Record", StringValue(record));
-    InternetStackHelper stack;
-    stack.SetRoutingHelper(tora);
-    stack.Install(nodes);
-    Ipv4AddressHelper addresses("10.1.1.0", "255.255.255.0");
-    Ipv4InterfaceContainer interfaces = addresses.Assign(devices);
+    NetDeviceContainer devices = MakeRadios(nodes, phy);
+    Ipv4InterfaceContainer interfaces = MakeRouting(nodes, devices, program, record);
 
     uint32_t received = 0;
     Ptr<Socket> sink = Socket::CreateSocket(nodes.Get(2), UdpSocketFactory::GetTypeId());

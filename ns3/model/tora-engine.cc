@@ -3,8 +3,8 @@
 #include "ns3/assert.h"
 #include "ns3/log.h"
 
+#include <algorithm>
 #include <cerrno>
-#include <charconv>
 #include <csignal>
 #include <cstring>
 #include <ctime>
@@ -30,42 +30,6 @@ constexpr int PATIENCE = 200;
 constexpr std::size_t READ_SIZE = 65536;
 
 /**
- * Splits a line at blanks.
- *
- * \param line the line
- * \returns its words
- */
-std::vector<std::string_view>
-WordsOf(std::string_view line)
-{
-    std::vector<std::string_view> words;
-    std::size_t at = 0;
-    while (at <= line.size())
-    {
-        std::size_t end = std::min(line.find(' ', at), line.size());
-        words.push_back(line.substr(at, end - at));
-        at = end + 1;
-    }
-    return words;
-}
-
-/**
- * Reads a decimal number.
- *
- * \tparam T the type of the number
- * \param word the word
- * \param number takes the number
- * \returns whether the whole word is a number of the type
- */
-template <typename T>
-bool
-ReadNumber(std::string_view word, T& number)
-{
-    auto [end, error] = std::from_chars(word.data(), word.data() + word.size(), number);
-    return error == std::errc() && end == word.data() + word.size();
-}
-
-/**
  * Tells in words how a process ended.
  *
  * \param status what waitpid() gave
@@ -83,35 +47,41 @@ WordsOfStatus(int status)
 
 } // namespace
 
-ToraEngineError::ToraEngineError(Kind kind, const std::string& what)
-    : std::runtime_error(what),
-      m_kind(kind)
-{
-}
-
-ToraEngineError::Kind
-ToraEngineError::GetKind() const
-{
-    return m_kind;
-}
-
 const char* const ToraEngine::VERSION = "tora drive 1";
 
 ToraEngine::ToraEngine(const std::string& program, const std::vector<std::string>& options)
     : m_program(program)
 {
     NS_LOG_FUNCTION(this << program);
-    auto notStarted = [&program](int error) {
-        return ToraEngineError(ToraEngineError::NOT_STARTED,
-                               "the engine " + program +
-                                   " can't be started: " + std::strerror(error));
-    };
     int ends[2];
     if (socketpair(AF_UNIX, SOCK_STREAM | SOCK_CLOEXEC, 0, ends) != 0)
     {
-        throw notStarted(errno);
+        throw NotStarted(errno);
     }
-    std::vector<std::string> words{program, "drive"};
+    int error = Spawn(ends[1], options);
+    close(ends[1]);
+    m_pipe = ends[0];
+    if (error != 0)
+    {
+        m_process = -1;
+        close(m_pipe);
+        throw NotStarted(error);
+    }
+    try
+    {
+        ReadVersion();
+    }
+    catch (const ToraEngineError&)
+    {
+        End();
+        throw;
+    }
+}
+
+int
+ToraEngine::Spawn(int end, const std::vector<std::string>& options)
+{
+    std::vector<std::string> words{m_program, "drive"};
     words.insert(words.end(), options.begin(), options.end());
     std::vector<char*> arguments;
     for (auto& word : words)
@@ -122,38 +92,28 @@ ToraEngine::ToraEngine(const std::string& program, const std::vector<std::string
 
     posix_spawn_file_actions_t actions;
     posix_spawn_file_actions_init(&actions);
-    posix_spawn_file_actions_adddup2(&actions, ends[1], STDIN_FILENO);
-    posix_spawn_file_actions_adddup2(&actions, ends[1], STDOUT_FILENO);
+    posix_spawn_file_actions_adddup2(&actions, end, STDIN_FILENO);
+    posix_spawn_file_actions_adddup2(&actions, end, STDOUT_FILENO);
     int error =
-        posix_spawnp(&m_process, program.c_str(), &actions, nullptr, arguments.data(), environ);
+        posix_spawnp(&m_process, m_program.c_str(), &actions, nullptr, arguments.data(), environ);
     posix_spawn_file_actions_destroy(&actions);
-    close(ends[1]);
-    m_pipe = ends[0];
-    if (error != 0)
+    return error;
+}
+
+void
+ToraEngine::ReadVersion()
+{
+    auto first = ReadLine();
+    if (!first)
     {
-        m_process = -1;
-        close(m_pipe);
-        throw notStarted(error);
+        throw Ended();
     }
-    try
+    if (*first != VERSION)
     {
-        auto first = ReadLine();
-        if (!first)
-        {
-            throw Ended();
-        }
-        if (*first != VERSION)
-        {
-            throw ToraEngineError(ToraEngineError::OTHER_VERSION,
-                                  "the engine " + program +
-                                      " speaks another protocol: its first line is '" + *first +
-                                      "' and not '" + VERSION + "'");
-        }
-    }
-    catch (const ToraEngineError&)
-    {
-        End();
-        throw;
+        throw ToraEngineError(ToraEngineError::OTHER_VERSION,
+                              "the engine " + m_program +
+                                  " speaks another protocol: its first line is '" + *first +
+                                  "' and not '" + VERSION + "'");
     }
 }
 
@@ -288,55 +248,6 @@ ToraEngine::Next()
     return answer;
 }
 
-bool
-ToraEngine::Read(const std::string& line, ToraAnswer& answer) const
-{
-    if (line == "ok")
-    {
-        return true;
-    }
-    auto words = WordsOf(line);
-    if (words[0] == "refused" && words.size() == 2)
-    {
-        answer.verdict = ToraAnswer::REFUSED;
-        if (!ReadNumber(words[1], answer.refusal))
-        {
-            throw NoAnswer(line);
-        }
-        return true;
-    }
-    if (words[0] == "fault")
-    {
-        answer.verdict = ToraAnswer::FAULT;
-        answer.cause = line.substr(std::min(line.size(), std::strlen("fault ")));
-        return true;
-    }
-    if (words[0] == "sent" && words.size() == 5)
-    {
-        ToraAnswer::Sent sent;
-        if (!ReadNumber(words[1], sent.sender) || !ReadNumber(words[2], sent.receiver) ||
-            !ReadNumber(words[3], sent.id) || !ReadNumber(words[4], sent.length))
-        {
-            throw NoAnswer(line);
-        }
-        answer.sent.push_back(sent);
-        return false;
-    }
-    if (words[0] == "hop" && words.size() == 4)
-    {
-        ToraAnswer::Hop hop{0, 0, 0};
-        if (!ReadNumber(words[1], hop.node) || !ReadNumber(words[2], hop.destination) ||
-            (words[3] != "-" && !ReadNumber(words[3], hop.next)))
-        {
-            throw NoAnswer(line);
-        }
-        answer.hops.push_back(hop);
-        return false;
-    }
-    answer.text.push_back(line);
-    return false;
-}
-
 ToraAnswer
 ToraEngine::Ask(const std::string& line)
 {
@@ -354,28 +265,6 @@ ToraEngine::Order(const std::string& line)
         throw ErrorOf(line, answer);
     }
     return answer;
-}
-
-ToraEngineError
-ToraEngine::ErrorOf(const std::string& line, const ToraAnswer& answer) const
-{
-    if (answer.verdict == ToraAnswer::FAULT)
-    {
-        return ToraEngineError(ToraEngineError::FAULT,
-                               "the engine " + m_program + " takes the line '" + line +
-                                   "' for a fault: " + answer.cause);
-    }
-    return ToraEngineError(ToraEngineError::REFUSED,
-                           "the engine " + m_program + " refuses the line '" + line +
-                               "': refused " + std::to_string(answer.refusal));
-}
-
-ToraEngineError
-ToraEngine::NoAnswer(const std::string& line) const
-{
-    return ToraEngineError(ToraEngineError::NO_ANSWER,
-                           "the engine " + m_program + " answers with a line that is none: '" +
-                               line + "'");
 }
 
 ToraEngineError

@@ -174,6 +174,25 @@ class ToraEngine
 
   private:
     /**
+     * Starts the process.
+     *
+     * \param end its end of the pipe, for both directions
+     * \param options the words behind `drive`
+     * \returns 0, or the error number why it can't be started
+     */
+    int Spawn(int end, const std::vector<std::string>& options);
+    /**
+     * Reads the engine's first line.
+     *
+     * \throws ToraEngineError OTHER_VERSION or ENDED
+     */
+    void ReadVersion();
+    /**
+     * \param error the error number
+     * \returns the error that tells why the program can't be started
+     */
+    ToraEngineError NotStarted(int error) const;
+    /**
      * Reads some bytes, and waits for them.
      *
      * \returns whether there are any: not where the engine's output is at its end

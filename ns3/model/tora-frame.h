@@ -144,7 +144,41 @@ class ToraFrame
      */
     void Print(std::ostream& os) const;
 
+    /**
+     * \param kind the kind of a packet
+     * \returns how many bytes it has, or 0 where there is no such kind
+     */
+    static uint32_t PacketSize(uint8_t kind);
+    /**
+     * Writes a number in network byte order.
+     *
+     * \param bytes what it is added to
+     * \param number the number
+     * \param size how many bytes it has
+     */
+    static void Write(std::vector<uint8_t>& bytes, uint64_t number, uint32_t size);
+
   private:
+    // Offsets in a frame
+    static constexpr uint32_t KIND_AT = 1;        //!< the kind
+    static constexpr uint32_t LENGTH_AT = 2;      //!< the length of the payload
+    static constexpr uint32_t SENDER_AT = 4;      //!< the sender
+    static constexpr uint32_t RECEIVER_AT = 8;    //!< the receiver
+    static constexpr uint32_t LIFE_AT = 12;       //!< the life of the sender
+    static constexpr uint32_t HEARD_AT = 20;      //!< the life of the receiver
+    static constexpr uint32_t NUMBER_AT = 28;     //!< DATA: the first packet; ACK: the count
+    static constexpr uint32_t COUNT_AT = 36;      //!< DATA: the acknowledged count
+    static constexpr uint32_t PACKETS_AT_V1 = 44; //!< DATA of version 1: its packet
+    static constexpr uint32_t PACKETS_AT_V2 = 48; //!< DATA of version 2: its packets
+
+    /**
+     * Reads a frame that was sent whole.
+     *
+     * \param at where it begins; it is left where the frame ends
+     * \param end the end of the bytes that there are
+     * \returns the frame, whose number is 0; nothing where the bytes are too few
+     */
+    static std::optional<ToraFrame> ReadWhole(const uint8_t*& at, const uint8_t* end);
     /**
      * Reads a number.
      *

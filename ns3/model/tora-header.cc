@@ -197,4 +197,55 @@ ToraTag::Print(std::ostream& os) const
     os << "serial " << m_serial << " of " << Ipv4Address(m_sender);
 }
 
+ToraHopTag::ToraHopTag(uint32_t sender)
+    : m_sender(sender)
+{
+}
+
+uint32_t
+ToraHopTag::GetSender() const
+{
+    return m_sender;
+}
+
+TypeId
+ToraHopTag::GetTypeId()
+{
+    static TypeId tid = TypeId("ns3::ToraHopTag")
+                            .SetParent<Tag>()
+                            .SetGroupName("Tora")
+                            .AddConstructor<ToraHopTag>();
+    return tid;
+}
+
+TypeId
+ToraHopTag::GetInstanceTypeId() const
+{
+    return GetTypeId();
+}
+
+uint32_t
+ToraHopTag::GetSerializedSize() const
+{
+    return 4;
+}
+
+void
+ToraHopTag::Serialize(TagBuffer i) const
+{
+    i.WriteU32(m_sender);
+}
+
+void
+ToraHopTag::Deserialize(TagBuffer i)
+{
+    m_sender = i.ReadU32();
+}
+
+void
+ToraHopTag::Print(std::ostream& os) const
+{
+    os << "sent by " << Ipv4Address(m_sender);
+}
+
 } // namespace ns3

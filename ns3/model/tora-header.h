@@ -136,6 +136,39 @@ class ToraTag : public Tag
     std::vector<uint64_t> m_ids; //!< the numbers of its frames
 };
 
+/**
+ * \ingroup tora
+ * \brief The node that sent a data packet last, as the source address of the frame that carries it
+ * tells. It has no bytes on the air.
+ */
+class ToraHopTag : public Tag
+{
+  public:
+    /**
+     * \param sender the number of the node
+     */
+    ToraHopTag(uint32_t sender = 0);
+
+    /**
+     * \returns the number of the node
+     */
+    uint32_t GetSender() const;
+
+    /**
+     * \brief Get the type ID.
+     * \return the object TypeId
+     */
+    static TypeId GetTypeId();
+    TypeId GetInstanceTypeId() const override;
+    uint32_t GetSerializedSize() const override;
+    void Serialize(TagBuffer i) const override;
+    void Deserialize(TagBuffer i) override;
+    void Print(std::ostream& os) const override;
+
+  private:
+    uint32_t m_sender; //!< the number of the node
+};
+
 } // namespace ns3
 
 #endif /* TORA_HEADER_H */

@@ -1,5 +1,7 @@
 #include "tora-queue.h"
 
+#include <algorithm>
+
 namespace ns3
 {
 
@@ -36,6 +38,12 @@ TakeIf(std::list<ToraQueueEntry>& entries, Test test)
 
 } // namespace
 
+bool
+ToraQueueEntry::MayGoTo(uint32_t hop) const
+{
+    return hop == 0 || (hop != from && hop != avoided);
+}
+
 void
 ToraQueue::SetMaxLength(uint32_t length)
 {
@@ -61,11 +69,23 @@ ToraQueue::Enqueue(const ToraQueueEntry& entry)
     return first;
 }
 
-std::vector<ToraQueueEntry>
-ToraQueue::Take(Ipv4Address destination, uint32_t most)
+bool
+ToraQueue::Has(Ipv4Address destination, uint32_t hop) const
 {
-    return TakeIf(m_entries, [destination, &most](const ToraQueueEntry& entry) {
-        bool isTaken = entry.header.GetDestination() == destination && most > 0;
+    return std::any_of(m_entries.begin(),
+                       m_entries.end(),
+                       [destination, hop](const ToraQueueEntry& entry) {
+                           return entry.header.GetDestination() == destination &&
+                                  entry.MayGoTo(hop);
+                       });
+}
+
+std::vector<ToraQueueEntry>
+ToraQueue::Take(Ipv4Address destination, uint32_t hop, uint32_t most)
+{
+    return TakeIf(m_entries, [destination, hop, &most](const ToraQueueEntry& entry) {
+        bool isTaken =
+            entry.header.GetDestination() == destination && entry.MayGoTo(hop) && most > 0;
         most -= isTaken;
         return isTaken;
     });

@@ -26,6 +26,17 @@ struct ToraQueueEntry
     Ipv4RoutingProtocol::UnicastForwardCallback forward; //!< what to call when there is a route
     Ipv4RoutingProtocol::ErrorCallback error;            //!< what to call when it is dropped
     Time until;                                          //!< the moment when its time is over
+    uint32_t from{0};    //!< the number of the neighbour that it came from, or 0
+    uint32_t avoided{0}; //!< the number of the next hop that it came back from, or 0
+
+    /**
+     * Tells whether the packet may go to a neighbour: not where it came from, nor where it was
+     * before.
+     *
+     * \param hop the number of the neighbour
+     * \returns whether it may go there
+     */
+    bool MayGoTo(uint32_t hop) const;
 };
 
 /**
@@ -51,13 +62,24 @@ class ToraQueue
      */
     std::optional<ToraQueueEntry> Enqueue(const ToraQueueEntry& entry);
     /**
+     * Tells whether packets wait that may go to a neighbour.
+     *
+     * \param destination their destination
+     * \param hop the number of the neighbour
+     * \returns whether there are any
+     */
+    bool Has(Ipv4Address destination, uint32_t hop) const;
+    /**
      * Takes out packets to a destination, in the order in which they came.
      *
      * \param destination the destination
+     * \param hop the number of the neighbour that they go to, or 0 for any
      * \param most how many at most
-     * \returns the packets, in order
+     * \returns the packets that may go there, in order
      */
-    std::vector<ToraQueueEntry> Take(Ipv4Address destination, uint32_t most = UINT32_MAX);
+    std::vector<ToraQueueEntry> Take(Ipv4Address destination,
+                                     uint32_t hop = 0,
+                                     uint32_t most = UINT32_MAX);
     /**
      * Takes out all packets whose time is over.
      *

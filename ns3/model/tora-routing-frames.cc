@@ -74,7 +74,7 @@ ToraRouting::Broadcast()
 {
     m_isScheduled = false;
     Time now = Simulator::Now();
-    if (m_sockets.empty() || (m_unsent > 0 && now < m_lastBroadcast + RADIO_LIMIT))
+    if (m_interfaces.GetSockets().empty() || (m_unsent > 0 && now < m_lastBroadcast + RADIO_LIMIT))
     {
         return;
     }
@@ -91,7 +91,7 @@ ToraRouting::Broadcast()
     m_serial++;
     m_lastBroadcast = now;
     m_unsent = m_radios.size();
-    for (const auto& [interface, socket] : m_sockets)
+    for (const auto& [interface, socket] : m_interfaces.GetSockets())
     {
         Ptr<Packet> packet = Create<Packet>();
         packet->AddHeader(header);
@@ -176,11 +176,11 @@ void
 ToraRouting::Hear(const ToraHeader& header, Ipv4Address address, uint32_t interface)
 {
     bool isNew = m_neighbours.count(header.GetSender()) == 0;
-    Neighbour& neighbour = m_neighbours[header.GetSender()];
+    ToraNeighbour& neighbour = m_neighbours[header.GetSender()];
     neighbour.address = address;
     neighbour.interface = interface;
     neighbour.heard = Simulator::Now();
-    ReviveInArp(address, interface);
+    m_arp.Revive(address, interface);
     for (const auto& frame : header.GetFrames())
     {
         neighbour.newest = std::max(neighbour.newest, frame.GetVersion());

@@ -6,19 +6,9 @@
 
 #include "tora-routing.h"
 
-#include "ns3/boolean.h"
-#include "ns3/icmpv4-l4-protocol.h"
-#include "ns3/icmpv4.h"
-#include "ns3/inet-socket-address.h"
 #include "ns3/ipv4-route.h"
 #include "ns3/log.h"
-#include "ns3/loopback-net-device.h"
-#include "ns3/nstime.h"
 #include "ns3/simulator.h"
-#include "ns3/string.h"
-#include "ns3/trace-source-accessor.h"
-#include "ns3/udp-socket-factory.h"
-#include "ns3/uinteger.h"
 #include "ns3/wifi-mac.h"
 #include "ns3/wifi-mpdu.h"
 #include "ns3/wifi-net-device.h"
@@ -32,132 +22,8 @@ namespace ns3
 
 NS_LOG_COMPONENT_DEFINE("ToraRouting");
 
-NS_OBJECT_ENSURE_REGISTERED(ToraRouting);
-
 const uint16_t ToraRouting::PORT = 5047;
 const uint32_t ToraRouting::MAX_PACKET_SIZE = 1400;
-
-TypeId
-ToraRouting::GetTypeId()
-{
-    static TypeId tid =
-        TypeId("ns3::ToraRouting")
-            .SetParent<Ipv4RoutingProtocol>()
-            .SetGroupName("Tora")
-            .AddConstructor<ToraRouting>()
-            .AddAttribute(
-                "Program",
-                "The program of the engine, looked for on the path where it has no slash; "
-                "the same for all nodes.",
-                StringValue("tora"),
-                MakeStringAccessor(&ToraRouting::m_program),
-                MakeStringChecker())
-            .AddAttribute("Tick",
-                          "How long a tick of the engine takes; the same for all nodes.",
-                          TimeValue(MilliSeconds(100)),
-                          MakeTimeAccessor(&ToraRouting::m_tick),
-                          MakeTimeChecker(MicroSeconds(1)))
-            .AddAttribute("Times",
-                          "The times of link ends in ticks, as HELLO,SILENCE,RETRY,TRIES, or "
-                          "nothing for 10,50,5,8; the same for all nodes.",
-                          StringValue(""),
-                          MakeStringAccessor(&ToraRouting::m_times),
-                          MakeStringChecker())
-            .AddAttribute(
-                "Record",
-                "The file into which the engine writes the simulation file of the run, or nothing; "
-                "Notice and NoticeReturn do nothing then. The same for all nodes.",
-                StringValue(""),
-                MakeStringAccessor(&ToraRouting::m_record),
-                MakeStringChecker())
-            .AddAttribute(
-                "Take",
-                "Whether frames that were received are handed to the engine as bytes, where "
-                "it has the line take, and not by their numbers; the same for all nodes.",
-                BooleanValue(false),
-                MakeBooleanAccessor(&ToraRouting::m_isTaking),
-                MakeBooleanChecker())
-            .AddAttribute("Large",
-                          "Whether a node may have up to 255 neighbours, and not 32; the same for "
-                          "all nodes.",
-                          BooleanValue(false),
-                          MakeBooleanAccessor(&ToraRouting::m_isLarge),
-                          MakeBooleanChecker())
-            .AddAttribute("Notice",
-                          "Whether a link is cut where the radio gives up a unicast frame to the "
-                          "neighbour, or two of its beacons are missed.",
-                          BooleanValue(false),
-                          MakeBooleanAccessor(&ToraRouting::m_isNoticing),
-                          MakeBooleanChecker())
-            .AddAttribute("NoticeReturn",
-                          "Whether a data packet that comes back cuts the link to the next hop "
-                          "that it went to.",
-                          BooleanValue(false),
-                          MakeBooleanAccessor(&ToraRouting::m_isReturnNoticed),
-                          MakeBooleanChecker())
-            .AddAttribute(
-                "Salvage",
-                "Whether a data packet that the radio gives up waits for a route once more, "
-                "and its next hop is not used until it is heard again.",
-                BooleanValue(false),
-                MakeBooleanAccessor(&ToraRouting::m_isSalvaging),
-                MakeBooleanChecker())
-            .AddAttribute("Old",
-                          "Whether the node speaks version 1 of frames alone.",
-                          BooleanValue(false),
-                          MakeBooleanAccessor(&ToraRouting::m_isOld),
-                          MakeBooleanChecker())
-            .AddAttribute("BeaconInterval",
-                          "How long a node is silent at most.",
-                          TimeValue(Seconds(1)),
-                          MakeTimeAccessor(&ToraRouting::m_beaconInterval),
-                          MakeTimeChecker(MicroSeconds(1)))
-            .AddAttribute("HeardTimeout",
-                          "How long frames are sent to a neighbour that is not heard.",
-                          TimeValue(Seconds(3)),
-                          MakeTimeAccessor(&ToraRouting::m_heardTimeout),
-                          MakeTimeChecker(MicroSeconds(1)))
-            .AddAttribute(
-                "MaxQueueLen",
-                "The most packets that wait for a route.",
-                UintegerValue(64),
-                MakeUintegerAccessor(&ToraRouting::SetMaxQueueLen, &ToraRouting::GetMaxQueueLen),
-                MakeUintegerChecker<uint32_t>())
-            .AddAttribute("MaxQueueTime",
-                          "How long a packet waits for a route at most.",
-                          TimeValue(Seconds(30)),
-                          MakeTimeAccessor(&ToraRouting::m_maxQueueTime),
-                          MakeTimeChecker())
-            .AddTraceSource("RouteChange",
-                            "The next hop to a destination changed.",
-                            MakeTraceSourceAccessor(&ToraRouting::m_routeTrace),
-                            "ns3::ToraRouting::RouteTracedCallback")
-            .AddTraceSource("LinkUp",
-                            "A neighbour is heard.",
-                            MakeTraceSourceAccessor(&ToraRouting::m_linkUpTrace),
-                            "ns3::ToraRouting::LinkTracedCallback")
-            .AddTraceSource("LinkDown",
-                            "A neighbour is not heard any longer.",
-                            MakeTraceSourceAccessor(&ToraRouting::m_linkDownTrace),
-                            "ns3::ToraRouting::LinkTracedCallback")
-            .AddTraceSource("Control",
-                            "A packet of TORA is broadcast.",
-                            MakeTraceSourceAccessor(&ToraRouting::m_controlTrace),
-                            "ns3::ToraRouting::ControlTracedCallback")
-            .AddTraceSource("ControlBytes",
-                            "Bytes that were broadcast, with headers of IPv4 and UDP.",
-                            MakeTraceSourceAccessor(&ToraRouting::m_controlBytes),
-                            "ns3::TracedValueCallback::Uint64")
-            .AddTraceSource("CameBack",
-                            "How many data packets came back to the node.",
-                            MakeTraceSourceAccessor(&ToraRouting::m_cameBack),
-                            "ns3::TracedValueCallback::Uint32")
-            .AddTraceSource("Drop",
-                            "A data packet is dropped.",
-                            MakeTraceSourceAccessor(&ToraRouting::m_drop),
-                            "ns3::ToraRouting::DropTracedCallback");
-    return tid;
-}
 
 ToraRouting::ToraRouting()
     : m_random(CreateObject<UniformRandomVariable>()),
@@ -195,13 +61,9 @@ ToraRouting::DoDispose()
         m_world->Leave(this);
         m_world = nullptr;
     }
-    for (const auto& [interface, socket] : m_sockets)
-    {
-        socket->Close();
-    }
-    m_sockets.clear();
+    m_interfaces.CloseAll();
+    m_arp.SetIpv4(nullptr);
     m_queue.TakeAll();
-    m_lo = nullptr;
     m_ipv4 = nullptr;
     Ipv4RoutingProtocol::DoDispose();
 }
@@ -232,7 +94,7 @@ ToraRouting::Restart()
     NS_LOG_FUNCTION(this);
     m_queue.TakeAll();
     m_due.clear();
-    m_seen.clear();
+    m_history.Clear();
     m_asked.clear();
     m_world->Restart(m_id);
 }
@@ -337,8 +199,8 @@ ToraRouting::SetIpv4(Ptr<Ipv4> ipv4)
     NS_LOG_FUNCTION(this << ipv4);
     NS_ASSERT_MSG(ipv4 && !m_ipv4, "IP is set once");
     m_ipv4 = ipv4;
-    m_lo = m_ipv4->GetNetDevice(0);
-    NS_ASSERT_MSG(DynamicCast<LoopbackNetDevice>(m_lo), "interface 0 is loopback");
+    m_interfaces.SetIpv4(ipv4);
+    m_arp.SetIpv4(ipv4);
     for (uint32_t i = 1; i < m_ipv4->GetNInterfaces(); i++)
     {
         if (m_ipv4->IsUp(i))
@@ -352,7 +214,8 @@ void
 ToraRouting::NotifyInterfaceUp(uint32_t interface)
 {
     NS_LOG_FUNCTION(this << interface);
-    if (interface > 0 && m_ipv4->GetNAddresses(interface) > 0 && m_sockets.count(interface) == 0)
+    if (interface > 0 && m_ipv4->GetNAddresses(interface) > 0 &&
+        m_interfaces.GetSockets().count(interface) == 0)
     {
         Open(interface);
     }
@@ -388,28 +251,19 @@ ToraRouting::NotifyRemoveAddress(uint32_t interface, Ipv4InterfaceAddress)
 void
 ToraRouting::Open(uint32_t interface)
 {
-    Ptr<Socket> socket =
-        Socket::CreateSocket(m_ipv4->GetObject<Node>(), UdpSocketFactory::GetTypeId());
-    socket->SetRecvCallback(MakeCallback(&ToraRouting::Receive, this));
-    socket->BindToNetDevice(m_ipv4->GetNetDevice(interface));
-    socket->Bind(InetSocketAddress(Ipv4Address::GetAny(), PORT));
-    socket->SetAllowBroadcast(true);
-    socket->SetIpTtl(1);
-    m_sockets[interface] = socket;
+    m_interfaces.Open(interface, PORT, MakeCallback(&ToraRouting::Receive, this));
     Watch(interface, true);
 }
 
 void
 ToraRouting::Close(uint32_t interface)
 {
-    auto socket = m_sockets.find(interface);
-    if (socket == m_sockets.end())
+    if (m_interfaces.GetSockets().count(interface) == 0)
     {
         return;
     }
     Watch(interface, false);
-    socket->second->Close();
-    m_sockets.erase(socket);
+    m_interfaces.Close(interface);
     m_unsent = 0;
     for (auto it = m_neighbours.begin(); it != m_neighbours.end();)
     {
@@ -420,7 +274,7 @@ ToraRouting::Close(uint32_t interface)
     {
         ExpireNeighbours();
     }
-    if (m_sockets.empty())
+    if (m_interfaces.GetSockets().empty())
     {
         m_due.clear();
     }

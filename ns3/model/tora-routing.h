@@ -1,23 +1,24 @@
 #ifndef TORA_ROUTING_H
 #define TORA_ROUTING_H
 
+#include "tora-arp.h"
 #include "tora-header.h"
+#include "tora-history.h"
+#include "tora-interfaces.h"
+#include "tora-neighbour.h"
 #include "tora-queue.h"
 #include "tora-world.h"
 
-#include "ns3/arp-cache.h"
 #include "ns3/ipv4-routing-protocol.h"
 #include "ns3/ipv4.h"
 #include "ns3/node.h"
 #include "ns3/random-variable-stream.h"
-#include "ns3/socket.h"
 #include "ns3/traced-callback.h"
 #include "ns3/traced-value.h"
 
 #include <map>
 #include <set>
 #include <string>
-#include <tuple>
 #include <vector>
 
 namespace ns3
@@ -57,7 +58,8 @@ enum WifiMacDropReason : uint8_t; // opaque enum declaration
  * MaxQueueTime, and is then dropped; its source gets an ICMP message "host unreachable". A data
  * packet that comes back to a node which sent or forwarded it is dropped and counted. TORA's rules
  * let two neighbours point at each other until an input changes the entries of one of them
- * (docs/protocol.md): with NoticeReturn the link to the next hop that the packet went to is cut.
+ * (docs/protocol.md): with NoticeReturn the link to the next hop that the packet went to is cut,
+ * and with WaitReturn the packet waits for another next hop in place of being dropped.
  */
 class ToraRouting : public Ipv4RoutingProtocol
 {
@@ -224,104 +226,29 @@ class ToraRouting : public Ipv4RoutingProtocol
     void DoDispose() override;
 
   private:
-    /// What is known of a neighbour that was heard.
-    struct Neighbour
-    {
-        Ipv4Address address; //!< its address on the interface
-        uint32_t interface {
-            0
-        };                          //!< the interface on which it was heard
-        Time heard;                 //!< when it was heard last
-        uint8_t newest{0};          //!< the newest version of frames that it has shown
-        bool isSuspect{false};      //!< whether the radio gave up a frame to it since it was heard
-        bool isNoticed{false};      //!< whether the engine was told that beacons are missed
-        std::vector<uint8_t> hello; //!< the lives that the last HELLO to it named
-    };
+    friend class ToraRoutingAttributes;
 
-    /// Of an IPv4 packet what tells it from others: source, destination, protocol, number and
-    /// offset.
-    using PacketName = std::tuple<uint32_t, uint32_t, uint8_t, uint16_t, uint16_t>;
-
-    /// A data packet that was sent or forwarded.
-    struct Seen
-    {
-        Time last;       //!< when it was taken last
-        uint32_t hop{0}; //!< the number of the next hop that it went to, or 0 where it waits
-    };
-
-    /**
-     * \param header a header
-     * \returns what tells its packet from others
-     */
-    static PacketName NameOf(const Ipv4Header& header);
-    /**
-     * Opens the socket of an interface.
-     *
-     * \param interface the interface
-     */
+    /// Opens the socket of an interface.
     void Open(uint32_t interface);
-    /**
-     * Closes the socket of an interface.
-     *
-     * \param interface the interface
-     */
+    /// Closes the socket of an interface.
     void Close(uint32_t interface);
-    /**
-     * Begins or ends to look at what a radio reports.
-     *
-     * \param interface the interface of the radio
-     * \param isWatched whether it begins
-     */
+    /// Begins or ends to look at what a radio reports.
     void Watch(uint32_t interface, bool isWatched);
-    /**
-     * A broadcast packet came.
-     *
-     * \param socket the socket
-     */
+    /// A broadcast packet came.
     void Receive(Ptr<Socket> socket);
-    /**
-     * A neighbour was heard.
-     *
-     * \param header the header of its packet
-     * \param address its address
-     * \param interface the interface
-     */
+    /// A neighbour was heard.
     void Hear(const ToraHeader& header, Ipv4Address address, uint32_t interface);
-    /**
-     * The radio begins to send a packet.
-     *
-     * \param packet the packet
-     * \param power the power in watts
-     */
+    /// The radio begins to send a packet.
     void OnTxBegin(Ptr<const Packet> packet, double power);
-    /**
-     * The radio gave a packet up.
-     *
-     * \param reason why
-     * \param mpdu the packet
-     */
+    /// The radio gave a packet up.
     void OnDroppedMpdu(WifiMacDropReason reason, Ptr<const WifiMpdu> mpdu);
-    /**
-     * A data packet that the radio gave up waits for a route once more.
-     *
-     * \param packet the packet, as the radio has it
-     */
+    /// A data packet that the radio gave up waits for a route once more.
     void Salvage(Ptr<const Packet> packet);
-    /**
-     * Sends a packet that was given up before.
-     *
-     * \param route its route
-     * \param packet the packet
-     * \param header its header
-     */
+    /// Sends a packet that was given up before.
     void SendSalvaged(Ptr<Ipv4Route> route, Ptr<const Packet> packet, const Ipv4Header& header);
     /// Lets go of neighbours that were not heard lately.
     void ExpireNeighbours();
-    /**
-     * Schedules the next broadcast.
-     *
-     * \param within the time within which it comes, at a random moment
-     */
+    /// Schedules the next broadcast.
     void ScheduleBroadcast(Time within);
     /// Broadcasts what is due, or a beacon.
     void Broadcast();
@@ -332,6 +259,11 @@ class ToraRouting : public Ipv4RoutingProtocol
      */
     ToraHeader TakePacket();
     /**
+     * \param destination any address
+     * \returns the number of the next hop to it, or 0 where there is none
+     */
+    uint32_t HopTo(Ipv4Address destination) const;
+    /**
      * Finds the route to a destination.
      *
      * \param destination any address
@@ -339,68 +271,38 @@ class ToraRouting : public Ipv4RoutingProtocol
      */
     Ptr<Ipv4Route> RouteTo(Ipv4Address destination) const;
     /**
-     * A route over a given interface without a next hop.
+     * Takes a packet of this node that had no route.
      *
-     * \param destination the destination
+     * \param entry the packet, as it comes over loopback
+     * \returns whether it is one
+     */
+    bool TakeDeferred(ToraQueueEntry entry);
+    /**
+     * Takes a packet for another node.
+     *
+     * \param entry the packet
      * \param interface the interface
-     * \returns the route
+     * \returns whether it was taken
      */
-    Ptr<Ipv4Route> DirectRoute(Ipv4Address destination, uint32_t interface) const;
-    /**
-     * A route to this node itself, over which a packet comes to RouteInput().
-     *
-     * \param destination the destination
-     * \param oif the device that is asked for, or none
-     * \returns the route
-     */
-    Ptr<Ipv4Route> LoopbackRoute(Ipv4Address destination, Ptr<NetDevice> oif) const;
-    /**
-     * Finds the interface that an address is a broadcast address of.
-     *
-     * \param address the address
-     * \returns the interface, or -1
-     */
-    int32_t InterfaceOfBroadcast(Ipv4Address address) const;
-    /**
-     * Forwards a packet, or lets it wait for a route.
-     *
-     * \param entry the packet
-     */
+    bool Pass(const ToraQueueEntry& entry, uint32_t interface);
+    /// Forwards a packet, or lets it wait for a route.
     void Forward(const ToraQueueEntry& entry);
-    /**
-     * Sends a packet, and notes its next hop.
-     *
-     * \param entry the packet
-     * \param route its route
-     */
+    /// Lets a packet wait for a route.
+    void Wait(const ToraQueueEntry& entry);
+    /// Sends a packet, and notes its next hop.
     void Send(const ToraQueueEntry& entry, Ptr<Ipv4Route> route);
-    /**
-     * A data packet came back. With NoticeReturn the link is cut that it went out by, where that is
-     * still the next hop.
-     *
-     * \param entry the packet
-     */
+    /// Names this node as the one that sent a packet last, where the next one asks for it.
+    void MarkHop(Ptr<Packet> packet) const;
+    /// A data packet came back: it is dropped, or waits. With NoticeReturn the link is cut that it
+    /// went out by, where that is still the next hop.
     void Return(const ToraQueueEntry& entry);
-    /**
-     * Drops a data packet, and tells its source.
-     *
-     * \param entry the packet
-     * \param reason why
-     */
+    /// Drops a data packet, and tells its source.
     void Drop(const ToraQueueEntry& entry, DropReason reason);
-    /**
-     * Tells the source of a packet that its destination can't be reached.
-     *
-     * \param entry the packet
-     */
+    /// Tells the source of a packet that its destination can't be reached.
     void SendUnreachable(const ToraQueueEntry& entry);
     /// Sends the packets that wait and have a route, and asks for the routes of all others.
     void ServeQueue();
-    /**
-     * Schedules ServeQueue().
-     *
-     * \param delay after which time; without it behind what happens now
-     */
+    /// Schedules ServeQueue().
     void ScheduleQueue(Time delay = Time(0));
     /**
      * Sends packets that wait for a destination. ARP keeps three packets for a neighbour whose
@@ -411,25 +313,6 @@ class ToraRouting : public Ipv4RoutingProtocol
      * \param route the route to it
      */
     void Release(Ipv4Address destination, Ptr<Ipv4Route> route);
-    /**
-     * Tells whether a packet can go at once.
-     *
-     * \param route its route
-     * \returns whether ARP knows the next hop, or is not needed
-     */
-    bool IsResolved(Ptr<Ipv4Route> route) const;
-    /**
-     * Lets ARP ask for a neighbour anew that it gave up: it is heard.
-     *
-     * \param address its address
-     * \param interface the interface
-     */
-    void ReviveInArp(Ipv4Address address, uint32_t interface) const;
-    /**
-     * \param interface an interface
-     * \returns its ARP cache, or nothing where its device needs none
-     */
-    Ptr<ArpCache> ArpOf(uint32_t interface) const;
 
     // Attributes
     Time m_tick;            //!< how long a tick takes
@@ -439,6 +322,7 @@ class ToraRouting : public Ipv4RoutingProtocol
     bool m_isSalvaging;     //!< whether packets that the radio gives up wait for another route
     bool m_isNoticing;      //!< whether the engine is told of neighbours that are gone
     bool m_isReturnNoticed; //!< whether a link is cut that a packet came back from
+    bool m_isReturnWaiting; //!< whether packets that come back wait for another next hop
     bool m_isTaking;        //!< whether received frames are handed over as bytes
     bool m_isLarge;         //!< whether nodes may have more than 32 links
     bool m_isOld;           //!< whether link ends speak version 1 of frames alone
@@ -446,26 +330,26 @@ class ToraRouting : public Ipv4RoutingProtocol
     Time m_heardTimeout;    //!< how long a neighbour counts as heard
     Time m_maxQueueTime;    //!< how long a packet waits at most
 
-    Ptr<Ipv4> m_ipv4;                           //!< IP of the node
-    Ptr<NetDevice> m_lo;                        //!< its loopback device
-    Ptr<ToraWorld> m_world;                     //!< the world, from the start on
-    Ptr<UniformRandomVariable> m_random;        //!< the moments of broadcasts
-    uint32_t m_id{0};                           //!< the node's number in the engine
-    std::map<uint32_t, Ptr<Socket>> m_sockets;  //!< sockets by interface
-    std::map<uint32_t, Neighbour> m_neighbours; //!< neighbours that are heard
-    std::map<uint32_t, uint32_t> m_hops;        //!< next hops by destination
-    ToraQueue m_queue;                          //!< packets that wait for a route
-    std::vector<ToraFrame> m_due;               //!< frames that wait to be broadcast
-    bool m_isUrgent{false};                     //!< whether one of them is more than an old HELLO
-    bool m_isScheduled{false};                  //!< whether a broadcast is scheduled
-    bool m_isQueueScheduled{false};             //!< whether ServeQueue() is scheduled
-    Time m_lastBroadcast;                       //!< when the last broadcast was made
-    uint64_t m_serial{0};                       //!< how many packets were broadcast
-    std::set<uint32_t> m_radios;                //!< interfaces whose radio is looked at
-    uint32_t m_unsent{0};                       //!< radios that have not sent the last one
-    std::map<PacketName, Seen> m_seen;          //!< packets sent or forwarded
-    std::map<Ipv4Address, Time> m_resolving;    //!< next hops that ARP was asked for, and when
-    std::map<uint32_t, Time> m_asked;           //!< destinations asked for, and when
+    Ptr<Ipv4> m_ipv4;                               //!< IP of the node
+    Ptr<ToraWorld> m_world;                         //!< the world, from the start on
+    Ptr<UniformRandomVariable> m_random;            //!< the moments of broadcasts
+    uint32_t m_id{0};                               //!< the node's number in the engine
+    ToraInterfaces m_interfaces;                    //!< its interfaces, once they are up
+    ToraArp m_arp;                                  //!< its ARP
+    std::map<uint32_t, ToraNeighbour> m_neighbours; //!< neighbours that are heard
+    std::map<uint32_t, uint32_t> m_hops;            //!< next hops by destination
+    ToraQueue m_queue;                              //!< packets that wait for a route
+    std::vector<ToraFrame> m_due;                   //!< frames that wait to be broadcast
+    bool m_isUrgent{false};                  //!< whether one of them is more than an old HELLO
+    bool m_isScheduled{false};               //!< whether a broadcast is scheduled
+    bool m_isQueueScheduled{false};          //!< whether ServeQueue() is scheduled
+    Time m_lastBroadcast;                    //!< when the last broadcast was made
+    uint64_t m_serial{0};                    //!< how many packets were broadcast
+    std::set<uint32_t> m_radios;             //!< interfaces whose radio is looked at
+    uint32_t m_unsent{0};                    //!< radios that have not sent the last one
+    ToraHistory m_history;                   //!< packets sent or forwarded
+    std::map<Ipv4Address, Time> m_resolving; //!< next hops that ARP was asked for, and when
+    std::map<uint32_t, Time> m_asked;        //!< destinations asked for, and when
 
     TracedCallback<Ipv4Address, Ipv4Address, Ipv4Address> m_routeTrace;      //!< "RouteChange"
     TracedCallback<Ipv4Address> m_linkUpTrace;                               //!< "LinkUp"

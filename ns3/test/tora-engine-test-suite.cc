@@ -25,6 +25,26 @@ class ToraEngineTestCase : public TestCase
     }
 
   private:
+    /**
+     * Kills an engine, and asks it.
+     *
+     * \param engine the engine
+     */
+    void Kill(ToraEngine& engine)
+    {
+        kill(engine.GetProcess(), SIGKILL);
+        try
+        {
+            engine.Ask("step");
+            engine.Ask("step");
+            NS_TEST_EXPECT_MSG_EQ(true, false, "the engine was killed");
+        }
+        catch (const ToraEngineError& error)
+        {
+            NS_TEST_EXPECT_MSG_EQ(error.GetKind(), ToraEngineError::ENDED, error.what());
+        }
+    }
+
     void DoRun() override
     {
         ToraEngine engine(ToraNet::Program(), {});
@@ -66,17 +86,7 @@ class ToraEngineTestCase : public TestCase
         {
             NS_TEST_EXPECT_MSG_EQ(engine.Next().verdict, ToraAnswer::OK, "a thousand steps");
         }
-        kill(engine.GetProcess(), SIGKILL);
-        try
-        {
-            engine.Ask("step");
-            engine.Ask("step");
-            NS_TEST_EXPECT_MSG_EQ(true, false, "the engine was killed");
-        }
-        catch (const ToraEngineError& error)
-        {
-            NS_TEST_EXPECT_MSG_EQ(error.GetKind(), ToraEngineError::ENDED, error.what());
-        }
+        Kill(engine);
     }
 };
 

@@ -1,233 +1,18 @@
 /**
  * \file
  * \ingroup tora
- * The suite "tora": tests that need no engine.
+ * The suite "tora": the queue, and an engine that is none; it needs no engine.
  */
 #include "ns3/packet.h"
 #include "ns3/test.h"
 #include "ns3/tora-engine.h"
-#include "ns3/tora-frame.h"
-#include "ns3/tora-header.h"
 #include "ns3/tora-queue.h"
 
 #include <csignal>
 #include <fstream>
-#include <sstream>
 #include <sys/stat.h>
 
 using namespace ns3;
-
-namespace
-{
-
-/**
- * Reads hexadecimal digits.
- *
- * \param text digits and blanks
- * \returns the bytes
- */
-std::vector<uint8_t>
-Bytes(const std::string& text)
-{
-    std::vector<uint8_t> bytes;
-    std::string digits;
-    for (char c : text)
-    {
-        if (c != ' ')
-        {
-            digits += c;
-        }
-        if (digits.size() == 2)
-        {
-            bytes.push_back(std::stoi(digits, nullptr, 16));
-            digits.clear();
-        }
-    }
-    return bytes;
-}
-
-// Frames of docs/formats.md
-/// A HELLO of version 1.
-const std::string HELLO = "01010000 00000001 00000002 0000000000000005 0000000000000000";
-/// A DATA frame of version 1.
-const std::string DATA_V1 = "01020018 00000001 00000002 0000000000000005 0000000000000009 "
-                            "0000000000000001 0000000000000000 0101000000000004";
-/// An ACK of version 1.
-const std::string ACK = "01030008 00000002 00000001 0000000000000009 0000000000000005 "
-                        "0000000000000001";
-/// A DATA frame of version 2, with two packets.
-const std::string DATA_V2 =
-    "02020030 00000001 00000002 0000000000000005 0000000000000009 0000000000000001 "
-    "0000000000000000 02000000 0101000000000004 0103000000000004 0000000000000007 00000003";
-
-} // namespace
-
-/**
- * \ingroup tora
- * \brief Frames are looked at as docs/formats.md has them.
- */
-class ToraFrameTestCase : public TestCase
-{
-  public:
-    ToraFrameTestCase()
-        : TestCase("Frames are looked at as their format has them")
-    {
-    }
-
-  private:
-    /**
-     * Looks at the short form of a frame.
-     *
-     * \param frame the frame, in hexadecimal digits
-     * \param form its short form
-     */
-    void Short(const std::string& frame, const std::string& form)
-    {
-        std::vector<uint8_t> bytes = ToraFrame(1, Bytes(frame)).GetShort();
-        NS_TEST_EXPECT_MSG_EQ((bytes == Bytes(form)), true, "short form of " << frame);
-        const uint8_t* at = bytes.data();
-        uint32_t sender = Bytes(frame)[7];
-        auto read = ToraFrame::ReadShort(sender, at, bytes.data() + bytes.size());
-        NS_TEST_ASSERT_MSG_EQ(read.has_value(), true, "it is read");
-        NS_TEST_EXPECT_MSG_EQ((read->GetBytes() == Bytes(frame)), true, "as it was");
-        NS_TEST_EXPECT_MSG_EQ((at == bytes.data() + bytes.size()), true, "to its end");
-        for (std::size_t size = 0; size < bytes.size(); size++)
-        {
-            at = bytes.data();
-            read = ToraFrame::ReadShort(sender, at, bytes.data() + size);
-            NS_TEST_EXPECT_MSG_EQ(read.has_value(), false, size << " bytes are too few");
-        }
-    }
-
-    void DoRun() override
-    {
-        ToraFrame hello(7, Bytes(HELLO));
-        NS_TEST_EXPECT_MSG_EQ(hello.GetKind(), ToraFrame::HELLO, "kind");
-        NS_TEST_EXPECT_MSG_EQ(+hello.GetVersion(), 1, "version");
-        NS_TEST_EXPECT_MSG_EQ(hello.GetSender(), 1, "sender");
-        NS_TEST_EXPECT_MSG_EQ(hello.GetReceiver(), 2, "receiver");
-        NS_TEST_EXPECT_MSG_EQ(hello.GetFirst(), 0, "a HELLO has no number");
-        NS_TEST_EXPECT_MSG_EQ(hello.GetSize(), 28, "length");
-        ToraFrame data(8, Bytes(DATA_V2));
-        NS_TEST_EXPECT_MSG_EQ(data.GetFirst(), 1, "the number of the first packet");
-        std::vector<ToraFrame::PacketKind> packets{ToraFrame::QRY, ToraFrame::CLR};
-        NS_TEST_EXPECT_MSG_EQ((data.GetPackets() == packets), true, "packets of version 2");
-        std::vector<ToraFrame::PacketKind> query{ToraFrame::QRY};
-        NS_TEST_EXPECT_MSG_EQ((ToraFrame(9, Bytes(DATA_V1)).GetPackets() == query),
-                              true,
-                              "packets of version 1");
-
-        std::vector<uint8_t> second = Bytes(DATA_V2);
-        second[35] = 2;
-        std::vector<uint8_t> other = Bytes(DATA_V2);
-        other[19] = 6;
-        std::vector<uint8_t> elsewhere = Bytes(HELLO);
-        elsewhere[11] = 3;
-        NS_TEST_EXPECT_MSG_EQ(hello.Supersedes(hello), true, "a HELLO of later");
-        NS_TEST_EXPECT_MSG_EQ(hello.Supersedes(ToraFrame(0, elsewhere)), false, "of another");
-        NS_TEST_EXPECT_MSG_EQ(data.Supersedes(data), true, "the same packets once more");
-        NS_TEST_EXPECT_MSG_EQ(data.Supersedes(ToraFrame(0, second)), false, "other packets");
-        NS_TEST_EXPECT_MSG_EQ(data.Supersedes(ToraFrame(0, other)), false, "another life");
-        NS_TEST_EXPECT_MSG_EQ(data.Supersedes(hello), false, "another kind");
-
-        Short(HELLO, "11 00000002 05 00");
-        Short(DATA_V1, "12 00000002 05 09 01 00 0101000000000004");
-        Short(ACK, "13 00000001 09 05 01");
-        Short(DATA_V2,
-              "22 00000002 05 09 01 00 02 0101000000000004 "
-              "0103000000000004 0000000000000007 00000003");
-        Short("02010000 00000001 00000002 000000000000012c 4000000000000000",
-              "21 00000002 ac02 808080808080808040");
-        // What the short form does not say makes a frame whole: a reserved byte, an unknown kind.
-        std::vector<uint8_t> odd = Bytes(DATA_V2);
-        odd[45] = 1;
-        NS_TEST_EXPECT_MSG_EQ(+ToraFrame(0, odd).GetShort()[0], 0, "a reserved byte");
-        NS_TEST_EXPECT_MSG_EQ(ToraFrame(0, odd).GetShort().size(), odd.size() + 1, "whole");
-        odd = Bytes(HELLO);
-        odd[1] = 4;
-        NS_TEST_EXPECT_MSG_EQ(+ToraFrame(0, odd).GetShort()[0], 0, "an unknown kind");
-
-        ToraFrame standIn = ToraFrame::StandIn(3, 1, 2, 36);
-        NS_TEST_EXPECT_MSG_EQ(standIn.GetSize(), 36, "length of a frame of unknown bytes");
-        NS_TEST_EXPECT_MSG_EQ(standIn.GetKind(), ToraFrame::ACK, "its kind, by its length");
-        NS_TEST_EXPECT_MSG_EQ(standIn.GetReceiver(), 2, "its receiver");
-    }
-};
-
-/**
- * \ingroup tora
- * \brief A header is read as it was written, and other bytes are none.
- */
-class ToraHeaderTestCase : public TestCase
-{
-  public:
-    ToraHeaderTestCase()
-        : TestCase("A header is read as it was written")
-    {
-    }
-
-  private:
-    /**
-     * Reads a header.
-     *
-     * \param text hexadecimal digits
-     * \returns the header
-     */
-    ToraHeader Read(const std::string& text) const
-    {
-        std::vector<uint8_t> bytes = Bytes(text);
-        Ptr<Packet> packet = Create<Packet>(bytes.data(), bytes.size());
-        ToraHeader header;
-        packet->RemoveHeader(header);
-        return header;
-    }
-
-    void DoRun() override
-    {
-        ToraHeader header(1);
-        NS_TEST_EXPECT_MSG_EQ(header.GetType(), ToraHeader::BEACON, "no frames");
-        header.AddFrame(ToraFrame(1, Bytes(HELLO)));
-        header.AddFrame(ToraFrame(2, Bytes(DATA_V2)));
-        NS_TEST_EXPECT_MSG_EQ(header.GetType(), ToraHeader::FRAMES, "frames");
-        Ptr<Packet> packet = Create<Packet>();
-        packet->AddHeader(header);
-        packet->AddPacketTag(ToraTag(5, 6, {1, 2}));
-        NS_TEST_EXPECT_MSG_EQ(packet->GetSize(), 8 + 7 + 38, "length");
-        std::vector<uint8_t> bytes(8);
-        packet->CopyData(bytes.data(), 8);
-        NS_TEST_EXPECT_MSG_EQ((bytes == Bytes("01020002 00000001")), true, "bytes");
-
-        ToraHeader read;
-        ToraTag tag;
-        packet->RemoveHeader(read);
-        packet->PeekPacketTag(tag);
-        NS_TEST_EXPECT_MSG_EQ(read.IsValid(), true, "it is a header");
-        NS_TEST_EXPECT_MSG_EQ(read.GetSender(), 1, "sender");
-        NS_TEST_ASSERT_MSG_EQ(read.GetFrames().size(), 2, "frames");
-        NS_TEST_EXPECT_MSG_EQ((read.GetFrames()[1].GetBytes() == Bytes(DATA_V2)), true, "bytes");
-        NS_TEST_EXPECT_MSG_EQ((tag.GetIds() == std::vector<uint64_t>{1, 2}), true, "numbers");
-        NS_TEST_EXPECT_MSG_EQ(tag.GetSerial(), 6, "serial");
-        std::ostringstream os;
-        read.Print(os);
-        NS_TEST_EXPECT_MSG_EQ(os.str(),
-                              "FRAMES of 0.0.0.1; to 0.0.0.2 HELLO lives 5 0; "
-                              "to 0.0.0.2 DATA 1 lives 5 9 QRY CLR",
-                              "text");
-
-        NS_TEST_EXPECT_MSG_EQ(Read("01010000 0a010101").IsValid(), true, "a beacon");
-        NS_TEST_EXPECT_MSG_EQ(Read("01010000 0a0101").IsValid(), false, "short");
-        NS_TEST_EXPECT_MSG_EQ(Read("02010000 0a010101").IsValid(), false, "another version");
-        NS_TEST_EXPECT_MSG_EQ(Read("01020000 0a010101").IsValid(), false, "no frames");
-        const std::string hello = "11 00000002 05 00";
-        NS_TEST_EXPECT_MSG_EQ(Read("01020001 00000001" + hello).IsValid(), true, "a HELLO");
-        NS_TEST_EXPECT_MSG_EQ(Read("01010001 00000001" + hello).IsValid(), false, "of no type");
-        NS_TEST_EXPECT_MSG_EQ(Read("01020002 00000001" + hello).IsValid(), false, "one missing");
-        NS_TEST_EXPECT_MSG_EQ(Read("01020001 00000001 00" + HELLO).IsValid(), true, "whole");
-        NS_TEST_EXPECT_MSG_EQ(Read("01020001 00000001 00 0101ffff" + HELLO.substr(8)).IsValid(),
-                              false,
-                              "a frame longer than the packet");
-    }
-};
 
 /**
  * \ingroup tora
@@ -274,6 +59,18 @@ class ToraQueueTestCase : public TestCase
         NS_TEST_EXPECT_MSG_EQ(queue.Take(Ipv4Address("10.1.1.1")).size(), 0, "none is left");
         NS_TEST_EXPECT_MSG_EQ(queue.Take(Ipv4Address("10.1.1.3")).size(), 1, "one is");
         NS_TEST_EXPECT_MSG_EQ(queue.GetSize(), 0, "and none then");
+        ToraQueueEntry returned = Entry("10.1.1.1", 30);
+        returned.from = 7;
+        returned.avoided = 8;
+        queue.Enqueue(returned);
+        Ipv4Address to("10.1.1.1");
+        NS_TEST_EXPECT_MSG_EQ(queue.Has(to, 7), false, "not where it came from");
+        NS_TEST_EXPECT_MSG_EQ(queue.Take(to, 8).size(), 0, "nor where it was before");
+        NS_TEST_EXPECT_MSG_EQ(queue.Has(Ipv4Address("10.1.1.2"), 9), false, "elsewhere");
+        NS_TEST_EXPECT_MSG_EQ(queue.Has(to, 9), true, "to another");
+        queue.Enqueue(first);
+        NS_TEST_EXPECT_MSG_EQ(queue.Take(to, 7).size(), 1, "the other may go there");
+        NS_TEST_EXPECT_MSG_EQ(queue.Take(to, 9).size(), 1, "and it to another");
         queue.SetMaxLength(0);
         NS_TEST_EXPECT_MSG_EQ(queue.Enqueue(first).has_value(), true, "no room at all");
     }
@@ -382,8 +179,6 @@ class ToraTestSuite : public TestSuite
     ToraTestSuite()
         : TestSuite("tora", UNIT)
     {
-        AddTestCase(new ToraFrameTestCase, TestCase::QUICK);
-        AddTestCase(new ToraHeaderTestCase, TestCase::QUICK);
         AddTestCase(new ToraQueueTestCase, TestCase::QUICK);
         AddTestCase(new ToraNoEngineTestCase, TestCase::QUICK);
     }

@@ -1,0 +1,89 @@
+#include "tora-comparison.h"
+
+#include "ns3/aodv-helper.h"
+#include "ns3/core-module.h"
+#include "ns3/dsdv-helper.h"
+#include "ns3/olsr-helper.h"
+#include "ns3/tora-helper.h"
+
+namespace ns3
+{
+
+namespace
+{
+
+// Streams of ns-3's generator
+constexpr int64_t STACK_STREAM = 50000;   ///< IP
+constexpr int64_t ROUTING_STREAM = 90000; ///< the routing protocol
+
+} // namespace
+
+std::unique_ptr<Ipv4RoutingHelper>
+ToraComparison::MakeTora() const
+{
+    auto tora = std::make_unique<ToraHelper>();
+    tora->Set("Program", StringValue(m_setup.program));
+    tora->Set("Times", StringValue(m_setup.times));
+    tora->Set("Tick", StringValue(m_setup.tick));
+    tora->Set("Notice", BooleanValue(m_setup.isNoticing));
+    tora->Set("NoticeReturn", BooleanValue(m_setup.isReturnNoticed));
+    tora->Set("WaitReturn", BooleanValue(m_setup.isReturnWaiting));
+    tora->Set("Salvage", BooleanValue(m_setup.isSalvaging));
+    tora->Set("Record", StringValue(m_setup.record));
+    tora->Set("Large", BooleanValue(m_setup.isLarge));
+    return tora;
+}
+
+std::unique_ptr<Ipv4RoutingHelper>
+ToraComparison::MakeHelper() const
+{
+    if (m_setup.protocol == "TORA")
+    {
+        return MakeTora();
+    }
+    if (m_setup.protocol == "AODV")
+    {
+        return std::make_unique<AodvHelper>();
+    }
+    if (m_setup.protocol == "OLSR")
+    {
+        return std::make_unique<OlsrHelper>();
+    }
+    if (m_setup.protocol == "DSDV")
+    {
+        return std::make_unique<DsdvHelper>();
+    }
+    NS_FATAL_ERROR("no protocol " << m_setup.protocol << ": TORA, AODV, OLSR or DSDV");
+}
+
+void
+ToraComparison::MakeRouting()
+{
+    InternetStackHelper stack;
+    std::unique_ptr<Ipv4RoutingHelper> routing = MakeHelper();
+    stack.SetRoutingHelper(*routing);
+    stack.Install(m_nodes);
+    Ipv4AddressHelper addresses("10.1.0.0", "255.255.0.0");
+    m_interfaces = addresses.Assign(m_devices);
+    stack.AssignStreams(m_nodes, STACK_STREAM);
+    AssignStreams(routing.get());
+}
+
+void
+ToraComparison::AssignStreams(Ipv4RoutingHelper* routing)
+{
+    if (auto* tora = dynamic_cast<ToraHelper*>(routing))
+    {
+        tora->AssignStreams(m_nodes, ROUTING_STREAM);
+    }
+    else if (auto* aodv = dynamic_cast<AodvHelper*>(routing))
+    {
+        aodv->AssignStreams(m_nodes, ROUTING_STREAM);
+    }
+    else if (auto* olsr = dynamic_cast<OlsrHelper*>(routing))
+    {
+        olsr->AssignStreams(m_nodes, ROUTING_STREAM);
+    }
+}
+
+} // namespace ns3

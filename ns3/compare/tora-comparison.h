@@ -1,0 +1,230 @@
+#ifndef TORA_COMPARISON_H
+#define TORA_COMPARISON_H
+
+#include "ns3/internet-module.h"
+#include "ns3/network-module.h"
+#include "ns3/tora-frame.h"
+#include "ns3/tora-header.h"
+#include "ns3/tora-routing.h"
+
+#include <cstdint>
+#include <map>
+#include <memory>
+#include <set>
+#include <string>
+#include <vector>
+
+namespace ns3
+{
+
+/**
+ * \ingroup tora
+ * \brief What a run of the comparison is.
+ */
+struct ToraComparisonSetup
+{
+    std::string protocol{"TORA"}; //!< TORA, AODV, OLSR or DSDV
+    std::string label;            //!< what the row calls it, or nothing for the protocol
+    uint32_t nodes{20};           //!< how many nodes
+    double speed{10};             //!< the greatest speed in m/s; 0: nobody moves
+    uint32_t flows{5};            //!< how many flows
+    uint32_t seed{1};             //!< the run of ns-3's generator
+    double side{500};             //!< the side of the square in m
+    double range{250};            //!< the range of a radio in m
+    double seconds{120};          //!< how long packets are sent, from 10 s on
+    double rate{4};               //!< packets a second of each flow
+    uint32_t size{64};            //!< bytes of a packet's payload
+    std::string program{"tora"};  //!< TORA's engine
+    std::string times;            //!< its times
+    std::string tick{"100ms"};    //!< its tick
+    bool isNoticing{false};       //!< whether it is told of neighbours that are gone
+    bool isReturnNoticed{false};  //!< whether links are cut that packets come back from
+    bool isReturnWaiting{false};  //!< whether packets that come back wait for another next hop
+    bool isSalvaging{false};      //!< whether packets that the radio gives up wait once more
+    std::string record;           //!< the file for the engine's record
+    bool isLarge{false};          //!< whether nodes may have more than 32 neighbours
+    bool hasHeader{false};        //!< whether the names of the columns are printed, too
+};
+
+/**
+ * \ingroup tora
+ * \brief A run of the comparison, and what it counts.
+ *
+ * Moving nodes with radios, flows of data packets, and one of four routing protocols. The same seed
+ * gives the same motion, flows and radios, whatever the protocol.
+ */
+class ToraComparison
+{
+  public:
+    /**
+     * Makes nodes, routing and flows.
+     *
+     * \param setup what the run is
+     */
+    explicit ToraComparison(const ToraComparisonSetup& setup);
+    /// Runs the simulation.
+    void Run();
+    /// Prints the row of the run.
+    void Print() const;
+    /// TORA: prints the heights of all destinations on standard error; the lines that ask are the
+    /// record's last.
+    void PrintHeights() const;
+
+  private:
+    /// When data packets begin, in seconds.
+    static constexpr double START = 10;
+    /// How long the run goes on behind the last one, in seconds.
+    static constexpr double REST = 10;
+
+    /// What happened last to a data packet that may have been lost by it.
+    enum class Fate
+    {
+        NONE,      //!< nothing: it arrived, waits at the end of the run, or was dropped in silence
+        RADIO,     //!< a radio gave it up after its last retry
+        ARP,       //!< ARP dropped it
+        NO_ROUTE,  //!< a node dropped it for want of a route
+        CAME_BACK, //!< TORA: it came back to a node
+        LATE       //!< TORA: its time in a queue was over, or the queue was full
+    };
+
+    /// What is known of a data packet under way, by its number in the run.
+    struct UnderWay
+    {
+        Ipv4Address source;     //!< its source
+        uint32_t hops{1};       //!< hops until now, with the first one
+        uint32_t least{0};      //!< hops of the shortest path as it was sent, or 0
+        Fate fate{Fate::NONE};  //!< what happened to it last
+        bool hasArrived{false}; //!< whether it arrived
+    };
+
+    /// Makes the nodes and their motion.
+    void MakeNodes();
+    /// Makes their radios.
+    void MakeRadios();
+    /**
+     * \returns the helper of the routing protocol
+     */
+    std::unique_ptr<Ipv4RoutingHelper> MakeHelper() const;
+    /**
+     * \returns the helper of TORA
+     */
+    std::unique_ptr<Ipv4RoutingHelper> MakeTora() const;
+    /// Installs IP and the routing protocol.
+    void MakeRouting();
+    /**
+     * Gives the routing protocol its streams of random numbers.
+     *
+     * \param routing its helper
+     */
+    void AssignStreams(Ipv4RoutingHelper* routing);
+    /// Makes flows.
+    void MakeFlows();
+    /**
+     * Sends a data packet.
+     *
+     * \param socket the socket of its flow
+     * \param to the place of its sink
+     */
+    void Send(Ptr<Socket> socket, uint32_t to);
+    /**
+     * Data packets came.
+     *
+     * \param socket the socket of their sink
+     */
+    void Receive(Ptr<Socket> socket);
+    /**
+     * A node's IP hands a packet to a device.
+     *
+     * \param packet the packet, with its header
+     */
+    void CountControl(Ptr<const Packet> packet, Ptr<Ipv4>, uint32_t);
+    /**
+     * A node of TORA broadcasts.
+     *
+     * \param header what it broadcasts
+     */
+    void CountFrames(Ptr<const Packet>, const ToraHeader& header);
+    /**
+     * A node forwards a packet.
+     *
+     * \param header its header
+     * \param packet the packet
+     */
+    void CountHop(const Ipv4Header& header, Ptr<const Packet> packet, uint32_t);
+    /**
+     * Finds the shortest path now.
+     *
+     * \param from the place of a node
+     * \param to the place of another
+     * \returns how many hops it has, or 0 where there is none
+     */
+    uint32_t Shortest(uint32_t from, uint32_t to) const;
+    /// Connects what counts packets.
+    void WatchPackets();
+    /**
+     * Connects what drops data packets.
+     *
+     * \param node the place of a node
+     */
+    void WatchDrops(uint32_t node);
+    /**
+     * Connects what drops data packets in TORA.
+     *
+     * \param tora the routing of a node
+     */
+    void WatchTora(Ptr<ToraRouting> tora);
+    /**
+     * Something happened to a packet.
+     *
+     * \param packet the packet
+     * \param fate what
+     */
+    void Note(Ptr<const Packet> packet, Fate fate);
+    /**
+     * \param fate what happened last to a packet
+     * \returns how many packets that did not arrive have that fate
+     */
+    uint32_t Lost(Fate fate) const;
+    /**
+     * \param share a share
+     * \returns that quantile of the delays in ms, or nothing where nothing arrived
+     */
+    std::string DelayAt(double share) const;
+    /**
+     * \returns how often data packets came back to a node of TORA
+     */
+    uint32_t CameBack() const;
+    /**
+     * \param kind a kind of frames
+     * \returns how many of them nodes of TORA broadcast
+     */
+    uint64_t CountOf(ToraFrame::Kind kind) const;
+    /**
+     * Prints the columns of what the run was, what arrived and what it cost.
+     *
+     * \param os the stream
+     */
+    void PrintMeans(std::ostream& os) const;
+
+    ToraComparisonSetup m_setup;          //!< what the run is
+    NodeContainer m_nodes;                //!< the nodes
+    NetDeviceContainer m_devices;         //!< their radios
+    Ipv4InterfaceContainer m_interfaces;  //!< their interfaces
+    std::vector<Ptr<Socket>> m_sockets;   //!< sources and sinks
+    std::map<uint64_t, UnderWay> m_under; //!< packets under way, by their number in ns-3
+    uint32_t m_sequence{0};               //!< how many packets were sent
+    uint32_t m_reachable{0};              //!< how many of them had a path as they were sent
+    std::set<uint32_t> m_arrived;         //!< those that arrived, by number
+    std::vector<double> m_delays;         //!< delays of those that arrived, in ms
+    uint64_t m_hops{0};                   //!< their hops
+    uint64_t m_leastHops{0};              //!< hops of shortest paths, of those that had one
+    uint64_t m_pathHops{0};               //!< the hops of these
+    uint64_t m_controlBytes{0};   //!< bytes of control packets, with headers of IPv4 and UDP
+    uint64_t m_controlPackets{0}; //!< control packets
+    std::map<ToraFrame::Kind, uint64_t> m_frames; //!< TORA: frames by kind
+    uint32_t m_late{0};                           //!< TORA: packets whose time in a queue was over
+};
+
+} // namespace ns3
+
+#endif /* TORA_COMPARISON_H */
