@@ -1,22 +1,24 @@
 #!/usr/bin/env bash
-# Time of `tora drive` beside `tora sim` of the same events: a grid of 8 x 8 nodes, 1,000 steps, each datagram delivered. The
+# Time of `tora drive` beside `tora sim` of the same events: a grid of 10 x 10 nodes, 1,000 steps, each datagram delivered. The
 # lines are those of one run over a pipe (tools/drive.py), which is timed too; then both read their lines from a file.
-# usage: bench/drive.sh [STEPS] [RUNS] [PROGRAM]
+# usage: bench/drive.sh [STEPS] [RUNS] [PROGRAM] [SIDE]     SIDE: so many nodes along each side, up to 32; 10 without it
 set -eu
 top=$(cd "$(dirname "$0")/.." && pwd)
 steps=${1:-1000}
 runs=${2:-5}
 program=${3:-$top/crates/tora/out/tora}
+side=${4:-10}
+last=$((side * side))
 work=$(mktemp -d)
 trap 'rm -rf "$work"' EXIT
 
 {
-  echo "dests 1,64"
-  for row in $(seq 0 7); do
-    for column in $(seq 1 8); do
-      node=$((row * 8 + column))
-      [ "$column" = 8 ] || echo "link $node $((node + 1))"
-      [ "$row" = 7 ] || echo "link $node $((node + 8))"
+  echo "dests 1,$last"
+  for row in $(seq 0 $((side - 1))); do
+    for column in $(seq 1 "$side"); do
+      node=$((row * side + column))
+      [ "$column" = "$side" ] || echo "link $node $((node + 1))"
+      [ "$row" = $((side - 1)) ] || echo "link $node $((node + side))"
     done
   done
 } >"$work/grid.sim"
@@ -33,11 +35,11 @@ least() {
   echo "$best"
 }
 
-drive() { "$program" drive <"$work/driven.txt"; }
+drive() { "$program" drive --large <"$work/driven.txt"; }
 
 start=$(date +%s%N)
-python3 "$top/tools/drive.py" --ticks "$steps" --need 1,64 --need 64,1 --keep "$work" "$program" "$work/grid.sim"
+python3 "$top/tools/drive.py" --large --ticks "$steps" --need "1,$last" --need "$last,1" --keep "$work" "$program" "$work/grid.sim"
 echo "over a pipe, with its driver: $((($(date +%s%N) - start) / 1000000)) ms, $(wc -l <"$work/driven.txt") lines"
-sim=$(least "$program" sim "$work/driven.sim")
+sim=$(least "$program" sim --large "$work/driven.sim")
 driven=$(least drive)
 echo "tora sim $sim ms, tora drive $driven ms: $((sim * 100 / driven)) % of its rate"

@@ -9,7 +9,8 @@
 # stored traces are those of a second, unverified simulator, which knows version 1 of frames alone: with a line `old N` for
 # every node the trace has to be the stored one byte for byte, and without these lines in all but its records of datagrams.
 # The simulator is TORA_SIM where that is set, else the program that stands in crates/tora/out; nothing is built.
-# The dissector tools/tora.lua is tried on a stored capture, where there is a tshark (package tshark). Else python3 is enough.
+# The dissector tools/tora.lua is tried on a stored capture, where there is a tshark (package tshark), and the module for ns-3 (ns3/check)
+# where it is built (ns3/build). Else python3 is enough.
 set -eu
 here=$(cd "$(dirname "$0")" && pwd)
 store=
@@ -463,6 +464,18 @@ jsonschema.validate(*[json.load(open(it)) for it in sys.argv[1:]])
   agrees "$work/wanted" "$work/routes" 'what examples/set-routes makes of it'
 }
 
+# The module for ns-3: its checks, where ns3/build has built it; the summary of a comparison without it.
+check_ns3() {
+  local rows=../../docs/studies/ns3-proved.csv
+  holds 'the summary of a comparison' python3 ../../ns3/compare/summary.py --less AODV "$rows" delivery
+  refuses 1 'there is no row of DSR' python3 ../../ns3/compare/summary.py --times DSR "$rows" delivery
+  if [ ! -x "${TORA_NS3_OUT:-$here/../out/ns3}/tora-test" ]; then
+    echo "check: the module for ns-3 is not built (ns3/build); of ns3/ the summary alone is tried"
+    return
+  fi
+  holds 'the module for ns-3' ../../ns3/check
+}
+
 check_simulator
 check_lock
 check_status
@@ -480,5 +493,6 @@ check_dissector
 check_install
 check_completion
 check_page_refusals
+check_ns3
 echo "$passed passed, $failed failed"
 [ "$failed" = 0 ]

@@ -1,7 +1,7 @@
 #!/usr/bin/env python3
 """Drives a world by `tora drive`, and compares it with `tora sim` of the same events.
 
-usage: tools/drive.py [--ticks N] [--loss P] [--seed S] [--need N,D ..] [--keep FOLDER] PROGRAM FILE
+usage: tools/drive.py [--ticks N] [--loss P] [--seed S] [--need N,D ..] [--large] [--keep FOLDER] PROGRAM FILE
 
   PROGRAM         the program `tora`
   FILE            `dests`, `link` and `old` lines of a simulation file
@@ -9,6 +9,7 @@ usage: tools/drive.py [--ticks N] [--loss P] [--seed S] [--need N,D ..] [--keep 
   --loss P        a datagram is lost with this probability, from 0 to 1 (0)
   --seed S        of the losses (1)
   --need N,D      a need that is put before the first step; any number of them
+  --large         the world may have up to 1,024 nodes with up to 255 neighbours each, as with `tora drive --large`
   --keep FOLDER   keeps there driven.txt, the lines that were said, driven.sim, the simulation file of the same events, and record.sim,
                   what `tora drive --record` wrote
 
@@ -34,9 +35,9 @@ LEAST_WORDS = {"hop": 4, "sent": 5, "node": 5}  # of lines of an answer
 class Drive:
     """A running `tora drive`, the lines said to it, and the next hops that it told."""
 
-    def __init__(self, program, record):
+    def __init__(self, program, limits, record):
         how = {"stdin": subprocess.PIPE, "stdout": subprocess.PIPE, "text": True, "errors": "replace"}
-        self.process = subprocess.Popen([program, "drive", "--record", record], **how)
+        self.process = subprocess.Popen([program, "drive", *limits, "--record", record], **how)
         self.said = []
         self.hops = {}
         greeting = self.process.stdout.readline()
@@ -86,6 +87,7 @@ def arguments():
     parser.add_argument("--loss", type=number_in(0, 1), default=0.0)
     parser.add_argument("--seed", type=at_least(0, MOST_TICKS), default=1)
     parser.add_argument("--need", action="append", default=[])
+    parser.add_argument("--large", action="store_true")
     parser.add_argument("--keep")
     parser.add_argument("-h", "--help", action="store_true")
     parser.add_argument("program", nargs="?")
@@ -116,8 +118,8 @@ def drive_all(drive, asked, first, dests):
     return sent, delivered, {d: heights(drive.say(f"heights {d}")) for d in dests}
 
 
-def simulated(program, path):
-    done = subprocess.run([program, "sim", path], stdout=subprocess.PIPE, text=True, errors="replace")
+def simulated(program, limits, path):
+    done = subprocess.run([program, "sim", *limits, path], stdout=subprocess.PIPE, text=True, errors="replace")
     if done.returncode:
         raise Refused(f"{path}: the simulator ends with status {done.returncode}")
     return done.stdout.splitlines()
@@ -136,7 +138,8 @@ def compare(asked, folder):
     first = first_lines(asked.file)
     dests = [d for d in first[0].split(" ")[1].split(",") if d != "-"]
     parts = ["part" + line[4:] for line in first if line.startswith("link ")]
-    drive = Drive(asked.program, folder / "record.sim")
+    limits = ["--large"] if asked.large else []
+    drive = Drive(asked.program, limits, folder / "record.sim")
     try:
         sent, delivered, ends = drive_all(drive, asked, first, dests)
     finally:
@@ -146,8 +149,8 @@ def compare(asked, folder):
         with writing(folder / name) as sink:
             sink.write("\n".join(lines) + "\n")
     wanted = [line for d in dests for line in ends[d][0]]
-    same = simulated(asked.program, folder / "driven.sim") == wanted
-    recorded = simulated(asked.program, folder / "record.sim") == wanted
+    same = simulated(asked.program, limits, folder / "driven.sim") == wanted
+    recorded = simulated(asked.program, limits, folder / "record.sim") == wanted
     told = all(drive.hops.get((n, d), "-") == hop for d in dests for n, hop in ends[d][1].items())
     word = {True: "the same", False: "others"}
     print(f"{asked.ticks} steps, {sent} datagrams, {delivered} delivered, status {status}")
