@@ -31,6 +31,7 @@ main(int argc, char* argv[])
     cmd.AddValue("flows", "how many flows", setup.flows);
     cmd.AddValue("seed", "the run of ns-3's generator", setup.seed);
     cmd.AddValue("side", "the side of the square in m", setup.side);
+    cmd.AddValue("height", "the other side of the area in m, 0: it is a square", setup.height);
     cmd.AddValue("range", "the range of a radio in m", setup.range);
     cmd.AddValue("seconds", "how long packets are sent", setup.seconds);
     cmd.AddValue("rate", "packets a second of each flow", setup.rate);

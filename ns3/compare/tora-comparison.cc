@@ -41,10 +41,12 @@ void
 ToraComparison::MakeNodes()
 {
     m_nodes.Create(m_setup.nodes);
-    std::string side = "ns3::UniformRandomVariable[Min=0|Max=" + std::to_string(m_setup.side) + "]";
+    auto places = [](double side) {
+        return StringValue("ns3::UniformRandomVariable[Min=0|Max=" + std::to_string(side) + "]");
+    };
     ObjectFactory factory("ns3::RandomRectanglePositionAllocator");
-    factory.Set("X", StringValue(side));
-    factory.Set("Y", StringValue(side));
+    factory.Set("X", places(m_setup.side));
+    factory.Set("Y", places(m_setup.height > 0 ? m_setup.height : m_setup.side));
     Ptr<PositionAllocator> positions = factory.Create<PositionAllocator>();
     MobilityHelper mobility;
     mobility.SetPositionAllocator(positions);

@@ -30,6 +30,7 @@ struct ToraComparisonSetup
     uint32_t flows{5};            //!< how many flows
     uint32_t seed{1};             //!< the run of ns-3's generator
     double side{500};             //!< the side of the square in m
+    double height{0};             //!< the other side of the area in m; 0: it is a square
     double range{250};            //!< the range of a radio in m
     double seconds{120};          //!< how long packets are sent, from 10 s on
     double rate{4};               //!< packets a second of each flow

@@ -258,6 +258,43 @@ class ToraChangesTestCase : public TestCase
 
 /**
  * \ingroup tora
+ * \brief Link ends with short times: no packet waits for the radio behind another.
+ */
+class ToraShortTimesTestCase : public TestCase
+{
+  public:
+    ToraShortTimesTestCase()
+        : TestCase("Short times make no storm: at most a packet a tick, and data arrive")
+    {
+    }
+
+  private:
+    void DoRun() override
+    {
+        ToraHelper tora;
+        tora.Set("Times", StringValue("5,15,2,6"));
+        ToraNet net({0, 25, 50, 75, 100, 125, 150, 175, 400}, tora);
+        std::vector<uint32_t> counts(net.m_nodes.GetN());
+        for (uint32_t i = 0; i < counts.size(); i++)
+        {
+            net.RoutingOf(i)->TraceConnectWithoutContext(
+                "Control",
+                Callback<void, Ptr<const Packet>, const ToraHeader&>(
+                    [&counts, i](Ptr<const Packet>, const ToraHeader&) { counts[i]++; }));
+        }
+        net.Flow(0, 8, 5, 80);
+        net.Run(30);
+        NS_TEST_EXPECT_MSG_EQ(net.m_received, 80, "packets over two hops");
+        NS_TEST_EXPECT_MSG_EQ(net.m_leastTtl, 63, "two hops");
+        for (uint32_t count : counts)
+        {
+            NS_TEST_EXPECT_MSG_LT_OR_EQ(count, 301, "a packet a tick of 100 ms");
+        }
+    }
+};
+
+/**
+ * \ingroup tora
  * \brief Small simulations.
  */
 class ToraRunTestSuite : public TestSuite
@@ -270,6 +307,7 @@ class ToraRunTestSuite : public TestSuite
         AddTestCase(new ToraGoneTestCase, TestCase::QUICK);
         AddTestCase(new ToraClearTestCase, TestCase::QUICK);
         AddTestCase(new ToraChangesTestCase, TestCase::QUICK);
+        AddTestCase(new ToraShortTimesTestCase, TestCase::QUICK);
     }
 };
 
