@@ -206,7 +206,7 @@ class ToraChangesTestCase : public TestCase
 {
   public:
     ToraChangesTestCase()
-        : TestCase("Interfaces go down and up, nodes begin anew, old nodes, frames as bytes")
+        : TestCase("Interfaces, addresses and nodes go and come, old nodes, frames as bytes")
     {
     }
 
@@ -235,9 +235,29 @@ class ToraChangesTestCase : public TestCase
         NS_TEST_EXPECT_MSG_EQ(net.m_received, 60, "packets after the node began anew");
     }
 
+    /// A node loses its address, and has it again.
+    void LoseAddress()
+    {
+        ToraNet net({0, 200, 400}, ToraHelper());
+        Ptr<Ipv4> middle = net.m_nodes.Get(1)->GetObject<Ipv4>();
+        Ipv4InterfaceAddress address = middle->GetAddress(1, 0);
+        net.Flow(0, 2, 5, 20);
+        net.Run(15);
+        NS_TEST_EXPECT_MSG_EQ(net.m_received, 20, "packets before");
+        middle->RemoveAddress(1, 0);
+        net.Run(25);
+        NS_TEST_EXPECT_MSG_EQ(net.RoutingOf(0)->GetHeard().size(), 0, "it is not heard");
+        middle->AddAddress(1, address);
+        net.Run(30);
+        net.Flow(0, 2, 0.1, 20);
+        net.Run(40);
+        NS_TEST_EXPECT_MSG_EQ(net.m_received, 40, "packets after");
+    }
+
     void DoRun() override
     {
         GoDownAndUp();
+        LoseAddress();
         {
             ToraNet net({0, 200, 400}, ToraHelper());
             net.RoutingOf(1)->SetAttribute("Old", BooleanValue(true));
