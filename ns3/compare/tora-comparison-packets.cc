@@ -29,8 +29,12 @@ ToraComparison::WatchPackets()
     {
         Ptr<Ipv4L3Protocol> ip = m_nodes.Get(i)->GetObject<Ipv4L3Protocol>();
         ip->TraceConnectWithoutContext("Tx", MakeCallback(&ToraComparison::CountControl, this));
-        ip->TraceConnectWithoutContext("UnicastForward",
-                                       MakeCallback(&ToraComparison::CountHop, this));
+        // (the node is told here: DSDV's first updates are sent where the simulator is at no node)
+        Callback<void, const Ipv4Header&, Ptr<const Packet>, uint32_t> forward(
+            [this, i](const Ipv4Header& header, Ptr<const Packet> packet, uint32_t) {
+                CountHop(i, header, packet);
+            });
+        ip->TraceConnectWithoutContext("UnicastForward", forward);
         WatchDrops(i);
         if (auto tora = m_nodes.Get(i)->GetObject<ToraRouting>())
         {
@@ -164,10 +168,9 @@ ToraComparison::CountFrames(Ptr<const Packet>, const ToraHeader& header)
 }
 
 void
-ToraComparison::CountHop(const Ipv4Header& header, Ptr<const Packet> packet, uint32_t)
+ToraComparison::CountHop(uint32_t node, const Ipv4Header& header, Ptr<const Packet> packet)
 {
     auto under = m_under.find(packet->GetUid());
-    uint32_t node = Simulator::GetContext();
     if (under != m_under.end() && header.GetSource() == under->second.source &&
         m_interfaces.GetAddress(node) != under->second.source)
     {

@@ -148,10 +148,11 @@ class ToraComparison
     /**
      * A node forwards a packet.
      *
+     * \param node the node that sends it on, counted from 0
      * \param header its header
      * \param packet the packet
      */
-    void CountHop(const Ipv4Header& header, Ptr<const Packet> packet, uint32_t);
+    void CountHop(uint32_t node, const Ipv4Header& header, Ptr<const Packet> packet);
     /**
      * Finds the shortest path now.
      *
