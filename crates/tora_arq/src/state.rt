@@ -14,26 +14,10 @@ use std::alloc::{AllocError, Global};
 use tora_frame::GREATEST_NUMBER;
 use tora_packet::Packet;
 
-/// The state of a link end.
+/// The state of a link end. What a HELLO and a tick look at stands in front.
 #[derive(Debug, Drop)]
 pub struct State {
     pub phase: Phase,
-    /// The greatest life of the peer that was noted, 0 for none.
-    pub heard: u64,
-    /// The number of the last life, 0 before the first.
-    pub last_life: u64,
-    /// The packets submitted and not acknowledged.
-    pub queue: SendQueue,
-    /// How many packets the peer has accepted, as far as it told.
-    pub acknowledged: u64,
-    /// The greatest number of a packet that was transmitted.
-    pub transmitted: u64,
-    /// How many packets of the peer were delivered.
-    pub accepted: u64,
-    /// The packets of the peer that came early.
-    pub held: HeldPackets,
-    /// The events that were not polled.
-    pub events: EventQueue,
     /// The mark that the peer speaks version 2.
     pub speaks_two: bool,
     pub owes_hello: bool,
@@ -44,6 +28,22 @@ pub struct State {
     pub last_hello: Option<u64>,
     /// The tick at which the peer was last heard.
     pub last_hearing: u64,
+    /// The packets submitted and not acknowledged.
+    pub queue: SendQueue,
+    /// The events that were not polled.
+    pub events: EventQueue,
+    /// The greatest number of a packet that was transmitted.
+    pub transmitted: u64,
+    /// The greatest life of the peer that was noted, 0 for none.
+    pub heard: u64,
+    /// How many packets the peer has accepted, as far as it told.
+    pub acknowledged: u64,
+    /// How many packets of the peer were delivered.
+    pub accepted: u64,
+    /// The packets of the peer that came early.
+    pub held: HeldPackets,
+    /// The number of the last life, 0 before the first.
+    pub last_life: u64,
 }
 
 impl State {

@@ -3,24 +3,24 @@ use Rattle.std.specs.Prelude.{◌≡◌, ◌⊎◌, ℕ, Bool, false, List, Opti
 use Rattle.std.specs.Io.KnownBytes.{Appends}
 use Rattle.tora_arq.specs.declared.times.Times.{Times}
 use Rattle.tora_world.specs.declared.limits.Limits.{Limits}
-use Rattle.tora_lines.specs.LineText.{Rules}
-use Rattle.tora_drive.specs.DriveText.{DriveView, drive_rules, greeting}
+use Rattle.tora_lines.specs.LineText.{Text}
+use Rattle.tora_drive.specs.DriveText.{drive_rules, shortened_text, greeting}
 use Rattle.tora_drive.specs.Recording.{recorded_rules}
-use Rattle.tora_simulate.specs.Endings.{EndsBy, IsUnopened}
+use Rattle.tora_simulate.specs.Endings.{EndsWith, IsUnopened}
 
 -- The greeting was written, and behind it the status is that of an end of the engine over a reader that gives this input.
-pub record EndsGreeted {W : Type 0} (rules : Rules DriveView) (contents : W → Option (List ℕ)) (did_flush : W → Bool → W → Type 0) (input : Option (List ℕ)) (old new : W) (is_lost : Bool) (status : ℕ) : Type 0 where
+pub record EndsGreeted {W : Type 0} (text : List ℕ → Text) (contents : W → Option (List ℕ)) (did_flush : W → Bool → W → Type 0) (input : Option (List ℕ)) (old new : W) (is_lost : Bool) (status : ℕ) : Type 0 where
   pub greeted : W
   pub greets : Appends (contents old) (contents greeted) greeting
-  pub ends : EndsBy rules contents did_flush input greeted new is_lost status
+  pub ends : EndsWith text contents did_flush input greeted new is_lost status
 
 -- The same, or the greeting could not be written.
 abbrev pub EndsDrive : {W : Type 0} → Limits → Times → (W → Option (List ℕ)) → (W → Bool → W → Type 0) → Option (List ℕ) → W → W → ℕ → Type 0
-EndsDrive limits times contents did_flush input old new status = EndsGreeted (drive_rules limits times) contents did_flush input old new false status ⊎ (status ≡ 1)
+EndsDrive limits times contents did_flush input old new status = EndsGreeted (shortened_text (drive_rules limits times)) contents did_flush input old new false status ⊎ (status ≡ 1)
 
 -- The same of a drive that is recorded, whose record is lost or not.
 abbrev pub EndsRecorded : {W : Type 0} → Limits → Times → (W → Option (List ℕ)) → (W → Bool → W → Type 0) → Option (List ℕ) → W → W → Bool → ℕ → Type 0
-EndsRecorded limits times contents did_flush input old new is_lost status = EndsGreeted (recorded_rules limits times) contents did_flush input old new is_lost status ⊎ (status ≡ 1)
+EndsRecorded limits times contents did_flush input old new is_lost status = EndsGreeted (shortened_text (recorded_rules limits times)) contents did_flush input old new is_lost status ⊎ (status ≡ 1)
 
 -- The same, or the file of the record could not be made, and nothing was written.
 abbrev pub EndsRecordedTo : {W : Type 0} → Limits → Times → (W → Option (List ℕ)) → (W → Bool → W → Type 0) → Option (List ℕ) → W → W → ℕ → Type 0

@@ -268,7 +268,7 @@ and one last line:
   refused N           the event is refused, as `tora sim` refuses it
   fault N CAUSE       the line, the N-th, says nothing
 A line that is refused or a fault changes nothing. A line of more than 4096
-bytes ends the drive.
+bytes is a fault, as an empty one is.
 
 Lines of its own, behind the links:
   step                a round in which no datagram is delivered
@@ -289,7 +289,7 @@ each step. `notice` is a fault then, as no line of a file stands for it.
 
 Exit statuses:
   0  the input ended
-  1  a line is too long, input or output failed, or the record can't be written
+  1  input or output failed, or the record can't be written
   2  usage
   5  memory was refused";
 

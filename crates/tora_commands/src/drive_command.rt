@@ -62,9 +62,8 @@ fn run_with<T: AllocGlobal + Eprint, R: Read + Drop, W: Output>(
 }
 
 /// Drives a world by the lines that a reader gives, with the times of link ends that a word asks for, within the greatest limits
-/// where it `is_large` and else within the standard ones, and ends with a status: 0 at the end of the input, 1 where a line is too
-/// long or reading or writing failed, 5 where memory was refused. A word that gives no times is a fault of usage, and nothing is
-/// written.
+/// where it `is_large` and else within the standard ones, and ends with a status: 0 at the end of the input, 1 where reading or
+/// writing failed, 5 where memory was refused. A word that gives no times is a fault of usage, and nothing is written.
 ///
 /// The writer has to hand on at once what is written: whoever drives waits for it.
 pub fn run<T: AllocGlobal + Eprint, R: Read + Drop, W: Output>(

@@ -1,23 +1,22 @@
 -- A drive that is recorded is a drive, in which no line says `notice N K`.
-use Rattle.std.proofs.Common.{◌≡◌, ℕ, ◌+◌, Bool, true, false, List, [], ◌∷◌, length, map, if◌then◌else◌, Option, Some, None, refl, sym, ap, ◌∙◌, subst}
+use Rattle.std.proofs.Common.{◌≡◌, ℕ, ◌+◌, Bool, true, false, List, [], ◌∷◌, length, map, if◌then◌else◌, Option, Some, None, refl, ap, ◌∙◌}
 use Rattle.std.specs.Prelude.{nat_lt, option_map}
-use Rattle.std.specs.List.{AllByRecursion}
-use Rattle.std.specs.Option.{option_map_or, option_and_then}
+use Rattle.std.proofs.lemmas.Bool.{lt-ltb}
+use Rattle.std.specs.Option.{option_and_then}
 use Rattle.tora_arq.specs.declared.times.Times.{Times}
 use Rattle.tora_lines.specs.Fronts.{after}
 use Rattle.tora_lines.specs.LineText.{reply, state_behind}
 use Rattle.tora_world.specs.declared.limits.Limits.{Limits}
-use Rattle.tora_world.specs.World.{World, world_after_all}
+use Rattle.tora_world.specs.World.{World}
 use Rattle.tora_script.specs.Setup.{plain}
 use Rattle.tora_script.specs.Simulator.{started}
 use Rattle.tora_script.specs.SimulationLines.{is_word, dests_of, link_of, old_of, end_event_of, node_event_of, walk_line_of, order_line_of, simulation_line_of}
 use Rattle.tora_script.specs.SimulationText.{RunningView, Progress, begun_in}
-use Rattle.tora_drive.specs.declared.line.DriveLine.TheVariants.{Notice}
 use Rattle.tora_drive.specs.DriveLines.{own_line_of, drive_line_of}
 use Rattle.tora_drive.specs.DriveText.{OwnView, DriveView, answer_to, first_answer, place_reply, drive_reply, drive_rules, running_at}
-use Rattle.tora_drive.specs.Recording.{says_notice, unrecorded, recorded_rules}
-use Rattle.tora_drive.specs.Runs.{IsNotice, SaysNoNotice, happening, after_all_driven, IsOfEvents}
-use Rattle.tora_drive.specs.RecordedRuns.{unnoticed, IsOfHappened, RecordedAreDrives, RecordedSaysNoNotice, EveryRecordedDrive}
+use Rattle.tora_drive.specs.Recording.{says_notice, unrecorded, recorded_reply, recorded_rules}
+use Rattle.tora_drive.specs.Runs.{IsNotice, SaysNoNotice, after_all_driven, IsOfEvents}
+use Rattle.tora_drive.specs.RecordedRuns.{unnoticed, IsOfHappened, LongLinesAreFaults, RecordedAreDrives, RecordedSaysNoNotice, EveryRecordedDrive}
 use Rattle.tora_drive.specs.Taking.{line_in}
 use Rattle.tora_drive.proofs.RunLaws.{happened_all, drives_are_runs}
 
@@ -44,6 +43,18 @@ unfolding place_reply dests_of link_of old_of after
 no_place limits times o Progress.First = refl
 no_place limits times o (Progress.Links dests links olds) = no_first limits times o dests links olds
 no_place limits times o (Progress.Runs s) = rw (no_answer s o) refl
+
+-- ---- a line that is too long is like an empty one
+
+pub long_is_fault : LongLinesAreFaults drive_reply
+long_is_fault limits times v line long =
+    let over : nat_lt 4096 (length line) ≡ true = lt-ltb _ _ long in
+    rw (over, no_place limits times v.place.own v.place.progress) refl
+
+pub long_is_recorded_fault : LongLinesAreFaults recorded_reply
+long_is_recorded_fault limits times v line long =
+    let over : nat_lt 4096 (length line) ≡ true = lt-ltb _ _ long in
+    rw (over, no_line, no_place limits times v.place.own v.place.progress) refl
 
 -- ---- a line that says `notice N K` is like an empty one
 

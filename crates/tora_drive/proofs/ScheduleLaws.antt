@@ -13,7 +13,7 @@ use Rattle.tora_world.specs.Gaps.{EveryEnd, IsWithoutGap}
 use Rattle.tora_world.specs.Walks.{AreIds, EveryWorld}
 use Rattle.tora_sim.specs.Topologies.{topology_of, with_olds, with_old}
 use Rattle.tora_script.specs.Simulator.{with_old_node, mixed_topology, started}
-use Rattle.tora_drive.specs.Runs.{DriveEvent, after_driven, after_all_driven, schedule_of_one, schedule_of, SaysNoNotice, IsOfEvents, EveryDrive, AreSchedules, HasNoGaps}
+use Rattle.tora_drive.specs.Runs.{DriveEvent, after_driven, schedule_of_one, schedule_of, SaysNoNotice, IsOfEvents, EveryDrive, AreSchedules, HasNoGaps}
 use Rattle.tora_drive.proofs.RunLaws.{drives_are_runs}
 
 -- ---- events are a schedule

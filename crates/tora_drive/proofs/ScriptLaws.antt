@@ -5,21 +5,18 @@ use Rattle.std.specs.Option.{option_map_or, option_and_then}
 use Rattle.std.specs.Fmt.{decimal}
 use Rattle.hex.specs.Hex.{encode_lower, lower_digits}
 use Rattle.hex.proofs.HexLemmas.{length-encode_with, decode_of-encode_lower}
-use Rattle.tora_arq.specs.LinkEnd.{bound_life}
 use Rattle.tora_frame.specs.FrameParts.{FrameParts}
 use Rattle.tora_world.specs.declared.event.Event.{Event}
 use Rattle.tora_world.specs.declared.event.Event.TheVariants as Happen
 use Rattle.tora_world.specs.World.{World, refusal_of, world_by, world_after, world_after_all}
-use Rattle.tora_script.specs.declared.script_line.SimulationLine.{SimulationLine}
 use Rattle.tora_script.specs.declared.script_line.SimulationLine.TheVariants.{Happens, Rounds, Part, Mend, Heights, Sent, Taken, Exact, Walk, Rest}
 use Rattle.tora_script.specs.SimulationGrammar.{call_text, SpellsTorn, SpellsEvent}
 use Rattle.tora_script.proofs.SimulationHere.{simulation_line_here}
 use Rattle.tora_script.specs.SimulationText.{RunningView, Reply, event_reply, has_end, running_reply}
-use Rattle.tora_drive.specs.declared.line.DriveLine.{DriveLine}
 use Rattle.tora_drive.specs.declared.line.DriveLine.TheVariants.{Script, Step, Needs, Near, Far, Notice, Bytes, Forget}
 use Rattle.tora_drive.specs.DriveText.{OwnView, Outcome, outcome, quiet, shown, unnamed, named, with_far, without_far, is_forgotten, needs_text, bytes_line, outcome_of}
 use Rattle.tora_drive.specs.Recording.{torn_text, event_text}
-use Rattle.tora_drive.specs.Scripts.{script_of, simulated, CutsNothing, ScriptsStandForLines, IsTorn, HasNumbers, EventsAreRead}
+use Rattle.tora_drive.specs.Scripts.{simulated, ScriptsStandForLines, IsTorn, HasNumbers, EventsAreRead}
 use Rattle.tora_drive.specs.Steps.{step}
 
 -- events leave the world behind them

@@ -1,12 +1,13 @@
 -- Events that happen, and their lines behind a text.
 use Rattle.std.proofs.Common.{◌≡◌, ℕ, zero, suc, ◌+◌, ◌<◌, ◌≤◌, Bool, true, false, not, ◌||◌, List, [], ◌∷◌, ◌++◌, length, drop, get_or, None, Some, refl, sym, ap, ◌∙◌, append_assoc}
+use Rattle.std.specs.Prelude.{is_some}
 use Rattle.std.proofs.lemmas.List.{append-nil, drop_more, drop_all}
 use Rattle.std.proofs.lemmas.Grind.{flat_map-append}
 use Rattle.tora_world.specs.declared.event.Event.{Event}
 use Rattle.tora_world.specs.declared.sim_error.SimError.{SimError}
 use Rattle.tora_world.specs.World.{World, is_empty, refusal_of, world_after, world_after_all}
 use Rattle.tora_script.specs.Rounds.{Plan, repeats, plan_then, each, Happened}
-use Rattle.tora_script.proofs.RoundLaws.{Onward, begins, ends, again, refused, no_more, each_part, each_ends, Happened-then, after_then}
+use Rattle.tora_script.proofs.RoundLaws.{Onward, begins, again, refused, impossible, no_more, each_part, each_ends, Happened-then, after_then}
 use Rattle.tora_drive.specs.Steps.{step_pass, step_passes}
 use Rattle.tora_drive.specs.Recording.{event_line, events_text, HappenedTold, Told}
 use Rattle.tora_drive.proofs.StepLaws.{passes_on, passes_stop}
@@ -42,6 +43,10 @@ none_left : (now : World) (j : ℕ) (event : Event) (error : SimError) → refus
 unfolding repeats
 none_left now j event error stop = rw stop refl
 
+never : (now : World) (j : ℕ) (event : Event) → is_some (refusal_of now event) ≡ true → repeats (suc j) event now ≡ []
+unfolding repeats
+never now j event stop = rw stop refl
+
 no_times : (now : World) (event : Event) → repeats zero event now ≡ []
 unfolding repeats
 no_times now event = refl
@@ -60,6 +65,14 @@ pub told_refused : (w : World) (events : List Event) (now next : World) (some : 
 told_refused w events now next some j event error before text o stop is = record {
   happened = refused w events now next some j event error o.onward stop is;
   told = done events (repeats (suc j) event now) before text (none_left now j event error stop) o.tells;
+}
+
+-- it is refused, and so was not asked for
+pub told_impossible : (w : World) (events : List Event) (now : World) (some : Bool) (j : ℕ) (event : Event) (before text : List ℕ) → OnwardTold w events now some (repeats (suc j) event now) before text → is_some (refusal_of now event) ≡ true
+    → HappenedTold w events now some before text
+told_impossible w events now some j event before text o stop = record {
+  happened = impossible w events now some j event o.onward stop;
+  told = done events (repeats (suc j) event now) before text (never now j event stop) o.tells;
 }
 
 pub told_no_more : (w : World) (events : List Event) (now : World) (some : Bool) (event : Event) (before text : List ℕ) → OnwardTold w events now some (repeats zero event now) before text → HappenedTold w events now some before text

@@ -1,5 +1,5 @@
 -- What a drive prints for the lines that it is given.
-use Rattle.std.specs.Prelude.{ℕ, ◌+◌, Bool, true, false, not, nat_le, max, is_some, if◌then◌else◌, codes, List, [], ◌∷◌, ◌++◌, length, filter, Option, Some, None, option_map}
+use Rattle.std.specs.Prelude.{ℕ, ◌+◌, Bool, true, false, not, nat_le, max, is_some, if◌then◌else◌, codes, List, [], ◌∷◌, ◌++◌, length, filter, map, Option, Some, None, option_map}
 use Rattle.std.specs.List.{flat_map}
 use Rattle.std.specs.Option.{option_map_or, option_and_then}
 use Rattle.std.specs.Fmt.{decimal}
@@ -9,7 +9,9 @@ use Rattle.tora_frame.specs.FrameGrammar.{frame_spelling}
 use Rattle.tora_arq.specs.declared.times.Times.{Times}
 use Rattle.tora_arq.specs.LinkEnd.{bound_life}
 use Rattle.tora_lines.specs.declared.ended.Ended.{Ended}
-use Rattle.tora_lines.specs.LineText.{Rules, whole_text}
+use Rattle.tora_lines.specs.LineText.{Text, Rules, text_from}
+use Rattle.tora_lines.specs.Pieces.{pieces_of}
+use Rattle.tora_lines.specs.Shortened.{shortened}
 use Rattle.tora_lines.specs.Engine.{IsWholeText, IsFrontOfText}
 use Rattle.tora_world.specs.declared.event.Event.{Event}
 use Rattle.tora_world.specs.declared.event.Event.TheVariants as Happen
@@ -216,6 +218,12 @@ link_answer limits times o dests links olds line (Some link) old = option_map (a
 link_answer limits times o dests links olds line None (Some n) = option_map (acknowledged o) (with_old_line limits dests links olds n)
 link_answer limits times o dests links olds line None None = option_map running_at (first_answer limits times o dests links olds line)
 
+-- the same at any place: only links can have such a line behind them
+abbrev pub run_begun : Limits → Times → OwnView → Progress → List ℕ → Option Placed
+run_begun limits times o Progress.First line = None
+run_begun limits times o (Progress.Links dests links olds) line = option_map running_at (first_answer limits times o dests links olds line)
+run_begun limits times o (Progress.Runs s) line = None
+
 -- what a line leaves, and what is printed for it; None for a fault
 unfoldable pub place_reply : Limits → Times → OwnView → Progress → List ℕ → Option Placed
 place_reply limits times o Progress.First line = option_map (acknowledged o) (first_progress line)
@@ -275,10 +283,14 @@ greeting = codes "tora drive 1" ++ 10 ∷ []
 
 -- ---- what drive_in promises
 
+-- the text of an input, where a line of more than 4,096 bytes is taken as an empty one, which is a fault wherever it stands
+abbrev pub shortened_text : Rules DriveView → List ℕ → Text
+shortened_text rules bytes = text_from rules rules.start 1 (map shortened (pieces_of bytes))
+
 -- Known bytes grew by the answers to the lines of the input, and the input ends so.
 abbrev pub Drives : Limits → Times → List ℕ → Option (List ℕ) → Option (List ℕ) → Ended → Type 0
-Drives limits times input old new ended = IsWholeText (whole_text (drive_rules limits times)) input old new ended
+Drives limits times input old new ended = IsWholeText (shortened_text (drive_rules limits times)) input old new ended
 
 -- The reader gave some bytes, and the writer got a front of the answers to them.
 abbrev pub IsDriveBegun : Limits → Times → Option (List ℕ) → Option (List ℕ) → Option (List ℕ) → Option (List ℕ) → Type 0
-IsDriveBegun limits times old_reader new_reader old_writer new_writer = IsFrontOfText (whole_text (drive_rules limits times)) old_reader new_reader old_writer new_writer
+IsDriveBegun limits times old_reader new_reader old_writer new_writer = IsFrontOfText (shortened_text (drive_rules limits times)) old_reader new_reader old_writer new_writer

@@ -1,7 +1,8 @@
 -- Which worlds a drive has that is recorded.
-use Rattle.std.specs.Prelude.{◌≡◌, ℕ, if◌then◌else◌, List, [], map, Some}
+use Rattle.std.specs.Prelude.{◌≡◌, ℕ, ◌+◌, ◌<◌, if◌then◌else◌, List, [], length, map, Some}
 use Rattle.tora_arq.specs.declared.times.Times.{Times}
 use Rattle.tora_lines.specs.LineText.{state_behind}
+use Rattle.tora_lines.specs.Shortened.{shortened}
 use Rattle.tora_world.specs.declared.event.Event.{Event}
 use Rattle.tora_world.specs.declared.limits.Limits.{Limits}
 use Rattle.tora_world.specs.World.{World, world_after_all}
@@ -9,7 +10,7 @@ use Rattle.tora_world.specs.Walks.{AreIds}
 use Rattle.tora_sim.specs.Topologies.{topology_of}
 use Rattle.tora_script.specs.Simulator.{started}
 use Rattle.tora_script.specs.SimulationText.{RunningView, Progress}
-use Rattle.tora_drive.specs.DriveText.{DriveView, drive_rules}
+use Rattle.tora_drive.specs.DriveText.{DriveView, drive_rules, fault_line, cause_of}
 use Rattle.tora_drive.specs.Recording.{says_notice, recorded_rules}
 use Rattle.tora_drive.specs.Runs.{SaysNoNotice}
 
@@ -42,3 +43,9 @@ abbrev pub EveryRecordedDrive : (Limits → Times → World → Type 0) → Type
 EveryRecordedDrive Holds =
     (limits : Limits) (times : Times) (lines : List (List ℕ)) (v : DriveView) (s : RunningView)
     → state_behind (recorded_rules limits times) (recorded_rules limits times).start lines ≡ Some v → v.place.progress ≡ Progress.Runs s → Holds limits times s.world
+
+-- a line of more than 4,096 bytes, which is taken as an empty one, is a fault wherever it stands, and changes nothing
+abbrev pub LongLinesAreFaults : (Limits → Times → DriveView → List ℕ → DriveView × List ℕ) → Type 0
+LongLinesAreFaults reply =
+    (limits : Limits) (times : Times) (v : DriveView) (line : List ℕ)
+    → 4096 < length line → reply limits times v (shortened line) ≡ (record v { lines = v.lines + 1 }, fault_line (v.lines + 1) (cause_of limits v.place.progress []))

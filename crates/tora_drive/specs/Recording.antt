@@ -6,7 +6,7 @@ use Rattle.std.specs.Fmt.{decimal}
 use Rattle.hex.specs.Hex.{encode_lower}
 use Rattle.tora_arq.specs.declared.times.Times.{Times}
 use Rattle.tora_lines.specs.declared.ended.Ended.{Ended}
-use Rattle.tora_lines.specs.LineText.{Rules, whole_text}
+use Rattle.tora_lines.specs.LineText.{Rules}
 use Rattle.tora_lines.specs.Engine.{IsWholeText, IsFrontOfText}
 use Rattle.tora_world.specs.declared.event.Event.{Event}
 use Rattle.tora_world.specs.declared.event.Event.TheVariants as Happen
@@ -24,7 +24,7 @@ use Rattle.tora_drive.specs.declared.cause.Cause.TheVariants.{Recorded}
 use Rattle.tora_drive.specs.declared.line.DriveLine.{DriveLine}
 use Rattle.tora_drive.specs.declared.line.DriveLine.TheVariants.{Script, Step, Needs, Near, Far, Notice, Bytes, Forget}
 use Rattle.tora_drive.specs.DriveLines.{drive_line_of}
-use Rattle.tora_drive.specs.DriveText.{OwnView, outcome_of, place_reply, DriveView, drive_reply, drive_rules, fault_line}
+use Rattle.tora_drive.specs.DriveText.{OwnView, outcome_of, place_reply, DriveView, drive_reply, drive_rules, fault_line, shortened_text}
 use Rattle.tora_drive.specs.Steps.{is_far, step}
 use Rattle.tora_drive.specs.Taking.{line_in}
 
@@ -128,6 +128,12 @@ link_recorded r limits times o dests links olds line (Some link) old = with_line
 link_recorded r limits times o dests links olds line None (Some n) = with_line r line
 link_recorded r limits times o dests links olds line None None = first_recorded r limits times o dests links olds line
 
+-- the same at any place: only links can have such a line behind them
+abbrev pub run_recorded : Record → Limits → Times → OwnView → Progress → List ℕ → Record
+run_recorded r limits times o Progress.First line = r
+run_recorded r limits times o (Progress.Links dests links olds) line = first_recorded r limits times o dests links olds line
+run_recorded r limits times o (Progress.Runs s) line = r
+
 -- of any line
 unfoldable pub place_recorded : Record → Limits → Times → OwnView → Progress → List ℕ → Record
 place_recorded r limits times o Progress.First line = with_line r line
@@ -176,8 +182,8 @@ recorded_rules limits times = record { start = (drive_rules limits times).start;
 
 -- Known bytes grew by the answers to the lines of the input, and the input ends so.
 abbrev pub DrivesRecorded : Limits → Times → List ℕ → Option (List ℕ) → Option (List ℕ) → Ended → Type 0
-DrivesRecorded limits times input old new ended = IsWholeText (whole_text (recorded_rules limits times)) input old new ended
+DrivesRecorded limits times input old new ended = IsWholeText (shortened_text (recorded_rules limits times)) input old new ended
 
 -- The reader gave some bytes, and the writer got a front of the answers to them.
 abbrev pub IsRecordedBegun : Limits → Times → Option (List ℕ) → Option (List ℕ) → Option (List ℕ) → Option (List ℕ) → Type 0
-IsRecordedBegun limits times old_reader new_reader old_writer new_writer = IsFrontOfText (whole_text (recorded_rules limits times)) old_reader new_reader old_writer new_writer
+IsRecordedBegun limits times old_reader new_reader old_writer new_writer = IsFrontOfText (shortened_text (recorded_rules limits times)) old_reader new_reader old_writer new_writer

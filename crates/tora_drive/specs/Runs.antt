@@ -1,5 +1,5 @@
 -- Which worlds a drive has.
-use Rattle.std.specs.Prelude.{◌≡◌, ℕ, true, false, Bool, if◌then◌else◌, List, [], ◌∷◌, ◌++◌, map, Option, Some}
+use Rattle.std.specs.Prelude.{◌≡◌, ℕ, true, if◌then◌else◌, List, [], ◌∷◌, ◌++◌, map, Some}
 use Rattle.std.specs.List.{AllByRecursion}
 use Rattle.tora_arq.specs.declared.times.Times.{Times}
 use Rattle.tora_lines.specs.LineText.{state_behind}
@@ -7,15 +7,14 @@ use Rattle.tora_world.specs.declared.event.Event.{Event}
 use Rattle.tora_world.specs.declared.event.Event.TheVariants.{Tick}
 use Rattle.tora_world.specs.declared.limits.Limits.{Limits}
 use Rattle.tora_world.specs.Topology.{Topology, IsWithinLimits, is_link}
-use Rattle.tora_world.specs.World.{World, own_choice, first_world, world_after, world_after_all}
+use Rattle.tora_world.specs.World.{World, own_choice, first_world, world_after}
 use Rattle.tora_world.specs.FreeWorld.{Schedule, after_schedule, FreeEvent as Free}
 use Rattle.tora_world.specs.Gaps.{IsWithoutGap}
 use Rattle.tora_world.specs.Walks.{AreIds}
 use Rattle.tora_sim.specs.Cuts.{after_cut_at}
 use Rattle.tora_sim.specs.Topologies.{topology_of}
-use Rattle.tora_script.specs.Simulator.{mixed_topology, started}
+use Rattle.tora_script.specs.Simulator.{started}
 use Rattle.tora_script.specs.SimulationText.{RunningView, Progress}
-use Rattle.tora_drive.specs.declared.line.DriveLine.{DriveLine}
 use Rattle.tora_drive.specs.declared.line.DriveLine.TheVariants.{Notice}
 use Rattle.tora_drive.specs.DriveLines.{drive_line_of}
 use Rattle.tora_drive.specs.DriveText.{DriveView, drive_rules}

@@ -11,7 +11,7 @@ use std::alloc::Global;
 use std::io;
 use std::io::{Read, Write};
 use tora_arq::Times;
-use tora_lines::{Ended, Output, ReplayError, read_lines};
+use tora_lines::{Ended, Output, ReplayError, read_shortened_lines};
 use tora_script::Stage;
 use tora_world::Limits;
 
@@ -26,11 +26,12 @@ pub fn greet<W: Output>(writer: &mut W) -> io::Result<()>
 /// Reads lines to the end of the input, and writes the answer to each of them by one call of the
 /// writer's `write_all`, before it reads on. The world is within the limits, and its link ends have these times, none of which is 0.
 ///
-/// A line of more than 4,096 bytes ends the drive: `fault N` is written, and the answer is `Ended::Fault(N)`.
+/// A line of more than 4,096 bytes is taken as an empty one, which is a fault wherever it stands: the world stays as it stood, and
+/// the drive goes on.
 ///
 /// # Errors
 /// `Memory` where memory was refused; `Read` where a read failed, or 2^32 reads came to no end; `Write` where a write failed.
-#[tactic(auto, unfolding(tora_lines::specs::Engine::text_of))]
+#[tactic(auto, unfolding(tora_lines::specs::Shortened::shortened_text_of))]
 pub fn drive_in<S: Driven, R: Read, W: Write>(
     alloc: Global,
     limits: Limits,
@@ -54,5 +55,5 @@ pub fn drive_in<S: Driven, R: Read, W: Write>(
         stage: Stage::First,
         own: Own::new(alloc),
     };
-    read_lines(alloc, state, reader, writer)
+    read_shortened_lines(alloc, state, reader, writer)
 }

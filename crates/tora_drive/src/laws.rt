@@ -5,7 +5,9 @@ ghost use Rattle.tora_world.specs.Law.{TakenBeginsSent};
 ghost use Rattle.tora_world.specs.Walks.{height_at, IsExact, Arrives};
 ghost use Rattle.tora_drive.specs.Runs.{DrivesAreRuns, AreSchedules, EveryDrive, HasNoGaps};
 ghost use Rattle.tora_drive.specs.Scripts.{ScriptsStandForLines, RecordsAreSimulated, EventsAreRead, OrdersAreRead, StepsHaveNumbers};
-ghost use Rattle.tora_drive.specs.RecordedRuns.{IsOfHappened, RecordedAreDrives, RecordedSaysNoNotice, EveryRecordedDrive};
+ghost use Rattle.tora_drive.specs.DriveText.{drive_reply};
+ghost use Rattle.tora_drive.specs.Recording.{recorded_reply};
+ghost use Rattle.tora_drive.specs.RecordedRuns.{IsOfHappened, LongLinesAreFaults, RecordedAreDrives, RecordedSaysNoNotice, EveryRecordedDrive};
 
 use tora_world::{exact_entries_give_walks, no_gap_law, prefix_law};
 
@@ -46,4 +48,10 @@ pub fn recorded_lines_stand_for_lines()
     ensures read { EventsAreRead }
     ensures numbers { StepsHaveNumbers }
     ensures orders { OrdersAreRead }
+{}
+
+/// A line of more than 4,096 bytes, which a drive takes as an empty one, is a fault wherever it stands, and changes nothing.
+pub fn long_lines_change_no_drive()
+    ensures drives { LongLinesAreFaults drive_reply }
+    ensures recorded { LongLinesAreFaults recorded_reply }
 {}

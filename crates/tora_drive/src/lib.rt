@@ -29,7 +29,8 @@ pub use drive::Drive;
 pub use driven::Driven;
 pub use driving::{drive_in, greet};
 pub use laws::{
-    drives_are_runs_of_events, recorded_drives_are_drives, recorded_lines_stand_for_lines,
+    drives_are_runs_of_events, long_lines_change_no_drive, recorded_drives_are_drives,
+    recorded_lines_stand_for_lines,
 };
 pub use line::{DriveLine, drive_line, says_notice};
 pub use recorded::{Recording, drive_recorded};

@@ -14,7 +14,7 @@ use std::alloc::{AllocError, Global};
 use std::io::{Read, Write};
 use tora_arq::Times;
 use tora_lines::words::LineError;
-use tora_lines::{Ended, FileKind, Output, ReplayError, read_lines};
+use tora_lines::{Ended, FileKind, Output, ReplayError, read_shortened_lines};
 use tora_script::Stage;
 use tora_traced::TraceOut;
 use tora_world::Limits;
@@ -60,7 +60,7 @@ impl<S: Driven, W: Output> FileKind for Recording<'_, S, W> {
 /// one; `needs`, `near`, `far`, `bytes` and `forget` change no world and have no line. `notice N K` has none either, and is a fault.
 ///
 /// A record that can't be written stops nothing; `out` says so then.
-#[tactic(auto, unfolding(tora_lines::specs::Engine::text_of))]
+#[tactic(auto, unfolding(tora_lines::specs::Shortened::shortened_text_of))]
 pub fn drive_recorded<S: Driven, R: Read, W: Write, V: Output>(
     alloc: Global,
     limits: Limits,
@@ -88,5 +88,5 @@ pub fn drive_recorded<S: Driven, R: Read, W: Write, V: Output>(
         },
         out,
     };
-    read_lines(alloc, state, reader, writer)
+    read_shortened_lines(alloc, state, reader, writer)
 }

@@ -3,10 +3,11 @@ ghost use Rattle.std.specs.Prelude.{◌≡◌, ◌++◌, [], false, OnOk, IfOk, 
 ghost use Rattle.tora_arq.specs.Settings.{IsTimes};
 ghost use Rattle.tora_lines.specs.Gives.{Gives};
 ghost use Rattle.tora_script.specs.RunningView.{running_view};
+ghost use Rattle.tora_script.specs.SimulationText.{first_progress};
 ghost use Rattle.tora_script.specs.SimulationView.{progress_of};
-ghost use Rattle.tora_drive.specs.DriveText.{closing, first_answer, placed, place_reply, drive_reply};
+ghost use Rattle.tora_drive.specs.DriveText.{closing, first_answer, run_begun, placed, place_reply, drive_reply};
 ghost use Rattle.tora_drive.specs.DriveView.{own_view, record_view, view_of, drive_kind};
-ghost use Rattle.tora_drive.specs.Recording.{with_line, first_recorded, place_recorded, drive_recorded, unrecorded};
+ghost use Rattle.tora_drive.specs.Recording.{with_line, first_recorded, run_recorded, place_recorded, drive_recorded, unrecorded};
 
 use crate::answer::answer;
 use crate::cause::{Cause, fault_cause, write_fault};
@@ -66,6 +67,45 @@ fn take_in(own: &mut Own, line: &[u8], text: &mut String) -> Result<(), AllocErr
     acknowledge(text)
 }
 
+/// Takes the first line; the links come behind it.
+///
+/// As `begin_run` it stands in a function of its own, which is never put into its caller: else every line of a drive would make room for
+/// a simulation.
+#[inline(never)]
+fn begin_links<S: Driven>(stage: &mut Stage<S>, alloc: Global, line: &[u8]) -> Result<(), LineError>
+    ensures gives { Gives (λ _. progress_of S.world stage.new) result (first_progress line.now) }
+    ensures kept { result ≡ Err LineError.Fault → progress_of S.world stage.new ≡ progress_of S.world stage.old }
+{
+    *stage = Stage::Links(first_line(alloc, line)?);
+    Ok(())
+}
+
+/// Takes a line behind the links that is none of them and no old node; the simulation runs behind it. At any other place there is no such
+/// line, and nothing changes.
+#[inline(never)]
+fn begin_run<S: Driven>(
+    stage: &mut Stage<S>,
+    own: &mut Own,
+    limits: Limits,
+    times: Times,
+    alloc: Global,
+    line: &[u8],
+    text: &mut String,
+) -> Result<(), LineError>
+    requires times { IsTimes times }
+    requires empty { string_bytes text.old ≡ [] }
+    ensures gives { Gives (λ _. placed (progress_of S.world stage.new) (own_view own.new) (string_bytes text.new)) result (run_begun limits times (own_view own.old) (progress_of S.world stage.old) line.now) }
+    ensures kept { result ≡ Err LineError.Fault → progress_of S.world stage.new ≡ progress_of S.world stage.old }
+    ensures own { result ≡ Err LineError.Fault → own_view own.new ≡ own_view own.old }
+    ensures record { OnOk result (record_view own.new ≡ run_recorded (record_view own.old) limits times (own_view own.old) (progress_of S.world stage.old) line.now) }
+{
+    let Stage::Links(lines) = stage else {
+        return Err(LineError::Fault);
+    };
+    *stage = Stage::Runs(begin(alloc, limits, times, lines, own, line, text)?);
+    Ok(())
+}
+
 /// Takes a line, puts the answer behind an empty text, and what stands for the line behind the record, if there is one. A line that is
 /// a fault changes nothing.
 #[tactic(auto, unfolding(crate::specs::DriveText::place_reply, crate::specs::Recording::place_recorded))]
@@ -87,7 +127,7 @@ fn take_line<S: Driven>(
 {
     match stage {
         Stage::First => {
-            *stage = Stage::Links(first_line(alloc, line)?);
+            begin_links(stage, alloc, line)?;
             take_in(own, line, text)?;
             Ok(())
         }
@@ -102,8 +142,7 @@ fn take_line<S: Driven>(
                 take_in(own, line, text)?;
                 return Ok(());
             }
-            *stage = Stage::Runs(begin(alloc, limits, times, lines, own, line, text)?);
-            Ok(())
+            begin_run(stage, own, limits, times, alloc, line, text)
         }
         Stage::Runs(running) => answer(alloc, running, own, line, text),
     }

@@ -1,6 +1,6 @@
 //! A step whose events are told: the same as `stepping`, with the line of each event that happened.
-ghost use Rattle.std.specs.Prelude.{◌≡◌, IfOk, string_bytes};
-ghost use Rattle.tora_script.specs.Rounds.{repeats, end_event, each, each_core};
+ghost use Rattle.std.specs.Prelude.{IfOk, string_bytes};
+ghost use Rattle.tora_script.specs.Rounds.{repeats, each, each_core};
 ghost use Rattle.tora_drive.specs.Recording.{HappenedTold, Told, turns_of};
 ghost use Rattle.tora_drive.specs.Steps.{step_pass, step_passes, step};
 
@@ -11,9 +11,11 @@ use tora_height::Id;
 use tora_script::{EndTurn, Simulator};
 use tora_world::Event;
 
-/// Makes an event happen until it is refused, and so many times at most, and says whether it ever did.
+/// Makes an event happen until it is refused, and so many times at most, and says whether it ever did. The place is that of
+/// its node or link end.
 fn repeat_told<S: Simulator>(
     sim: &mut S,
+    place: usize,
     event: &Event,
     most: u64,
     text: &mut String,
@@ -22,6 +24,9 @@ fn repeat_told<S: Simulator>(
 {
     let mut some = false;
     for _ in 0..most {
+        if !sim.may_happen(place, event) {
+            return Ok(some);
+        }
         let refused = sim.happen(event)?;
         match refused {
             None => {
@@ -44,28 +49,16 @@ fn tell_cores<S: Simulator>(
 {
     let mut some = false;
     for (place, n) in nodes.iter().enumerate() {
-        let any = repeat_told(sim, &Event::CoreTurn(*n), MOST_TIMES, text)?;
+        let any = repeat_told(sim, place, &Event::CoreTurn(*n), MOST_TIMES, text)?;
         some = either(some, any);
     }
     Ok(some)
 }
 
-/// What an end does in its turn.
-fn end_event(kind: EndTurn, end: (Id, Id)) -> Event
-    ensures { result ≡ end_event kind end }
-{
-    let (n, k) = end;
-    match kind {
-        EndTurn::Open => Event::Open(n, k),
-        EndTurn::Pull => Event::Pull(n, k),
-        EndTurn::Transmit => Event::Transmit(n, k),
-        EndTurn::Pump => Event::Pump(n, k),
-    }
-}
-
-/// Gives an end its turn, unless it is one of those that are left out.
+/// Gives an end its turn, unless it is one of those that are left out. The place is that of the end.
 fn tell_end<S: Simulator>(
     sim: &mut S,
+    place: usize,
     end: (Id, Id),
     left_out: &[(Id, Id)],
     kind: EndTurn,
@@ -77,7 +70,7 @@ fn tell_end<S: Simulator>(
     if is_far(left_out, end) {
         return Ok(false);
     }
-    repeat_told(sim, &end_event(kind, end), most, text)
+    repeat_told(sim, place, &kind.event(end), most, text)
 }
 
 /// Gives each end its turn that is not left out.
@@ -93,7 +86,7 @@ fn tell_ends<S: Simulator>(
 {
     let mut some = false;
     for (place, end) in ends.iter().enumerate() {
-        let any = tell_end(sim, *end, left_out, kind, most, text)?;
+        let any = tell_end(sim, place, *end, left_out, kind, most, text)?;
         some = either(some, any);
     }
     Ok(some)
@@ -145,7 +138,7 @@ pub fn make_step_told<S: Simulator>(
 ) -> Result<(), AllocError>
     ensures { IfOk result (λ _. Told (S.world sim.old) (step nodes.now ends.now far.now (S.world sim.old)) (S.world sim.new) (string_bytes text.old) (string_bytes text.new)) }
 {
-    repeat_told(sim, &Event::Tick, 1, text)?;
+    repeat_told(sim, 0, &Event::Tick, 1, text)?;
     tell_ends(sim, ends, &[], EndTurn::Open, 1, text)?;
     make_passes_told(sim, nodes, ends, far, text)?;
     Ok(())

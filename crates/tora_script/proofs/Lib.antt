@@ -1,10 +1,14 @@
 pub mod AirLaws
 pub mod ClearLaws
+pub mod DatagramsStay
 pub mod KnownTopology
 pub mod LinkPairs
+pub mod PairOrder
+pub mod PartedLaws
 pub mod RoundLaws
 pub mod KnownEnds
 pub mod SimulationFound
 pub mod SimulationHere
 pub mod SimulationLaws
 pub mod Starting
+pub mod WayCounts

@@ -1,15 +1,22 @@
 -- How a plan of events is carried out, step by step.
-use Rattle.std.proofs.Common.{◌≡◌, ℕ, zero, suc, ◌+◌, ◌-◌, ◌<◌, ◌≤◌, Bool, true, false, not, ◌||◌, List, [], ◌∷◌, ◌++◌, length, drop, get_or, is_some, None, Some, refl, sym, ap, ◌∙◌, subst, arith}
+use Rattle.std.proofs.Common.{◌≡◌, ℕ, zero, suc, ◌+◌, ◌-◌, ◌<◌, ◌≤◌, Bool, true, false, not, ◌||◌, List, [], ◌∷◌, ◌++◌, length, drop, get_or, is_some, Option, None, Some, refl, sym, ap, ◌∙◌, subst, arith}
+use Rattle.std.proofs.lemmas.Bool.{cond-true, cond-false}
 use Rattle.std.proofs.lemmas.List.{drop_more, drop_all}
+use Rattle.std.proofs.lemmas.Option.{none-some, same_Some}
+use Rattle.tora_frame.specs.FrameParts.{FrameParts}
 use Rattle.tora_world.specs.declared.event.Event.{Event}
+use Rattle.tora_world.specs.declared.event.Event.TheVariants.{Deliver}
 use Rattle.tora_world.specs.declared.sim_error.SimError.{SimError}
 use Rattle.tora_world.specs.World.{World, is_empty, refusal_of, world_by, world_after, world_after_all}
+use Rattle.tora_channel.specs.declared.channel.Copies.{Copies}
 use Rattle.tora_channel.specs.Table.{Channels}
-use Rattle.tora_script.specs.Air.{MomentView}
+use Rattle.tora_script.specs.Parted.{is_parted}
+use Rattle.tora_script.specs.Air.{MomentView, copies_in, at_once}
+use Rattle.tora_script.specs.Ways.{way_in}
 use Rattle.tora_sim.specs.Quiet.{IsQuiet}
 use Rattle.tora_script.specs.declared.rounds.EndTurn.{EndTurn}
 use Rattle.tora_script.specs.declared.rounds.EndTurn.TheVariants as turn
-use Rattle.tora_script.specs.Rounds.{Plan, end_event, repeats, plan_then, each, delivery, deliveries, pass, passes, after_round, rounds, Sky, Happened}
+use Rattle.tora_script.specs.Rounds.{Plan, end_event, repeats, plan_then, each, delivery_of, delivery, deliveries, pass, passes, after_round, rounds, Sky, Happened}
 
 pub after_append : (w : World) (xs ys : List Event) → world_after_all w (xs ++ ys) ≡ world_after_all (world_after_all w xs) ys
 after_append w [] ys = refl
@@ -174,6 +181,32 @@ unfolding deliveries
 all_delivered parted m i end w events now some above o =
     let k : end - i ≡ zero = omega arith in
     ends w events now some (rw k at o)
+
+-- there is no datagram to deliver
+pub no_delivery : (parted : List (ℕ × ℕ)) (m : MomentView) (i : ℕ) (w : World) (o : Option FrameParts) → way_in o ≡ None → Happened w (delivery_of parted m i o w) w false
+no_delivery parted m i w None there = record { after_is = refl; some_is = refl }
+no_delivery parted m i w (Some f) there = absurd (none-some (f.header.sender, f.header.receiver) (sym there))
+
+-- its nodes are parted
+pub parted_delivery : (parted : List (ℕ × ℕ)) (m : MomentView) (i : ℕ) (w : World) (o : Option FrameParts) (way : ℕ × ℕ) → way_in o ≡ Some way → is_parted parted way.0 way.1 ≡ true → Happened w (delivery_of parted m i o w) w false
+parted_delivery parted m i w None way there is = absurd (none-some way there)
+parted_delivery parted m i w (Some f) way there is =
+    let same : (f.header.sender, f.header.receiver) ≡ way = same_Some (f.header.sender, f.header.receiver) way there in
+    let none : delivery_of parted m i (Some f) w ≡ [] =
+    cond-true (is_parted parted f.header.sender f.header.receiver) [] (repeats (at_once (copies_in m i (f.header.sender, f.header.receiver) w)) (Deliver i) w) (ap (λ (p : ℕ × ℕ). is_parted parted p.0 p.1) same ∙ is) in
+    subst (λ (events : List Event). Happened w events w false) (sym none) (record { after_is = refl; some_is = refl })
+
+-- it is delivered as often as the channel says
+pub whole_delivery : (parted : List (ℕ × ℕ)) (m : MomentView) (i : ℕ) (w next : World) (some : Bool) (o : Option FrameParts) (way : ℕ × ℕ) (copies : Copies) → way_in o ≡ Some way → is_parted parted way.0 way.1 ≡ false → copies ≡ copies_in m i way w
+    → Happened w (repeats (at_once copies) (Deliver i) w) next some → Happened w (delivery_of parted m i o w) next some
+whole_delivery parted m i w next some None way copies there is value h = absurd (none-some way there)
+whole_delivery parted m i w next some (Some f) way copies there is value h =
+    let same : (f.header.sender, f.header.receiver) ≡ way = same_Some (f.header.sender, f.header.receiver) way there in
+    let plan : delivery_of parted m i (Some f) w ≡ repeats (at_once (copies_in m i (f.header.sender, f.header.receiver) w)) (Deliver i) w =
+    cond-false (is_parted parted f.header.sender f.header.receiver) [] (repeats (at_once (copies_in m i (f.header.sender, f.header.receiver) w)) (Deliver i) w) (ap (λ (p : ℕ × ℕ). is_parted parted p.0 p.1) same ∙ is) in
+    let here : repeats (at_once copies) (Deliver i) w ≡ delivery_of parted m i (Some f) w =
+    ap (λ (c : Copies). repeats (at_once c) (Deliver i) w) value ∙ sym (ap (λ (p : ℕ × ℕ). repeats (at_once (copies_in m i p w)) (Deliver i) w) same) ∙ sym plan in
+    subst (λ (events : List Event). Happened w events next some) here h
 
 -- no plan of the list has an event
 each_none : {A : Type 0} (plan : A → Plan) (xs : List A) (w : World) → ((x : A) → plan x w ≡ []) → each plan xs w ≡ []

@@ -1,7 +1,9 @@
 pub mod Air
 pub mod Done
 pub mod KnownLimits
+pub mod Pairs
 pub mod Parted
+pub mod PartedKeys
 pub mod Rounds
 pub mod RunningView
 pub mod Setup
@@ -11,3 +13,4 @@ pub mod SimulationText
 pub mod SimulationView
 pub mod Simulator
 pub mod ToldView
+pub mod Ways

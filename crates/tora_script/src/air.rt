@@ -1,11 +1,14 @@
 //! What rounds have in the air.
-ghost use Rattle.std.specs.Prelude.{◌≡◌, ◌+◌, ◌-◌, ◌++◌, ◌<◌, Option, length, option_map, IfOk, OnOk};
+ghost use Rattle.std.specs.Prelude.{◌≡◌, ◌+◌, ◌-◌, ◌++◌, ◌<◌, Option, Some, length, option_map, IfOk, OnOk};
 ghost use Rattle.tora_frame.specs.FrameParts.{FrameParts};
+ghost use Rattle.tora_channel.specs.Table.{over, copies_on};
 ghost use Rattle.tora_world.specs.World.{datagram};
 ghost use Rattle.tora_script.specs.Air.{moment_on, goes, gone, copies_in, at_once, is_now, later_copy, later_copies, put_off_of, put_off, still_later, first_air, after_air, air_view};
+ghost use Rattle.tora_script.specs.Ways.{way_in, AreCounted};
 
-use crate::parted::is_parted;
+use crate::parted::Parted;
 use crate::simulator::Simulator;
+use crate::ways::Ways;
 use std::alloc::{AllocError, Global};
 use tora_channel::{Channel, ChannelTable, Copies, Place};
 use tora_height::Id;
@@ -31,12 +34,13 @@ impl Air {
     }
 }
 
-/// A round: its channel, how many rounds were before it, and how many datagrams.
-#[derive(Clone, Copy, Debug, PartialEq, Eq)]
+/// A round: its channel, how many rounds were before it, how many datagrams, and where it takes memory from.
+#[derive(Clone, Copy)]
 pub struct Moment {
     pub channel: Channel,
     pub round: u64,
     pub start: u64,
+    pub alloc: Global,
 }
 
 /// 1 where a datagram went this way, and else 0.
@@ -83,6 +87,13 @@ pub fn copies<S: Simulator>(
         };
     }
     let before = gone(sim, way, moment.start, i.saturating_sub(1));
+    copies_behind(table, moment, way, before)
+}
+
+/// What becomes of a datagram that goes this way, behind so many of its round that went the same way.
+fn copies_behind(table: &ChannelTable, moment: Moment, way: (Id, Id), before: u64) -> Copies
+    ensures { result ≡ copies_on (over table.now moment.channel) (record { round = moment.round; sender = way.0; receiver = way.1; before = before }) }
+{
     let place = Place {
         round: moment.round,
         sender: way.0,
@@ -90,6 +101,26 @@ pub fn copies<S: Simulator>(
         before,
     };
     table.copies(moment.channel, place)
+}
+
+/// What becomes of datagram `i`, which goes this way, where those before it that the round sent are counted: it is counted, too.
+pub fn counted_copies<S: Simulator>(
+    _sim: &S,
+    table: &ChannelTable,
+    moment: Moment,
+    i: u64,
+    way: (Id, Id),
+    ways: &mut Ways,
+) -> Result<Copies, AllocError>
+    requires behind { moment.start < i }
+    requires going { way_in (datagram (S.world _sim.now) i) ≡ Some way }
+    requires counted { AreCounted (S.world _sim.now) ways.old moment.start (i - 1 - moment.start) }
+    ensures copies { IfOk result (λ copies. copies ≡ copies_in (moment_on table.now moment) i way (S.world _sim.now)) }
+    ensures counted { OnOk result (AreCounted (S.world _sim.now) ways.new moment.start (i - moment.start)) }
+{
+    let before = ways.times(way);
+    ways.count(way)?;
+    Ok(copies_behind(table, moment, way, before))
 }
 
 fn is_now(delay: Option<u64>) -> u64
@@ -135,42 +166,51 @@ impl Air {
         self.note(i, copies.second)
     }
 
-    /// Notes the copies of a datagram that come in later rounds, unless its nodes are parted.
+    /// Notes the copies of a datagram that come in later rounds, unless its nodes are parted, and counts it.
     fn put_off_one<S: Simulator>(
         &mut self,
         sim: &S,
-        parted: &[(Id, Id)],
+        parted: &Parted,
         table: &ChannelTable,
         moment: Moment,
         i: u64,
+        ways: &mut Ways,
     ) -> Result<(), AllocError>
+        requires behind { moment.start < i }
+        requires counted { AreCounted (S.world sim.now) ways.old moment.start (i - 1 - moment.start) }
         ensures later { OnOk result (self.new.later.items ≡ self.old.later.items ++ put_off_of parted.now (moment_on table.now moment) i (S.world sim.now) (datagram (S.world sim.now) i)) }
         ensures round { self.new.round ≡ self.old.round }
+        ensures counted { OnOk result (AreCounted (S.world sim.now) ways.new moment.start (i - moment.start)) }
     {
         let Some(way) = sim.datagram(i) else {
             return Ok(());
         };
-        if is_parted(parted, way.0, way.1) {
+        let copies = counted_copies(sim, table, moment, i, way, ways)?;
+        if parted.is_parted(way.0, way.1) {
             return Ok(());
         }
-        let copies = copies(sim, table, moment, i, way);
-        self.note_both(i, copies)
+        self.note_both(i, copies)?;
+        Ok(())
     }
 
-    /// Notes what comes in later rounds, of all datagrams since the round began.
+    /// Notes what comes in later rounds, of all datagrams since the round began; over a clear channel there is nothing such.
     #[tactic(auto, unfolding(crate::specs::Air::put_off))]
     fn put_off<S: Simulator>(
         &mut self,
         sim: &S,
-        parted: &[(Id, Id)],
+        parted: &Parted,
         table: &ChannelTable,
         moment: Moment,
     ) -> Result<(), AllocError>
         ensures later { OnOk result (self.new.later.items ≡ self.old.later.items ++ put_off parted.now (moment_on table.now moment) (length (S.world sim.now).datagrams - moment.start) (S.world sim.now)) }
         ensures round { self.new.round ≡ self.old.round }
     {
+        if table.is_clear(moment.channel) {
+            return Ok(());
+        }
+        let mut ways = Ways::new(moment.alloc);
         for i in moment.start..sim.datagrams() {
-            self.put_off_one(sim, parted, table, moment, i + 1)?;
+            self.put_off_one(sim, parted, table, moment, i + 1, &mut ways)?;
         }
         Ok(())
     }
@@ -180,6 +220,9 @@ impl Air {
         ensures later { OnOk result (self.new.later.items ≡ still_later self.old.later.items) }
         ensures round { self.new.round ≡ self.old.round }
     {
+        if self.later.is_empty() {
+            return Ok(());
+        }
         let alloc = *self.later.allocator();
         let later = self.later.iter().filter(|p| 1 < p.0);
         self.later = later
@@ -192,7 +235,7 @@ impl Air {
     pub fn go_on<S: Simulator>(
         &mut self,
         sim: &S,
-        parted: &[(Id, Id)],
+        parted: &Parted,
         table: &ChannelTable,
         moment: Moment,
     ) -> Result<(), AllocError>

@@ -11,8 +11,10 @@
 mod air;
 mod causes;
 mod clear;
+mod deliveries;
 mod done;
 mod link_lines;
+mod pair_record;
 mod parse;
 mod parted;
 mod rounds;
@@ -24,6 +26,7 @@ mod simulation_file;
 mod simulator;
 mod taking;
 mod told_simulation;
+mod ways;
 mod world_simulator;
 
 pub use air::Air;
@@ -31,8 +34,11 @@ pub use causes::{SimulationCause, simulation_cause, simulation_cause_within};
 pub use clear::clear_channel_delivers_at_once;
 pub use link_lines::LinkLines;
 pub use parse::{is_word, link, old, pair, simulation_line, simulation_lines_are_read_as_written};
-pub use parted::is_parted;
-pub use rounds::{EndTurn, make_rounds, make_rounds_over, repeat, turn_cores, turn_end, turn_ends};
+pub use parted::{Parted, is_parted};
+pub use rounds::{
+    EndTurn, make_parted_rounds, make_parted_rounds_over, make_rounds, make_rounds_over, repeat,
+    turn_cores, turn_end, turn_ends,
+};
 pub use running_simulation::{Running, has_end, mend, part};
 pub use script_line::SimulationLine;
 pub use setup::Setup;

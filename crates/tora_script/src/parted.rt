@@ -1,8 +1,14 @@
 //! Pairs of nodes between which nothing is delivered.
-ghost use Rattle.std.specs.Prelude.{◌≡◌};
+ghost use Rattle.std.specs.Prelude.{◌≡◌, ◌++◌, ◌∷◌, [], OnOk, IfOk};
 ghost use Rattle.tora_script.specs.Parted.{is_same_pair, is_parted};
+ghost use Rattle.tora_script.specs.PartedKeys.{key_of};
+ghost use Rattle.tora_script.specs.SimulationText.{with_parted, without_parted};
 
+use crate::pair_record::{NodePair, PairRecord};
 use crate::rounds::either;
+use std::alloc::{AllocError, Global};
+use std::collections::BTreeSet;
+use std::marker::Model;
 use tora_height::Id;
 
 /// Whether the same two nodes are named, in either order.
@@ -22,4 +28,106 @@ pub fn is_parted(parted: &[(Id, Id)], a: Id, b: Id) -> bool
         found = either(found, is_same_pair((a, b), *pair));
     }
     found
+}
+
+/// The pairs of nodes that are parted: whether two nodes are, and that they no longer are, takes no look at all pairs.
+///
+/// Contracts see the pairs in the order in which they were parted. Only their keys are in memory.
+#[derive(Drop)]
+pub struct Parted {
+    pairs: PairRecord,
+    /// The lesser node of each pair, and the greater.
+    keys: BTreeSet<(Id, Id)>,
+}
+
+impl Model for Parted {
+    ghost use Rattle.std.specs.Prelude.{ℕ, List};
+    ghost use Rattle.tora_script.specs.PartedKeys.{AreKeys};
+
+    ghost Value = { List (ℕ × ℕ) };
+
+    ghost view = { λ p. p.pairs.pairs };
+
+    ghost invariant = { λ p. AreKeys p.keys p.pairs.pairs };
+}
+
+impl Parted {
+    /// No pairs.
+    pub fn new(alloc: Global) -> Parted
+        ensures { result ≡ [] }
+    {
+        let pairs = PairRecord::new();
+        let keys = BTreeSet::new(alloc);
+        Parted { pairs, keys }
+    }
+
+    /// These pairs.
+    ///
+    /// # Errors
+    /// Want of memory.
+    pub fn of(alloc: Global, pairs: &[(Id, Id)]) -> Result<Parted, AllocError>
+        ensures { IfOk result (λ parted. parted ≡ pairs.now) }
+    {
+        let mut parted = Parted::new(alloc);
+        for pair in pairs {
+            parted.push(*pair)?;
+        }
+        Ok(parted)
+    }
+
+    /// Whether the nodes are parted.
+    pub fn is_parted(&self, a: Id, b: Id) -> bool
+        ensures { result ≡ is_parted self.now a b }
+    {
+        let key = key_of(a, b);
+        self.keys.contains(&key)
+    }
+
+    /// Parts two nodes.
+    ///
+    /// # Errors
+    /// Want of memory.
+    pub fn part(&mut self, a: Id, b: Id) -> Result<(), AllocError>
+        ensures { OnOk result (self.new ≡ with_parted a b self.old) }
+    {
+        if self.is_parted(a, b) {
+            return Ok(());
+        }
+        self.push((a, b))?;
+        Ok(())
+    }
+
+    /// Mends two nodes.
+    pub fn mend(&mut self, a: Id, b: Id)
+        ensures { self.new ≡ without_parted a b self.old }
+    {
+        let key = key_of(a, b);
+        self.keys.remove(&key);
+        let nodes = NodePair {
+            first: a,
+            second: b,
+        };
+        self.pairs = PairRecord::without(&self.pairs, &nodes);
+    }
+
+    /// Puts a pair behind the others.
+    fn push(&mut self, pair: (Id, Id)) -> Result<(), AllocError>
+        ensures { OnOk result (self.new ≡ self.old ++ pair ∷ []) }
+    {
+        let key = key_of(pair.0, pair.1);
+        self.keys.insert(key)?;
+        let nodes = NodePair {
+            first: pair.0,
+            second: pair.1,
+        };
+        self.pairs = PairRecord::with(&self.pairs, &nodes);
+        Ok(())
+    }
+}
+
+/// The lesser node, and the greater.
+fn key_of(a: Id, b: Id) -> (Id, Id)
+    ensures { result ≡ key_of (a, b) }
+{
+    (a.min(b), a.max(b))
 }

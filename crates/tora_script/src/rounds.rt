@@ -1,14 +1,15 @@
 //! Rounds of a simulation.
-ghost use Rattle.std.specs.Prelude.{◌≡◌, ◌<◌, ◌≤◌, ◌||◌, ℕ, Some, slice_get, IfOk};
+ghost use Rattle.std.specs.Prelude.{◌≡◌, ◌<◌, ◌≤◌, ◌||◌, ℕ, true, false, Some, is_some, slice_get, IfOk};
 ghost use Rattle.tora_sim.specs.Quiet.{IsQuietEnd};
-ghost use Rattle.tora_world.specs.World.{World, datagram, world_after_all};
+ghost use Rattle.tora_world.specs.World.{World, datagram, refusal_of, world_after_all};
 ghost use Rattle.tora_world.specs.declared.event.Event.TheVariants.{CoreTurn};
 ghost use Rattle.tora_channel.specs.Table.{over, alone};
 ghost use Rattle.tora_script.specs.Air.{moment_on};
-ghost use Rattle.tora_script.specs.Rounds.{repeats, while_possible, each, each_core, each_end, end_event, arrival_of, arrival, arrivals, delivery, deliveries, new_deliveries, pass, passes, round, after_round, rounds, sky_of, Happened, AreKnown};
+ghost use Rattle.tora_script.specs.Rounds.{repeats, while_possible, each, each_core, each_end, end_event, arrival_of, arrival, arrivals, pass, passes, round, after_round, rounds, sky_of, Happened, AreKnown};
 
-use crate::air::{Air, Moment, at_once, copies};
-use crate::parted::is_parted;
+use crate::air::{Air, Moment};
+use crate::deliveries::deliver_new;
+use crate::parted::Parted;
 use crate::simulator::Simulator;
 use std::alloc::AllocError;
 use tora_channel::{Channel, ChannelTable};
@@ -53,8 +54,19 @@ pub fn either(a: bool, b: bool) -> bool
     a || b
 }
 
+/// Whether an event may happen again. One that didn't happen yet is not asked about: who makes it happen asked.
+#[inline(always)]
+fn may_go_on<S: Simulator>(sim: &S, place: usize, event: &Event, some: bool) -> bool
+    ensures { result ≡ false → is_some (refusal_of (S.world sim.now) event.now) ≡ true }
+{
+    if !some {
+        return true;
+    }
+    sim.may_happen(place, event)
+}
+
 /// Makes an event happen until it is refused, and so many times at most, and says whether it ever did. The place is that of
-/// its node or link end.
+/// its node or link end. Whether it may happen is asked each time but the first, before which the caller asks.
 #[inline(never)]
 pub fn repeat<S: Simulator>(
     sim: &mut S,
@@ -66,7 +78,7 @@ pub fn repeat<S: Simulator>(
 {
     let mut some = false;
     for _ in 0..most {
-        if !sim.may_happen(place, event) {
+        if !may_go_on(sim, place, event, some) {
             return Ok(some);
         }
         let refused = sim.happen(event)?;
@@ -174,13 +186,13 @@ pub fn turn_ends<S: Simulator>(
 }
 
 /// Delivers a datagram that was sent before the round, unless its nodes are parted.
-fn arrive<S: Simulator>(sim: &mut S, parted: &[(Id, Id)], i: u64) -> Result<bool, AllocError>
+fn arrive<S: Simulator>(sim: &mut S, parted: &Parted, i: u64) -> Result<bool, AllocError>
     ensures { IfOk result (λ some. Happened (S.world sim.old) (arrival_of parted.now i (datagram (S.world sim.old) i) (S.world sim.old)) (S.world sim.new) some) }
 {
     let Some((sender, receiver)) = sim.datagram(i) else {
         return Ok(false);
     };
-    if is_parted(parted, sender, receiver) {
+    if parted.is_parted(sender, receiver) {
         return Ok(false);
     }
     repeat(sim, 0, &Event::Deliver(i), 1)
@@ -189,7 +201,7 @@ fn arrive<S: Simulator>(sim: &mut S, parted: &[(Id, Id)], i: u64) -> Result<bool
 /// Delivers a datagram, unless it comes in a later round.
 fn arrive_in<S: Simulator>(
     sim: &mut S,
-    parted: &[(Id, Id)],
+    parted: &Parted,
     copy: (u64, u64),
 ) -> Result<bool, AllocError>
     ensures { IfOk result (λ some. Happened (S.world sim.old) (arrival parted.now copy (S.world sim.old)) (S.world sim.new) some) }
@@ -203,7 +215,7 @@ fn arrive_in<S: Simulator>(
 /// Delivers the datagrams that come in this round, of those that were sent before it.
 fn arrive_all<S: Simulator>(
     sim: &mut S,
-    parted: &[(Id, Id)],
+    parted: &Parted,
     later: &[(u64, u64)],
 ) -> Result<bool, AllocError>
     ensures { IfOk result (λ some. Happened (S.world sim.old) (arrivals parted.now later.now (S.world sim.old)) (S.world sim.new) some) }
@@ -216,44 +228,6 @@ fn arrive_all<S: Simulator>(
     Ok(some)
 }
 
-/// Delivers a datagram as often as the channel says, unless its nodes are parted.
-fn deliver<S: Simulator>(
-    sim: &mut S,
-    parted: &[(Id, Id)],
-    table: &ChannelTable,
-    moment: Moment,
-    i: u64,
-) -> Result<bool, AllocError>
-    ensures { IfOk result (λ some. Happened (S.world sim.old) (delivery parted.now (moment_on table.now moment) i (S.world sim.old)) (S.world sim.new) some) }
-{
-    let Some((sender, receiver)) = sim.datagram(i) else {
-        return Ok(false);
-    };
-    if is_parted(parted, sender, receiver) {
-        return Ok(false);
-    }
-    let copies = copies(sim, table, moment, i, (sender, receiver));
-    repeat(sim, 0, &Event::Deliver(i), at_once(copies))
-}
-
-/// Delivers the datagrams behind the first ones.
-fn deliver_new<S: Simulator>(
-    sim: &mut S,
-    parted: &[(Id, Id)],
-    table: &ChannelTable,
-    moment: Moment,
-    first: u64,
-) -> Result<bool, AllocError>
-    ensures { IfOk result (λ some. Happened (S.world sim.old) (new_deliveries parted.now (moment_on table.now moment) first (S.world sim.old)) (S.world sim.new) some) }
-{
-    let mut some = false;
-    for i in first..sim.datagrams() {
-        let any = deliver(sim, parted, table, moment, i + 1)?;
-        some = either(some, any);
-    }
-    Ok(some)
-}
-
 /// One pass, and whether it had an event.
 #[tactic(auto, unfolding(crate::specs::Rounds::pass))]
 fn pass<S: Simulator>(
@@ -261,7 +235,7 @@ fn pass<S: Simulator>(
     nodes: &[Id],
     known: bool,
     ends: &[(Id, Id)],
-    parted: &[(Id, Id)],
+    parted: &Parted,
     table: &ChannelTable,
     moment: Moment,
 ) -> Result<bool, AllocError>
@@ -286,7 +260,7 @@ fn make_passes<S: Simulator>(
     nodes: &[Id],
     known: bool,
     ends: &[(Id, Id)],
-    parted: &[(Id, Id)],
+    parted: &Parted,
     table: &ChannelTable,
     moment: Moment,
 ) -> Result<(), AllocError>
@@ -309,7 +283,7 @@ fn round<S: Simulator>(
     nodes: &[Id],
     known: bool,
     ends: &[(Id, Id)],
-    parted: &[(Id, Id)],
+    parted: &Parted,
     table: &ChannelTable,
     moment: Moment,
     later: &[(u64, u64)],
@@ -331,7 +305,7 @@ fn make_round<S: Simulator>(
     nodes: &[Id],
     known: bool,
     ends: &[(Id, Id)],
-    parted: &[(Id, Id)],
+    parted: &Parted,
     table: &ChannelTable,
     channel: Channel,
     air: &mut Air,
@@ -339,22 +313,24 @@ fn make_round<S: Simulator>(
     requires { AreKnown known ends.now (S.world sim.old) }
     ensures { IfOk result (λ _. sky_of S.world sim.new air.new ≡ after_round nodes.now ends.now parted.now (over table.now channel) (sky_of S.world sim.old air.old)) }
 {
+    let alloc = *air.later.allocator();
     let moment = Moment {
         channel,
         round: air.round,
         start: sim.datagrams(),
+        alloc,
     };
     round(sim, nodes, known, ends, parted, table, moment, &air.later)?;
     air.go_on(sim, parted, table, moment)
 }
 
 /// So many rounds over a channel that the lines of a table change.
-pub fn make_rounds_over<S: Simulator>(
+pub fn make_parted_rounds_over<S: Simulator>(
     sim: &mut S,
     count: u64,
     nodes: &[Id],
     ends: &[(Id, Id)],
-    parted: &[(Id, Id)],
+    parted: &Parted,
     table: &ChannelTable,
     channel: Channel,
     air: &mut Air,
@@ -369,6 +345,41 @@ pub fn make_rounds_over<S: Simulator>(
 }
 
 /// So many rounds over a channel.
+pub fn make_parted_rounds<S: Simulator>(
+    sim: &mut S,
+    count: u64,
+    nodes: &[Id],
+    ends: &[(Id, Id)],
+    parted: &Parted,
+    channel: Channel,
+    air: &mut Air,
+) -> Result<(), AllocError>
+    ensures { IfOk result (λ _. sky_of S.world sim.new air.new ≡ rounds count nodes.now ends.now parted.now (alone channel) (sky_of S.world sim.old air.old)) }
+{
+    let table = ChannelTable::none();
+    make_parted_rounds_over(sim, count, nodes, ends, parted, &table, channel, air)
+}
+
+/// So many rounds over a channel that the lines of a table change, as `make_parted_rounds_over` makes them: the pairs of nodes that are
+/// parted are copied.
+pub fn make_rounds_over<S: Simulator>(
+    sim: &mut S,
+    count: u64,
+    nodes: &[Id],
+    ends: &[(Id, Id)],
+    parted: &[(Id, Id)],
+    table: &ChannelTable,
+    channel: Channel,
+    air: &mut Air,
+) -> Result<(), AllocError>
+    ensures { IfOk result (λ _. sky_of S.world sim.new air.new ≡ rounds count nodes.now ends.now parted.now (over table.now channel) (sky_of S.world sim.old air.old)) }
+{
+    let alloc = *air.later.allocator();
+    let kept = Parted::of(alloc, parted)?;
+    make_parted_rounds_over(sim, count, nodes, ends, &kept, table, channel, air)
+}
+
+/// So many rounds over a channel, as `make_parted_rounds` makes them: the pairs of nodes that are parted are copied.
 pub fn make_rounds<S: Simulator>(
     sim: &mut S,
     count: u64,
@@ -380,6 +391,7 @@ pub fn make_rounds<S: Simulator>(
 ) -> Result<(), AllocError>
     ensures { IfOk result (λ _. sky_of S.world sim.new air.new ≡ rounds count nodes.now ends.now parted.now (alone channel) (sky_of S.world sim.old air.old)) }
 {
-    let table = ChannelTable::none();
-    make_rounds_over(sim, count, nodes, ends, parted, &table, channel, air)
+    let alloc = *air.later.allocator();
+    let kept = Parted::of(alloc, parted)?;
+    make_parted_rounds(sim, count, nodes, ends, &kept, channel, air)
 }

@@ -1,5 +1,5 @@
 //! A simulation behind its links.
-ghost use Rattle.std.specs.Prelude.{◌≡◌, ◌++◌, [], OnOk, Some, None, if◌then◌else◌, length, string_bytes, option_map};
+ghost use Rattle.std.specs.Prelude.{◌≡◌, ◌==◌, ◌&&◌, ◌++◌, [], OnOk, Some, None, if◌then◌else◌, true, length, string_bytes, option_map};
 ghost use Rattle.tora_core.specs.Numbers.{has_number};
 ghost use Rattle.tora_arq.specs.Settings.{IsTimes};
 ghost use Rattle.tora_lines.specs.Gives.{Gives};
@@ -10,8 +10,8 @@ ghost use Rattle.tora_script.specs.RunningView.{running_view};
 ghost use Rattle.tora_script.specs.SimulationText.{begun_in, has_end, with_parted, without_parted, node_line, heights_text, heights_reply, count_text, exact_reply, rest_text, nodes_text, walk_text, walk_reply, at_rest_text, at_rest_reply, running_reply, event_reply, after_rounds, part_of, where_linked, known_height};
 
 use crate::air::Air;
-use crate::parted::{is_parted, is_same_pair};
-use crate::rounds::make_rounds;
+use crate::parted::{Parted, is_parted, is_same_pair};
+use crate::rounds::make_parted_rounds;
 use crate::script_line::SimulationLine;
 use crate::setup::Setup;
 use crate::simulator::Simulator;
@@ -31,7 +31,7 @@ pub struct Running<S> {
     pub dests: Vec<Id>,
     pub nodes: Vec<Id>,
     pub ends: Vec<(Id, Id)>,
-    pub parted: Vec<(Id, Id)>,
+    pub parted: Parted,
     pub channel: Channel,
     pub air: Air,
     /// Whether both ends notice at once that their link is parted.
@@ -48,11 +48,35 @@ pub fn has_number(n: Id, numbers: &[Id]) -> bool
     numbers.iter().any(|m| *m == n)
 }
 
-/// Whether there is a link between the nodes.
+/// Whether there is a link between the nodes: it is found by halves where the ends are in ascending order, and all ends are looked at only
+/// where it is not found so.
 pub fn has_end(a: Id, b: Id, ends: &[(Id, Id)]) -> bool
     ensures { result ≡ has_end a b ends.now }
 {
+    is_found(a, b, ends) || is_among(a, b, ends)
+}
+
+fn is_among(a: Id, b: Id, ends: &[(Id, Id)]) -> bool
+    ensures { result ≡ has_end a b ends.now }
+{
     ends.iter().any(|e| e.0 == a && e.1 == b)
+}
+
+/// Whether a link end is found by halves.
+fn is_found(a: Id, b: Id, ends: &[(Id, Id)]) -> bool
+    ensures { result ≡ true → has_end a b ends.now ≡ true }
+{
+    match ends.binary_search(&(a, b)) {
+        Ok(at) => is_end(a, b, ends[at]),
+        Err(_) => false,
+    }
+}
+
+/// Whether it is this end.
+fn is_end(a: Id, b: Id, end: (Id, Id)) -> bool
+    ensures { result ≡ ((end.0 == a) && (end.1 == b)) }
+{
+    end.0 == a && end.1 == b
 }
 
 /// Parts two nodes.
@@ -197,7 +221,7 @@ impl<S: Simulator> Running<S> {
             dests: own,
             nodes,
             ends,
-            parted: Vec::new(alloc),
+            parted: Parted::new(alloc),
             channel: setup.channel,
             air: Air::new(alloc),
             has_notice: setup.has_notice,
@@ -221,7 +245,7 @@ impl<S: Simulator> Running<S> {
     fn rounds(&mut self, count: u64) -> Result<(), AllocError>
         ensures { OnOk result (running_view S.world self.new ≡ after_rounds count (running_view S.world self.old)) }
     {
-        make_rounds(
+        make_parted_rounds(
             &mut self.sim,
             count,
             &self.nodes,
@@ -239,7 +263,7 @@ impl<S: Simulator> Running<S> {
         if !has_end(a, b, &self.ends) {
             return Err(LineError::Fault);
         }
-        part(&mut self.parted, a, b)?;
+        self.parted.part(a, b)?;
         if self.has_notice {
             self.sim.cut(a, b);
             self.sim.cut(b, a);
@@ -254,7 +278,7 @@ impl<S: Simulator> Running<S> {
         if !has_end(a, b, &self.ends) {
             return Err(LineError::Fault);
         }
-        mend(&mut self.parted, a, b);
+        self.parted.mend(a, b);
         Ok(())
     }
 

@@ -38,7 +38,7 @@ pub trait Simulator: Drop {
 
     /// Whether an event may be possible now: where the answer is `false`, `happen` refuses it.
     ///
-    /// It costs less than `happen`, and is asked first of each event of a round. The place says where to look: the place of
+    /// It costs less than `happen`, and a round asks it before each turn of a core or a link end. The place says where to look: the place of
     /// the event's node among `nodes`, or of its link end among `ends`, from 0 on. Where it is another's, or the event is of
     /// neither, the answer may be `true` of any event.
     fn may_happen(&self, place: usize, event: &Event) -> bool

@@ -7,7 +7,7 @@ ghost use Rattle.tora_script.specs.SimulationText.{script_reply, script_line_rep
 
 use crate::done::is_done;
 use crate::parse::simulation_line;
-use crate::rounds::make_rounds_over;
+use crate::rounds::make_parted_rounds_over;
 use crate::running_simulation::Running;
 use crate::script_line::SimulationLine;
 use crate::simulator::Simulator;
@@ -30,7 +30,7 @@ impl<S: Simulator> Running<S> {
     fn rounds_over(&mut self, table: &ChannelTable, count: u64) -> Result<(), AllocError>
         ensures { OnOk result (running_view S.world self.new ≡ after_rounds_on (over table.now self.old.channel) count (running_view S.world self.old)) }
     {
-        make_rounds_over(
+        make_parted_rounds_over(
             &mut self.sim,
             count,
             &self.nodes,

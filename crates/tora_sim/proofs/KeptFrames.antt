@@ -1,17 +1,18 @@
--- Frames whose packets stand apart, where more packets come behind those that are kept.
-use Rattle.std.proofs.Common.{◌≡◌, ℕ, ◌+◌, ◌-◌, ◌≤◌, List, [], ◌∷◌, ◌++◌, map, length, drop, refl, sym, ap, ◌∙◌, subst, arith, length-append, length-drop}
+-- Frames whose headers and packets stand apart, where more of both come behind those that are kept.
+use Rattle.std.proofs.Common.{◌≡◌, ℕ, ◌+◌, ◌-◌, ◌≤◌, ◌<◌, List, [], ◌∷◌, ◌++◌, map, length, drop, slice_get, Some, Option, refl, sym, ap, ◌∙◌, subst, arith, length-append, length-drop}
 use Rattle.std.specs.Prelude.{slice_range}
 use Rattle.std.specs.List.{AllByRecursion}
 use Rattle.std.proofs.lemmas.List.{drop-append-le, take-append-le, take_all, map-append}
 use Rattle.std.proofs.Math.Seq.{drop-append_seam}
 use Rattle.tora_packet.specs.declared.Packet.{Packet}
-use Rattle.tora_frame.specs.declared.parts.Body.{Body}
+use Rattle.tora_frame.specs.declared.parts.Header.{Header}
 use Rattle.tora_frame.specs.declared.parts.Body.TheVariants as Carries
 use Rattle.tora_frame.specs.FrameParts.{FrameParts, IsFrame, batch, frame_of}
 use Rattle.tora_sim.specs.declared.kept_frames.KeptBody.{KeptBody}
 use Rattle.tora_sim.specs.declared.kept_frames.KeptBody.TheVariants.{Hello, Data, Ack}
 use Rattle.tora_sim.specs.declared.kept_frames.KeptFrame.{KeptFrame}
-use Rattle.tora_sim.specs.Datagrams.{body_in, frame_in, IsWithin, IsKept, kept_body, kept_frame, packets_carried}
+use Rattle.tora_sim.specs.Datagrams.{body_in, header_in, header_at, frame_in, IsWithin, IsKept, IsMore}
+use Rattle.tora_sim.proofs.SentFrames.{within, stays_at}
 
 -- packets that are kept stay where they are
 range_stays : (xs ys : List Packet) (from many : ℕ) → from + many ≤ length xs → slice_range (xs ++ ys) from (from + many) ≡ slice_range xs from (from + many)
@@ -21,62 +22,95 @@ range_stays xs ys from many h =
     let front : from ≤ length xs = omega (arith, h) in
     rw (e, drop-append-le from xs ys front, take-append-le many (drop from xs) ys behind) refl
 
--- and so do those that come behind them
+-- and those that come behind them stand there
 range_behind : (xs ys : List Packet) → slice_range (xs ++ ys) (length xs) (length xs + length ys) ≡ ys
 range_behind xs ys =
     let e : (length xs + length ys) - length xs ≡ length ys = omega arith in
     rw (e, drop-append_seam xs ys) (take_all (length ys) ys (omega arith))
 
+-- the packets that were appended, by the place of the first
+module _ (xs ys carried : List Packet) (from : ℕ) (more : ys ≡ xs ++ carried) (first : from ≡ length xs) where
+  pub range_of : slice_range ys from (from + length carried) ≡ carried
+  range_of = rw (more, first) (range_behind xs carried)
+
+  pub range_within : from + length carried ≤ length ys
+  range_within = rw (more, first) (omega (arith, length-append xs carried))
+
+-- the last packets, by the place of the first
+pub last_range : (xs carried : List Packet) (from all : ℕ) → from + length carried ≡ all → slice_range xs from all ≡ carried → slice_range xs from (from + length carried) ≡ carried
+last_range xs carried from all whole same = rw whole same
+
+-- a body of these packets
+pub data_is : (packets carried : List Packet) (many from number count n m : ℕ) → slice_range packets from (from + length carried) ≡ carried → many ≡ length carried → number ≡ n → count ≡ m
+    → body_in packets (Data many from number count) ≡ Carries.Data n m (batch carried)
+data_is packets carried many from number count n m range as_many first accepted = rw (as_many, first, accepted) (ap (λ (ps : List Packet). Carries.Data n m (batch ps)) range)
+
 body_stays : (xs ys : List Packet) (body : KeptBody) → IsWithin xs body → body_in (xs ++ ys) body ≡ body_in xs body
 body_stays xs ys Hello h = refl
-body_stays xs ys (Data number count from many) h = ap (λ (ps : List Packet). Carries.Data number count (batch ps)) (range_stays xs ys from many h)
+body_stays xs ys (Data many from number count) h = ap (λ (ps : List Packet). Carries.Data number count (batch ps)) (range_stays xs ys from many h)
 body_stays xs ys (Ack count) h = refl
-
-frame_stays : (xs ys : List Packet) (kept : KeptFrame) → IsWithin xs kept.body → frame_in (xs ++ ys) kept ≡ frame_in xs kept
-frame_stays xs ys kept h = ap (frame_of kept.header) (body_stays xs ys kept.body h)
 
 within_more : (xs ys : List Packet) (body : KeptBody) → IsWithin xs body → IsWithin (xs ++ ys) body
 within_more xs ys Hello h = tt
-within_more xs ys (Data number count from many) h = omega (arith, h, length-append xs ys)
+within_more xs ys (Data many from number count) h = omega (arith, h, length-append xs ys)
 within_more xs ys (Ack count) h = tt
 
-frames_stay : (xs ys : List Packet) (frames : List KeptFrame) → AllByRecursion (IsKept xs) frames → map (frame_in (xs ++ ys)) frames ≡ map (frame_in xs) frames
-frames_stay xs ys [] h = refl
-frames_stay xs ys (kept ∷ frames) h =
-    ap (λ f. f ∷ map (frame_in (xs ++ ys)) frames) (frame_stays xs ys kept h.0.within) ∙ ap (λ (fs : List FrameParts). frame_in xs kept ∷ fs) (frames_stay xs ys frames h.1)
+-- a frame that is kept stays so, where more headers and packets come
+module _ (hs : List Header) (xs : List Packet) (hmore : List Header) (pmore : List Packet) where
+  frame_stays : (kept : KeptFrame) → kept.header < length hs → IsWithin xs kept.body → frame_in (hs ++ hmore) (xs ++ pmore) kept ≡ frame_in hs xs kept
+  frame_stays kept n h =
+      ap (λ (o : Option Header). frame_of (header_in o) (body_in (xs ++ pmore) kept.body)) (stays_at hs hmore kept.header n)
+      ∙ ap (frame_of (header_at hs kept.header)) (body_stays xs pmore kept.body h)
 
--- the frame that is kept is the frame
-body_is : (xs : List Packet) (body : Body) → body_in (xs ++ packets_carried body) (kept_body (length xs) body) ≡ body
-body_is xs Carries.Hello = refl
-body_is xs (Carries.Data number count packets) = ap (λ (ps : List Packet). Carries.Data number count (batch ps)) (range_behind xs packets.items)
-body_is xs (Carries.Ack count) = refl
+  frames_stay : (frames : List KeptFrame) → AllByRecursion (IsKept hs xs) frames → map (frame_in (hs ++ hmore) (xs ++ pmore)) frames ≡ map (frame_in hs xs) frames
+  frames_stay [] h = refl
+  frames_stay (kept ∷ frames) h =
+      ap (λ (f : FrameParts). f ∷ map (frame_in (hs ++ hmore) (xs ++ pmore)) frames) (frame_stays kept h.0.header h.0.within)
+      ∙ ap (λ (fs : List FrameParts). frame_in hs xs kept ∷ fs) (frames_stay frames h.1)
 
-frame_is : (xs : List Packet) (f : FrameParts) → frame_in (xs ++ packets_carried f.body) (kept_frame (length xs) f) ≡ f
-frame_is xs f = ap (frame_of f.header) (body_is xs f.body)
+  stays_kept : (kept : KeptFrame) → IsKept hs xs kept → IsKept (hs ++ hmore) (xs ++ pmore) kept
+  stays_kept kept h = record {
+    header = omega (arith, h.header, length-append hs hmore);
+    within = within_more xs pmore kept.body h.within;
+    frame = subst IsFrame (sym (frame_stays kept h.header h.within)) h.frame;
+  }
 
-within_all : (xs : List Packet) (body : Body) → IsWithin (xs ++ packets_carried body) (kept_body (length xs) body)
-within_all xs Carries.Hello = tt
-within_all xs (Carries.Data number count packets) = omega (arith, length-append xs packets.items)
-within_all xs (Carries.Ack count) = tt
+  all_kept : (frames : List KeptFrame) (one : KeptFrame) → AllByRecursion (IsKept hs xs) frames → IsKept (hs ++ hmore) (xs ++ pmore) one → AllByRecursion (IsKept (hs ++ hmore) (xs ++ pmore)) (frames ++ one ∷ [])
+  all_kept [] one h is = (is, tt)
+  all_kept (kept ∷ frames) one h is = (stays_kept kept h.0, all_kept frames one h.1 is)
 
-all_kept : (xs : List Packet) (frames : List KeptFrame) (f : FrameParts) → IsFrame f → AllByRecursion (IsKept xs) frames →
-    AllByRecursion (IsKept (xs ++ packets_carried f.body)) (frames ++ kept_frame (length xs) f ∷ [])
-all_kept xs [] f valid h = (record { within = within_all xs f.body; frame = subst IsFrame (sym (frame_is xs f)) valid }, tt)
-all_kept xs (kept ∷ frames) f valid h = (
-  record {
-    within = within_more xs (packets_carried f.body) kept.body h.0.within;
-    frame = subst IsFrame (sym (frame_stays xs (packets_carried f.body) kept h.0.within)) h.0.frame;
-  },
-  all_kept xs frames f valid h.1,
-)
+-- a frame more, whose header and body are kept
+module _ (hs gs : List Header) (xs ys : List Packet) (frames after : List KeptFrame) (kept : KeptFrame) (f : FrameParts)
+    (headers : IsMore hs gs) (packets : IsMore xs ys) (header : slice_get gs kept.header ≡ Some f.header) (body : body_in ys kept.body ≡ f.body)
+    (one : after ≡ frames ++ kept ∷ []) (h : AllByRecursion (IsKept hs xs) frames) where
+  frame_is : frame_in gs ys kept ≡ f
+  frame_is = ap (λ (o : Option Header). frame_of (header_in o) (body_in ys kept.body)) header ∙ ap (frame_of f.header) body
 
-module _ (xs ys : List Packet) (frames after : List KeptFrame) (f : FrameParts) (more : ys ≡ xs ++ packets_carried f.body) (one : after ≡ frames ++ kept_frame (length xs) f ∷ []) (h : AllByRecursion (IsKept xs) frames) where
-  pub pushed : map (frame_in ys) after ≡ map (frame_in xs) frames ++ f ∷ []
+  stay : map (frame_in gs ys) frames ≡ map (frame_in hs xs) frames
+  stay =
+      ap (λ (qs : List Header). map (frame_in qs ys) frames) headers.1
+      ∙ ap (λ (ps : List Packet). map (frame_in (hs ++ headers.0) ps) frames) packets.1
+      ∙ frames_stay hs xs headers.0 packets.0 frames h
+
+  pub pushed : map (frame_in gs ys) after ≡ map (frame_in hs xs) frames ++ f ∷ []
   pushed =
-      rw (more, one)
-      (map-append (frame_in (xs ++ packets_carried f.body)) frames (kept_frame (length xs) f ∷ [])
-      ∙ ap (λ (fs : List FrameParts). fs ++ frame_in (xs ++ packets_carried f.body) (kept_frame (length xs) f) ∷ []) (frames_stay xs (packets_carried f.body) frames h)
-      ∙ ap (λ (x : FrameParts). map (frame_in xs) frames ++ x ∷ []) (frame_is xs f))
+      ap (map (frame_in gs ys)) one
+      ∙ map-append (frame_in gs ys) frames (kept ∷ [])
+      ∙ ap (λ (fs : List FrameParts). fs ++ frame_in gs ys kept ∷ []) stay
+      ∙ ap (λ (x : FrameParts). map (frame_in hs xs) frames ++ x ∷ []) frame_is
 
-  pub pushed_kept : IsFrame f → AllByRecursion (IsKept ys) after
-  pushed_kept valid = rw (more, one) (all_kept xs frames f valid h)
+  kept_now : IsWithin ys kept.body → IsFrame f → IsKept gs ys kept
+  kept_now there valid = record {
+    header = within gs kept.header f.header header;
+    within = there;
+    frame = subst IsFrame (sym frame_is) valid;
+  }
+
+  pub pushed_kept : IsWithin ys kept.body → IsFrame f → AllByRecursion (IsKept gs ys) after
+  pushed_kept there valid =
+      let now : IsKept (hs ++ headers.0) (xs ++ packets.0) kept =
+      subst (λ (ps : List Packet). IsKept (hs ++ headers.0) ps kept) packets.1 (subst (λ (qs : List Header). IsKept qs ys kept) headers.1 (kept_now there valid)) in
+      subst (λ (ks : List KeptFrame). AllByRecursion (IsKept gs ys) ks) (sym one)
+      (subst (λ (qs : List Header). AllByRecursion (IsKept qs ys) (frames ++ kept ∷ [])) (sym headers.1)
+      (subst (λ (ps : List Packet). AllByRecursion (IsKept (hs ++ headers.0) ps) (frames ++ kept ∷ [])) (sym packets.1)
+      (all_kept hs xs headers.0 packets.0 frames kept h now)))

@@ -12,6 +12,10 @@ pub mod Runs
 pub mod Arms
 pub mod Named
 pub mod Repeats
+pub mod FewNames
+pub mod Apart
+pub mod LinkRows
+pub mod SameNodes
 pub mod Sound
 pub mod Lookups
 pub mod Peers
@@ -32,8 +36,14 @@ pub mod NodeEnds
 pub mod Olds
 pub mod KeptFrames
 pub mod SentFrames
+pub mod PlaceLists
+pub mod SamePackets
+pub mod KeptCargoes
+pub mod LaneLists
 pub mod Walking
 pub mod NodeReads
 pub mod Resting
 pub mod Quiets
+pub mod StillEnds
+pub mod TickEnds
 pub mod CoreEnds

@@ -1,5 +1,5 @@
 -- What is read of one node, one link end and its lists.
-use Rattle.std.proofs.Common.{◌≡◌, refl, sym, ap, ◌∙◌, ℕ, ◌+◌, ◌<◌, true, false, List, [], ◌∷◌, ◌++◌, length, map, drop, get_or, arith, if◌then◌else◌, Option, Some, None, is_some}
+use Rattle.std.proofs.Common.{◌≡◌, refl, sym, ap, ◌∙◌, ℕ, ◌+◌, ◌<◌, true, false, List, [], ◌∷◌, ◌++◌, length, drop, get_or, arith, if◌then◌else◌, Option, Some, None, is_some}
 use Rattle.std.specs.Prelude.{option_to_list}
 use Rattle.std.proofs.lemmas.List.{at_drop_more, append_assoc, append-nil}
 use Rattle.std.proofs.lemmas.Option.{slice_get-get_or}
@@ -13,7 +13,7 @@ use Rattle.tora_world.specs.World.{sent_packets, taken_packets}
 use Rattle.tora_world.specs.Lists.{packets_of, parcels_in, packet_where, parcel_of}
 use Rattle.tora_sim.specs.Keyed.{IsFirst}
 use Rattle.tora_sim.specs.Nodes.{NodeView, is_of}
-use Rattle.tora_sim.specs.Links.{LinkView, is_at, parcel_in}
+use Rattle.tora_sim.specs.Links.{LinkView, is_at}
 use Rattle.tora_sim.specs.Store.{SimState, IsStore, node_at, link_at, seat_in, put_in, steps_in, world_of}
 use Rattle.tora_world.specs.Walks.{height_at, hop_at, entry_at}
 use Rattle.tora_sim.specs.Readers.{flag_at}
@@ -66,10 +66,6 @@ pub put_in_turn : (life : Life) → IsInTurn (λ (cargoes : List Cargo). packets
 put_in_turn life (Gives.Packet other packet) cargoes =
     ap (λ ps. ps ++ packets_of life (parcels_in cargoes)) (sym (append-nil (packet_where life (parcel_of other packet))))
 put_in_turn life (Gives.Cut other) cargoes = refl
-
-pub steps_in_turn : (life : Life) → IsInTurn (λ (steps : List (Life × Packet)). packets_of life (map parcel_in steps))
-steps_in_turn life step steps =
-    ap (λ ps. ps ++ packets_of life (map parcel_in steps)) (sym (append-nil (packet_where life (parcel_in step))))
 
 pub turn : {X : Type 0} → (F : List X → List Packet) → IsInTurn F → (xs : List X) (i : ℕ) (x : X) (o : Option Packet)
     → i < length xs → x ≡ get_or xs i x → option_to_list o ≡ F (x ∷ []) → F (drop i xs) ≡ option_to_list o ++ F (drop (i + 1) xs)

@@ -16,7 +16,7 @@ use Rattle.tora_sim.proofs.FreshEnds.{item_at, same_item}
 
 -- ---- lists
 
-by_places : (g : LinkView → LinkView) (xs ys : List LinkView) → length ys ≡ length xs → ((j : ℕ) (x : LinkView) → slice_get xs j ≡ Some x → slice_get ys j ≡ Some (g x)) → ys ≡ map g xs
+pub by_places : (g : LinkView → LinkView) (xs ys : List LinkView) → length ys ≡ length xs → ((j : ℕ) (x : LinkView) → slice_get xs j ≡ Some x → slice_get ys j ≡ Some (g x)) → ys ≡ map g xs
 by_places g [] [] e h = refl
 by_places g [] (y ∷ ys) e h = absurd (omega (arith, e))
 by_places g (x ∷ xs) [] e h = absurd (omega (arith, e))

@@ -1,10 +1,9 @@
 -- Where nothing is to be done before a tick, the clock alone goes on, and every turn is refused.
-use Rattle.std.proofs.Common.{◌≡◌, ℕ, zero, suc, ◌+◌, ◌<◌, ◌≤◌, inl, inr, min, not, ◌&&◌, Bool, true, false, List, [], ◌∷◌, length, map, set, take, slice_get, is_some, Option, Some, None, refl, sym, ap, ap₂, ◌∙◌, subst, arith, if◌then◌else◌, option_map, nat_eq, eq-eqb}
-use Rattle.std.proofs.Math.Nat.{min-le_left, min-le_right}
+use Rattle.std.proofs.Common.{◌≡◌, ℕ, zero, suc, ◌+◌, ◌<◌, ◌≤◌, not, ◌&&◌, Bool, true, false, List, [], ◌∷◌, length, map, set, take, slice_get, is_some, Option, Some, None, refl, sym, ap, ap₂, ◌∙◌, subst, arith, if◌then◌else◌, option_map, nat_eq, eq-eqb}
 use Rattle.std.specs.List.{list_all}
 use Rattle.std.specs.Prelude.{slice_index_or}
-use Rattle.std.proofs.lemmas.Option.{slice_get_read, slice_get_within, slice_get-map}
-use Rattle.std.proofs.lemmas.Bool.{and_parts, and_from}
+use Rattle.std.proofs.lemmas.Option.{same_Some, slice_get_within, slice_get-map}
+use Rattle.std.proofs.lemmas.Bool.{both_ways, and_parts, and_from}
 use borrow.Author.Tests.{ltb-false, eqb-true}
 use Rattle.tora_frame.specs.FrameParts.{FrameParts}
 use Rattle.tora_arq.specs.declared.times.Times.{Times}
@@ -20,7 +19,7 @@ use Rattle.tora_sim.specs.Nodes.{NodeView, is_of}
 use Rattle.tora_sim.specs.Quiet.{IsQuiet, IsQuietEnd, IsStill, is_idle, AreStill}
 use Rattle.tora_sim.specs.Readers.{ends_in}
 use Rattle.tora_sim.specs.Store.{state_of, world_of, IsStore, EachOf, node_at, link_at}
-use Rattle.tora_sim.proofs.Keys.{le_cases, read_first, read_first_node}
+use Rattle.tora_sim.proofs.Keys.{read_first, read_first_node}
 use Rattle.tora_sim.proofs.Opens.{open_refused, pull_refused}
 use Rattle.tora_sim.proofs.Sends.{transmit_refused}
 use Rattle.tora_sim.proofs.Pumps.{pump_without}
@@ -38,34 +37,6 @@ earlier until before link le h = record {
   ticks = λ tick lt. h.ticks tick (omega (arith, lt, le));
 }
 
--- one link end more is still up to the earlier of both ticks
-pub one_more : (links : List LinkView) (n until here : ℕ) (y : LinkView) → n < length links → y ≡ slice_index_or links n y → ((i : ℕ) (x : LinkView) → i < n → slice_get links i ≡ Some x → IsStill until x) → IsStill here y →
-    (i : ℕ) (x : LinkView) → i < n + 1 → slice_get links i ≡ Some x → IsStill (min until here) x
-one_more links n until here y within is before h i x lt e = elim (le_cases i n (omega (arith, lt))) [
-  | inl q ↦ subst (λ (z : LinkView). IsStill (min until here) z) (same q) (earlier here (min until here) y (min-le_right until here) h)
-  | inr l ↦ earlier until (min until here) x (min-le_left until here) (before i x l e)
-]
-  where
-    some_is : {a b : LinkView} → Some a ≡ Some b → a ≡ b
-    some_is {a} {b} q = cc
-
-    same : i ≡ n → y ≡ x
-    same q = some_is (sym (slice_get_read links (length links) n y refl within is) ∙ ap (λ (m : ℕ). slice_get links m) (sym q) ∙ e)
-
--- one link end more is passed over
-pub one_passed : (links : List LinkView) (n until place : ℕ) (y : LinkView) → n < length links → y ≡ slice_index_or links n y → ((i : ℕ) (x : LinkView) → place ≤ i → i < n → slice_get links i ≡ Some x → IsStill until x) → IsStill until y →
-    (i : ℕ) (x : LinkView) → place ≤ i → i < n + 1 → slice_get links i ≡ Some x → IsStill until x
-one_passed links n until place y within is before h i x from lt e = elim (le_cases i n (omega (arith, lt))) [
-  | inl q ↦ subst (λ (z : LinkView). IsStill until z) (same q) h
-  | inr l ↦ before i x from l e
-]
-  where
-    some_is : {a b : LinkView} → Some a ≡ Some b → a ≡ b
-    some_is {a} {b} q = cc
-
-    same : i ≡ n → y ≡ x
-    same q = some_is (sym (slice_get_read links (length links) n y refl within is) ∙ ap (λ (m : ℕ). slice_get links m) (sym q) ∙ e)
-
 -- one link end more has its key
 pub one_named : (ends : List (ℕ × ℕ)) (links : List LinkView) (n : ℕ) (end : ℕ × ℕ) (x : LinkView) → take n ends ≡ map key_of (take n links) → n < length ends → n < length links → slice_get ends n ≡ Some end → slice_get links n ≡ Some x → is_at end.0 end.1 x ≡ true
     → take (suc n) ends ≡ map key_of (take (suc n) links)
@@ -80,6 +51,13 @@ one_named (y ∷ ends) (z ∷ links) (suc n) end x e lt less there read at =
     let head : y ≡ key_of z = cc in
     let rest : take n ends ≡ map key_of (take n links) = cc in
     ap₂ (λ (k : ℕ × ℕ) (ks : List (ℕ × ℕ)). k ∷ ks) head (one_named ends links n end x rest (omega (arith, lt)) (omega (arith, less)) there read at)
+
+-- a link end of another key is not the one that is named
+pub other_named : (ends : List (ℕ × ℕ)) (links : List LinkView) (n : ℕ) (end : ℕ × ℕ) (x : LinkView) → slice_get ends n ≡ Some end → slice_get links n ≡ Some x → is_at end.0 end.1 x ≡ false → ends ≡ map key_of links → ⊥
+other_named ends links n end x there read off same =
+    let named : Some (key_of x) ≡ Some end = sym (ap (option_map key_of) read) ∙ sym (slice_get-map key_of links n) ∙ ap (λ (keys : List (ℕ × ℕ)). slice_get keys n) (sym same) ∙ there in
+    let key : key_of x ≡ end = same_Some (key_of x) end named in
+    both_ways (is_at end.0 end.1 x) off (and_from (nat_eq x.node end.0) (nat_eq x.peer end.1) (eq-eqb x.node end.0 (ap (λ (k : ℕ × ℕ). k.0) key)) (eq-eqb x.peer end.1 (ap (λ (k : ℕ × ℕ). k.1) key)))
 
 -- an end that is put where it stood
 pub set_same : (links : List LinkView) (i : ℕ) (x y : LinkView) → i < length links → x ≡ slice_index_or links i x → y ≡ x → set links i y ≡ links

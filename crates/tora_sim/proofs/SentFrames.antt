@@ -3,21 +3,22 @@ use Rattle.std.proofs.Common.{◌≡◌, ℕ, zero, suc, ◌<◌, List, [], ◌�
 use Rattle.std.specs.List.{cons_option}
 use Rattle.std.proofs.lemmas.List.Elements.{filter_map-append}
 use Rattle.tora_frame.specs.FrameParts.{FrameParts}
-use Rattle.tora_sim.specs.SentFrames.{AreWithin, sent_frames, IsMore}
+use Rattle.tora_sim.specs.Datagrams.{IsMore}
+use Rattle.tora_sim.specs.SentFrames.{AreWithin, sent_frames}
 
 -- within the list there is an item
-item_at : {A : Type 0} (xs : List A) (n : ℕ) → n < length xs → (x : A) × (slice_get xs n ≡ Some x)
+pub item_at : {A : Type 0} (xs : List A) (n : ℕ) → n < length xs → (x : A) × (slice_get xs n ≡ Some x)
 item_at [] n h = absurd (omega (arith, h))
 item_at (x ∷ xs) zero h = (x, refl)
 item_at (x ∷ xs) (suc n) h = item_at xs n (omega (arith, h))
 
 -- and an item is within it
-within : {A : Type 0} (xs : List A) (n : ℕ) (x : A) → slice_get xs n ≡ Some x → n < length xs
+pub within : {A : Type 0} (xs : List A) (n : ℕ) (x : A) → slice_get xs n ≡ Some x → n < length xs
 within [] n x e = absurd cc
 within (y ∷ xs) zero x e = omega arith
 within (y ∷ xs) (suc n) x e = omega (arith, within xs n x e)
 
-stays_at : {A : Type 0} (xs ys : List A) (n : ℕ) → n < length xs → slice_get (xs ++ ys) n ≡ slice_get xs n
+pub stays_at : {A : Type 0} (xs ys : List A) (n : ℕ) → n < length xs → slice_get (xs ++ ys) n ≡ slice_get xs n
 stays_at [] ys n h = absurd (omega (arith, h))
 stays_at (x ∷ xs) ys zero h = refl
 stays_at (x ∷ xs) ys (suc n) h = stays_at xs ys n (omega (arith, h))

@@ -1,6 +1,8 @@
--- Datagrams as they are kept: the packets of all DATA frames stand in one list.
-use Rattle.std.specs.Prelude.{ℕ, ◌+◌, ◌≤◌, ◌<◌, List, [], length, slice_range}
+-- Datagrams as they are kept: the headers of all frames stand in one list, and the packets of all DATA frames in another.
+use Rattle.std.specs.Prelude.{◌≡◌, ℕ, ◌+◌, ◌≤◌, ◌<◌, ◌++◌, List, Option, None, Some, length, slice_get, slice_range}
 use Rattle.tora_packet.specs.declared.Packet.{Packet}
+use Rattle.tora_frame.specs.declared.parts.Version.TheVariants.{One}
+use Rattle.tora_frame.specs.declared.parts.Header.{Header}
 use Rattle.tora_frame.specs.declared.parts.Body.{Body}
 use Rattle.tora_frame.specs.declared.parts.Body.TheVariants as Carries
 use Rattle.tora_frame.specs.FrameParts.{FrameParts, IsFrame, batch, frame_of}
@@ -21,32 +23,31 @@ HasRoom d = (0 < d.places) × (16 ≤ d.packet_places)
 -- the body that is kept so
 abbrev pub body_in : List Packet → KeptBody → Body
 body_in packets Hello = Carries.Hello
-body_in packets (Data number count from many) = Carries.Data number count (batch (slice_range packets from (from + many)))
+body_in packets (Data many from number count) = Carries.Data number count (batch (slice_range packets from (from + many)))
 body_in packets (Ack count) = Carries.Ack count
 
-abbrev pub frame_in : List Packet → KeptFrame → FrameParts
-frame_in packets kept = frame_of kept.header (body_in packets kept.body)
+-- the header of a number; where there is none, one of no frame
+abbrev pub header_in : Option Header → Header
+header_in None = record { version = One; sender = 0; receiver = 0; life = 0; heard = 0 }
+header_in (Some header) = header
+
+abbrev pub header_at : List Header → ℕ → Header
+header_at headers number = header_in (slice_get headers number)
+
+abbrev pub frame_in : List Header → List Packet → KeptFrame → FrameParts
+frame_in headers packets kept = frame_of (header_at headers kept.header) (body_in packets kept.body)
 
 -- its packets are among those that are kept
 abbrev pub IsWithin : List Packet → KeptBody → Type 0
 IsWithin packets Hello = Unit {0}
-IsWithin packets (Data number count from many) = from + many ≤ length packets
+IsWithin packets (Data many from number count) = from + many ≤ length packets
 IsWithin packets (Ack count) = Unit {0}
 
-pub record IsKept (packets : List Packet) (kept : KeptFrame) : Type 0 where
+pub record IsKept (headers : List Header) (packets : List Packet) (kept : KeptFrame) : Type 0 where
+  pub header : kept.header < length headers
   pub within : IsWithin packets kept.body
-  pub frame : IsFrame (frame_in packets kept)
+  pub frame : IsFrame (frame_in headers packets kept)
 
--- a frame as it is kept, where so many packets are kept already, and its packets
-abbrev pub kept_body : ℕ → Body → KeptBody
-kept_body from Carries.Hello = Hello
-kept_body from (Carries.Data number count packets) = Data number count from (length packets.items)
-kept_body from (Carries.Ack count) = Ack count
-
-abbrev pub kept_frame : ℕ → FrameParts → KeptFrame
-kept_frame from f = record { header = f.header; body = kept_body from f.body }
-
-abbrev pub packets_carried : Body → List Packet
-packets_carried Carries.Hello = []
-packets_carried (Carries.Data number count packets) = packets.items
-packets_carried (Carries.Ack count) = []
+-- items may have come behind those that were there
+abbrev pub IsMore : {A : Type 0} → List A → List A → Type 0
+IsMore {A} items after = (more : List A) × (after ≡ items ++ more)

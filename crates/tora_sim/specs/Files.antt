@@ -1,5 +1,5 @@
 -- The life file of a link end.
-use Rattle.std.specs.Prelude.{ℕ, ◌≤◌, List, [], ◌∷◌, Option, None, Some}
+use Rattle.std.specs.Prelude.{ℕ, ◌≤◌}
 use Rattle.tora_life.specs.LifeRun.{LifeDisk}
 use Rattle.tora_life.specs.LifeRun.LifeDisk.{Opened, Unopened}
 use Rattle.tora_sim.specs.declared.files.FileSlot.{FileSlot}

@@ -2,10 +2,14 @@ pub mod Keyed
 pub mod Files
 pub mod Cuts
 pub mod Datagrams
+pub mod Places
 pub mod SentFrames
 pub mod Links
 pub mod Nodes
 pub mod Hints
+pub mod NameCounts
+pub mod LinkKeys
+pub mod LinksByBits
 pub mod Topologies
 pub mod Store
 pub mod Steps
@@ -17,3 +21,6 @@ pub mod Turns
 pub mod Restarts
 pub mod Resting
 pub mod Quiet
+pub mod SamePackets
+pub mod KeptCargoes
+pub mod Lane

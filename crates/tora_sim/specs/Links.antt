@@ -1,5 +1,5 @@
 -- A link end as it is stored.
-use Rattle.std.specs.Prelude.{ℕ, ◌==◌, ◌&&◌, ◌<◌, ◌+◌, ◌≡◌, ◌⊎◌, suc, Bool, List, map, Option, None, Some, drop, length, slice_get, if◌then◌else◌}
+use Rattle.std.specs.Prelude.{ℕ, ◌==◌, ◌&&◌, ◌<◌, ◌+◌, ◌≡◌, ◌⊎◌, suc, Bool, List, Option, None, Some, drop, length, slice_get, if◌then◌else◌}
 use Rattle.tora_sim.specs.Keyed.{IsOrdered}
 use Rattle.std.specs.Ordering.{nat_cmp, ordering_then}
 use Rattle.std.specs.declared.cmp.Ordering.{Ordering}
@@ -9,11 +9,10 @@ use Rattle.tora_arq.specs.EndRange.{LinkEndView}
 use Rattle.tora_life.specs.LifeRun.{LifeDisk, after_event, drawn_by}
 use Rattle.tora_life.specs.LifeRun.LifeEvent.{Draw as DrawsNumber, Arm as ArmsDisk}
 use Rattle.tora_life.specs.declared.state.DiskCall.{DiskCall}
-use Rattle.tora_packet.specs.declared.Packet.{Packet}
-use Rattle.tora_arq.specs.declared.life.Life.{Life}
 use Rattle.tora_seat.specs.declared.cargo.Cargo.{Cargo}
 use Rattle.tora_seat.specs.Serving.{Parcel}
 use Rattle.tora_seat.specs.Between.{after_cargo}
+use Rattle.tora_world.specs.Lists.{parcels_in}
 use Rattle.tora_world.specs.World.{open_with}
 
 pub record LinkView : Type 0 where
@@ -29,10 +28,7 @@ pub record LinkView : Type 0 where
   pub steps : List Parcel  -- the packets of the peer that the node's core ever stepped
   pub step_room : ℕ  -- for how many of them there is memory
 
-abbrev pub parcel_in : Life × Packet → Parcel
-parcel_in step = record { life = step.0; packet = step.1 }
-
-abbrev pub link_of : ℕ → ℕ → ℕ → LinkEndView → LifeDisk → List Cargo → ℕ → ℕ → List (Life × Packet) → ℕ → LinkView
+abbrev pub link_of : ℕ → ℕ → ℕ → LinkEndView → LifeDisk → List Cargo → ℕ → ℕ → List Cargo → ℕ → LinkView
 link_of node peer seat end file put pulled room steps step_room = record {
   node = node;
   peer = peer;
@@ -43,7 +39,7 @@ link_of node peer seat end file put pulled room steps step_room = record {
   put = put;
   pulled = pulled;
   room = room;
-  steps = map parcel_in steps;
+  steps = parcels_in steps;
   step_room = step_room;
 }
 

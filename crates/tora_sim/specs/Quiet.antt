@@ -1,5 +1,5 @@
 -- Worlds in which nothing is to be done, and until which tick what is stored stays so.
-use Rattle.std.specs.Prelude.{◌≡◌, ℕ, ◌<◌, ◌==◌, Bool, true, false, is_some, List, length}
+use Rattle.std.specs.Prelude.{◌≡◌, ℕ, ◌+◌, ◌<◌, ◌⊎◌, ◌==◌, Bool, true, false, is_some, List, length, slice_get, slice_index, Some}
 use Rattle.std.specs.List.{list_all}
 use Rattle.tora_arq.specs.Settings.{Settings}
 use Rattle.tora_arq.specs.LinkEnd.{EndState, is_closed, first_event, frame_due, after_tick}
@@ -47,3 +47,14 @@ is_idle node = length node.items == 0
 -- nothing is to be done at any node or link end before a tick; of the tick 0 that says nothing
 abbrev pub AreStill : ℕ → List NodeView → List LinkView → Type 0
 AreStill until nodes links = 0 < until → (list_all is_idle nodes ≡ true) × EachOf (IsStill until) links
+
+-- of each link end whose tick is still to come nothing is to be done before it; of any other that says nothing
+pub record AreStillEach (clock : ℕ) (stills : List ℕ) (links : List LinkView) : Type 0 where
+  pub as_many : length stills ≡ length links
+  pub still : (at : ℕ) (link : LinkView) → clock < slice_index stills at → slice_get links at ≡ Some link → IsStill (slice_index stills at) link
+
+-- of so many ends from a place on nothing is known any more, and of any other what was, or nothing
+pub record AreForgotten (before stills : List ℕ) (first count : ℕ) : Type 0 where
+  pub as_many : length stills ≡ length before
+  pub here : (place : ℕ) → place < count → slice_index stills (first + place) ≡ 0
+  pub others : (at : ℕ) → (slice_index stills at ≡ 0) ⊎ (slice_index stills at ≡ slice_index before at)

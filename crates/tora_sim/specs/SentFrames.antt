@@ -1,9 +1,9 @@
 -- Datagrams as places of frames that are kept.
-use Rattle.std.specs.Prelude.{◌≡◌, ℕ, ◌-◌, ◌<◌, ◌^◌, min, List, ◌++◌, length, slice_get, vec_capacity}
+use Rattle.std.specs.Prelude.{ℕ, ◌-◌, ◌<◌, ◌^◌, min, List, length, slice_get}
 use Rattle.std.specs.List.{AllByRecursion, filter_map}
-use Rattle.std.specs.declared.vec.Vec.{Vec}
 use Rattle.tora_frame.specs.FrameParts.{FrameParts}
 use Rattle.tora_sim.specs.Datagrams.{DatagramList}
+use Rattle.tora_sim.specs.Places.{PlaceList}
 
 -- each place is one of a frame
 abbrev pub AreWithin : List FrameParts → List ℕ → Type 0
@@ -13,14 +13,10 @@ AreWithin frames places = AllByRecursion (λ place. place < length frames) place
 abbrev pub sent_frames : List FrameParts → List ℕ → List FrameParts
 sent_frames frames places = filter_map (slice_get frames) places
 
--- frames may have come behind those that were there
-abbrev pub IsMore : List FrameParts → List FrameParts → Type 0
-IsMore frames after = (more : List FrameParts) × (after ≡ frames ++ more)
-
 -- the datagrams, and for how many more there is room
-abbrev pub sent_list : {A : Type 0} → DatagramList → Vec ℕ A → DatagramList
+abbrev pub sent_list : DatagramList → PlaceList → DatagramList
 sent_list frames places = record {
   items = sent_frames frames.items places.items;
-  places = min (vec_capacity places - length places.items) (min frames.places (2 ^ 32 - length frames.items));
+  places = min places.places (min frames.places (2 ^ 32 - length frames.items));
   packet_places = frames.packet_places;
 }

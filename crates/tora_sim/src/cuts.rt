@@ -8,6 +8,7 @@ ghost use Rattle.tora_sim.specs.Store.{world_of};
 
 use crate::links::{LinkSlot, place};
 use crate::sim::Sim;
+use crate::stills::forget;
 use tora_arq::lives_are_bound_once;
 use tora_height::Id;
 use tora_seat::cut_bound;
@@ -31,6 +32,7 @@ impl Sim {
     {
         if let Some(at) = place(&self.links, &self.hints, n, k) {
             self.quiet = 0;
+            forget(&mut self.stills, at, 1);
             self.links[at].cut_bound();
         }
     }

@@ -1,13 +1,17 @@
 //! All datagrams that were ever sent.
 ghost use Rattle.std.specs.Prelude.{◌≡◌, ◌<◌, ◌^◌, ◌∷◌, ◌++◌, [], length, slice_get, vec_len, vec_capacity, Some, IfSome, IsTrue, OnOk};
 ghost use Rattle.tora_frame.specs.BorrowedFrames.{body_of};
-ghost use Rattle.tora_sim.specs.Datagrams.{DatagramList, HasRoom};
-ghost use Rattle.tora_sim.specs.SentFrames.{IsMore};
+ghost use Rattle.tora_frame.specs.FrameParts.{batch};
+ghost use Rattle.tora_frame.specs.declared.parts.Body.TheVariants as Carries;
+ghost use Rattle.tora_sim.specs.Datagrams.{DatagramList, HasRoom, IsMore};
 
 use crate::kept_frames::KeptFrames;
+use crate::places::Places;
+use crate::same_packets::are_same_packets;
 use std::alloc::{AllocError, Global};
 use std::marker::Model;
 use tora_frame::{BorrowedBody, BorrowedFrame, Version};
+use tora_packet::Packet;
 
 /// How many forms of frames there are: HELLOs of either version, DATA frames, and ACKs.
 const FORMS: usize = 4;
@@ -17,13 +21,14 @@ const MOST_FRAMES: usize = 0xffff_ffff;
 
 /// All datagrams that were ever sent, in order.
 ///
-/// Most of them say what one before them said, as every HELLO does but the first of a life: such a frame without packets is kept
-/// once, and a datagram is the place of its frame, four bytes. Where the frame of a datagram may stand already is a guess: where the last one
-/// of its form stands that this link end sent; what stands there is compared with it whole, so a wrong guess costs memory and nothing else.
+/// Most of them say what one before them said, as every HELLO does but the first of a life, and every DATA frame that is sent again: such a
+/// frame is kept once, and a datagram is the place of its frame, three bytes. Where the frame of a datagram may stand already is a guess: where
+/// the last one of its form stands that this link end sent; what stands there is compared with it whole, so a wrong guess costs memory and
+/// nothing else.
 #[derive(Drop)]
 pub struct Datagrams {
     frames: KeptFrames,
-    places: Vec<u32>,
+    places: Places,
     guesses: Vec<u32>,
 }
 
@@ -47,7 +52,7 @@ impl Datagrams {
     {
         Datagrams {
             frames: KeptFrames::new(alloc),
-            places: Vec::new(alloc),
+            places: Places::new(alloc),
             guesses: Vec::new(alloc),
         }
     }
@@ -56,7 +61,7 @@ impl Datagrams {
     pub fn len(&self) -> usize
         ensures { result ≡ length self.now.items }
     {
-        count(&self.places)
+        self.places.len()
     }
 
     /// Makes room for one more, which the link end at a place sends.
@@ -68,7 +73,7 @@ impl Datagrams {
             return Err(AllocError);
         }
         self.frames.reserve()?;
-        self.places.reserve(1)?;
+        self.places.reserve()?;
         let guesses = first_guess(end).saturating_add(FORMS);
         if self.guesses.len() < guesses {
             self.guesses.resize(guesses, 0)?;
@@ -82,30 +87,18 @@ impl Datagrams {
         ensures { self.new.items ≡ self.old.items ++ frame.now ∷ [] }
     {
         let place = place_of(&mut self.frames, &mut self.guesses, end, frame);
-        self.places.push_reserved(place);
+        self.places.push(place);
     }
 
     /// The datagram that stands behind so many others, with its packets where they stand.
     pub fn get(&self, place: usize) -> Option<BorrowedFrame<'_>>
         ensures { result ≡ slice_get self.now.items place }
     {
-        let Some(at) = place_at(&self.places, place) else {
+        let Some(at) = self.places.get(place) else {
             return None;
         };
         self.frames.get(at as usize)
     }
-}
-
-fn count(places: &[u32]) -> usize
-    ensures { result ≡ length places.now }
-{
-    places.len()
-}
-
-fn place_at(places: &[u32], at: usize) -> Option<u32>
-    ensures { result ≡ slice_get places.now at }
-{
-    places.get(at).copied()
 }
 
 /// Where the guesses of a link end begin.
@@ -126,13 +119,38 @@ fn guess_of(end: usize, frame: &BorrowedFrame<'_>) -> usize {
     first_guess(end).saturating_add(form)
 }
 
-/// Whether two bodies are seen to be the same: a body with packets is never.
+/// Whether the numbers and the packets of two DATA frames are seen to be the same.
+fn is_same_data(
+    number: u64,
+    count: u64,
+    packets: &[Packet],
+    other: u64,
+    accepted: u64,
+    others: &[Packet],
+) -> bool
+    ensures { IsTrue result → Carries.Data number count (batch packets.now) ≡ Carries.Data other accepted (batch others.now) }
+{
+    if number != other {
+        return false;
+    }
+    if count != accepted {
+        return false;
+    }
+    are_same_packets(packets, others)
+}
+
+/// Whether two bodies are seen to be the same.
 fn is_same_body(a: BorrowedBody<'_>, b: BorrowedBody<'_>) -> bool
     ensures { IsTrue result → body_of a.entry ≡ body_of b.entry }
 {
     match a {
         BorrowedBody::Hello => matches!(b, BorrowedBody::Hello),
-        BorrowedBody::Data(..) => false,
+        BorrowedBody::Data(number, count, packets) => match b {
+            BorrowedBody::Data(other, accepted, others) => {
+                is_same_data(number, count, packets, other, accepted, others)
+            }
+            _ => false,
+        },
         BorrowedBody::Ack(count) => match b {
             BorrowedBody::Ack(other) => count == other,
             _ => false,
@@ -167,11 +185,12 @@ fn place_of(
     ensures more { IsMore frames.old.items frames.new.items }
 {
     let at = guess_of(end, frame);
-    if let Some(place) = found(frames, guesses.get(at).copied(), frame) {
+    let guess = guesses.get(at).copied();
+    if let Some(place) = found(frames, guess, frame) {
         return place;
     }
     let place = frames.len() as u32;
-    frames.push(frame);
+    frames.push(frame, guess);
     if let Some(guess) = guesses.get_mut(at) {
         *guess = place;
     }

@@ -1,18 +1,20 @@
 //! Where something may be to be done, among the link ends.
-ghost use Rattle.std.specs.Prelude.{◌≡◌, ◌<◌, ◌≤◌, ◌+◌, ℕ, true, Some, length, map, slice_get};
-ghost use Rattle.tora_sim.specs.Links.{LinkView, key_of};
-ghost use Rattle.tora_sim.specs.Quiet.{IsQuietEnd, IsStill};
+ghost use Rattle.std.specs.Prelude.{◌≡◌, ◌<◌, ◌≤◌, ℕ, true, Some, map, slice_get, slice_index};
+ghost use Rattle.tora_sim.specs.Links.{key_of};
+ghost use Rattle.tora_sim.specs.Quiet.{IsQuietEnd};
 ghost use Rattle.tora_sim.specs.Readers.{ends_in};
 ghost use Rattle.tora_sim.specs.Store.{world_of};
 
 use crate::links::LinkSlot;
 use crate::sim::Sim;
+use crate::stills::still_at;
 use tora_height::Id;
 
 impl Sim {
     /// Whether these are the link ends, in the order of `ends`.
     pub fn has_ends(&self, ends: &[(Id, Id)]) -> bool
-        ensures { result ≡ true → ends.now ≡ ends_in self.now.topology }
+        ensures sound { result ≡ true → ends.now ≡ ends_in self.now.topology }
+        ensures complete { ends.now ≡ ends_in self.now.topology → result ≡ true }
     {
         are_ends(&self.links, ends)
     }
@@ -25,12 +27,13 @@ impl Sim {
         ensures onward { place ≤ result }
         ensures passed { (at : ℕ) (end : ℕ × ℕ) → place ≤ at → at < result → slice_get (ends_in self.now.topology) at ≡ Some end → IsQuietEnd (world_of self.now) end.0 end.1 }
     {
-        next_due(&self.links, self.clock, place)
+        next_due(&self.stills, self.clock, place)
     }
 }
 
 fn are_ends(links: &[LinkSlot], ends: &[(Id, Id)]) -> bool
-    ensures { result ≡ true → ends.now ≡ map key_of links.now }
+    ensures sound { result ≡ true → ends.now ≡ map key_of links.now }
+    ensures complete { ends.now ≡ map key_of links.now → result ≡ true }
 {
     if links.len() != ends.len() {
         return false;
@@ -44,14 +47,15 @@ fn are_ends(links: &[LinkSlot], ends: &[(Id, Id)]) -> bool
 }
 
 #[inline(always)]
-fn next_due(links: &[LinkSlot], now: u64, place: usize) -> usize
+fn next_due(stills: &Vec<u64>, now: u64, place: usize) -> usize
     ensures onward { place ≤ result }
-    ensures passed { (at : ℕ) (link : LinkView) → place ≤ at → at < result → slice_get links.now at ≡ Some link → IsStill (now + 1) link }
+    ensures passed { (at : ℕ) → place ≤ at → at < result → now < slice_index stills.now.items at }
 {
-    for at in place..links.len() {
-        if !links[at].is_still(now) {
+    let count = stills.len();
+    for at in place..count {
+        if still_at(stills, at) <= now {
             return at;
         }
     }
-    place.max(links.len())
+    place.max(count)
 }

@@ -4,6 +4,7 @@ ghost use Rattle.std.specs.List.{list_any};
 ghost use Rattle.tora_world.specs.Topology.{nodes_in, is_same_link, has_link, has_repeated_link};
 ghost use Rattle.tora_sim.specs.Topologies.{link_in, links_in, has_other, has_repeated_end};
 
+use crate::link_keys::are_known_apart;
 use crate::topology::{MOST_ENDS, nodes_of, put_end};
 use arrayvec::ArrayVec;
 use tora_core::numbers::has_number;
@@ -11,9 +12,20 @@ use tora_height::Id;
 
 /// Whether some link is named twice, either way round.
 ///
-/// The other ends of each node are put in order, where there are at most as many nodes and ends as any limits allow: that takes
-/// as long as the nodes times the links. Else each link is compared with those behind it.
+/// It is asked further only where it isn't known of the keys of the links: the other ends of each node are put in order then,
+/// where there are at most as many nodes and ends as any limits allow, which takes as long as the nodes times the links. Else
+/// each link is compared with those behind it.
 pub fn has_repeated_link(links: &[(Id, Id)]) -> bool
+    ensures { result ≡ has_repeated_link (links_in links.now) }
+{
+    if are_known_apart(links) {
+        return false;
+    }
+    has_link_twice(links)
+}
+
+/// Whether some link is named twice: the nodes are asked, or each link is.
+fn has_link_twice(links: &[(Id, Id)]) -> bool
     ensures { result ≡ has_repeated_link (links_in links.now) }
 {
     match nodes_of(links) {

@@ -8,14 +8,19 @@ ghost use Rattle.tora_world.specs.World.{first_world};
 ghost use Rattle.tora_sim.specs.Store.{world_of};
 ghost use Rattle.tora_sim.specs.Topologies.{IsTopology};
 ghost use Rattle.tora_sim.specs.Firsts.{IsFirstEnd, AreAdded, IsMade};
+ghost use Rattle.tora_sim.specs.LinksByBits.{rows_in, AreRowsOf};
 
 use crate::SimError;
 use crate::datagrams::Datagrams;
 use crate::files::open;
 use crate::hints::Hints;
+use crate::kept_cargoes::KeptCargoes;
+use crate::lane::Lane;
 use crate::links::{LinkSlot, end_of};
+use crate::links_by_bits::{LinkLists, links_by_bits};
 use crate::nodes::{NodeSlot, Sending, no_counts};
 use crate::sim::Sim;
+use crate::stills::no_stills;
 use crate::topology::Topology;
 use std::alloc::Global;
 use std::collections::VecDeque;
@@ -59,11 +64,14 @@ impl Sim {
             return Err(SimError::Memory);
         };
         let named = own.nodes();
+        let lists = links_by_bits(alloc, own.links())?;
         let mut nodes = Vec::new(alloc);
         let mut links = Vec::new(alloc);
         for n in named.as_slice() {
-            add_node(alloc, &own, times, *n, &mut nodes, &mut links)?;
+            add_node(alloc, &own, &lists, times, *n, &mut nodes, &mut links)?;
         }
+        let count = links.len();
+        let stills = no_stills(alloc, count)?;
         let hints = Hints::new(&nodes);
         Ok(Sim {
             topology: own,
@@ -74,6 +82,7 @@ impl Sim {
             datagrams: Datagrams::new(alloc),
             hints,
             quiet: 0,
+            stills,
             packets: Packets::new(),
         })
     }
@@ -83,17 +92,19 @@ impl Sim {
 fn add_node(
     alloc: Global,
     topology: &Topology,
+    lists: &LinkLists,
     times: Times,
     n: Id,
     nodes: &mut Vec<NodeSlot>,
     links: &mut Vec<LinkSlot>,
 ) -> Result<(), SimError>
+    requires lists { AreRowsOf topology.now (rows_in lists.now.items) }
     requires times { IsTimes times }
     requires me { 0 < n }
     ensures { MatchResult result (λ _. IsMade topology.now times n nodes.old.items links.old.items nodes.new.items links.new.items) (λ e. e ≡ SimError.Memory) }
 {
     let first = links.len();
-    let neighbours = topology.neighbours(n);
+    let neighbours = topology.neighbours(lists, n);
     let count = neighbours.len();
     let seat = new_seat(alloc, topology, n, neighbours.as_slice())?;
     let counts = no_counts(alloc, count + 1)?;
@@ -193,9 +204,8 @@ fn new_link(
         seat,
         end,
         file: open(MemDisk::new(), Owner { node: n, peer: k }),
-        put: Vec::new(alloc),
+        lane: Lane::new(alloc),
         still: 0,
-        pulled: 0,
-        steps: Vec::new(alloc),
+        steps: KeptCargoes::new(alloc),
     })
 }

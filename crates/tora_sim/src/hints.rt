@@ -33,7 +33,7 @@ fn kept_end(place: usize) -> u32
 }
 
 /// The bits of a number that a guess goes by.
-fn bits(n: Id) -> usize
+pub fn bits(n: Id) -> usize
     ensures { result ≡ last_bits n }
 {
     n as usize % PLACES

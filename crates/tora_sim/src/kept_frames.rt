@@ -1,54 +1,63 @@
-//! Frames, each kept once where that is seen, with their packets apart.
-ghost use Rattle.std.specs.Prelude.{◌≡◌, ◌<◌, ◌≤◌, ◌+◌, ◌∷◌, ◌++◌, [], length, slice_get, vec_len, vec_capacity, OnOk};
+//! Frames, each kept once where that is seen, with their headers and packets apart.
+ghost use Rattle.std.specs.Prelude.{◌≡◌, ◌<◌, ◌≤◌, ◌+◌, ◌^◌, ◌∷◌, ◌++◌, [], length, slice_get, slice_range, vec_len, vec_capacity, Some, IfSome, OnOk};
 ghost use Rattle.std.specs.List.{AllByRecursion};
-ghost use Rattle.tora_frame.specs.FrameParts.{IsFrame};
-ghost use Rattle.tora_sim.specs.Datagrams.{DatagramList, HasRoom, IsKept, frame_in, kept_frame, packets_carried};
+ghost use Rattle.tora_frame.specs.FrameParts.{IsFrame, batch, frame_of};
+ghost use Rattle.tora_frame.specs.declared.parts.Body.TheVariants as Carries;
+ghost use Rattle.tora_sim.specs.Datagrams.{DatagramList, HasRoom, IsKept, IsMore, IsWithin, body_in, frame_in, header_at};
 
+use crate::same_packets::are_same_packets;
+use crate::split_number::SplitNumber;
 use std::alloc::{AllocError, Global};
 use std::marker::Model;
-use tora_frame::{BorrowedBody, BorrowedFrame, Header, MOST_PACKETS};
+use tora_frame::{BorrowedBody, BorrowedFrame, Header, MOST_PACKETS, Version};
 use tora_packet::Packet;
 
+/// The most headers and the most packets that are kept: the place of each fits 32 bits.
+const MOST_KEPT: usize = 0x1_0000_0000;
+
 /// What a frame carries, but for the packets of a DATA frame.
-#[derive(Clone, Copy)]
+#[derive(Drop)]
 pub enum KeptBody {
     /// A HELLO.
     Hello,
-    /// The number of the first packet, the count of packets accepted, the place of the first packet among all that are
-    /// kept, and how many packets there are.
-    Data(u64, u64, usize, usize),
+    /// How many packets there are, the place of the first among all that are kept, its number, and the count of packets
+    /// accepted.
+    Data(u8, u32, SplitNumber, SplitNumber),
     /// The count of packets accepted.
-    Ack(u64),
+    Ack(SplitNumber),
 }
 
-/// A frame whose packets stand apart: one of few packets takes no room for sixteen.
-#[derive(Clone, Copy)]
+/// A frame whose header and packets stand apart: the frames of a life have few headers, and one of few packets takes no room
+/// for sixteen.
+#[derive(Drop)]
 pub struct KeptFrame {
-    pub header: Header,
+    /// The number of its header.
+    pub header: u32,
     pub body: KeptBody,
 }
 
 /// Frames in the order in which they came.
 #[derive(Drop)]
 pub struct KeptFrames {
+    headers: Vec<Header>,
     frames: Vec<KeptFrame>,
     packets: Vec<Packet>,
 }
 
 impl Model for KeptFrames {
-    ghost use Rattle.std.specs.Prelude.{◌-◌, map, length, vec_capacity};
+    ghost use Rattle.std.specs.Prelude.{◌-◌, ◌^◌, map, min, length, vec_capacity};
     ghost use Rattle.std.specs.List.{AllByRecursion};
     ghost use Rattle.tora_sim.specs.Datagrams.{DatagramList, IsKept, frame_in};
 
     ghost Value = { DatagramList };
 
     ghost view = { λ d. record {
-      items = map (frame_in d.packets.items) d.frames.items;
-      places = vec_capacity d.frames - length d.frames.items;
-      packet_places = vec_capacity d.packets - length d.packets.items;
+      items = map (frame_in d.headers.items d.packets.items) d.frames.items;
+      places = min (vec_capacity d.frames - length d.frames.items) (min (vec_capacity d.headers - length d.headers.items) (2 ^ 32 - length d.headers.items));
+      packet_places = min (vec_capacity d.packets - length d.packets.items) (2 ^ 32 - length d.packets.items);
     } };
 
-    ghost invariant = { λ d. AllByRecursion (IsKept d.packets.items) d.frames.items };
+    ghost invariant = { λ d. AllByRecursion (IsKept d.headers.items d.packets.items) d.frames.items };
 }
 
 impl KeptFrames {
@@ -57,6 +66,7 @@ impl KeptFrames {
         ensures { result.items ≡ [] }
     {
         KeptFrames {
+            headers: Vec::new(alloc),
             frames: Vec::new(alloc),
             packets: Vec::new(alloc),
         }
@@ -74,16 +84,27 @@ impl KeptFrames {
         ensures items { self.new.items ≡ self.old.items }
         ensures room { OnOk result (HasRoom self.new) }
     {
+        if self.headers.len() >= MOST_KEPT {
+            return Err(AllocError);
+        }
+        if self.packets.len() > MOST_KEPT - MOST_PACKETS {
+            return Err(AllocError);
+        }
+        self.headers.reserve(1)?;
         self.frames.reserve(1)?;
         self.packets.reserve(MOST_PACKETS)
     }
 
-    /// Appends a frame. There must be room for it.
-    pub fn push(&mut self, frame: &BorrowedFrame<'_>)
+    /// Appends a frame. There must be room for it. Its header may be that of the frame that stands at the guess: a wrong guess
+    /// costs memory and nothing else.
+    pub fn push(&mut self, frame: &BorrowedFrame<'_>, guess: Option<u32>)
         requires { HasRoom self.old }
         ensures { self.new.items ≡ self.old.items ++ frame.now ∷ [] }
     {
-        keep(&mut self.frames, &mut self.packets, frame);
+        let guess = header_guess(&self.frames, guess);
+        let header = number_of(&mut self.headers, guess, frame);
+        let body = keep_body(&mut self.packets, frame);
+        self.frames.push_reserved(KeptFrame { header, body });
     }
 
     /// The frame that stands behind so many others, with its packets where they stand.
@@ -93,32 +114,117 @@ impl KeptFrames {
         let Some(kept) = self.frames.get(place) else {
             return None;
         };
-        Some(frame_of(&self.packets, kept))
+        Some(frame_of(&self.headers, &self.packets, kept))
     }
 }
 
-/// Keeps a frame, and its packets behind all others.
-fn keep(frames: &mut Vec<KeptFrame>, packets: &mut Vec<Packet>, frame: &BorrowedFrame<'_>)
-    requires place { vec_len frames.old < vec_capacity frames.old }
-    requires packet_places { vec_len packets.old + 16 ≤ vec_capacity packets.old }
-    ensures frames { frames.new.items ≡ frames.old.items ++ kept_frame (length packets.old.items) frame.now ∷ [] }
-    ensures packets { packets.new.items ≡ packets.old.items ++ packets_carried frame.now.body }
-    ensures valid { IsFrame frame.now }
-{
-    let body = match frame.body() {
-        BorrowedBody::Hello => KeptBody::Hello,
-        BorrowedBody::Data(number, count, carried) => {
-            let from = packets.len();
-            keep_packets(packets, carried);
-            KeptBody::Data(number, count, from, carried.len())
-        }
-        BorrowedBody::Ack(count) => KeptBody::Ack(count),
+/// The number of the header of the frame at a place.
+fn header_guess(frames: &[KeptFrame], guess: Option<u32>) -> Option<u32> {
+    let Some(place) = guess else {
+        return None;
     };
-    let header = *frame.header();
-    frames.push_reserved(KeptFrame { header, body });
+    match frames.get(place as usize) {
+        Some(kept) => Some(kept.header),
+        None => None,
+    }
 }
 
-fn keep_packets(packets: &mut Vec<Packet>, carried: &[Packet])
+/// The number of a frame's header that is kept, if the guess is right.
+fn found_header(headers: &[Header], guess: Option<u32>, frame: &BorrowedFrame<'_>) -> Option<u32>
+    ensures { IfSome result (λ number. slice_get headers.now number ≡ Some frame.now.header) }
+{
+    let Some(number) = guess else {
+        return None;
+    };
+    let Some(other) = headers.get(number as usize) else {
+        return None;
+    };
+    let is_same = *other == *frame.header();
+    if is_same { Some(number) } else { None }
+}
+
+/// The number of a frame's header, which is kept now if it was not.
+fn number_of(headers: &mut Vec<Header>, guess: Option<u32>, frame: &BorrowedFrame<'_>) -> u32
+    requires places { vec_len headers.old < vec_capacity headers.old }
+    requires numbers { vec_len headers.old < 2 ^ 32 }
+    ensures is { slice_get headers.new.items result ≡ Some frame.now.header }
+    ensures more { IsMore headers.old.items headers.new.items }
+{
+    if let Some(number) = found_header(headers, guess, frame) {
+        return number;
+    }
+    let number = headers.len() as u32;
+    headers.push_reserved(*frame.header());
+    number
+}
+
+/// Keeps what a frame carries.
+fn keep_body(packets: &mut Vec<Packet>, frame: &BorrowedFrame<'_>) -> KeptBody
+    requires places { vec_len packets.old + 16 ≤ vec_capacity packets.old }
+    requires numbers { vec_len packets.old + 16 ≤ 2 ^ 32 }
+    ensures body { body_in packets.new.items result ≡ frame.now.body }
+    ensures within { IsWithin packets.new.items result }
+    ensures more { IsMore packets.old.items packets.new.items }
+    ensures valid { IsFrame frame.now }
+{
+    match frame.body() {
+        BorrowedBody::Hello => KeptBody::Hello,
+        BorrowedBody::Data(number, count, carried) => keep_data(packets, number, count, carried),
+        BorrowedBody::Ack(count) => KeptBody::Ack(SplitNumber::new(count)),
+    }
+}
+
+/// Keeps what a DATA frame carries.
+fn keep_data(packets: &mut Vec<Packet>, number: u64, count: u64, carried: &[Packet]) -> KeptBody
+    requires many { length carried.now ≤ 16 }
+    requires places { vec_len packets.old + 16 ≤ vec_capacity packets.old }
+    requires numbers { vec_len packets.old + 16 ≤ 2 ^ 32 }
+    ensures body { body_in packets.new.items result ≡ Carries.Data number count (batch carried.now) }
+    ensures within { IsWithin packets.new.items result }
+    ensures more { IsMore packets.old.items packets.new.items }
+{
+    let many = carried.len() as u8;
+    let from = keep_packets(packets, carried);
+    let first = SplitNumber::new(number);
+    let accepted = SplitNumber::new(count);
+    KeptBody::Data(many, from, first, accepted)
+}
+
+/// Where these packets stand, now that they are kept: a core sends the same packets over several links, one behind the other,
+/// so they may be the last of all.
+fn keep_packets(packets: &mut Vec<Packet>, carried: &[Packet]) -> u32
+    requires places { vec_len packets.old + length carried.now ≤ vec_capacity packets.old }
+    requires numbers { vec_len packets.old < 2 ^ 32 }
+    ensures range { slice_range packets.new.items result (result + length carried.now) ≡ carried.now }
+    ensures within { result + length carried.now ≤ length packets.new.items }
+    ensures more { IsMore packets.old.items packets.new.items }
+{
+    if let Some(from) = last_place(packets, carried) {
+        return from as u32;
+    }
+    let from = packets.len() as u32;
+    append(packets, carried);
+    from
+}
+
+/// Where these packets stand, if they are the last of all.
+fn last_place(packets: &[Packet], carried: &[Packet]) -> Option<usize>
+    ensures range { IfSome result (λ from. slice_range packets.now from (from + length carried.now) ≡ carried.now) }
+    ensures within { IfSome result (λ from. from + length carried.now ≤ length packets.now) }
+{
+    let all = packets.len();
+    let many = carried.len();
+    if many > all {
+        return None;
+    }
+    let from = all - many;
+    if are_same_packets(&packets[from..all], carried) {
+        return Some(from);
+    }
+    None
+}
+
+fn append(packets: &mut Vec<Packet>, carried: &[Packet])
     requires { vec_len packets.old + length carried.now ≤ vec_capacity packets.old }
     ensures { packets.new.items ≡ packets.old.items ++ carried.now }
 {
@@ -127,17 +233,48 @@ fn keep_packets(packets: &mut Vec<Packet>, carried: &[Packet])
     }
 }
 
-/// The frame that is kept so.
-fn frame_of<'a>(packets: &'a [Packet], kept: &KeptFrame) -> BorrowedFrame<'a>
-    requires { IsKept packets.now kept.now }
-    ensures { result ≡ frame_in packets.now kept.now }
+/// The header of a number.
+fn header_at(headers: &[Header], number: u32) -> Header
+    ensures { result ≡ header_at headers.now number }
 {
-    let header = kept.header;
-    match kept.body {
+    match headers.get(number as usize) {
+        Some(header) => *header,
+        None => Header {
+            version: Version::One,
+            sender: 0,
+            receiver: 0,
+            life: 0,
+            heard: 0,
+        },
+    }
+}
+
+/// The frame that is kept so.
+fn frame_of<'a>(headers: &[Header], packets: &'a [Packet], kept: &KeptFrame) -> BorrowedFrame<'a>
+    requires { IsKept headers.now packets.now kept.now }
+    ensures { result ≡ frame_in headers.now packets.now kept.now }
+{
+    frame_with(header_at(headers, kept.header), packets, &kept.body)
+}
+
+/// The frame of a header and of a body that is kept so.
+fn frame_with<'a>(header: Header, packets: &'a [Packet], body: &KeptBody) -> BorrowedFrame<'a>
+    requires within { IsWithin packets.now body.now }
+    requires frame { IsFrame (frame_of header (body_in packets.now body.now)) }
+    ensures { result ≡ frame_of header (body_in packets.now body.now) }
+{
+    match body {
         KeptBody::Hello => BorrowedFrame::hello(header),
-        KeptBody::Data(number, count, from, many) => {
-            BorrowedFrame::data(header, number, count, &packets[from..from + many])
+        KeptBody::Data(many, from, number, count) => {
+            let from = *from as usize;
+            let many = usize::from(*many);
+            BorrowedFrame::data(
+                header,
+                number.get(),
+                count.get(),
+                &packets[from..from + many],
+            )
         }
-        KeptBody::Ack(count) => BorrowedFrame::ack(header, count),
+        KeptBody::Ack(count) => BorrowedFrame::ack(header, count.get()),
     }
 }

@@ -1,8 +1,8 @@
 //! The link ends of all nodes, one behind the other.
 ghost use Rattle.tora_arq.specs.Settings.{IsTimes, settings_of};
-ghost use Rattle.std.specs.Prelude.{◌≡◌, ◌==◌, ◌≢◌, ◌<◌, ◌≤◌, ◌+◌, ◌++◌, ◌∷◌, [], ℕ, ⊤, false, IsTrue, IfSome, IfNone, OnOk, IfOk, IfErr, None, MatchOption, find, length, map, is_some, nat_lt, slice_get};
+ghost use Rattle.std.specs.Prelude.{◌≡◌, ◌==◌, ◌≢◌, ◌<◌, ◌≤◌, ◌+◌, ◌++◌, ◌∷◌, [], ℕ, ⊤, false, IsTrue, IfSome, IfNone, OnOk, IfOk, IfErr, None, MatchOption, find, length, is_some, nat_lt, slice_get};
 ghost use Rattle.tora_arq.specs.LinkEnd.{is_closed, after_frame, after_tick, frame_due, after_transmit, first_event, after_poll_event};
-ghost use Rattle.tora_sim.specs.Links.{with_state, after_open_at, after_arm, after_pull_at, is_at, AreRising, ticked, AreChanged};
+ghost use Rattle.tora_sim.specs.Links.{with_state, after_open_at, after_arm, after_pull_at, is_at, AreRising, AreChanged};
 ghost use Rattle.tora_arq.specs.LinkEnd.{first_end};
 ghost use Rattle.tora_arq.specs.EndRange.{link_end_of};
 ghost use Rattle.tora_seat.specs.declared.TheConstants.{MOST_CARGOES};
@@ -13,6 +13,8 @@ ghost use Rattle.tora_sim.specs.Lanes.{after_offer_at, has_place, bare, HasRoom}
 use crate::SimError;
 use crate::files::FileSlot;
 use crate::hints::Hints;
+use crate::kept_cargoes::KeptCargoes;
+use crate::lane::Lane;
 use std::alloc::Global;
 use std::marker::Model;
 use std::mem;
@@ -21,13 +23,10 @@ use tora_frame::{BorrowedFrame, Packets, Version};
 use tora_height::Id;
 use tora_life::{DiskCall, MemDisk, Owner};
 use tora_packet::Packet;
-use tora_seat::{Cargo, MOST_CARGOES, hand_in};
+use tora_seat::{Cargo, hand_in};
 
 /// How many ends of a node are looked at one by one, before all are searched by halves.
 const MOST_TRIED: usize = 32;
-
-/// How many cargoes can be pulled from a lane before its memory has to grow.
-const SPARE_CARGOES: usize = 32;
 
 /// The end of a link at one node, with its life file and the lane from the node's core to it.
 #[derive(Drop)]
@@ -39,18 +38,17 @@ pub struct LinkSlot {
     /// Before this tick nothing is to be done here, and no tick changes the end; 0 where that isn't known. What a round asks
     /// of each end stands in front.
     pub(crate) still: u64,
-    /// How many cargoes are no longer in the lane.
-    pub(crate) pulled: usize,
-    /// All cargoes that were ever put into the lane.
-    pub(crate) put: Vec<Cargo>,
+    /// The lane from the node's core.
+    pub(crate) lane: Lane,
     pub(crate) end: LinkEnd,
     pub(crate) file: FileSlot,
     /// The packets of the peer that the node's core ever stepped, each with its life.
-    pub(crate) steps: Vec<(Life, Packet)>,
+    pub(crate) steps: KeptCargoes,
 }
 
 impl Model for LinkSlot {
-    ghost use Rattle.std.specs.Prelude.{◌≡◌, ◌≤◌, length, vec_capacity};
+    ghost use Rattle.std.specs.Prelude.{◌≡◌, ◌≤◌, ◌+◌, length};
+    ghost use Rattle.tora_world.specs.Lists.{parcels_in};
     ghost use Rattle.tora_life.specs.LifeRun.{owner_in};
     ghost use Rattle.tora_world.specs.World.{owner_of};
     ghost use Rattle.tora_sim.specs.Files.{disk_of, IsDrawn};
@@ -59,9 +57,9 @@ impl Model for LinkSlot {
 
     ghost Value = { LinkView };
 
-    ghost view = { λ s. link_of s.node s.peer s.seat s.end (disk_of s.file) s.put.items s.pulled (vec_capacity s.put) s.steps.items (vec_capacity s.steps) };
+    ghost view = { λ s. link_of s.node s.peer s.seat s.end (disk_of s.file) s.lane.put s.lane.pulled s.lane.room s.steps.items (length (parcels_in s.steps.items) + s.steps.places) };
 
-    ghost invariant = { λ s. IsDrawn s.end.state.last_life (disk_of s.file) × (s.pulled ≤ length s.put.items) × (owner_in (disk_of s.file) ≡ owner_of s.end.settings.me s.end.settings.peer) × IsStillIf s.still (link_of s.node s.peer s.seat s.end (disk_of s.file) s.put.items s.pulled (vec_capacity s.put) s.steps.items (vec_capacity s.steps)) };
+    ghost invariant = { λ s. IsDrawn s.end.state.last_life (disk_of s.file) × (s.lane.pulled ≤ length s.lane.put) × (owner_in (disk_of s.file) ≡ owner_of s.end.settings.me s.end.settings.peer) × IsStillIf s.still (link_of s.node s.peer s.seat s.end (disk_of s.file) s.lane.put s.lane.pulled s.lane.room s.steps.items (length (parcels_in s.steps.items) + s.steps.places)) };
 }
 
 impl LinkSlot {
@@ -185,7 +183,7 @@ impl LinkSlot {
     pub fn has_cargo(&self) -> bool
         ensures { result ≡ nat_lt self.now.pulled (length self.now.put) }
     {
-        self.pulled < self.put.len()
+        self.lane.has_cargo()
     }
 
     /// Takes a cargo of the lane, and submits its packet or cuts its life.
@@ -194,9 +192,8 @@ impl LinkSlot {
         ensures { self.new ≡ after_pull_at self.old (slice_get self.old.put self.old.pulled) }
     {
         lives_are_bound_once();
-        let cargo = self.put[self.pulled];
+        let cargo = self.lane.take();
         self.still = 0;
-        self.pulled += 1;
         hand_in(&mut self.end, &cargo);
     }
 
@@ -210,29 +207,10 @@ impl LinkSlot {
         ensures room { OnOk result (HasRoom self.new) }
         ensures memory { IfErr result (λ e. e ≡ SimError.Memory) }
     {
-        self.make_room_in_lane()?;
-        if self.steps.reserve(1).is_err() {
+        if self.lane.make_room().is_err() {
             return Err(SimError::Memory);
         }
-        Ok(())
-    }
-
-    /// Takes the memory for cargoes up to as many as the lane holds, where there is less, and for some that come once these
-    /// are pulled.
-    ///
-    /// # Errors
-    /// `Memory`. The end is as it was either way.
-    fn make_room_in_lane(&mut self) -> Result<(), SimError>
-        ensures same { record self.new { room = 0 } ≡ record self.old { room = 0 } }
-        ensures room { OnOk result (self.new.pulled + MOST_CARGOES ≤ self.new.room) }
-        ensures memory { IfErr result (λ e. e ≡ SimError.Memory) }
-    {
-        let waiting = self.put.len() - self.pulled;
-        let needed = MOST_CARGOES.saturating_sub(waiting);
-        if needed <= self.put.capacity() - self.put.len() {
-            return Ok(());
-        }
-        if self.put.reserve(needed + SPARE_CARGOES).is_err() {
+        if self.steps.reserve().is_err() {
             return Err(SimError::Memory);
         }
         Ok(())
@@ -244,11 +222,11 @@ impl LinkSlot {
         ensures put { result ≡ has_place self.old }
         ensures lane { self.new ≡ after_offer_at self.old cargo result }
     {
-        if self.put.len() - self.pulled >= MOST_CARGOES {
+        if !self.lane.has_place() {
             return false;
         }
         self.still = 0;
-        self.put.push_reserved(cargo);
+        self.lane.put(cargo);
         true
     }
 
@@ -282,7 +260,7 @@ impl LinkSlot {
         mem::swap(&mut self.end, end);
         let file = mem::replace(&mut self.file, FileSlot::Unopened(owner, MemDisk::new()));
         self.file = file.restart(owner, torn);
-        self.pulled = self.put.len();
+        self.lane.take_all();
     }
 
     /// Notes a packet of the peer that the node's core stepped, with its life.
@@ -290,7 +268,7 @@ impl LinkSlot {
         requires { length self.old.steps < self.old.step_room }
         ensures { self.new ≡ record self.old { steps = self.old.steps ++ record { life = life; packet = packet } ∷ [] } }
     {
-        self.steps.push_reserved((life, packet));
+        self.steps.push(&Cargo::Packet(life, packet));
     }
 }
 
@@ -354,21 +332,6 @@ fn search(links: &[LinkSlot], n: Id, k: Id) -> Option<usize>
     ensures none { IfNone result (find (is_at n k) links.now ≡ None) }
 {
     links.binary_search_by_key(&(n, k), |link| link.key()).ok()
-}
-
-/// Ticks every end.
-pub fn tick(links: &mut Vec<LinkSlot>, now: u64)
-    ensures { links.new.items ≡ map (ticked now) links.old.items }
-{
-    tick_each(links, now);
-}
-
-fn tick_each(links: &mut [LinkSlot], now: u64)
-    ensures { links.new ≡ map (ticked now) links.old }
-{
-    for link in links.iter_mut() {
-        link.tick(now);
-    }
 }
 
 /// The next such call of each life file fails, at the `count` ends from the place `first` on.

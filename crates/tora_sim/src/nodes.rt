@@ -30,25 +30,25 @@ pub enum Sending {
     IsGone,
 }
 
-/// A node, with the lane into its core.
+/// A node, with the lane into its core. What a round and a datagram ask of it stands in front.
 #[derive(Drop)]
 pub struct NodeSlot {
     pub(crate) node: Id,
+    pub(crate) sending: Sending,
+    /// Whether the next datagram for it is not handed over.
+    pub(crate) receive: bool,
+    /// The lane into its core.
+    pub(crate) items: VecDeque<Item>,
     /// The place of its first link end among all link ends.
     pub(crate) first: usize,
     /// How many neighbours it has.
     pub(crate) count: usize,
-    /// Its core's seat.
-    pub(crate) seat: CoreSeat,
-    /// The inputs that its core accepted since the node's last restart, each with its tick.
-    pub(crate) inputs: Vec<(Input, u64)>,
-    /// The lane into its core.
-    pub(crate) items: VecDeque<Item>,
     /// How many items each seat has put since the node's last restart: those of the neighbours, and that of the commands.
     pub(crate) counts: Vec<u64>,
-    pub(crate) sending: Sending,
-    /// Whether the next datagram for it is not handed over.
-    pub(crate) receive: bool,
+    /// The inputs that its core accepted since the node's last restart, each with its tick.
+    pub(crate) inputs: Vec<(Input, u64)>,
+    /// Its core's seat.
+    pub(crate) seat: CoreSeat,
 }
 
 impl Model for NodeSlot {

@@ -1,12 +1,13 @@
 //! Until which tick nothing is to be done.
-ghost use Rattle.std.specs.Prelude.{◌≡◌, ◌<◌, ◌+◌, true};
+ghost use Rattle.std.specs.Prelude.{◌≡◌, ◌<◌, ◌≤◌, ℕ, true, length, slice_index};
 ghost use Rattle.std.specs.List.{list_all};
-ghost use Rattle.tora_sim.specs.Quiet.{IsQuiet, IsStill, IsStillIf, is_idle, AreStill};
-ghost use Rattle.tora_sim.specs.Store.{EachOf, world_of};
+ghost use Rattle.tora_sim.specs.Quiet.{IsQuiet, IsStillIf, is_idle, AreStill, AreStillEach};
+ghost use Rattle.tora_sim.specs.Store.{world_of};
 
 use crate::links::LinkSlot;
 use crate::nodes::NodeSlot;
 use crate::sim::Sim;
+use crate::stills::{keep_still, still_at};
 
 impl Sim {
     /// Whether it is known that nothing is to be done: no core has an item to take, and no link end can be opened, take a
@@ -19,38 +20,55 @@ impl Sim {
         self.clock < self.quiet
     }
 
-    /// Looks at every node, and at each link end where that isn't known, for the tick before which nothing is to be done: until
-    /// then a tick changes the clock alone, and `next_due` leaves a link end out. The world stays as it is.
+    /// Looks at every node, and at each link end of which no tick is known that is still to come, for the tick before which nothing is to
+    /// be done: until then a tick changes the clock alone, and `next_due` leaves a link end out. The world stays as it is.
     pub fn settle(&mut self)
         ensures { self.new ≡ self.old }
     {
         if self.clock < self.quiet {
             return;
         }
-        settle_ends(&mut self.links, self.clock);
-        let until = quiet_until(&self.nodes, &self.links);
+        settle_ends(&mut self.links, &mut self.stills, self.clock);
+        let until = quiet_until(&self.nodes, &self.links, &self.stills, self.clock);
         self.quiet = until;
     }
 }
 
 /// Before which tick nothing is to be done; 0 where something is to be done at once.
-fn quiet_until(nodes: &Vec<NodeSlot>, links: &Vec<LinkSlot>) -> u64
-    ensures { AreStill result nodes.now.items links.now.items }
+fn quiet_until(nodes: &Vec<NodeSlot>, _links: &Vec<LinkSlot>, stills: &Vec<u64>, now: u64) -> u64
+    requires { AreStillEach now stills.now.items _links.now.items }
+    ensures { AreStill result nodes.now.items _links.now.items }
 {
     if !are_idle(nodes) {
         return 0;
     }
-    still_until(links)
+    still_until(stills, now)
 }
 
-/// Looks at each link end for the tick before which nothing is to be done at it, where that isn't known.
-fn settle_ends(links: &mut Vec<LinkSlot>, now: u64)
-    ensures { links.new.items ≡ links.old.items }
+/// Looks at each link end of which no tick is known that is still to come, for the tick before which nothing is to be done at it.
+fn settle_ends(links: &mut Vec<LinkSlot>, stills: &mut Vec<u64>, now: u64)
+    requires { AreStillEach now stills.old.items links.old.items }
+    ensures links { links.new.items ≡ links.old.items }
+    ensures stills { AreStillEach now stills.new.items links.old.items }
 {
-    let count = links.len();
+    let count = stills.len();
     for place in 0..count {
-        links[place].settle(now);
+        settle_end(links, stills, place, now);
     }
+}
+
+#[inline(always)]
+fn settle_end(links: &mut Vec<LinkSlot>, stills: &mut Vec<u64>, place: usize, now: u64)
+    requires within { place < length stills.old.items }
+    requires still { AreStillEach now stills.old.items links.old.items }
+    ensures links { links.new.items ≡ links.old.items }
+    ensures stills { AreStillEach now stills.new.items links.old.items }
+{
+    if now < still_at(stills, place) {
+        return;
+    }
+    let until = links[place].settled(now);
+    keep_still(stills, place, until);
 }
 
 fn are_idle(nodes: &Vec<NodeSlot>) -> bool
@@ -59,15 +77,15 @@ fn are_idle(nodes: &Vec<NodeSlot>) -> bool
     nodes.as_slice().iter().all(|node| node.is_idle())
 }
 
-/// Before which tick nothing is to be done at any of the link ends; 0 where something is to be done at once.
-fn still_until(links: &Vec<LinkSlot>) -> u64
-    ensures { 0 < result → EachOf (IsStill result) links.now.items }
+/// Before which tick nothing is to be done at any of the link ends; 0 where something may be to be done at once.
+fn still_until(stills: &Vec<u64>, now: u64) -> u64
+    ensures { 0 < result → (at : ℕ) → at < length stills.now.items → (now < slice_index stills.now.items at) × (result ≤ slice_index stills.now.items at) }
 {
     let mut until = u64::MAX;
-    let count = links.len();
+    let count = stills.len();
     for place in 0..count {
-        let here = links[place].known_still();
-        if here == 0 {
+        let here = still_at(stills, place);
+        if here <= now {
             return 0;
         }
         until = until.min(here);
@@ -105,12 +123,14 @@ impl LinkSlot {
         self.still
     }
 
-    /// Whether it is known that nothing is to be done here at a tick.
+    /// Looks as `settle` does, and tells before which tick nothing is to be done here; 0 where something is to be done at once.
     #[inline(always)]
-    pub fn is_still(&self, now: u64) -> bool
-        ensures { result ≡ true → IsStill (now + 1) self.now }
+    fn settled(&mut self, now: u64) -> u64
+        ensures same { self.new ≡ self.old }
+        ensures until { IsStillIf result self.old }
     {
-        now < self.still
+        self.settle(now);
+        self.known_still()
     }
 
     /// Before which tick nothing is to be done here; 0 where something is to be done at once.

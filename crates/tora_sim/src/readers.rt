@@ -1,21 +1,23 @@
 //! What is read of a simulated world.
-ghost use Rattle.std.specs.Prelude.{◌≡◌, IfOk, length, map, option_map, option_to_list, ◌++◌, [], ◌∷◌};
+ghost use Rattle.std.specs.Prelude.{◌≡◌, ◌<◌, ◌≤◌, ◌^◌, IfOk, OnOk, Some, length, map, option_map, option_to_list, slice_get, ◌++◌, [], ◌∷◌};
+ghost use Rattle.tora_seat.specs.declared.cargo.Cargo.{Cargo as AnyCargo};
 ghost use Rattle.tora_core.specs.CoreRun.{height_of, hop_of};
-ghost use Rattle.tora_world.specs.Topology.{nodes_in};
+ghost use Rattle.tora_world.specs.Topology.{is_node, nodes_in, neighbours_of};
 ghost use Rattle.tora_world.specs.World.{sent_packets, taken_packets, datagram};
 ghost use Rattle.tora_world.specs.Walks.{height_at, hop_at};
 ghost use Rattle.tora_world.specs.Lists.{packets_of, parcels_in};
 ghost use Rattle.tora_sim.specs.Store.{world_of, numbered};
-ghost use Rattle.tora_sim.specs.Links.{parcel_in};
 ghost use Rattle.tora_sim.specs.Readers.{ends_at, ends_in, way_of};
 
 use crate::datagrams::Datagrams;
+use crate::kept_cargoes::KeptCargoes;
 use crate::links::{LinkSlot, place};
 use crate::nodes::{NodeSlot, place as node_place};
 use crate::sim::{Sim, numbered};
 use crate::topology::Topology;
 use std::alloc::{AllocError, Global};
 use tora_arq::Life;
+use tora_core::numbers_come_and_go;
 use tora_frame::BorrowedFrame;
 use tora_height::{Entry, Id};
 use tora_packet::Packet;
@@ -69,6 +71,34 @@ impl Sim {
         match node_place(&self.nodes, &self.hints, n) {
             Some(at) => put_ends(ends, n, self.nodes[at].neighbours()),
             None => Ok(()),
+        }
+    }
+
+    /// Whether a node has this number: the links of the topology are not gone through.
+    pub(crate) fn has_node(&self, n: Id) -> bool
+        ensures { result ≡ is_node self.now.topology n }
+    {
+        match node_place(&self.nodes, &self.hints, n) {
+            Some(_place) => true,
+            None => false,
+        }
+    }
+
+    /// How many nodes there are.
+    pub(crate) fn node_count(&self) -> usize
+        ensures { result ≡ length (nodes_in self.now.topology.links) }
+    {
+        numbers_come_and_go();
+        self.nodes.len()
+    }
+
+    /// The neighbours of a node, in ascending order, as its core has them; none where there is no such node.
+    pub(crate) fn neighbours(&self, n: Id) -> &[Id]
+        ensures { result.now ≡ neighbours_of self.now.topology n }
+    {
+        match node_place(&self.nodes, &self.hints, n) {
+            Some(at) => self.nodes[at].neighbours(),
+            None => &[],
         }
     }
 
@@ -189,28 +219,30 @@ impl LinkSlot {
     fn sent_count(&self, life: Life) -> usize
         ensures { result ≡ length (packets_of life (parcels_in self.now.put)) }
     {
-        count_put(&self.put, life)
+        self.lane.sent_count(life)
     }
 
     /// The packets that were put into the lane in a life.
     fn sent(&self, alloc: Global, life: Life) -> Result<Vec<Packet>, AllocError>
         ensures { IfOk result (λ v. v.items ≡ packets_of life (parcels_in self.now.put)) }
     {
-        list_put(alloc, &self.put, life)
+        self.lane.sent(alloc, life)
     }
 
     /// How many packets of the peer the node's core stepped in a life.
     fn taken_count(&self, life: Life) -> usize
         ensures { result ≡ length (packets_of life self.now.steps) }
     {
-        count_steps(&self.steps, life)
+        count_kept(&self.steps, life)
     }
 
     /// The packets of the peer that the node's core stepped in a life.
     fn taken(&self, alloc: Global, life: Life) -> Result<Vec<Packet>, AllocError>
         ensures { IfOk result (λ v. v.items ≡ packets_of life self.now.steps) }
     {
-        list_steps(alloc, &self.steps, life)
+        let mut packets = Vec::new(alloc);
+        list_kept(&mut packets, &self.steps, life)?;
+        Ok(packets)
     }
 }
 
@@ -249,8 +281,10 @@ fn packet_put(cargo: &Cargo, life: Life) -> Option<Packet>
     }
 }
 
-fn count_put(put: &[Cargo], life: Life) -> usize
-    ensures { result ≡ length (packets_of life (parcels_in put.now)) }
+/// How many packets of a life are among cargoes.
+pub fn count_put(put: &[Cargo], life: Life) -> usize
+    ensures count { result ≡ length (packets_of life (parcels_in put.now)) }
+    ensures few { result ≤ length put.now }
 {
     let mut count = 0;
     for cargo in put {
@@ -261,51 +295,57 @@ fn count_put(put: &[Cargo], life: Life) -> usize
     count
 }
 
-fn list_put(alloc: Global, put: &[Cargo], life: Life) -> Result<Vec<Packet>, AllocError>
-    ensures { IfOk result (λ v. v.items ≡ packets_of life (parcels_in put.now)) }
+/// Appends the packets of a life that are among cargoes.
+pub fn list_put(packets: &mut Vec<Packet>, put: &[Cargo], life: Life) -> Result<(), AllocError>
+    ensures { OnOk result (packets.new.items ≡ packets.old.items ++ packets_of life (parcels_in put.now)) }
 {
-    let mut packets = Vec::new(alloc);
     for cargo in put {
         match packet_put(cargo, life) {
             Some(packet) => packets.push(packet)?,
             None => {}
         }
     }
-    Ok(packets)
+    Ok(())
 }
 
-/// The packet of a step, where it is of this life.
-fn packet_stepped(step: &(Life, Packet), life: Life) -> Option<Packet>
-    ensures { option_to_list result ≡ packets_of life (parcel_in step.now ∷ []) }
+/// The packet of the cargo at a place, where it is of this life.
+fn packet_kept(kept: &KeptCargoes, place: usize, life: Life) -> Option<Packet>
+    requires { place < length kept.now.items }
+    ensures { (cargo : AnyCargo) → slice_get kept.now.items place ≡ Some cargo → option_to_list result ≡ packets_of life (parcels_in (cargo ∷ [])) }
 {
-    if step.0 == life { Some(step.1) } else { None }
+    match kept.get(place) {
+        Some(cargo) => packet_put(&cargo, life),
+        None => None,
+    }
 }
 
-fn count_steps(steps: &[(Life, Packet)], life: Life) -> usize
-    ensures { result ≡ length (packets_of life (map parcel_in steps.now)) }
+/// How many packets of a life are among cargoes that are kept.
+pub fn count_kept(kept: &KeptCargoes, life: Life) -> usize
+    ensures count { result ≡ length (packets_of life (parcels_in kept.now.items)) }
+    ensures few { result < 2 ^ 63 }
 {
     let mut count = 0;
-    for step in steps {
-        if packet_stepped(step, life).is_some() {
+    for place in 0..kept.len() {
+        if packet_kept(kept, place, life).is_some() {
             count += 1;
         }
     }
     count
 }
 
-fn list_steps(
-    alloc: Global,
-    steps: &[(Life, Packet)],
+/// Appends the packets of a life that are among cargoes that are kept.
+pub fn list_kept(
+    packets: &mut Vec<Packet>,
+    kept: &KeptCargoes,
     life: Life,
-) -> Result<Vec<Packet>, AllocError>
-    ensures { IfOk result (λ v. v.items ≡ packets_of life (map parcel_in steps.now)) }
+) -> Result<(), AllocError>
+    ensures { OnOk result (packets.new.items ≡ packets.old.items ++ packets_of life (parcels_in kept.now.items)) }
 {
-    let mut packets = Vec::new(alloc);
-    for step in steps {
-        match packet_stepped(step, life) {
+    for place in 0..kept.len() {
+        match packet_kept(kept, place, life) {
             Some(packet) => packets.push(packet)?,
             None => {}
         }
     }
-    Ok(packets)
+    Ok(())
 }

@@ -15,6 +15,7 @@ use crate::links::{LinkSlot, place};
 use crate::nodes::{NodeSlot, place as node_place};
 use crate::sim::Sim;
 use tora_arq::Life;
+use tora_core::numbers_come_and_go;
 use tora_height::Id;
 
 impl Sim {
@@ -36,8 +37,15 @@ impl Sim {
     pub fn is_at_rest(&self) -> bool
         ensures { result ≡ rests (world_of self.now) }
     {
-        let nodes = self.topology.nodes();
-        nodes.as_slice().iter().all(|n| self.is_node_at_rest(*n))
+        numbers_come_and_go();
+        self.are_at_rest(&self.nodes)
+    }
+
+    /// Whether these nodes are at rest.
+    fn are_at_rest(&self, nodes: &[NodeSlot]) -> bool
+        ensures { result ≡ list_all (λ node. is_node_at_rest (world_of self.now) node.node) nodes.now }
+    {
+        nodes.iter().all(|node| self.is_node_at_rest(node.key()))
     }
 
     /// Whether no item waits for the core of a node, and its ends of its links are at rest.
@@ -51,11 +59,8 @@ impl Sim {
     fn are_links_at_rest(&self, n: Id) -> bool
         ensures { result ≡ list_all (is_link_at_rest (world_of self.now) n) (neighbours_of self.now.topology n) }
     {
-        let neighbours = self.topology.neighbours(n);
-        neighbours
-            .as_slice()
-            .iter()
-            .all(|k| self.is_link_at_rest(n, *k))
+        let neighbours = self.neighbours(n);
+        neighbours.iter().all(|k| self.is_link_at_rest(n, *k))
     }
 
     /// Whether no item waits for the core of a node.

@@ -11,9 +11,11 @@ ghost use Rattle.tora_sim.specs.Steps.{Does, Runs};
 use crate::datagrams::Datagrams;
 use crate::hints::Hints;
 use crate::lanes::make_room;
-use crate::links::{LinkSlot, arm, place, tick};
+use crate::links::{LinkSlot, arm, place};
 use crate::nodes::{NodeSlot, Sending, place as node_place};
 use crate::restarts::{new_ends, restart_ends};
+use crate::stills::forget;
+use crate::ticking::tick;
 use crate::topology::Topology;
 use crate::turns::turn;
 use crate::{Call, Event, SimError};
@@ -37,19 +39,22 @@ pub struct Sim {
     pub(crate) hints: Hints,
     /// Before this tick nothing is to be done at any node or link end, and no tick changes one; 0 where that isn't known.
     pub(crate) quiet: u64,
+    /// Of each link end the tick before which nothing is to be done at it, where that tick is still to come; else it says nothing. They
+    /// stand here, and not in the ends, since every part of a round asks them of all ends.
+    pub(crate) stills: Vec<u64>,
     /// Where the packets of a frame stand while it is sent.
     pub(crate) packets: Packets,
 }
 
 impl Model for Sim {
     ghost use Rattle.tora_sim.specs.Store.{SimState, IsStore, state_of};
-    ghost use Rattle.tora_sim.specs.Quiet.{AreStill};
+    ghost use Rattle.tora_sim.specs.Quiet.{AreStill, AreStillEach};
 
     ghost Value = { SimState };
 
     ghost view = { λ s. state_of s.topology s.times s.clock s.nodes.items s.links.items s.datagrams.items };
 
-    ghost invariant = { λ s. IsStore (state_of s.topology s.times s.clock s.nodes.items s.links.items s.datagrams.items) × AreStill s.quiet s.nodes.items s.links.items };
+    ghost invariant = { λ s. IsStore (state_of s.topology s.times s.clock s.nodes.items s.links.items s.datagrams.items) × AreStill s.quiet s.nodes.items s.links.items × AreStillEach s.clock s.stills.items s.links.items };
 }
 
 impl Sim {
@@ -65,7 +70,7 @@ impl Sim {
             return Ok(());
         }
         self.quiet = 0;
-        tick(&mut self.links, now);
+        tick(&mut self.links, &self.stills, now);
         self.clock = now;
         Ok(())
     }
@@ -187,6 +192,7 @@ impl Sim {
             return Err(SimError::NoDatagram);
         };
         self.quiet = 0;
+        forget(&mut self.stills, at, 1);
         self.links[at].receive(&frame, self.clock);
         Ok(())
     }
@@ -204,6 +210,7 @@ impl Sim {
         let first = self.nodes[home].first();
         let count = self.nodes[home].count();
         self.quiet = 0;
+        forget(&mut self.stills, first, count);
         if make_room(&mut self.links, first, count).is_err() {
             return Err(SimError::Memory);
         }
@@ -227,6 +234,7 @@ impl Sim {
             return Err(SimError::Memory);
         };
         self.quiet = 0;
+        forget(&mut self.stills, first, count);
         restart_ends(&mut self.links, first, &mut ends, torn);
         self.nodes[home].restart(seat);
         Ok(())

@@ -1,5 +1,6 @@
 //! Whether entries are exact, and the walk that follows next hops.
 ghost use Rattle.std.specs.Prelude.{◌≡◌, ◌&&◌, true, option_map, MatchBool, IfOk, IfErr, Err};
+ghost use Rattle.std.specs.List.{list_all};
 ghost use Rattle.tora_core.specs.Numbers.{has_number};
 ghost use Rattle.tora_core.specs.CoreRun.{entry_of};
 ghost use Rattle.tora_world.specs.Topology.{is_node};
@@ -11,6 +12,7 @@ use crate::nodes::{NodeSlot, place as node_place};
 use crate::sim::Sim;
 use std::alloc::{AllocError, Global};
 use std::cmp::Ordering;
+use tora_core::numbers_come_and_go;
 use tora_height::{Entry, Id};
 
 impl Sim {
@@ -30,8 +32,8 @@ impl Sim {
     pub fn exact(&self, d: Id) -> bool
         ensures { result ≡ exact_in (world_of self.now) d }
     {
-        let nodes = self.topology.nodes();
-        nodes.as_slice().iter().all(|n| self.is_exact_node(*n, d))
+        numbers_come_and_go();
+        self.are_exact(&self.nodes, d)
     }
 
     /// The nodes that are met from node `n` to destination `d` by next hops, both of them included; `n` alone where it is
@@ -46,11 +48,10 @@ impl Sim {
             (IfErr result (λ e. e ≡ SimError.Memory)) (result ≡ Err SimError.NoNode) }
         ensures walk { IfOk result (λ nodes. option_map (λ v. v.items) nodes ≡ walk_of (world_of self.now) n d) }
     {
-        if !self.topology.has_node(n) || !self.topology.has_destination(d) {
+        if !self.has_node(n) || !self.topology.has_destination(d) {
             return Err(SimError::NoNode);
         }
-        let nodes = self.topology.nodes();
-        match self.walk_within(alloc, nodes.len(), n, d) {
+        match self.walk_within(alloc, self.node_count(), n, d) {
             Ok(walk) => Ok(walk),
             Err(_) => Err(SimError::Memory),
         }
@@ -82,15 +83,19 @@ impl Sim {
         if at == d { Ok(Some(nodes)) } else { Ok(None) }
     }
 
+    /// Whether the entries of these nodes are exact.
+    fn are_exact(&self, nodes: &[NodeSlot], d: Id) -> bool
+        ensures { result ≡ list_all (λ node. is_exact_node (world_of self.now) d node.node) nodes.now }
+    {
+        nodes.iter().all(|node| self.is_exact_node(node.key(), d))
+    }
+
     /// Whether the entries of one node are exact.
     fn is_exact_node(&self, n: Id, d: Id) -> bool
         ensures { result ≡ is_exact_node (world_of self.now) d n }
     {
-        let neighbours = self.topology.neighbours(n);
-        neighbours
-            .as_slice()
-            .iter()
-            .all(|k| self.is_exact_entry(n, *k, d))
+        let neighbours = self.neighbours(n);
+        neighbours.iter().all(|k| self.is_exact_entry(n, *k, d))
     }
 
     /// Whether the entry of neighbour `k` at node `n` is NULL or the height of `k`, or there is none.

@@ -9,6 +9,7 @@ mod failing_streams;
 mod keyed_wires;
 mod log_lines;
 mod mixed_networks;
+mod parted_nodes;
 mod progress;
 mod recorded_drives;
 mod replay_rows;

@@ -1,3 +1,4 @@
 mod Refusals
 mod Rising
 mod Owners
+mod EndsByNode

@@ -1,3 +1,4 @@
 pub mod Records
 pub mod Copies
 pub mod Trace
+pub mod NodeEnds

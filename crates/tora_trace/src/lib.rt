@@ -7,6 +7,7 @@
 
 mod core_copy;
 mod counts;
+mod ends;
 mod lives;
 mod names;
 mod packets;

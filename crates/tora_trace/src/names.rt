@@ -48,7 +48,7 @@ impl Names {
     }
 }
 
-fn is_less(a: Id, b: Id) -> bool
+pub fn is_less(a: Id, b: Id) -> bool
     ensures { result ≡ nat_lt a b }
 {
     a < b

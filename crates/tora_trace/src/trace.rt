@@ -1,12 +1,14 @@
 //! What a trace keeps between two events, and what it is told.
-ghost use Rattle.std.specs.Prelude.{◌≡◌, ◌⊎◌, ◌++◌, IfOk, IfErr, OnOk, None, Some, [], map, filter_map};
+ghost use Rattle.std.specs.Prelude.{◌≡◌, ◌⊎◌, ◌++◌, ⊤, IfOk, IfErr, MatchBool, OnOk, None, Some, [], map, filter_map};
 ghost use Rattle.std.specs.List.{position};
 ghost use Rattle.tora_trace.specs.Records.{need_record, part_record, mend_record};
 ghost use Rattle.tora_trace.specs.Copies.{after_inputs};
+ghost use Rattle.tora_trace.specs.NodeEnds.{AreByNode};
 ghost use Rattle.tora_trace.specs.Trace.{Tells, first_trace, refusal_of, trace_refusal, first_copy_of, peer_of, neighbours_in, is_copy_of, owners_of, with_text, with_frame, after_frames, frames_told, after_restart};
 
 use crate::core_copy::CoreCopy;
 use crate::counts::{FrameCounts, write_frames};
+use crate::ends::{are_by_node, ends_of};
 use crate::names::Names;
 use std::alloc::{AllocError, Global};
 use std::marker::Model;
@@ -58,18 +60,33 @@ fn neighbours_in(alloc: Global, ends: &[(Id, Id)], n: Id) -> Result<Vec<Id>, All
         .collect::<Vec<Id>>(alloc)
 }
 
-/// The copy of a node's first core.
+/// The neighbours of a node, where the ends may be known to stand by ascending node.
+fn neighbours_among(
+    alloc: Global,
+    ends: &[(Id, Id)],
+    is_by_node: bool,
+    n: Id,
+) -> Result<Vec<Id>, AllocError>
+    requires { MatchBool is_by_node (AreByNode ends.now) ⊤ }
+    ensures { IfOk result (λ v. v.items ≡ neighbours_in ends.now n) }
+{
+    neighbours_in(alloc, ends_of(ends, is_by_node, n), n)
+}
+
+/// The copy of a node's first core; whether the ends are known to stand by ascending node is told.
 fn first_copy(
     alloc: Global,
     ends: &[(Id, Id)],
+    is_by_node: bool,
     destinations: &[Id],
     n: Id,
 ) -> Result<CoreCopy, CoreError>
+    requires { MatchBool is_by_node (AreByNode ends.now) ⊤ }
     ensures made { IfOk result (λ copy. copy ≡ first_copy_of ends.now destinations.now n) }
     ensures accepted { OnOk result (refusal_of ends.now destinations.now n ≡ None) }
     ensures refused { IfErr result (λ e. (e ≡ CoreError.Memory) ⊎ (refusal_of ends.now destinations.now n ≡ Some e)) }
 {
-    let Ok(neighbours) = neighbours_in(alloc, ends, n) else {
+    let Ok(neighbours) = neighbours_among(alloc, ends, is_by_node, n) else {
         return Err(CoreError::Memory);
     };
     CoreCopy::new(alloc, n, neighbours.as_slice(), destinations)
@@ -107,8 +124,9 @@ impl Trace {
         let Ok(mut copies) = Vec::with_capacity(alloc, nodes.len()) else {
             return Err(CoreError::Memory);
         };
+        let is_by_node = are_by_node(ends);
         for n in nodes {
-            let copy = first_copy(alloc, ends, destinations, *n)?;
+            let copy = first_copy(alloc, ends, is_by_node, destinations, *n)?;
             if copies.push(copy).is_err() {
                 return Err(CoreError::Memory);
             }

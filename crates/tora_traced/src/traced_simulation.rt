@@ -21,9 +21,7 @@ use std::io::{Read, Write};
 use tora_channel::ChannelTable;
 use tora_lines::words::LineError;
 use tora_lines::{Ended, FileKind, Output, ReplayError, read_lines};
-use tora_script::{
-    Running, Setup, Simulation, SimulationLine, Stage, Told, mend, part, simulation_line,
-};
+use tora_script::{Running, Setup, Simulation, SimulationLine, Stage, Told, simulation_line};
 
 /// A simulation file whose trace is written line by line; why a line is a fault is told and, where it is verbose, why an event is
 /// refused.
@@ -37,16 +35,16 @@ pub struct Tracing<'a, S, T, W> {
 fn note<S: Watched>(running: &mut Running<Traced<S>>, line: &[u8]) -> Result<(), AllocError>
     ensures view { running_view (traced_world S.world) running.new ≡ running_view (traced_world S.world) running.old }
     ensures trace { OnOk result (running.new.sim.trace ≡ after_line (S.world running.old.sim.sim).clock (simulation_line_of line.now) running.old.sim.trace) }
-    ensures parted { OnOk result (running.new.sim.parted.items ≡ parted_after (simulation_line_of line.now) running.old.sim.parted.items) }
+    ensures parted { OnOk result (running.new.sim.parted ≡ parted_after (simulation_line_of line.now) running.old.sim.parted) }
 {
     let now = running.sim.sim.clock();
     match simulation_line(line) {
         Some(SimulationLine::Part(a, b)) => {
-            part(&mut running.sim.parted, a, b)?;
+            running.sim.parted.part(a, b)?;
             running.sim.trace.part(now, a, b)
         }
         Some(SimulationLine::Mend(a, b)) => {
-            mend(&mut running.sim.parted, a, b);
+            running.sim.parted.mend(a, b);
             running.sim.trace.mend(now, a, b)
         }
         Some(SimulationLine::Rounds(_)) => running.sim.trace.frames(now),

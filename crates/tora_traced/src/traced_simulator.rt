@@ -9,7 +9,7 @@ use tora_arq::{Life, Times};
 use tora_core::{CoreError, Input};
 use tora_frame::Frame;
 use tora_height::{Entry, Id};
-use tora_script::{Simulator, is_parted};
+use tora_script::{Parted, Simulator};
 use tora_seat::{Item, What};
 use tora_trace::Trace;
 use tora_world::{Event, Limits, SimError};
@@ -20,7 +20,7 @@ pub struct Traced<S> {
     pub sim: S,
     pub trace: Trace,
     /// The pairs of nodes whose link is parted.
-    pub parted: Vec<(Id, Id)>,
+    pub parted: Parted,
 }
 
 /// What is read of a world before an event.
@@ -95,7 +95,7 @@ impl<S: Watched> Traced<S> {
     /// Tells of a datagram that was sent, if one was since there were so many.
     fn tell_sent(&mut self, count: u64) -> Result<(), AllocError>
         ensures kept { self.new ≡ record self.old { trace = self.new.trace } }
-        ensures told { OnOk result (self.new.trace ≡ after_sent self.old.parted.items count (S.world self.old.sim) self.old.trace) }
+        ensures told { OnOk result (self.new.trace ≡ after_sent self.old.parted count (S.world self.old.sim) self.old.trace) }
     {
         let last = self.sim.datagrams();
         if last == count {
@@ -105,7 +105,7 @@ impl<S: Watched> Traced<S> {
             None => Ok(()),
             Some(frame) => {
                 let header = frame.header();
-                let is_parted = is_parted(&self.parted, header.sender, header.receiver);
+                let is_parted = self.parted.is_parted(header.sender, header.receiver);
                 self.trace.sent(&frame, is_parted)
             }
         }
@@ -114,7 +114,7 @@ impl<S: Watched> Traced<S> {
     /// Tells what an event did that was not refused.
     fn tell(&mut self, event: &Event, before: Before) -> Result<(), AllocError>
         ensures kept { self.new ≡ record self.old { trace = self.new.trace } }
-        ensures told { OnOk result (HasRecords self.old.parted.items before event.now (S.world self.old.sim) self.old.trace self.new.trace) }
+        ensures told { OnOk result (HasRecords self.old.parted before event.now (S.world self.old.sim) self.old.trace self.new.trace) }
     {
         match event {
             Event::Need(n, d) => self.trace.need(before.clock, *n, *d),
@@ -137,7 +137,7 @@ impl<S: Watched> Traced<S> {
     fn step(&mut self, event: &Event) -> Result<Option<SimError>, AllocError>
         ensures refused { IfOk result (λ refused. refused ≡ refusal_of (S.world self.old.sim) event.now) }
         ensures after { IfOk result (λ _. S.world self.new.sim ≡ world_after (S.world self.old.sim) event.now) }
-        ensures told { IfOk result (λ refused. Records self.old.parted.items (S.world self.old.sim) event.now (S.world self.new.sim) self.old.trace self.new.trace refused) }
+        ensures told { IfOk result (λ refused. Records self.old.parted (S.world self.old.sim) event.now (S.world self.new.sim) self.old.trace self.new.trace refused) }
         ensures kept { self.new.parted ≡ self.old.parted }
     {
         let before = self.before(event);
@@ -177,7 +177,7 @@ impl<S: Watched> Simulator for Traced<S> {
         Ok(Traced {
             sim,
             trace,
-            parted: Vec::new(alloc),
+            parted: Parted::new(alloc),
         })
     }
 

@@ -44,10 +44,20 @@ const ANSWERS: &[Row] = &[
 /// Lines of a drive's own behind the first step.
 const OWN_LINES: &[Row] = &[
     (&[STEPPED], NOTHING, STEPPED_TEXT, Ended::Whole),
+    // The input ends behind a line, in front of its end, and in the middle of a word.
     (
         &[STEPPED],
-        &["needs\n"],
+        &["needs\n", "needs"],
         "ok\nok\nok\nsent 1 2 1 28\nsent 1 2 2 28\nsent 2 1 3 28\nsent 2 1 4 28\nok\nneed 1 2\nok\n",
+        Ended::Whole,
+    ),
+    (
+        &[STEPPED],
+        &[
+            "ste", "need", "byte", "bytes", "take 1 2", "notice 1", "forget",
+        ],
+        "ok\nok\nok\nsent 1 2 1 28\nsent 1 2 2 28\nsent 2 1 3 28\nsent 2 1 4 28\nok\n\
+         fault 5 it is no line that may stand here\n",
         Ended::Whole,
     ),
     // Datagrams that are not there, and those that are forgotten.
@@ -117,23 +127,62 @@ const OWN_LINES: &[Row] = &[
     ),
 ];
 
-/// Lines that are too long end a drive.
+/// Lines that are too long are faults wherever they stand, and the drive goes on.
 const LONG: &[Files] = &[
     Files {
         front: "dests 2\n",
         middles: &["x"],
         times: 4097,
         end: "\nlink 1 2\n",
-        text: "ok\nfault 2\n",
-        ended: Ended::Fault(2),
+        text: "ok\nfault 2 behind the first line a line `link A B` is required\nok\n",
+        ended: Ended::Whole,
     },
     Files {
         front: "",
         middles: &["dests 2,"],
         times: 131_072,
+        end: "\ndests 2\n",
+        text: "fault 1 the first line is `dests LIST`, the destinations\nok\n",
+        ended: Ended::Whole,
+    },
+    // The world stays as it stood.
+    Files {
+        front: STEPPED,
+        middles: &["xxxxxxxx", "notice 1"],
+        times: 131_072,
+        end: "\nneeds\n",
+        text: "ok\nok\nok\nsent 1 2 1 28\nsent 1 2 2 28\nsent 2 1 3 28\nsent 2 1 4 28\nok\n\
+               fault 5 it is no line that may stand here\nneed 1 2\nok\n",
+        ended: Ended::Whole,
+    },
+    // A last one that has no end is a line, too.
+    Files {
+        front: STEPPED,
+        middles: &["x"],
+        times: 4097,
         end: "",
-        text: "fault 1\n",
-        ended: Ended::Fault(1),
+        text: "ok\nok\nok\nsent 1 2 1 28\nsent 1 2 2 28\nsent 2 1 3 28\nsent 2 1 4 28\nok\n\
+               fault 5 it is no line that may stand here\n",
+        ended: Ended::Whole,
+    },
+    // 4,096 bytes are taken as they are, and one more is too many.
+    Files {
+        front: "dests 2\nlink 1 2\nneed 1 2\nstep\ntake 1 32 ",
+        middles: &["00"],
+        times: 2043,
+        end: "\nneeds\n",
+        text: "ok\nok\nok\nsent 1 2 1 28\nsent 1 2 2 28\nsent 2 1 3 28\nsent 2 1 4 28\nok\n\
+               refused 3\nneed 1 2\nok\n",
+        ended: Ended::Whole,
+    },
+    Files {
+        front: "dests 2\nlink 1 2\nneed 1 2\nstep\ntake 10 32 ",
+        middles: &["00"],
+        times: 2043,
+        end: "\nneeds\n",
+        text: "ok\nok\nok\nsent 1 2 1 28\nsent 1 2 2 28\nsent 2 1 3 28\nsent 2 1 4 28\nok\n\
+               fault 5 it is no line that may stand here\nneed 1 2\nok\n",
+        ended: Ended::Whole,
     },
 ];
 
@@ -174,9 +223,9 @@ fn own_lines_are_answered(rt: HostRuntime) {
     expect_rows(&rt, Way::Drive, OWN_LINES);
 }
 
-/// 4,097 bytes, and a MiB.
+/// 4,096 bytes, 4,097, and a MiB.
 #[test]
-fn long_lines_end_a_drive(rt: HostRuntime) {
+fn long_lines_are_faults_of_a_drive(rt: HostRuntime) {
     expect_files(&rt, Way::Drive, LONG);
 }
 

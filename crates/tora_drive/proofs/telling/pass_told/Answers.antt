@@ -1,7 +1,6 @@
-use Rattle.std.proofs.Common.{[], string_bytes}
+use Rattle.std.proofs.Common.{string_bytes}
 use Rattle.tora_script.specs.declared.rounds.EndTurn.TheVariants as turn
 use Rattle.tora_script.specs.Rounds.{plan_then, each, each_core, each_end}
-use Rattle.tora_drive.specs.Recording.{HappenedTold, turns_of}
 use Rattle.tora_drive.specs.Steps.{sends_of, step_pass}
 use Rattle.tora_drive.proofs.TellLaws.{told_then}
 use Rattle.tora_drive.proofs.telling.pass_told.Goals as goal

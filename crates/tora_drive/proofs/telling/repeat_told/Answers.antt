@@ -1,7 +1,13 @@
 use Rattle.std.proofs.Common.{◌≡◌, ◌∙◌, suc, ◌+◌, ◌-◌, sym, arith, string_bytes}
 use Rattle.tora_script.specs.Rounds.{repeats}
-use Rattle.tora_drive.proofs.TellLaws.{told_begins, told_again, told_refused, told_no_more}
+use Rattle.tora_drive.proofs.TellLaws.{told_again, told_refused, told_impossible, told_no_more}
 use Rattle.tora_drive.proofs.telling.repeat_told.Goals as goal
+
+pub returns-then-not-may_happen : goal.returns-then-not-may_happen
+returns-then-not-may_happen g c =
+    let k : c.args.most - c.loop.counter ≡ suc (c.args.most - (c.loop.counter + 1)) = omega (arith, c.loop-test.true) in
+    told_impossible (g.S.Simulator.world c.args.sim.now) (repeats c.args.most c.args.event.now (g.S.Simulator.world c.args.sim.now)) (g.S.Simulator.world c.loop.sim) c.loop.some
+    (c.args.most - (c.loop.counter + 1)) c.args.event.now (string_bytes c.args.text.now) (string_bytes c.loop.text) (rw k at c.loop.invariant) (c.may_happen.ensures c.if-not-may_happen.true)
 
 pub returns-in-Some : goal.returns-in-Some
 returns-in-Some g c =

@@ -3,11 +3,11 @@ use Rattle.tora_script.specs.Rounds.{repeats}
 use Rattle.tora_script.proofs.RoundLaws.{again, refused, impossible, no_more}
 use Rattle.tora_script.proofs.rounds.repeat.Goals as goal
 
-pub returns-then-not-may_happen : goal.returns-then-not-may_happen
-returns-then-not-may_happen g c =
+pub returns-then-not-may_go_on : goal.returns-then-not-may_go_on
+returns-then-not-may_go_on g c =
     let k : c.args.most - c.loop.counter ≡ suc (c.args.most - (c.loop.counter + 1)) = omega (arith, c.loop-test.true) in
     impossible (g.S.Simulator.world c.args.sim.now) (repeats c.args.most c.args.event.now (g.S.Simulator.world c.args.sim.now)) (g.S.Simulator.world c.loop.sim) c.loop.some
-    (c.args.most - (c.loop.counter + 1)) c.args.event.now (rw k at c.loop.invariant) (c.may_happen.ensures c.if-not-may_happen.true)
+    (c.args.most - (c.loop.counter + 1)) c.args.event.now (rw k at c.loop.invariant) (c.may_go_on.ensures c.if-not-may_go_on.true)
 
 pub returns-in-Some : goal.returns-in-Some
 returns-in-Some g c =

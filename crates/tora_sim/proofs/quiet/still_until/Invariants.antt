@@ -1,9 +1,7 @@
-use Rattle.std.proofs.Common.{◌≡◌, ℕ, ◌<◌, Some}
-use Rattle.std.specs.Prelude.{slice_get}
-use Rattle.tora_sim.specs.Links.{LinkView}
-use Rattle.tora_sim.specs.Quiet.{IsStill}
+use Rattle.std.proofs.Common.{ℕ, ◌<◌, ◌≤◌}
+use Rattle.std.specs.Prelude.{slice_index}
 use Rattle.tora_sim.proofs.quiet.still_until.Given as goal
 
--- the link ends so far are still up to that tick
+-- the ticks of the link ends so far are still to come, and none is before that one
 abbrev pub invariant-loop-place : goal.invariant-loop-place
-invariant-loop-place l = (i : ℕ) (x : LinkView) → i < l.place → slice_get l.links.items i ≡ Some x → IsStill l.until x
+invariant-loop-place l = (at : ℕ) → at < l.place → (l.now < slice_index l.stills.items at) × (l.until ≤ slice_index l.stills.items at)

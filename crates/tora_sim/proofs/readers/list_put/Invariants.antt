@@ -4,4 +4,4 @@ use Rattle.tora_sim.proofs.readers.list_put.Given as goal
 
 -- the packets so far and those of the rest are all
 abbrev pub invariant-loop-cargo : goal.invariant-loop-cargo
-invariant-loop-cargo l = l.packets.items ++ (packets_of l.life (parcels_in (drop l.cargo-index l.put))) ≡ (packets_of l.life (parcels_in l.put))
+invariant-loop-cargo l = l.packets.items ++ packets_of l.life (parcels_in (drop l.cargo-index l.put)) ≡ l.initial.packets.items ++ packets_of l.life (parcels_in l.put)

@@ -60,8 +60,17 @@ const LIMITS: &[Row] = &[
         These(&[4]),
         Some(TooMany),
     ),
+    (CoreLimits::STANDARD, Counted(2, 32), Counted(1, 63), None),
+    (CoreLimits::STANDARD, Counted(2, 32), Counted(1, 64), None),
+    (
+        CoreLimits::STANDARD,
+        Counted(2, 32),
+        Counted(1, 65),
+        Some(TooMany),
+    ),
     (CoreLimits::GREATEST, Counted(2, 33), These(&[4]), None),
     (CoreLimits::GREATEST, Counted(2, 254), These(&[4]), None),
+    (CoreLimits::GREATEST, Counted(2, 255), Counted(1, 63), None),
     (CoreLimits::GREATEST, Counted(2, 255), Counted(1, 64), None),
     (
         CoreLimits::GREATEST,

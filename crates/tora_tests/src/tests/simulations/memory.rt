@@ -3,13 +3,13 @@
 use super::super::sees::{same, sees};
 use super::steps::Step::{Clock, Datagrams, Route};
 use super::steps::{Step, runs};
-use super::topologies::{ages, keeps, made, refused};
+use super::topologies::{Links, ages, keeps, links_of, made, made_within, refused};
 use super::{LIFE, MEETING, ROW_ENDS, TIMES};
 use std::alloc::Global;
 use std::process::Abort;
 use tora_core::CoreError;
 use tora_height::Id;
-use tora_sim::{Event, Sim, SimError, Topology};
+use tora_sim::{Event, Limits, Sim, SimError, Topology};
 
 /// A topology; `None` where memory is refused.
 fn made_or_refused(
@@ -225,4 +225,76 @@ const RESTARTING: &[Event] = &[
 #[test]
 fn want_of_memory_at_a_restart(rt: HostRuntime) {
     sees_run(&rt, rt.alloc(), MEETING, RESTARTING);
+}
+
+/// The topology of a line of 200 nodes, with the destination 200; `None` where memory is refused.
+fn wide_or_refused(rt: &impl Abort, alloc: Global) -> Option<Topology> {
+    let Ok(links) = links_of(alloc, Links::Chain(200)) else {
+        return None;
+    };
+    match made_within(rt, alloc, Limits::GREATEST, &links, &[200]) {
+        Ok(topology) => Some(topology),
+        Err(error) => {
+            same(rt, &error, &CoreError::Memory, "the error");
+            None
+        }
+    }
+}
+
+/// The events by which the link of nodes 199 and 200 comes up, the last of the line.
+const LAST_MEETING: &[Event] = &[
+    Event::Need(199, 200),
+    Event::CoreTurn(199),
+    Event::Open(199, 200),
+    Event::Open(200, 199),
+    Event::Transmit(199, 200),
+    Event::Deliver(1),
+    Event::Transmit(200, 199),
+    Event::Deliver(2),
+    Event::Transmit(199, 200),
+    Event::Deliver(3),
+    Event::Pump(199, 200),
+    Event::Pump(200, 199),
+    Event::CoreTurn(200),
+    Event::CoreTurn(199),
+];
+
+/// What is read of the line of 200 nodes then.
+const LAST_MET: &[Step] = &[
+    Clock(0),
+    Datagrams(3),
+    Route(1, 200, Some(None), None),
+    Route(199, 200, Some(Some((0, 0, 0, 1, 199))), Some(200)),
+    Route(200, 200, Some(Some((0, 0, 0, 0, 200))), None),
+];
+
+/// Lets an event happen, once more where memory was refused for it.
+fn happens_at_last(rt: &impl Abort, sim: &mut Sim, event: &Event) {
+    if !happens(rt, sim, event) {
+        let has_memory = happens(rt, sim, event);
+        sees(rt, has_memory, "memory was refused once");
+    }
+}
+
+/// Sees that the last two nodes of the line meet in its first world, or that memory was refused for it.
+fn sees_last_meet(rt: &impl Abort, alloc: Global, found: Result<Sim, SimError>) {
+    match found {
+        Err(error) => same(rt, &error, &SimError::Memory, "the error"),
+        Ok(mut sim) => {
+            for event in LAST_MEETING {
+                happens_at_last(rt, &mut sim, event);
+            }
+            runs(rt, alloc, &mut sim, LAST_MET);
+        }
+    }
+}
+
+/// Where memory is refused for a world of 200 nodes, or at an event in it, that is answered; the event may happen then, and
+/// leaves what it leaves where memory is not refused.
+#[test]
+fn want_of_memory_in_a_world_of_200_nodes(rt: HostRuntime) {
+    let alloc = rt.alloc();
+    if let Some(topology) = wide_or_refused(&rt, alloc) {
+        sees_last_meet(&rt, alloc, Sim::new(alloc, &topology));
+    }
 }

@@ -1,5 +1,5 @@
 //! Until which tick nothing is to be done.
-use super::steps::Step::{Cannot, Does, HandsOver, Quiet, Settles, Tells};
+use super::steps::Step::{Cannot, Does, HandsOver, HasEnds, NextDue, Quiet, Settles, Tells};
 use super::steps::{Step, first_world, runs};
 use super::topologies::topology_of;
 use super::{TIMES, pass};
@@ -8,13 +8,24 @@ use std::process::Abort;
 use tora_sim::{Event, Sim};
 
 /// Two ends that have to be opened.
-const CLOSED: &[Step] = &[Quiet(false), Settles, Quiet(false)];
+const CLOSED: &[Step] = &[
+    Quiet(false),
+    Settles,
+    Quiet(false),
+    HasEnds(&[(1, 2), (2, 1)], true),
+    HasEnds(&[(2, 1), (1, 2)], false),
+    HasEnds(&[(1, 2)], false),
+    NextDue(0, 0),
+    NextDue(1, 1),
+    NextDue(3, 3),
+];
 
 /// Two bound ends that have said HELLO, two ticks before the next one.
 const BOUND: &[Step] = &[
     Quiet(false),
     Settles,
     Quiet(true),
+    NextDue(0, 2),
     Cannot(Event::CoreTurn(1)),
     Cannot(Event::Open(1, 2)),
     Cannot(Event::Pull(1, 2)),
@@ -27,10 +38,16 @@ const BOUND: &[Step] = &[
     Quiet(false),
     Settles,
     Quiet(false),
+    NextDue(0, 0),
     Does(Event::Transmit(1, 2)),
+    Settles,
+    Quiet(false),
+    NextDue(0, 1),
+    NextDue(1, 1),
     Does(Event::Transmit(2, 1)),
     Settles,
     Quiet(true),
+    NextDue(0, 2),
     Does(Event::Need(1, 2)),
     Quiet(false),
     Settles,

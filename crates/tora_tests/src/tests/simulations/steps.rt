@@ -46,6 +46,10 @@ pub enum Step {
     Settles,
     /// Whether it is known that nothing is to be done.
     Quiet(bool),
+    /// Whether these are the link ends, in their order.
+    HasEnds(&'static [(Id, Id)], bool),
+    /// The first place from one on at which a link end may have something to do.
+    NextDue(usize, usize),
 }
 
 /// The simulator of a topology at its start.
@@ -126,6 +130,8 @@ fn reads(rt: &impl Abort, alloc: Global, sim: &Sim, row: &Step) {
         }
         Step::Rests(rests) => same_at(rt, &sim.is_at_rest(), &rests, "at rest", row),
         Step::Quiet(quiet) => same_at(rt, &sim.is_quiet(), &quiet, "quiet", row),
+        Step::HasEnds(ends, has) => same_at(rt, &sim.has_ends(ends), &has, "the ends", row),
+        Step::NextDue(place, next) => same_at(rt, &sim.next_due(place), &next, "next", row),
         _ => {}
     }
 }

@@ -40,7 +40,7 @@ pub fn made(
 }
 
 /// A topology of numbers that are not 0, within these limits.
-fn made_within(
+pub fn made_within(
     rt: &impl Abort,
     alloc: Global,
     limits: Limits,
@@ -56,7 +56,7 @@ fn made_within(
 /// Links: these, those from each of so many nodes to the next, those from node 1 to so many others with these behind them,
 /// or the same so often.
 #[derive(Clone, Copy)]
-enum Links {
+pub enum Links {
     Listed(&'static [(Id, Id)]),
     Chain(u32),
     Star(u32, &'static [(Id, Id)]),
@@ -64,7 +64,7 @@ enum Links {
 }
 
 /// The list of links.
-fn links_of(alloc: Global, links: Links) -> Result<Vec<(Id, Id)>, AllocError> {
+pub fn links_of(alloc: Global, links: Links) -> Result<Vec<(Id, Id)>, AllocError> {
     let mut list = Vec::new(alloc);
     match links {
         Links::Listed(links) => return Vec::from_slice(alloc, links),
@@ -117,12 +117,15 @@ fn refuses(rt: &impl Abort, alloc: Global, rows: &[Row]) {
     }
 }
 
-/// As many nodes, links of a node and destinations as there may be, and one more of each.
+/// As many nodes, links of a node and destinations as there may be, one less and one more of each.
 const LIMITS: &[Row] = &[
+    (Links::Chain(63), These(&[1]), None),
     (Links::Chain(64), These(&[1]), None),
     (Links::Chain(65), These(&[1]), Some(TooMany)),
+    (Links::Star(31, &[]), These(&[1]), None),
     (Links::Star(32, &[]), These(&[1]), None),
     (Links::Star(33, &[]), These(&[1]), Some(TooMany)),
+    (Links::Listed(&[(1, 2)]), Counted(1, 63), None),
     (Links::Listed(&[(1, 2)]), Counted(1, 64), None),
     (Links::Listed(&[(1, 2)]), Counted(1, 65), Some(TooMany)),
 ];
@@ -149,19 +152,25 @@ const ABOVE: Limits = Limits {
 /// Limits, and a topology that they let in or refuse.
 type RowWithin = (Limits, Row);
 
-/// As many nodes, links of a node and destinations as limits allow, and one more of each. What is above the greatest stands for
-/// the greatest.
+/// As many nodes, links of a node and destinations as limits allow, one less and one more of each. What is above the greatest
+/// stands for the greatest.
 const LIMITS_ASKED: &[RowWithin] = &[
     (SMALL, (Links::Chain(2), These(&[]), None)),
     (SMALL, (Links::Chain(3), These(&[1]), None)),
     (SMALL, (Links::Chain(4), These(&[1]), Some(TooMany))),
     (SMALL, (Links::Chain(3), These(&[1, 2]), Some(TooMany))),
     (SMALL, (Links::Star(3, &[]), These(&[1]), Some(TooMany))),
+    // Numbers that end in the same ten bits are counted together, and then one by one.
+    (
+        SMALL,
+        (Links::Listed(&[(1025, 1), (1, 2049)]), These(&[1]), None),
+    ),
     (SMALL, (Links::Star(2, &[(1, 1)]), These(&[1]), Some(OwnId))),
     (
         SMALL,
         (Links::Star(2, &[(1, 2)]), These(&[1]), Some(Repeated)),
     ),
+    (Limits::STANDARD, (Links::Chain(63), These(&[1]), None)),
     (Limits::STANDARD, (Links::Chain(64), These(&[1]), None)),
     (
         Limits::STANDARD,
@@ -180,6 +189,18 @@ const LIMITS_ASKED: &[RowWithin] = &[
         Limits::STANDARD,
         (Links::Star(33, &[]), These(&[1]), Some(TooMany)),
     ),
+    (
+        Limits::STANDARD,
+        (Links::Listed(&[(1, 2)]), Counted(1, 63), None),
+    ),
+    (
+        Limits::STANDARD,
+        (Links::Listed(&[(1, 2)]), Counted(1, 64), None),
+    ),
+    (
+        Limits::STANDARD,
+        (Links::Listed(&[(1, 2)]), Counted(1, 65), Some(TooMany)),
+    ),
     (Limits::GREATEST, (Links::Star(33, &[]), These(&[1]), None)),
     (Limits::GREATEST, (Links::Star(254, &[]), These(&[1]), None)),
     (Limits::GREATEST, (Links::Star(255, &[]), These(&[1]), None)),
@@ -194,6 +215,10 @@ const LIMITS_ASKED: &[RowWithin] = &[
     (
         Limits::GREATEST,
         (Links::Star(257, &[(1, 1)]), These(&[1]), Some(TooMany)),
+    ),
+    (
+        Limits::GREATEST,
+        (Links::Listed(&[(1, 2)]), Counted(1, 63), None),
     ),
     (
         Limits::GREATEST,

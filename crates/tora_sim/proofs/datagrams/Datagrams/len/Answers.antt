@@ -1,11 +1,10 @@
-use Rattle.std.proofs.Common.{◌∙◌, sym, ap, length, List, ℕ}
+use Rattle.std.proofs.Common.{◌∙◌, sym, ap, length}
 use Rattle.tora_sim.specs.Datagrams.{DatagramList}
 use Rattle.tora_sim.proofs.SentFrames.{as_many}
 use Rattle.tora_sim.proofs.datagrams.Datagrams.len.Goals as goal
 
 pub returns : goal.returns
 returns c =
-    c.count.ensures
-    ∙ ap (λ (xs : List ℕ). length xs) c.deref.ensures.value
+    c.len.ensures
     ∙ sym (as_many c.self.inside.frames.items c.self.inside.places.items c.self.invariant)
     ∙ ap (λ (d : DatagramList). length d.items) c.self.view_is

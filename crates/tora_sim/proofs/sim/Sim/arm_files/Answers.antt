@@ -1,13 +1,16 @@
-use Rattle.std.proofs.Common.{◌≡◌, ℕ, map, ap, sym, subst, ◌∙◌, arith}
+use Rattle.std.proofs.Common.{◌≡◌, ℕ, nat_eq, map, ap, sym, subst, ◌∙◌, arith}
+use Rattle.std.proofs.lemmas.Bool.{cond_both}
 use Rattle.tora_world.specs.declared.event.Event.TheVariants.{Arm}
 use Rattle.tora_sim.specs.Keyed.{IsFirst}
-use Rattle.tora_sim.specs.Links.{AreChanged, after_arm}
+use Rattle.tora_sim.specs.Links.{LinkView, AreChanged, after_arm}
+use Rattle.tora_sim.specs.Quiet.{IsStill}
 use Rattle.tora_sim.specs.Nodes.{NodeView, is_of}
 use Rattle.tora_sim.specs.Store.{SimState, state_of, world_of, call_of}
 use Rattle.tora_sim.specs.Steps.{IsDone}
 use Rattle.tora_sim.proofs.Opens.{same_read}
 use Rattle.tora_sim.proofs.Arms.{armed_of, files_done, files_store, noded_at}
 use Rattle.tora_sim.proofs.NodeEnds.{ends_within, changed_is}
+use Rattle.tora_sim.proofs.StillEnds.{mapped_still}
 use Rattle.tora_sim.proofs.sim.Sim.arm_files.Goals as goal
 
 pub arm-requires : goal.arm-requires
@@ -36,6 +39,8 @@ invariant_of-self c =
     let s = c.self.inside in (
       files_store s.topology s.times s.clock s.nodes.items s.links.items s.datagrams.items c.self.invariant.0 c.args.n c.args.call c.arm.new.links.items (armed c),
       λ none. absurd (omega (arith, none)),
+      mapped_still s.clock s.stills.items s.links.items c.arm.new.links.items (armed_of c.args.n c.args.call) (armed c)
+          (λ until x h. cond_both (nat_eq x.node c.args.n) (after_arm x c.args.call) x (λ (z : LinkView). IsStill until z) (λ _. h) (λ _. h)) c.self.invariant.2,
     )
 
 pub returns : goal.returns

@@ -8,6 +8,7 @@ use Rattle.tora_sim.specs.Steps.{IsRefused, Does}
 use Rattle.tora_sim.proofs.Opens.{same_read}
 use Rattle.tora_sim.proofs.SameLinks.{same_alike, store_same}
 use Rattle.tora_sim.proofs.Turning.{turn_refused, turn_starved, ends_within, as_many, turn_does, turn_store}
+use Rattle.tora_sim.proofs.StillEnds.{none_at_node, forgotten_still, alike_still, turned_still}
 use Rattle.tora_sim.proofs.sim.Sim.core_turn.Goals as goal
 
 pub returns-then-waiting-eq0 : goal.returns-then-waiting-eq0
@@ -16,6 +17,16 @@ returns-then-waiting-eq0 c =
     subst (λ (w : SimState). IsRefused (world_of w) (CoreTurn c.args.n) Refused.NotPossible (world_of w)) c.self.view_is
     (turn_refused s.topology s.times s.clock s.nodes.items s.links.items s.datagrams.items c.self.invariant.0 c.args.n c.in-Some.home c.index.result.now c.in-Some.ensures.first c.index.ensures
     (sym c.waiting.ensures ∙ c.if-waiting-eq0.true))
+
+pub forget-requires : goal.forget-requires
+forget-requires c =
+    let s = c.self.inside in
+    let within = ends_within s.topology s.times s.clock s.nodes.items s.links.items s.datagrams.items c.self.invariant.0 c.args.n c.in-Some.home c.index.result.now c.in-Some.ensures.first c.index.ensures in
+    let first : c.first-first.result ≡ c.index.result.now.first =
+    c.first-first.ensures ∙ ap (λ (x : NodeView). x.first) (same_read s.nodes.items c.in-Some.home c.index-2.result.now c.index.result.now c.in-Some.ensures.first.within c.index-2.ensures c.index.ensures) in
+    let count : c.count-count.result ≡ c.index.result.now.count =
+    c.count-count.ensures ∙ ap (λ (x : NodeView). x.count) (same_read s.nodes.items c.in-Some.home c.index-3.result.now c.index.result.now c.in-Some.ensures.first.within c.index-3.ensures c.index.ensures) in
+    omega (arith, within, first, count, c.self.invariant.2.as_many)
 
 pub make_room-requires : goal.make_room-requires
 make_room-requires c =
@@ -32,6 +43,8 @@ invariant_of-self c =
     let s = c.self.inside in (
       store_same s.topology s.times s.clock s.nodes.items s.links.items c.make_room.new.links.items s.datagrams.items (same_alike s.links.items c.make_room.new.links.items c.make_room.ensures.same) c.self.invariant.0,
       λ none. absurd (omega (arith, none)),
+      alike_still s.clock c.forget.new.stills.items s.links.items c.make_room.new.links.items c.make_room.ensures.same
+          (forgotten_still s.clock s.stills.items c.forget.new.stills.items s.links.items c.first-first.result c.count-count.result c.forget.ensures c.self.invariant.2),
     )
 
 waits : (nodes : List NodeView) (home : ℕ) (x y : NodeView) (count : ℕ) → home < length nodes → x ≡ slice_index_or nodes home x → y ≡ slice_index_or nodes home y → count ≡ length x.items → 0 < count → 0 < length y.items
@@ -51,10 +64,17 @@ turn-requires-clause-neighbours c =
 
 pub invariant_of-self-2 : goal.invariant_of-self-2
 invariant_of-self-2 c =
-    let s = c.self.inside in (
+    let s = c.self.inside in
+    let node = c.index_mut.result.now in
+    let first : c.first-first.result ≡ node.first =
+    c.first-first.ensures ∙ ap (λ (x : NodeView). x.first) (same_read s.nodes.items c.in-Some.home c.index-2.result.now node c.in-Some.ensures.first.within c.index-2.ensures c.index_mut.ensures.value) in
+    let count : c.count-count.result ≡ node.count =
+    c.count-count.ensures ∙ ap (λ (x : NodeView). x.count) (same_read s.nodes.items c.in-Some.home c.index-3.result.now node c.in-Some.ensures.first.within c.index-3.ensures c.index_mut.ensures.value) in (
       turn_store s.topology s.times s.clock s.nodes.items s.links.items s.datagrams.items c.self.invariant.0 c.args.n c.in-Some.home c.index_mut.result.now c.in-Some.ensures.first c.index_mut.ensures.value
           c.make_room.new.links.items c.make_room.ensures.same c.turn.new.node c.turn.new.links.items c.turn.result c.turn.ensures,
       λ none. absurd (omega (arith, none)),
+      turned_still s.clock c.forget.new.stills.items c.index_mut.result.now c.turn.new.node c.make_room.new.links.items c.turn.new.links.items c.turn.result (none_at_node s.stills.items c.forget.new.stills.items c.first-first.result c.count-count.result node first count c.forget.ensures) c.turn.ensures
+          (alike_still s.clock c.forget.new.stills.items s.links.items c.make_room.new.links.items c.make_room.ensures.same (forgotten_still s.clock s.stills.items c.forget.new.stills.items s.links.items c.first-first.result c.count-count.result c.forget.ensures c.self.invariant.2)),
     )
 
 pub returns : goal.returns

@@ -3,7 +3,11 @@ use Rattle.std.specs.Prelude.{slice_set}
 use Rattle.tora_sim.specs.Cuts.{after_cut_at}
 use Rattle.tora_sim.specs.Store.{SimState, state_of, world_of}
 use Rattle.tora_sim.proofs.Opens.{cut_done, cut_store}
+use Rattle.tora_sim.proofs.StillEnds.{unknown_still, one_forgotten, forgotten_still}
 use Rattle.tora_sim.proofs.sim.Sim.cut_bound.Goals as goal
+
+pub forget-requires : goal.forget-requires
+forget-requires c = omega (arith, c.in-Some.ensures.first.within, c.self.invariant.2.as_many)
 
 pub invariant_of-self : goal.invariant_of-self
 invariant_of-self c =
@@ -11,6 +15,8 @@ invariant_of-self c =
       cut_store s.topology s.times s.clock s.nodes.items s.links.items s.datagrams.items c.self.invariant.0 c.args.n c.args.k c.in-Some.at c.index_mut.result.now c.in-Some.ensures.first c.index_mut.ensures.value
           c.cut_bound.new.self c.cut_bound.ensures,
       λ none. absurd (omega (arith, none)),
+      unknown_still s.clock c.forget.new.stills.items s.links.items c.in-Some.at c.cut_bound.new.self (one_forgotten s.stills.items c.forget.new.stills.items c.in-Some.at c.forget.ensures)
+          (forgotten_still s.clock s.stills.items c.forget.new.stills.items s.links.items c.in-Some.at 1 c.forget.ensures c.self.invariant.2),
     )
 
 pub returns-in-Some : goal.returns-in-Some

@@ -9,6 +9,7 @@ use Rattle.tora_sim.specs.Store.{SimState, state_of, world_of}
 use Rattle.tora_sim.specs.Steps.{IsDone}
 use Rattle.tora_sim.proofs.Opens.{same_read}
 use Rattle.tora_sim.proofs.Receives.{home_is_there, failed_done, failed_store, received_done, received_store}
+use Rattle.tora_sim.proofs.StillEnds.{unknown_still, one_forgotten, forgotten_still}
 use Rattle.tora_sim.proofs.sim.Sim.deliver.Goals as goal
 
 pub returns-in_default-node_place : goal.returns-in_default-node_place
@@ -32,6 +33,7 @@ invariant_of-self c =
       failed_store s.topology s.times s.clock s.nodes.items s.links.items s.datagrams.items c.self.invariant.0 c.args.i c.in-Some.frame (sym c.in-Some.ensures)
           c.in-Some-node_place.home c.index_mut.result.now (first c) c.index_mut.ensures.value c.arm_receive.new.self c.arm_receive.ensures,
       λ none. absurd (omega (arith, none)),
+      c.self.invariant.2,
     )
 
 pub returns-then-receive : goal.returns-then-receive
@@ -41,6 +43,9 @@ returns-then-receive c =
     (failed_done s.topology s.times s.clock s.nodes.items s.links.items s.datagrams.items c.self.invariant.0 c.args.i c.in-Some.frame (sym c.in-Some.ensures)
     c.in-Some-node_place.home c.index_mut.result.now (first c) c.index_mut.ensures.value c.arm_receive.new.self (armed c) c.arm_receive.ensures)
 
+pub forget-requires : goal.forget-requires
+forget-requires c = omega (arith, c.in-Some-place.ensures.first.within, c.self.invariant.2.as_many)
+
 pub invariant_of-self-2 : goal.invariant_of-self-2
 invariant_of-self-2 c =
     let s = c.self.inside in
@@ -49,6 +54,8 @@ invariant_of-self-2 c =
       received_store s.topology s.times s.clock s.nodes.items s.links.items s.datagrams.items c.self.invariant.0 c.args.i c.in-Some.frame (sym c.in-Some.ensures)
           c.in-Some-node_place.home c.index.result.now home_first c.index.ensures c.in-Some-place.at c.index_mut-2.result.now end_first c.index_mut-2.ensures.value c.receive-2.new.self c.receive-2.ensures,
       λ none. absurd (omega (arith, none)),
+      unknown_still s.clock c.forget.new.stills.items s.links.items c.in-Some-place.at c.receive-2.new.self (one_forgotten s.stills.items c.forget.new.stills.items c.in-Some-place.at c.forget.ensures)
+          (forgotten_still s.clock s.stills.items c.forget.new.stills.items s.links.items c.in-Some-place.at 1 c.forget.ensures c.self.invariant.2),
     )
 
 pub returns : goal.returns

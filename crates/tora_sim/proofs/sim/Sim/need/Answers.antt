@@ -56,6 +56,7 @@ invariant_of-self c =
           (x c).count (Tells.Need c.args.d) c.put_item.new.self c.put_item.result
           (last_seat s.topology s.times s.clock s.nodes.items s.links.items s.datagrams.items c.self.invariant.0 c.args.n c.in-Some.home (x c) c.in-Some.ensures.first c.index_mut.ensures.value) (is_put c),
       λ none. absurd (omega (arith, none)),
+      c.self.invariant.2,
     )
 
 pub returns : goal.returns

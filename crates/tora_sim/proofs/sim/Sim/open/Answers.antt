@@ -1,4 +1,5 @@
 use Rattle.std.proofs.Common.{ap, sym, ◌∙◌, subst, arith}
+use Rattle.std.proofs.lemmas.Bool.{both_ways}
 use Rattle.tora_world.specs.declared.event.Event.TheVariants.{Open}
 use Rattle.tora_world.specs.declared.sim_error.SimError.TheVariants as Refused
 use Rattle.tora_arq.specs.LinkEnd.{is_closed}
@@ -7,6 +8,7 @@ use Rattle.tora_sim.specs.Store.{SimState, state_of, world_of}
 use Rattle.tora_sim.specs.Steps.{IsDone, IsRefused}
 use Rattle.std.specs.Prelude.{slice_set}
 use Rattle.tora_sim.proofs.Opens.{open_refused, open_done, open_store, same_read}
+use Rattle.tora_sim.proofs.StillEnds.{possible_still}
 use Rattle.tora_sim.proofs.sim.Sim.open.Goals as goal
 
 pub returns-then-not-is_closed : goal.returns-then-not-is_closed
@@ -22,6 +24,9 @@ invariant_of-self c =
       open_store s.topology s.times s.clock s.nodes.items s.links.items s.datagrams.items c.self.invariant.0 c.args.n c.args.k c.in-Some.at c.index_mut.result.now c.in-Some.ensures.first c.index_mut.ensures.value
           c.open.new.self c.open.ensures,
       λ none. absurd (omega (arith, none)),
+      possible_still s.clock s.stills.items s.links.items c.in-Some.at c.index_mut.result.now c.open.new.self c.in-Some.ensures.first.within c.index_mut.ensures.value
+          (λ until lt h. both_ways (is_closed c.index_mut.result.now.state) h.opened (ap (λ (x : LinkView). is_closed x.state) (same_read s.links.items c.in-Some.at c.index_mut.result.now c.index.result.now c.in-Some.ensures.first.within c.index_mut.ensures.value c.index.ensures)
+          ∙ sym c.is_closed.ensures ∙ c.if-not-is_closed.false)) c.self.invariant.2,
     )
 
 pub returns : goal.returns

@@ -1,5 +1,6 @@
-use Rattle.std.proofs.Common.{◌<◌, length, sym, ◌∙◌, subst, arith}
+use Rattle.std.proofs.Common.{◌<◌, length, nat_lt, sym, ◌∙◌, subst, arith}
 use Rattle.std.specs.Prelude.{slice_set}
+use Rattle.std.proofs.lemmas.Bool.{both_ways, lt-ltb}
 use borrow.Author.Tests.{ltb-true, ltb-false}
 use Rattle.tora_world.specs.declared.event.Event.TheVariants.{Pull}
 use Rattle.tora_world.specs.declared.sim_error.SimError.TheVariants as Refused
@@ -7,6 +8,7 @@ use Rattle.tora_sim.specs.Links.{LinkView}
 use Rattle.tora_sim.specs.Store.{SimState, state_of, world_of}
 use Rattle.tora_sim.specs.Steps.{IsDone, IsRefused}
 use Rattle.tora_sim.proofs.Opens.{pull_refused, pull_done, pull_store, same_read}
+use Rattle.tora_sim.proofs.StillEnds.{possible_still}
 use Rattle.tora_sim.proofs.sim.Sim.pull.Goals as goal
 
 pub returns-then-not-has_cargo : goal.returns-then-not-has_cargo
@@ -29,6 +31,8 @@ invariant_of-self c =
       pull_store s.topology s.times s.clock s.nodes.items s.links.items s.datagrams.items c.self.invariant.0 c.args.n c.args.k c.in-Some.at c.index_mut.result.now c.in-Some.ensures.first c.index_mut.ensures.value
           c.pull.new.self (waits c) c.pull.ensures,
       λ none. absurd (omega (arith, none)),
+      possible_still s.clock s.stills.items s.links.items c.in-Some.at c.index_mut.result.now c.pull.new.self c.in-Some.ensures.first.within c.index_mut.ensures.value
+          (λ until lt h. both_ways (nat_lt c.index_mut.result.now.pulled (length c.index_mut.result.now.put)) h.lane (lt-ltb c.index_mut.result.now.pulled (length c.index_mut.result.now.put) (waits c))) c.self.invariant.2,
     )
 
 pub returns : goal.returns

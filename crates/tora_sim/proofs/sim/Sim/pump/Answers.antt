@@ -1,7 +1,7 @@
-use Rattle.std.proofs.Common.{◌≡◌, ◌<◌, ◌≤◌, length, nat_lt, true, ap, ap₂, sym, ◌∙◌, subst, arith, List, ℕ}
+use Rattle.std.proofs.Common.{◌≡◌, ◌<◌, ◌≤◌, length, nat_lt, true, is_some, ap, ap₂, sym, ◌∙◌, subst, arith, List, ℕ}
 use Rattle.std.specs.Prelude.{slice_set, slice_index_or}
-use Rattle.std.proofs.lemmas.Bool.{lt-ltb, le-ltb}
-use Rattle.tora_arq.specs.LinkEnd.{after_poll_event}
+use Rattle.std.proofs.lemmas.Bool.{both_ways, lt-ltb, le-ltb}
+use Rattle.tora_arq.specs.LinkEnd.{first_event, after_poll_event}
 use Rattle.tora_world.specs.declared.event.Event.TheVariants.{Pump}
 use Rattle.tora_world.specs.declared.sim_error.SimError.{SimError}
 use Rattle.tora_world.specs.declared.sim_error.SimError.TheVariants as Refused
@@ -13,6 +13,7 @@ use Rattle.tora_sim.specs.Steps.{IsDone, IsRefused}
 use Rattle.tora_sim.proofs.Opens.{same_read}
 use Rattle.tora_sim.proofs.Sends.{at_home}
 use Rattle.tora_sim.proofs.Pumps.{pump_without, pump_full, pump_starved, pump_done, pump_store, seat_room}
+use Rattle.tora_sim.proofs.StillEnds.{possible_still}
 use Rattle.tora_sim.proofs.sim.Sim.pump.Goals as goal
 
 waits : (nodes : List NodeView) (home : ℕ) (y z : NodeView) (count : ℕ) → home < length nodes → y ≡ slice_index_or nodes home y → z ≡ slice_index_or nodes home z → count ≡ length y.items → count < 1024 → nat_lt (length z.items) 1024 ≡ true
@@ -75,6 +76,8 @@ invariant_of-self c =
       pump_store s.topology s.times s.clock s.nodes.items s.links.items s.datagrams.items c.self.invariant.0 c.args.n c.args.k c.in-Some.at c.index.result.now c.in-Some.ensures.first c.index.ensures c.in-Some-next_event.event (sym c.next_event.ensures ∙ c.in-Some-next_event.is)
           c.in-Some-node_place.home c.index_mut.result.now c.in-Some-node_place.ensures.first c.index_mut.ensures.value c.take_event.new.self c.put_item.new.self (link_is c) (node_is c),
       λ none. absurd (omega (arith, none)),
+      possible_still s.clock s.stills.items s.links.items c.in-Some.at c.index.result.now c.take_event.new.self c.in-Some.ensures.first.within c.index.ensures
+          (λ until lt h. both_ways (is_some (first_event c.index.result.now.state)) h.events (ap is_some (sym c.next_event.ensures ∙ c.in-Some-next_event.is))) c.self.invariant.2,
     )
 
 pub returns-in-Ok : goal.returns-in-Ok

@@ -1,10 +1,17 @@
-use Rattle.std.proofs.Common.{◌<◌, sym, subst, arith}
+use Rattle.std.proofs.Common.{◌≡◌, ℕ, ◌+◌, ◌<◌, ◌≤◌, sym, subst, arith}
 use Rattle.tora_world.specs.declared.event.Event.TheVariants.{Tick}
 use Rattle.tora_sim.specs.Store.{SimState, state_of, world_of}
 use Rattle.tora_sim.specs.Steps.{IsDone}
 use Rattle.tora_sim.proofs.Ticks.{tick_store, tick_done}
 use Rattle.tora_sim.proofs.Quiets.{still_ticks}
+use Rattle.tora_sim.proofs.StillEnds.{later_still, ticked_still}
 use Rattle.tora_sim.proofs.sim.Sim.tick.Goals as goal
+
+on : (now clock : ℕ) → now ≡ clock + 1 → clock ≤ now
+on now clock e = omega (arith, e)
+
+pub tick-requires : goal.tick-requires
+tick-requires c = let s = c.self.inside in later_still s.clock c.in-Some.now s.stills.items s.links.items (on c.in-Some.now s.clock c.in-Some.ensures.1) c.self.invariant.2
 
 pub invariant_of-self : goal.invariant_of-self
 invariant_of-self c =
@@ -12,6 +19,7 @@ invariant_of-self c =
     let lt : c.in-Some.now < s.quiet = omega (arith, c.if-now-self.true) in (
       tick_store s.topology s.times s.clock s.nodes.items s.links.items s.datagrams.items c.self.invariant.0 c.in-Some.now s.links.items c.in-Some.ensures.1 (sym (still_ticks s.quiet c.in-Some.now s.links.items lt (c.self.invariant.1 (omega (arith, lt))).1)),
       c.self.invariant.1,
+      later_still s.clock c.in-Some.now s.stills.items s.links.items (on c.in-Some.now s.clock c.in-Some.ensures.1) c.self.invariant.2,
     )
 
 pub returns-then-now-self : goal.returns-then-now-self
@@ -26,6 +34,7 @@ invariant_of-self-2 c =
     let s = c.self.inside in (
       tick_store s.topology s.times s.clock s.nodes.items s.links.items s.datagrams.items c.self.invariant.0 c.in-Some.now c.tick.new.links.items c.in-Some.ensures.1 c.tick.ensures,
       λ none. absurd (omega (arith, none)),
+      ticked_still s.clock c.in-Some.now s.stills.items s.links.items c.tick.new.links.items (on c.in-Some.now s.clock c.in-Some.ensures.1) c.tick.ensures c.self.invariant.2,
     )
 
 pub returns : goal.returns

@@ -1,5 +1,6 @@
-use Rattle.std.proofs.Common.{◌≡◌, List, Some, ap, sym, ◌∙◌, subst, arith}
+use Rattle.std.proofs.Common.{◌≡◌, List, Some, is_some, ap, sym, ◌∙◌, subst, arith}
 use Rattle.std.specs.Prelude.{slice_set}
+use Rattle.std.proofs.lemmas.Bool.{both_ways}
 use Rattle.tora_frame.specs.FrameParts.{FrameParts}
 use Rattle.tora_arq.specs.LinkEnd.{frame_due}
 use Rattle.tora_world.specs.declared.event.Event.TheVariants.{Transmit}
@@ -10,6 +11,7 @@ use Rattle.tora_sim.specs.Store.{SimState, IsStore, state_of, world_of}
 use Rattle.tora_sim.specs.Steps.{IsDone, IsRefused}
 use Rattle.tora_sim.proofs.Opens.{same_read}
 use Rattle.tora_sim.proofs.Sends.{transmit_refused, transmit_starved, transmit_done, transmit_store, at_home}
+use Rattle.tora_sim.proofs.StillEnds.{possible_still}
 use Rattle.tora_sim.proofs.sim.Sim.transmit.Goals as goal
 
 pub returns-then-not-has_frame_due : goal.returns-then-not-has_frame_due
@@ -49,6 +51,7 @@ invariant_of-self c =
     let s = c.self.inside in (
       subst (λ (ds : List FrameParts). IsStore (state_of s.topology s.times s.clock s.nodes.items s.links.items ds)) (sym c.reserve.ensures.items) c.self.invariant.0,
       c.self.invariant.1,
+      c.self.invariant.2,
     )
 
 pub invariant_of-self-2 : goal.invariant_of-self-2
@@ -58,6 +61,8 @@ invariant_of-self-2 c =
           c.in-Some-node_place.home c.index_mut-2.result.now c.in-Some-node_place.ensures.first c.index_mut-2.ensures.value c.in-Some-send.frame (due c)
           c.data_frames_are_what_was_submitted.ensures.frame c.send.new.self c.note_sent.new.node c.note_sent.new.datagrams.items c.in-Some-send.ensures.state c.note_sent.ensures.node (all c),
       λ none. absurd (omega (arith, none)),
+      possible_still s.clock s.stills.items s.links.items c.in-Some.at c.index_mut.result.now c.send.new.self c.in-Some.ensures.first.within c.index_mut.ensures.value
+          (λ until lt h. both_ways (is_some (frame_due c.index_mut.result.now.settings c.index_mut.result.now.state s.clock)) (h.frames s.clock lt) (ap is_some (due c))) c.self.invariant.2,
     )
 
 pub returns : goal.returns

@@ -7,6 +7,7 @@ use Rattle.tora_sim.specs.Store.{IsStore, state_of, world_of}
 use Rattle.tora_sim.specs.Firsts.{AreMade, IsMade}
 use Rattle.tora_sim.proofs.Peers.{positive-node}
 use Rattle.tora_sim.proofs.FirstStore.{is-store, is-first}
+use Rattle.tora_sim.proofs.StillEnds.{none_known}
 use Rattle.tora_sim.proofs.sim.Sim.with_times.Goals as goal
 
 pub add_node-requires-clause-me : goal.add_node-requires-clause-me
@@ -14,6 +15,9 @@ add_node-requires-clause-me c =
     let same : c.as_slice-n-items.result.now ≡ nodes_in c.in-Ok.own.links = c.as_slice-n-items.ensures.value ∙ c.nodes-named.ensures.items in
     let lt : c.loop-n.n-index < length (nodes_in c.in-Ok.own.links) = subst (λ (ns : List ℕ). c.loop-n.n-index < length ns) same c.loop-n-test.true in
     subst (λ (ns : List ℕ). 0 < get_or ns c.loop-n.n-index 0) (sym same) (positive-node c.in-Ok.own c.nodes-named.ensures.kept c.loop-n.n-index 0 lt)
+
+pub add_node-requires-clause-lists : goal.add_node-requires-clause-lists
+add_node-requires-clause-lists c = record { pairs = c.links.result.now; links = c.links.ensures; by_bits = c.in_ok-lists.ensures }
 
 pub loop-n-preserved : goal.loop-n-preserved
 loop-n-preserved c =
@@ -31,14 +35,16 @@ module _ (c : goal.After-new-2) where
       (subst (λ (ns : List ℕ). AreMade c.args.topology.now c.args.times ns c.loop-n.nodes.items c.loop-n.links.items) (whole ∙ same) c.loop-n.invariant)
 
 pub invariant_of-result : goal.invariant_of-result
-invariant_of-result c = (
-  subst (λ (ds : List FrameParts). IsStore (state_of c.in-Ok.own c.args.times 0 c.loop-n.nodes.items c.loop-n.links.items ds)) (sym c.new.ensures)
-      (is-store c.numbers_are_put_in_order.ensures.order c.numbers_come_and_go.ensures.in_order c.in-Ok.own c.args.times c.nodes-named.ensures.kept c.loop-n.nodes.items c.loop-n.links.items (made c)),
-  λ none. absurd (omega (arith, none)),
-)
+invariant_of-result c =
+    let many : c.len-count.result ≡ length c.loop-n.links.items = omega (arith, c.len-count.ensures) in (
+      subst (λ (ds : List FrameParts). IsStore (state_of c.in-Ok.own c.args.times 0 c.loop-n.nodes.items c.loop-n.links.items ds)) (sym c.new.ensures)
+          (is-store c.numbers_are_put_in_order.ensures.order c.numbers_come_and_go.ensures.in_order c.in-Ok.own c.args.times c.nodes-named.ensures.kept c.loop-n.nodes.items c.loop-n.links.items (made c)),
+      λ none. absurd (omega (arith, none)),
+      none_known 0 c.len-count.result c.in_ok-stills.stills.items c.loop-n.links.items c.in_ok-stills.ensures many,
+    )
 
 pub returns-clause-made : goal.returns-clause-made
 returns-clause-made c =
     ap (λ (ds : List FrameParts). world_of (state_of c.in-Ok.own c.args.times 0 c.loop-n.nodes.items c.loop-n.links.items ds)) c.new.ensures
-    ∙ is-first c.numbers_are_put_in_order.ensures.order c.numbers_come_and_go.ensures.in_order c.in-Ok.own c.args.times c.nodes-named.ensures.kept c.loop-n.nodes.items c.loop-n.links.items (made c)
+    ∙ is-first c.numbers_are_put_in_order.ensures.order c.numbers_come_and_go.ensures.in_order c.in-Ok.own c.args.times c.nodes-named.ensures.kept c.loop-n.nodes.items c.loop-n.links.items (made c.before)
     ∙ ap (λ (t : Topology). first_world t c.args.times) c.in-Ok.ensures

@@ -1,0 +1,75 @@
+-- How many datagrams went each way, counted one after the other.
+use Rattle.std.proofs.Common.{◌≡◌, ℕ, zero, suc, ◌+◌, ◌-◌, ◌<◌, ◌==◌, Bool, true, false, cond, if◌then◌else◌, Option, Some, None, refl, sym, ap, ◌∙◌, arith, unwrap_or}
+use Rattle.std.specs.Ordering.{is_eq}
+use Rattle.std.proofs.lemmas.Bool.{eq-eqb, and_from}
+use Rattle.std.proofs.lemmas.Option.{none-some, same_Some}
+use Rattle.tora_frame.specs.FrameParts.{FrameParts}
+use Rattle.tora_world.specs.World.{World, datagram}
+use Rattle.tora_script.specs.Air.{gone, goes}
+use Rattle.tora_script.specs.declared.ways.Ways.{Ways}
+use Rattle.tora_script.specs.Pairs.{pair_cmp}
+use Rattle.tora_script.specs.Ways.{way_in, times, goes_as, IsOneMore, AreCounted}
+use Rattle.tora_script.proofs.PairOrder.{same_pair, other_pair}
+
+-- ---- one way's count goes up
+
+up : (a n o p g : ℕ) → a ≡ n → n ≡ o + 1 → o ≡ p → g ≡ 1 → a ≡ p + g
+up a n o p g now next before here = omega (arith, now, next, before, here)
+
+stay : (a p g : ℕ) → a ≡ p → g ≡ 0 → a ≡ p + g
+stay a p g same none = omega (arith, same, none)
+
+-- the way that was written has one more, and any other what it had
+pub one_more : (old new : ℕ × ℕ → Option ℕ) (way : ℕ × ℕ) (n : ℕ) → n ≡ unwrap_or (old way) 0 + 1 → ((q : ℕ × ℕ) → new q ≡ cond (is_eq (pair_cmp way q)) (Some n) (old q))
+    → (q : ℕ × ℕ) → unwrap_or (new q) 0 ≡ unwrap_or (old q) 0 + goes_as way q
+one_more old new way n next updates q = go (is_eq (pair_cmp way q)) refl
+  where
+    go : (b : Bool) → is_eq (pair_cmp way q) ≡ b → unwrap_or (new q) 0 ≡ unwrap_or (old q) 0 + goes_as way q
+    go true e =
+        let same : way ≡ q = same_pair way q e in
+        let here : goes_as way q ≡ 1 = ap (λ (b : Bool). if b then 1 else 0) (and_from (way.0 == q.0) (way.1 == q.1) (eq-eqb way.0 q.0 (ap (λ (p : ℕ × ℕ). p.0) same)) (eq-eqb way.1 q.1 (ap (λ (p : ℕ × ℕ). p.1) same))) in
+        let now : unwrap_or (new q) 0 ≡ n = ap (λ (o : Option ℕ). unwrap_or o 0) (updates q ∙ ap (λ (b : Bool). cond b (Some n) (old q)) e) in
+        up (unwrap_or (new q) 0) n (unwrap_or (old way) 0) (unwrap_or (old q) 0) (goes_as way q) now next (ap (λ (p : ℕ × ℕ). unwrap_or (old p) 0) same) here
+    go false e =
+        let none : goes_as way q ≡ 0 = ap (λ (b : Bool). if b then 1 else 0) (other_pair way q e) in
+        let same : unwrap_or (new q) 0 ≡ unwrap_or (old q) 0 = ap (λ (o : Option ℕ). unwrap_or o 0) (updates q ∙ ap (λ (b : Bool). cond b (Some n) (old q)) e) in
+        stay (unwrap_or (new q) 0) (unwrap_or (old q) 0) (goes_as way q) same none
+
+-- ---- one datagram more
+
+-- the datagrams up to i are those up to the one before, and datagram i
+next_gone : (w : World) (way : ℕ × ℕ) (start i : ℕ) → start < i → gone w way start (i - start) ≡ gone w way start (i - 1 - start) + goes way (datagram w i)
+unfolding gone
+next_gone w way start i behind =
+    let k : i - start ≡ suc (i - 1 - start) = omega (arith, behind) in
+    let j : start + (i - 1 - start) + 1 ≡ i = omega (arith, behind) in
+    ap (gone w way start) k ∙ ap (λ (n : ℕ). gone w way start (i - 1 - start) + goes way (datagram w n)) j
+
+goes_nowhere : (o : Option FrameParts) (way : ℕ × ℕ) → way_in o ≡ None → goes way o ≡ 0
+goes_nowhere None way e = refl
+goes_nowhere (Some f) way e = absurd (none-some (f.header.sender, f.header.receiver) (sym e))
+
+goes_there : (o : Option FrameParts) (here way : ℕ × ℕ) → way_in o ≡ Some here → goes way o ≡ goes_as here way
+goes_there None here way e = absurd (none-some here e)
+goes_there (Some f) here way e =
+    let same : (f.header.sender, f.header.receiver) ≡ here = same_Some (f.header.sender, f.header.receiver) here e in
+    ap (λ (p : ℕ × ℕ). goes_as p way) same
+
+as_many : (t a b g : ℕ) → g ≡ 0 → t ≡ a → b ≡ a + g → t ≡ b
+as_many t a b g none front last = omega (arith, none, front, last)
+
+-- there is no datagram i
+pub none_more : (w : World) (ways : Ways) (start i : ℕ) → start < i → AreCounted w ways start (i - 1 - start) → way_in (datagram w i) ≡ None → AreCounted w ways start (i - start)
+none_more w ways start i behind h none way =
+    as_many (times ways way) (gone w way start (i - 1 - start)) (gone w way start (i - start)) (goes way (datagram w i)) (goes_nowhere (datagram w i) way none) (h way) (next_gone w way start i behind)
+
+-- datagram i goes this way
+pub some_more : (w : World) (old new : Ways) (start i : ℕ) (here : ℕ × ℕ) → start < i → AreCounted w old start (i - 1 - start) → way_in (datagram w i) ≡ Some here → IsOneMore old new here → AreCounted w new start (i - start)
+some_more w old new start i here behind h is more way =
+    more way ∙ ap (λ (n : ℕ). n + goes_as here way) (h way) ∙ ap (λ (n : ℕ). gone w way start (i - 1 - start) + n) (sym (goes_there (datagram w i) here way is)) ∙ sym (next_gone w way start i behind)
+
+-- before any was counted
+pub none_yet : (w : World) (ways : Ways) (start count : ℕ) → count ≡ 0 → ((way : ℕ × ℕ) → times ways way ≡ 0) → AreCounted w ways start count
+unfolding gone
+none_yet w ways start zero is none way = none way
+none_yet w ways start (suc count) is none way = absurd (omega (arith, is))

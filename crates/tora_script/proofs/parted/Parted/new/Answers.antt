@@ -1,0 +1,5 @@
+use Rattle.tora_script.proofs.PartedLaws.{no_keys}
+use Rattle.tora_script.proofs.parted.Parted.new.Goals as goal
+
+pub invariant_of-result : goal.invariant_of-result
+invariant_of-result c = no_keys c.new-keys.result c.new-pairs.result.pairs c.new-keys.ensures.empty c.new-pairs.ensures

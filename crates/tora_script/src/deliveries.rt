@@ -1,0 +1,156 @@
+//! The datagrams of a pass are delivered.
+ghost use Rattle.std.specs.Prelude.{◌≡◌, ◌<◌, ◌≤◌, ◌-◌, true, IfOk, OnOk};
+ghost use Rattle.tora_world.specs.World.{datagram};
+ghost use Rattle.tora_script.specs.Air.{moment_on};
+ghost use Rattle.tora_script.specs.Rounds.{Happened, delivery, new_deliveries};
+ghost use Rattle.tora_script.specs.Ways.{AreCounted};
+
+use crate::air::{Moment, at_once, copies, counted_copies};
+use crate::parted::Parted;
+use crate::rounds::{either, repeat};
+use crate::simulator::Simulator;
+use crate::ways::Ways;
+use std::alloc::{AllocError, Global};
+use tora_channel::ChannelTable;
+use tora_world::Event;
+
+/// Delivers the datagrams behind the first ones.
+///
+/// What becomes of a datagram over a channel depends on how many of its round went its way before it: they are counted as they come.
+pub fn deliver_new<S: Simulator>(
+    sim: &mut S,
+    parted: &Parted,
+    table: &ChannelTable,
+    moment: Moment,
+    first: u64,
+) -> Result<bool, AllocError>
+    ensures { IfOk result (λ some. Happened (S.world sim.old) (new_deliveries parted.now (moment_on table.now moment) first (S.world sim.old)) (S.world sim.new) some) }
+{
+    if is_to_count(sim, table, moment, first) {
+        deliver_counted(sim, parted, table, moment, first)
+    } else {
+        deliver_each(sim, parted, table, moment, first)
+    }
+}
+
+/// Whether there are datagrams behind the first ones, of which each comes as often as those before it say.
+fn is_to_count<S: Simulator>(sim: &S, table: &ChannelTable, moment: Moment, first: u64) -> bool
+    ensures { result ≡ true → moment.start ≤ first }
+{
+    if first < moment.start {
+        return false;
+    }
+    first < sim.datagrams() && !table.is_clear(moment.channel)
+}
+
+/// Delivers a datagram as often as the channel says, unless its nodes are parted.
+fn deliver<S: Simulator>(
+    sim: &mut S,
+    parted: &Parted,
+    table: &ChannelTable,
+    moment: Moment,
+    i: u64,
+) -> Result<bool, AllocError>
+    ensures { IfOk result (λ some. Happened (S.world sim.old) (delivery parted.now (moment_on table.now moment) i (S.world sim.old)) (S.world sim.new) some) }
+{
+    let Some((sender, receiver)) = sim.datagram(i) else {
+        return Ok(false);
+    };
+    if parted.is_parted(sender, receiver) {
+        return Ok(false);
+    }
+    let copies = copies(sim, table, moment, i, (sender, receiver));
+    repeat(sim, 0, &Event::Deliver(i), at_once(copies))
+}
+
+/// Delivers the datagrams behind the first ones, of which none is counted.
+fn deliver_each<S: Simulator>(
+    sim: &mut S,
+    parted: &Parted,
+    table: &ChannelTable,
+    moment: Moment,
+    first: u64,
+) -> Result<bool, AllocError>
+    ensures { IfOk result (λ some. Happened (S.world sim.old) (new_deliveries parted.now (moment_on table.now moment) first (S.world sim.old)) (S.world sim.new) some) }
+{
+    let mut some = false;
+    for i in first..sim.datagrams() {
+        let any = deliver(sim, parted, table, moment, i + 1)?;
+        some = either(some, any);
+    }
+    Ok(some)
+}
+
+/// Delivers a datagram as `deliver` does, and counts it.
+fn deliver_next<S: Simulator>(
+    sim: &mut S,
+    parted: &Parted,
+    table: &ChannelTable,
+    moment: Moment,
+    i: u64,
+    ways: &mut Ways,
+) -> Result<bool, AllocError>
+    requires behind { moment.start < i }
+    requires counted { AreCounted (S.world sim.old) ways.old moment.start (i - 1 - moment.start) }
+    ensures happened { IfOk result (λ some. Happened (S.world sim.old) (delivery parted.now (moment_on table.now moment) i (S.world sim.old)) (S.world sim.new) some) }
+    ensures counted { OnOk result (AreCounted (S.world sim.old) ways.new moment.start (i - moment.start)) }
+{
+    let Some(way) = sim.datagram(i) else {
+        return Ok(false);
+    };
+    let copies = counted_copies(sim, table, moment, i, way, ways)?;
+    if parted.is_parted(way.0, way.1) {
+        return Ok(false);
+    }
+    let some = repeat(sim, 0, &Event::Deliver(i), at_once(copies))?;
+    Ok(some)
+}
+
+/// Counts the datagrams behind the first ones and up to the end.
+fn count_gone<S: Simulator>(
+    sim: &S,
+    alloc: Global,
+    first: u64,
+    end: u64,
+) -> Result<Ways, AllocError>
+    ensures { IfOk result (λ ways. AreCounted (S.world sim.now) ways first (end - first)) }
+{
+    let mut ways = Ways::new(alloc);
+    for i in first..end {
+        count_one(sim, first, i + 1, &mut ways)?;
+    }
+    Ok(ways)
+}
+
+/// Counts datagram `i`, where those before it, behind the first ones, are counted.
+fn count_one<S: Simulator>(sim: &S, first: u64, i: u64, ways: &mut Ways) -> Result<(), AllocError>
+    requires behind { first < i }
+    requires counted { AreCounted (S.world sim.now) ways.old first (i - 1 - first) }
+    ensures { OnOk result (AreCounted (S.world sim.now) ways.new first (i - first)) }
+{
+    let Some(way) = sim.datagram(i) else {
+        return Ok(());
+    };
+    ways.count(way)?;
+    Ok(())
+}
+
+/// Delivers the datagrams behind the first ones, and counts each.
+fn deliver_counted<S: Simulator>(
+    sim: &mut S,
+    parted: &Parted,
+    table: &ChannelTable,
+    moment: Moment,
+    first: u64,
+) -> Result<bool, AllocError>
+    requires { moment.start ≤ first }
+    ensures { IfOk result (λ some. Happened (S.world sim.old) (new_deliveries parted.now (moment_on table.now moment) first (S.world sim.old)) (S.world sim.new) some) }
+{
+    let mut ways = count_gone(sim, moment.alloc, moment.start, first)?;
+    let mut some = false;
+    for i in first..sim.datagrams() {
+        let any = deliver_next(sim, parted, table, moment, i + 1, &mut ways)?;
+        some = either(some, any);
+    }
+    Ok(some)
+}

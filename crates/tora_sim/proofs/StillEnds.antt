@@ -1,0 +1,228 @@
+-- Of which link ends it is known until which tick nothing is to be done at them, as ends change.
+use Rattle.std.proofs.Common.{◌≡◌, ℕ, zero, suc, ◌+◌, ◌<◌, ◌≤◌, ◌⊎◌, inl, inr, min, List, [], ◌∷◌, ◌++◌, map, length, set, slice_get, Option, Some, None, Result, Ok, Err, refl, sym, ap, ◌∙◌, subst, arith, option_map}
+use Rattle.std.specs.Prelude.{replicate, slice_index, slice_index_or}
+use Rattle.std.proofs.lemmas.Bool.{cases_eq}
+use Rattle.std.proofs.lemmas.List.{length-map, length-replicate, length-set, get_or-set_same, get_or-set_other}
+use Rattle.std.proofs.lemmas.Option.{none-some, same_Some, slice_get_read, slice_get_within, slice_get-map}
+use Rattle.tora_seat.specs.declared.stepped.Stepped.{Stepped}
+use Rattle.tora_seat.specs.Offers.{AreOffered, place_of}
+use Rattle.tora_seat.specs.Serving.{Offer}
+use Rattle.tora_world.specs.declared.sim_error.SimError.{SimError}
+use Rattle.tora_sim.specs.Lanes.{LanesView, after_offer_at, bare, AreAlike, DidOffer}
+use Rattle.tora_sim.specs.Links.{LinkView, ticked, AreChanged}
+use Rattle.tora_sim.specs.Nodes.{NodeView}
+use Rattle.tora_sim.specs.Quiet.{IsStill, IsStillIf, AreStillEach, AreForgotten}
+use Rattle.tora_sim.specs.Store.{EachOf}
+use Rattle.tora_sim.specs.Turns.{IsNoted, Turns}
+use Rattle.tora_sim.proofs.FreshEnds.{item_at, below_next}
+use Rattle.tora_sim.proofs.Quiets.{earlier, still_tick}
+use Rattle.tora_sim.proofs.Stores.{set_read, map_read}
+
+-- ---- at the start
+
+none_at : (n at : ℕ) → slice_index (replicate n 0) at ≡ 0
+none_at zero at = refl
+none_at (suc n) zero = refl
+none_at (suc n) (suc at) = none_at n at
+
+pub none_known : (clock n : ℕ) (stills : List ℕ) (links : List LinkView) → stills ≡ replicate n 0 → n ≡ length links → AreStillEach clock stills links
+none_known clock n stills links e many = record {
+  as_many = ap length e ∙ length-replicate {A = ℕ} n 0 ∙ many;
+  still = λ at link lt there.
+      let nothing : slice_index stills at ≡ 0 = ap (λ (xs : List ℕ). slice_index xs at) e ∙ none_at n at in
+      absurd (omega (arith, lt, nothing));
+}
+
+-- ---- what is known is used
+
+pub still_now : (clock : ℕ) (stills : List ℕ) (links : List LinkView) → AreStillEach clock stills links → (at : ℕ) (link : LinkView) → clock < slice_index stills at → slice_get links at ≡ Some link → IsStill (clock + 1) link
+still_now clock stills links h at link lt there = earlier (slice_index stills at) (clock + 1) link (omega (arith, lt)) (h.still at link lt there)
+
+pub all_still : (now until : ℕ) (stills : List ℕ) (links : List LinkView) → AreStillEach now stills links → ((at : ℕ) → at < length stills → (now < slice_index stills at) × (until ≤ slice_index stills at)) → EachOf (IsStill until) links
+all_still now until stills links h all i x there =
+    let within = slice_get_within links i x there in
+    let many = h.as_many in
+    let at = all i (omega (arith, within, many)) in
+    earlier (slice_index stills i) until x at.1 (h.still i x at.0 there)
+
+-- one end more is passed over
+pub one_due : (stills : List ℕ) (n place now here : ℕ) → here ≡ slice_index stills n → now < here → ((i : ℕ) → place ≤ i → i < n → now < slice_index stills i) → (i : ℕ) → place ≤ i → i < n + 1 → now < slice_index stills i
+one_due stills n place now here is less before i from lt = go (below_next i n lt)
+  where
+    go : (i < n) ⊎ (i ≡ n) → now < slice_index stills i
+    go (inl l) = before i from l
+    go (inr q) = let same : slice_index stills i ≡ here = ap (slice_index stills) q ∙ sym is in omega (arith, same, less)
+
+-- one end more is known
+pub more_known : (stills : List ℕ) (n now until here : ℕ) → here ≡ slice_index stills n → now < here → ((i : ℕ) → i < n → (now < slice_index stills i) × (until ≤ slice_index stills i))
+    → (i : ℕ) → i < n + 1 → (now < slice_index stills i) × (min until here ≤ slice_index stills i)
+more_known stills n now until here is less before i lt = go (below_next i n lt)
+  where
+    go : (i < n) ⊎ (i ≡ n) → (now < slice_index stills i) × (min until here ≤ slice_index stills i)
+    go (inl l) = let both = before i l in let least = both.1 in (both.0, omega (arith, least))
+    go (inr q) = let same : slice_index stills i ≡ here = ap (slice_index stills) q ∙ sym is in (omega (arith, same, less), omega (arith, same))
+
+-- ---- what is known of one end
+
+pub known_here : (now : ℕ) (stills after : List ℕ) (links : List LinkView) (place until : ℕ) (x : LinkView) → after ≡ set stills place until → place < length stills → slice_get links place ≡ Some x → IsStillIf until x → AreStillEach now stills links → AreStillEach now after links
+known_here now stills after links place until x e within there s h = record {
+  as_many = ap length e ∙ length-set stills place until ∙ h.as_many;
+  still = λ at link lt found. go at link (subst (λ (ys : List ℕ). now < slice_index ys at) e lt) found (cases_eq at place);
+}
+  where
+    value : slice_index (set stills place until) place ≡ until
+    value = get_or-set_same stills place until 0 within
+
+    go : (at : ℕ) (link : LinkView) → now < slice_index (set stills place until) at → slice_get links at ≡ Some link → (at ≡ place) ⊎ (at ≡ place → ⊥) → IsStill (slice_index after at) link
+    go at link lt found (inl q) =
+        let link_is : x ≡ link = same_Some x link (sym there ∙ ap (slice_get links) (sym q) ∙ found) in
+        let until_is : slice_index (set stills place until) at ≡ until = ap (slice_index (set stills place until)) q ∙ value in
+        let some : 0 < until = omega (arith, lt, until_is) in
+        subst (λ (z : LinkView). IsStill (slice_index after at) z) link_is (subst (λ (n : ℕ). IsStill n x) (sym (ap (λ (ys : List ℕ). slice_index ys at) e ∙ until_is)) (s some))
+    go at link lt found (inr off) =
+        let old : slice_index (set stills place until) at ≡ slice_index stills at = get_or-set_other stills place at until 0 off in
+        subst (λ (n : ℕ). IsStill n link) (sym (ap (λ (ys : List ℕ). slice_index ys at) e ∙ old)) (h.still at link (subst (λ (n : ℕ). now < n) old lt) found)
+
+-- ---- the clock goes on
+
+pub later_still : (clock now : ℕ) (stills : List ℕ) (links : List LinkView) → clock ≤ now → AreStillEach clock stills links → AreStillEach now stills links
+later_still clock now stills links le h = record { as_many = h.as_many; still = λ at link lt there. h.still at link (omega (arith, lt, le)) there }
+
+pub ticked_still : (clock now : ℕ) (stills : List ℕ) (links after : List LinkView) → clock ≤ now → after ≡ map (ticked now) links → AreStillEach clock stills links → AreStillEach now stills after
+ticked_still clock now stills links after le e h = record {
+  as_many = h.as_many ∙ sym (ap length e ∙ length-map links (ticked now));
+  still = λ at link lt there.
+      let old = map_read (ticked now) links at link (subst (λ (xs : List LinkView). slice_get xs at ≡ Some link) e there) in
+      let s : IsStill (slice_index stills at) old.0 = h.still at old.0 (omega (arith, lt, le)) old.1 in
+      subst (λ (z : LinkView). IsStill (slice_index stills at) z) (sym (still_tick (slice_index stills at) now old.0 lt s) ∙ old.2) s;
+}
+
+-- ---- ends that change
+
+-- an end at which something is to be done now: of it nothing was known
+pub possible_still : (clock : ℕ) (stills : List ℕ) (links : List LinkView) (at : ℕ) (x new : LinkView) → at < length links → x ≡ slice_index_or links at x → ((until : ℕ) → clock < until → IsStill until x → ⊥) → AreStillEach clock stills links
+    → AreStillEach clock stills (set links at new)
+possible_still clock stills links at x new within read never h = record { as_many = h.as_many ∙ sym (length-set links at new); still = λ j y lt there. go j y lt (set_read links at new j y there) }
+  where
+    go : (j : ℕ) (y : LinkView) → clock < slice_index stills j → ((j ≡ at) × (new ≡ y)) ⊎ (slice_get links j ≡ Some y) → IsStill (slice_index stills j) y
+    go j y lt (inl p) = absurd (never (slice_index stills j) lt (h.still j x lt (ap (slice_get links) p.0 ∙ slice_get_read links (length links) at x refl within read)))
+    go j y lt (inr old) = h.still j y lt old
+
+-- an end of which nothing is known
+pub unknown_still : (clock : ℕ) (stills : List ℕ) (links : List LinkView) (at : ℕ) (new : LinkView) → slice_index stills at ≡ 0 → AreStillEach clock stills links → AreStillEach clock stills (set links at new)
+unknown_still clock stills links at new nothing h = record { as_many = h.as_many ∙ sym (length-set links at new); still = λ j y lt there. go j y lt (set_read links at new j y there) }
+  where
+    go : (j : ℕ) (y : LinkView) → clock < slice_index stills j → ((j ≡ at) × (new ≡ y)) ⊎ (slice_get links j ≡ Some y) → IsStill (slice_index stills j) y
+    go j y lt (inl p) = let zero_there : slice_index stills j ≡ 0 = ap (slice_index stills) p.0 ∙ nothing in absurd (omega (arith, lt, zero_there))
+    go j y lt (inr old) = h.still j y lt old
+
+-- an end that is as still as it was
+pub same_still : (clock : ℕ) (stills : List ℕ) (links : List LinkView) (at : ℕ) (x new : LinkView) → slice_get links at ≡ Some x → ((until : ℕ) → IsStill until x → IsStill until new) → AreStillEach clock stills links → AreStillEach clock stills (set links at new)
+same_still clock stills links at x new there keeps h = record { as_many = h.as_many ∙ sym (length-set links at new); still = λ j y lt found. go j y lt (set_read links at new j y found) }
+  where
+    go : (j : ℕ) (y : LinkView) → clock < slice_index stills j → ((j ≡ at) × (new ≡ y)) ⊎ (slice_get links j ≡ Some y) → IsStill (slice_index stills j) y
+    go j y lt (inl p) = subst (λ (z : LinkView). IsStill (slice_index stills j) z) p.1 (keeps (slice_index stills j) (h.still j x lt (ap (slice_get links) p.0 ∙ there)))
+    go j y lt (inr old) = h.still j y lt old
+
+-- ends that are each as still as they were
+pub mapped_still : (clock : ℕ) (stills : List ℕ) (links after : List LinkView) (f : LinkView → LinkView) → after ≡ map f links → ((until : ℕ) (x : LinkView) → IsStill until x → IsStill until (f x)) → AreStillEach clock stills links → AreStillEach clock stills after
+mapped_still clock stills links after f e keeps h = record {
+  as_many = h.as_many ∙ sym (ap length e ∙ length-map links f);
+  still = λ at link lt there.
+      let old = map_read f links at link (subst (λ (xs : List LinkView). slice_get xs at ≡ Some link) e there) in
+      subst (λ (z : LinkView). IsStill (slice_index stills at) z) old.2 (keeps (slice_index stills at) old.0 (h.still at old.0 lt old.1));
+}
+
+-- ends that differ only in their memory
+pub alike_still : (clock : ℕ) (stills : List ℕ) (links after : List LinkView) → AreAlike links after → AreStillEach clock stills links → AreStillEach clock stills after
+alike_still clock stills links after e h = record {
+  as_many = h.as_many ∙ sym (length-map links bare) ∙ sym (ap length e) ∙ length-map after bare;
+  still = λ at link lt there. go at link lt (slice_get links at) refl (sym (slice_get-map bare links at) ∙ ap (λ (xs : List LinkView). slice_get xs at) (sym e) ∙ slice_get-map bare after at ∙ ap (option_map bare) there);
+}
+  where
+    go : (at : ℕ) (link : LinkView) → clock < slice_index stills at → (o : Option LinkView) → slice_get links at ≡ o → option_map bare o ≡ Some (bare link) → IsStill (slice_index stills at) link
+    go at link lt None read q = absurd (none-some (bare link) q)
+    go at link lt (Some x) read q =
+        let same : bare x ≡ bare link = same_Some (bare x) (bare link) q in
+        let s : IsStill (slice_index stills at) (bare x) = h.still at x lt read in
+        subst (λ (z : LinkView). IsStill (slice_index stills at) z) same s
+
+-- ---- ends of a node, of which nothing is known
+
+pub one_forgotten : (before stills : List ℕ) (at : ℕ) → AreForgotten before stills at 1 → slice_index stills at ≡ 0
+one_forgotten before stills at f = let here : at + 0 ≡ at = omega arith in subst (λ (n : ℕ). slice_index stills n ≡ 0) here (f.here 0 (omega arith))
+
+pub none_at_node : (before stills : List ℕ) (first count : ℕ) (node : NodeView) → first ≡ node.first → count ≡ node.count → AreForgotten before stills first count → (place : ℕ) → place < node.count → slice_index stills (node.first + place) ≡ 0
+none_at_node before stills first count node e q f place lt = subst (λ (n : ℕ). slice_index stills (n + place) ≡ 0) e (f.here place (omega (arith, lt, q)))
+
+pub forgotten_still : (clock : ℕ) (before stills : List ℕ) (links : List LinkView) (first count : ℕ) → AreForgotten before stills first count → AreStillEach clock before links → AreStillEach clock stills links
+forgotten_still clock before stills links first count f h = record { as_many = f.as_many ∙ h.as_many; still = λ at link lt there. go at link lt there (f.others at) }
+  where
+    go : (at : ℕ) (link : LinkView) → clock < slice_index stills at → slice_get links at ≡ Some link → (slice_index stills at ≡ 0) ⊎ (slice_index stills at ≡ slice_index before at) → IsStill (slice_index stills at) link
+    go at link lt there (inl nothing) = absurd (omega (arith, lt, nothing))
+    go at link lt there (inr same) = subst (λ (n : ℕ). IsStill n link) (sym same) (h.still at link (subst (λ (n : ℕ). clock < n) same lt) there)
+
+pub none_forgotten : (stills : List ℕ) (first : ℕ) → AreForgotten stills stills first 0
+none_forgotten stills first = record { as_many = refl; here = λ place lt. absurd (omega (arith, lt)); others = λ at. inr refl }
+
+pub one_more_forgotten : (before stills after : List ℕ) (first place : ℕ) → first + place < length stills → after ≡ set stills (first + place) 0 → AreForgotten before stills first place → AreForgotten before after first (place + 1)
+one_more_forgotten before stills after first place within e f = record {
+  as_many = ap length e ∙ length-set stills (first + place) 0 ∙ f.as_many;
+  here = λ p lt. ap (λ (ys : List ℕ). slice_index ys (first + p)) e ∙ zero_at p (below_next p place lt);
+  others = λ at. subst (λ (n : ℕ). (n ≡ 0) ⊎ (n ≡ slice_index before at)) (sym (ap (λ (ys : List ℕ). slice_index ys at) e)) (other at (cases_eq at (first + place)));
+}
+  where
+    value : slice_index (set stills (first + place) 0) (first + place) ≡ 0
+    value = get_or-set_same stills (first + place) 0 0 within
+
+    zero_at : (p : ℕ) → (p < place) ⊎ (p ≡ place) → slice_index (set stills (first + place) 0) (first + p) ≡ 0
+    zero_at p (inl less) = get_or-set_other stills (first + place) (first + p) 0 0 (λ (q : first + p ≡ first + place). absurd (omega (arith, less, q))) ∙ f.here p less
+    zero_at p (inr same) = ap (λ (n : ℕ). slice_index (set stills (first + place) 0) (first + n)) same ∙ value
+
+    other : (at : ℕ) → (at ≡ first + place) ⊎ (at ≡ first + place → ⊥) → (slice_index (set stills (first + place) 0) at ≡ 0) ⊎ (slice_index (set stills (first + place) 0) at ≡ slice_index before at)
+    other at (inl q) = inl (ap (slice_index (set stills (first + place) 0)) q ∙ value)
+    other at (inr off) =
+        let old : slice_index (set stills (first + place) 0) at ≡ slice_index stills at = get_or-set_other stills (first + place) at 0 0 off in
+        subst (λ (n : ℕ). (n ≡ 0) ⊎ (n ≡ slice_index before at)) (sym old) (f.others at)
+
+-- so many ends changed, of which nothing is known
+pub changed_still : (clock : ℕ) (stills : List ℕ) (before links : List LinkView) (change : LinkView → LinkView) (first count : ℕ) → ((place : ℕ) → place < count → slice_index stills (first + place) ≡ 0) → AreChanged change before links first count → AreStillEach clock stills before
+    → AreStillEach clock stills links
+changed_still clock stills before links change first count nothing c h = record {
+  as_many = h.as_many ∙ sym c.as_many;
+  still = λ at link lt there.
+      let within = slice_get_within links at link there in
+      let many = c.as_many in
+      let old = item_at before at (omega (arith, within, many)) in
+      let away : (place : ℕ) → place < count → at ≡ first + place → ⊥ = λ place less q. off at place lt less q in
+      let same : old.0 ≡ link = same_Some old.0 link (sym (c.rest at old.0 away old.1) ∙ there) in
+      subst (λ (z : LinkView). IsStill (slice_index stills at) z) same (h.still at old.0 lt old.1);
+}
+  where
+    off : (at place : ℕ) → clock < slice_index stills at → place < count → at ≡ first + place → ⊥
+    off at place lt less q = let none : slice_index stills at ≡ 0 = ap (slice_index stills) q ∙ nothing place less in omega (arith, lt, none)
+
+-- ---- a turn of a core
+
+offered_still : (clock : ℕ) (stills : List ℕ) (ks : List ℕ) (offers : List Offer) (lanes after : LanesView) → ((place : ℕ) → place < lanes.count → slice_index stills (lanes.first + place) ≡ 0) → AreOffered DidOffer ks lanes offers after
+    → AreStillEach clock stills lanes.links → AreStillEach clock stills after.links
+offered_still clock stills ks [] lanes after nothing e h = subst (λ (v : LanesView). AreStillEach clock stills v.links) (sym e) h
+offered_still clock stills ks (o ∷ offers) lanes after nothing (between, did, rest) h =
+    let first : between.first ≡ lanes.first = ap (λ (v : LanesView). v.first) did.lanes in
+    let count : between.count ≡ lanes.count = ap (λ (v : LanesView). v.count) did.lanes in
+    offered_still clock stills ks offers between after
+    (λ place lt. subst (λ (n : ℕ). slice_index stills (n + place) ≡ 0) (sym first) (nothing place (omega (arith, lt, count)))) rest
+    (subst (λ (v : LanesView). AreStillEach clock stills v.links) (sym did.lanes) (unknown_still clock stills lanes.links (lanes.first + place_of o.to ks) (after_offer_at did.link o.cargo o.put) (nothing (place_of o.to ks) did.within) h))
+
+noted_still : (clock : ℕ) (stills : List ℕ) (lanes : LanesView) (seat : ℕ) (stepped : Option Stepped) (links : List LinkView) → IsNoted lanes seat stepped links → AreStillEach clock stills lanes.links → AreStillEach clock stills links
+noted_still clock stills lanes seat None links e h = subst (λ (xs : List LinkView). AreStillEach clock stills xs) (sym e) h
+noted_still clock stills lanes seat (Some p) links (link, there, is) h =
+    let new : LinkView = record link { steps = link.steps ++ record { life = p.life; packet = p.packet } ∷ [] } in
+    subst (λ (xs : List LinkView). AreStillEach clock stills xs) (sym is) (same_still clock stills lanes.links (lanes.first + seat) link new there (λ until s. s) h)
+
+pub turned_still : (clock : ℕ) (stills : List ℕ) (node y : NodeView) (links after : List LinkView) (r : Result (Unit {0}) SimError) → ((place : ℕ) → place < node.count → slice_index stills (node.first + place) ≡ 0) → Turns node links r y after → AreStillEach clock stills links
+    → AreStillEach clock stills after
+turned_still clock stills node y links after (Ok u) nothing d h =
+    noted_still clock stills d.lanes d.item.seat y.seat.stepped after d.noted
+    (offered_still clock stills node.seat.core.neighbours d.served.offers (record { links = links; first = node.first; count = node.count }) d.lanes nothing d.served.offered h)
+turned_still clock stills node y links after (Err e) nothing d h = subst (λ (xs : List LinkView). AreStillEach clock stills xs) (sym d.2) h

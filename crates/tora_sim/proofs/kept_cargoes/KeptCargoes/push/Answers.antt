@@ -1,0 +1,33 @@
+use Rattle.std.proofs.Common.{List, ◌∷◌, [], ◌++◌, ◌-◌, ◌≡◌, ℕ, Bool, true, false, refl, ap, ap₂, ◌∙◌}
+use Rattle.tora_seat.specs.declared.cargo.Cargo.{Cargo}
+use Rattle.tora_sim.specs.KeptCargoes.{CargoList, one_if}
+use Rattle.tora_sim.proofs.SentFrames.{within}
+use Rattle.tora_sim.specs.KeptCargoes.{life_of}
+use Rattle.tora_sim.proofs.KeptCargoes.{pushed, pushed_kept}
+use Rattle.tora_sim.proofs.kept_cargoes.KeptCargoes.push.Goals as goal
+
+pub invariant_of-self : goal.invariant_of-self
+invariant_of-self c =
+    let s = c.self.inside in
+    let lives = c.number_of-number.new.lives.items in (
+      pushed_kept s.lives.items lives s.apart.items c.keep-kept.new.apart.items s.cargoes.items c.push_reserved.new.self.items c.keep-kept.result c.args.cargo.now
+          c.number_of-number.ensures.more c.keep-kept.ensures.more (c.keep-kept.ensures.value lives c.number_of-number.ensures.is)
+          (c.keep-kept.ensures.within lives (within lives c.number_of-number.result (life_of c.args.cargo.now) c.number_of-number.ensures.is)) c.push_reserved.ensures.items c.self.invariant.0,
+      λ none. absurd cc,
+    )
+
+-- there is no room left
+none_left : (spare : Bool) → 0 ≡ one_if spare - 1
+none_left true = refl
+none_left false = refl
+
+pub returns : goal.returns
+returns c =
+    let s = c.self.inside in
+    let lives = c.number_of-number.new.lives.items in
+    ap₂ (λ (items : List Cargo) (n : ℕ). record { items = items; places = n })
+    (pushed s.lives.items lives s.apart.items c.keep-kept.new.apart.items s.cargoes.items c.push_reserved.new.self.items c.keep-kept.result c.args.cargo.now
+    c.number_of-number.ensures.more c.keep-kept.ensures.more (c.keep-kept.ensures.value lives c.number_of-number.ensures.is)
+    (c.keep-kept.ensures.within lives (within lives c.number_of-number.result (life_of c.args.cargo.now) c.number_of-number.ensures.is)) c.push_reserved.ensures.items c.self.invariant.0)
+    (none_left s.spare)
+    ∙ ap (λ (v : CargoList). record { items = v.items ++ c.args.cargo.now ∷ []; places = v.places - 1 }) c.self.view_is

@@ -1,8 +1,0 @@
-use Rattle.std.proofs.Common.{arith}
-use Rattle.std.proofs.lemmas.Grind.{common_steps}
-use Rattle.std.proofs.lemmas.List.Edits.{map_over_more}
-use Rattle.tora_sim.specs.Links.{ticked}
-use Rattle.tora_sim.proofs.links.tick_each.Goals as goal
-
-pub loop-link-preserved : goal.loop-link-preserved
-loop-link-preserved c = grind (arith, common_steps, map_over_more (ticked c.args.now))

@@ -1,0 +1,5 @@
+use Rattle.tora_sim.specs.Quiet.{AreForgotten}
+use Rattle.tora_sim.proofs.stills.forget.Given as goal
+
+abbrev pub invariant-loop-place : goal.invariant-loop-place
+invariant-loop-place l = AreForgotten l.initial.stills.items l.stills.items l.first l.place

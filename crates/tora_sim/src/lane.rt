@@ -1,0 +1,147 @@
+//! The lane from a core to a link end, and what was ever put into it.
+ghost use Rattle.std.specs.Prelude.{◌≡◌, ◌<◌, ◌≤◌, ◌+◌, ◌++◌, ◌∷◌, [], true, suc, Some, length, nat_lt, slice_get, OnOk, IfOk};
+ghost use Rattle.tora_seat.specs.declared.TheConstants.{MOST_CARGOES};
+ghost use Rattle.tora_world.specs.Lists.{packets_of, parcels_in};
+ghost use Rattle.tora_sim.specs.Lane.{has_place_in};
+
+use crate::kept_cargoes::{KeptCargoes, append};
+use crate::readers::{count_kept, count_put, list_kept, list_put};
+use std::alloc::{AllocError, Global};
+use std::marker::Model;
+use tora_arq::Life;
+use tora_packet::Packet;
+use tora_seat::{Cargo, MOST_CARGOES};
+
+/// The lane from a core to a link end, with all cargoes that were ever put into it.
+///
+/// What left the lane is kept in less, but not at once: before the next turn of the node's core, when memory may be asked for.
+#[derive(Drop)]
+pub struct Lane {
+    /// How many of these cargoes left the lane.
+    taken: usize,
+    /// The cargoes that were put last, in front those that left the lane.
+    cargoes: Vec<Cargo>,
+    /// The cargoes before them, which left the lane.
+    past: KeptCargoes,
+}
+
+impl Model for Lane {
+    ghost use Rattle.std.specs.Prelude.{◌≤◌, length, vec_capacity};
+    ghost use Rattle.tora_sim.specs.Lane.{LaneView, lane_of};
+
+    ghost Value = { LaneView };
+
+    ghost view = { λ l. lane_of l.past.items l.cargoes.items l.taken (vec_capacity l.cargoes) };
+
+    ghost invariant = { λ l. l.taken ≤ length l.cargoes.items };
+}
+
+impl Lane {
+    /// An empty lane.
+    pub fn new(alloc: Global) -> Lane
+        ensures put { result.put ≡ [] }
+        ensures pulled { result.pulled ≡ 0 }
+    {
+        Lane {
+            taken: 0,
+            cargoes: Vec::new(alloc),
+            past: KeptCargoes::new(alloc),
+        }
+    }
+
+    /// Whether a cargo waits.
+    pub fn has_cargo(&self) -> bool
+        ensures { result ≡ nat_lt self.now.pulled (length self.now.put) }
+    {
+        self.taken < self.cargoes.len()
+    }
+
+    /// Whether fewer cargoes wait than a lane holds.
+    pub fn has_place(&self) -> bool
+        ensures { result ≡ has_place_in self.now }
+    {
+        self.cargoes.len() - self.taken < MOST_CARGOES
+    }
+
+    /// Takes the first cargo that waits.
+    pub fn take(&mut self) -> Cargo
+        requires { self.old.pulled < length self.old.put }
+        ensures cargo { slice_get self.old.put self.old.pulled ≡ Some result }
+        ensures lane { self.new ≡ record self.old { pulled = suc self.old.pulled } }
+    {
+        let cargo = self.cargoes[self.taken];
+        self.taken += 1;
+        cargo
+    }
+
+    /// Takes all cargoes that wait.
+    pub fn take_all(&mut self)
+        ensures { self.new ≡ record self.old { pulled = length self.old.put } }
+    {
+        self.taken = self.cargoes.len();
+    }
+
+    /// Takes the memory for cargoes up to as many as the lane holds, and keeps those that left it in less.
+    ///
+    /// # Errors
+    /// Want of memory.
+    pub fn make_room(&mut self) -> Result<(), AllocError>
+        ensures put { self.new.put ≡ self.old.put }
+        ensures pulled { self.new.pulled ≡ self.old.pulled }
+        ensures room { OnOk result (self.new.pulled + MOST_CARGOES ≤ self.new.room) }
+    {
+        keep_taken(&mut self.past, &mut self.cargoes, &mut self.taken)?;
+        let needed = MOST_CARGOES.saturating_sub(self.cargoes.len());
+        self.cargoes.reserve(needed)
+    }
+
+    /// Puts a cargo at the back. There must be a place and room for it.
+    pub fn put(&mut self, cargo: Cargo)
+        requires room { self.old.pulled + MOST_CARGOES ≤ self.old.room }
+        requires place { has_place_in self.old ≡ true }
+        ensures { self.new ≡ record self.old { put = self.old.put ++ cargo ∷ [] } }
+    {
+        append(&mut self.cargoes, &cargo);
+    }
+
+    /// How many packets were put in a life.
+    pub fn sent_count(&self, life: Life) -> usize
+        ensures { result ≡ length (packets_of life (parcels_in self.now.put)) }
+    {
+        count_kept(&self.past, life) + count_put(&self.cargoes, life)
+    }
+
+    /// The packets that were put in a life.
+    ///
+    /// # Errors
+    /// Want of memory.
+    pub fn sent(&self, alloc: Global, life: Life) -> Result<Vec<Packet>, AllocError>
+        ensures { IfOk result (λ v. v.items ≡ packets_of life (parcels_in self.now.put)) }
+    {
+        let mut packets = Vec::new(alloc);
+        list_kept(&mut packets, &self.past, life)?;
+        list_put(&mut packets, &self.cargoes, life)?;
+        Ok(packets)
+    }
+}
+
+/// Keeps the cargoes that left a lane in less, one after another.
+fn keep_taken(
+    past: &mut KeptCargoes,
+    cargoes: &mut Vec<Cargo>,
+    taken: &mut usize,
+) -> Result<(), AllocError>
+    requires { taken.old ≤ length cargoes.old.items }
+    ensures all { past.new.items ++ cargoes.new.items ≡ past.old.items ++ cargoes.old.items }
+    ensures pulled { length past.new.items + taken.new ≡ length past.old.items + taken.old }
+    ensures within { taken.new ≤ length cargoes.new.items }
+    ensures done { OnOk result (taken.new ≡ 0) }
+{
+    for _ in 0..*taken {
+        past.reserve()?;
+        let cargo = cargoes.remove(0);
+        past.push(&cargo);
+        *taken -= 1;
+    }
+    Ok(())
+}

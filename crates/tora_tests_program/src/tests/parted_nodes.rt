@@ -1,0 +1,57 @@
+//! Pairs of nodes between which rounds deliver nothing.
+use super::sees::sees;
+use std::alloc::Global;
+use std::process::Abort;
+use tora_channel::Channel;
+use tora_height::Id;
+use tora_script::{Air, Parted, make_rounds};
+use tora_sim::{Sim, Topology};
+use tora_world::Event;
+
+const NODES: [Id; 3] = [1, 2, 3];
+
+const ENDS: [(Id, Id); 4] = [(1, 2), (2, 1), (2, 3), (3, 2)];
+
+/// A pair is parted and mended whichever of its nodes is named first, and no other is.
+#[test]
+fn pairs_of_nodes(rt: HostRuntime) {
+    let made = Parted::of(rt.alloc(), &[(2, 1), (7, 7)]);
+    let mut parted = made.expect(&rt, "two pairs");
+    sees(&rt, parted.is_parted(1, 2), "a pair, turned");
+    sees(&rt, parted.is_parted(7, 7), "a node twice");
+    sees(&rt, !parted.is_parted(1, 3), "no pair yet");
+    sees(&rt, parted.part(3, 1).is_ok(), "a third pair");
+    sees(&rt, parted.part(1, 3).is_ok(), "the same one");
+    sees(&rt, parted.is_parted(1, 3), "a pair that was put");
+    parted.mend(1, 2);
+    sees(&rt, !parted.is_parted(2, 1), "a pair that was mended");
+    parted.mend(1, 3);
+    sees(&rt, !parted.is_parted(3, 1), "a pair that was put twice");
+    sees(&rt, parted.is_parted(7, 7), "a pair that stays");
+}
+
+/// A simulator of a line of three nodes behind a need of node 1.
+fn needing(rt: &impl Abort, alloc: Global) -> Sim {
+    let topology = Topology::new(alloc, &[(1, 2), (2, 3)], &[3]).expect(rt, "a topology");
+    let mut sim = Sim::new(alloc, &topology).expect(rt, "a simulator");
+    sees(rt, sim.step(&Event::Need(1, 3)).is_ok(), "the need happens");
+    sim
+}
+
+/// Makes sixty rounds, and tells the next hop of node 1.
+fn hop_behind(rt: &impl Abort, alloc: Global, sim: &mut Sim, parted: &[(Id, Id)]) -> Option<Id> {
+    let mut air = Air::new(alloc);
+    let made = make_rounds(sim, 60, &NODES, &ENDS, parted, Channel::CLEAR, &mut air);
+    sees(rt, made.is_ok(), "sixty rounds are made");
+    sim.next_hop(1, 3)
+}
+
+/// No route leads between parted nodes, and one does once they are mended.
+#[test]
+fn rounds_between_parted_nodes(rt: HostRuntime) {
+    let mut sim = needing(&rt, rt.alloc());
+    let parted = hop_behind(&rt, rt.alloc(), &mut sim, &[(3, 2)]);
+    sees(&rt, parted.is_none(), "no next hop");
+    let mended = hop_behind(&rt, rt.alloc(), &mut sim, &[]);
+    sees(&rt, mended == Some(2), "a next hop");
+}
