@@ -41,6 +41,7 @@ impl QueuedPacket {
         }
     }
 
+    /// Whether the time since its last try is over, so that it may be tried again.
     pub fn is_retry_time(&self, times: &Times, now: u64) -> bool
         ensures { result ≡ is_retry_time times.now now self.now }
     {
@@ -55,6 +56,7 @@ impl QueuedPacket {
         self.tries == 0 || (self.tries < times.tries && self.is_retry_time(times, now))
     }
 
+    /// Whether it was tried as often as it may be, and the time since the last try is over.
     pub fn is_given_up(&self, times: &Times, now: u64) -> bool
         ensures { result ≡ is_given_up times.now now self.now }
     {

@@ -2,7 +2,8 @@
 //!
 //! A kind of file is what is kept between two of its lines (`FileKind`). The engine gives it one line after another, of at most
 //! 4,096 bytes, writes what it puts for each by one call, and ends at the end of the input or at the first line that is a
-//! fault. The replay of one node and the simulation of a world are such kinds. Own profile.
+//! fault. The replay of one node and the simulation of a world are such kinds. `read_shortened_lines` takes longer lines as empty ones, as a
+//! drive does. Own profile.
 //!
 //! ```rust
 //! let ended = read_lines(alloc, state, &mut reader, &mut writer)?;

@@ -54,7 +54,8 @@ pub fn either(a: bool, b: bool) -> bool
     a || b
 }
 
-/// Whether an event may happen again. One that didn't happen yet is not asked about: who makes it happen asked.
+/// Whether an event may happen again. One that didn't happen yet is not asked about: who makes it happen asked, where the event has a
+/// place.
 #[inline(always)]
 fn may_go_on<S: Simulator>(sim: &S, place: usize, event: &Event, some: bool) -> bool
     ensures { result ≡ false → is_some (refusal_of (S.world sim.now) event.now) ≡ true }
@@ -66,7 +67,7 @@ fn may_go_on<S: Simulator>(sim: &S, place: usize, event: &Event, some: bool) -> 
 }
 
 /// Makes an event happen until it is refused, and so many times at most, and says whether it ever did. The place is that of
-/// its node or link end. Whether it may happen is asked each time but the first, before which the caller asks.
+/// its node or link end. Whether it may happen is asked each time but the first: before that the caller asks, where the event has a place.
 #[inline(never)]
 pub fn repeat<S: Simulator>(
     sim: &mut S,

@@ -22,7 +22,7 @@ const MOST_FRAMES: usize = 0xffff_ffff;
 /// All datagrams that were ever sent, in order.
 ///
 /// Most of them say what one before them said, as every HELLO does but the first of a life, and every DATA frame that is sent again: such a
-/// frame is kept once, and a datagram is the place of its frame, three bytes. Where the frame of a datagram may stand already is a guess: where
+/// frame is kept once where it is found, and a datagram is the place of its frame, in three bytes up to the first place that needs four. Where the frame of a datagram may stand already is a guess: where
 /// the last one of its form stands that this link end sent; what stands there is compared with it whole, so a wrong guess costs memory and
 /// nothing else.
 #[derive(Drop)]

@@ -21,7 +21,7 @@ impl Sim {
 
     /// The first place from `place` on, in the order of `ends` and from 0 on, at which a link end may have something to do: the
     /// ends that are passed over can't be opened, take a cargo, send a frame or give an event. Only ends are passed over of which
-    /// `settle` found until which tick that is so, and at which no event happened since.
+    /// `settle` found until which tick that is so, and at which no event happened since that may change it.
     #[inline(always)]
     pub fn next_due(&self, place: usize) -> usize
         ensures onward { place ≤ result }

@@ -36,7 +36,7 @@ pub struct LinkSlot {
     /// The place of the peer among the node's neighbours.
     pub(crate) seat: usize,
     /// Before this tick nothing is to be done here, and no tick changes the end; 0 where that isn't known. What a round asks
-    /// of each end stands in front.
+    /// of an end that it does not pass over stands in front.
     pub(crate) still: u64,
     /// The lane from the node's core.
     pub(crate) lane: Lane,
