@@ -1,10 +1,11 @@
 -- Items that are found by a test which at most one of them passes.
-use Rattle.std.proofs.Common.{◌≡◌, ℕ, zero, suc, ◌<◌, ◌≤◌, Bool, true, false, ◌⊎◌, inl, inr, List, [], ◌∷◌, length, get_or, set, slice_get, Some, None, refl, sym, ap, ◌∙◌, subst, arith, cond, find, eqb-true, eq-eqb, Ok, Err, Result, IfSome, IfNone, ltb}
+use Rattle.std.proofs.Common.{◌≡◌, ℕ, zero, suc, ◌<◌, ◌≤◌, Bool, true, false, ◌⊎◌, inl, inr, List, [], ◌∷◌, length, map, get_or, set, slice_get, nat_eq, Option, Some, None, option_map, refl, sym, ap, ap₂, ◌∙◌, subst, arith, cond, find, eqb-true, eq-eqb, Ok, Err, Result, IfSome, IfNone, ltb}
 use borrow.Author.Tests.{ltb-true, ltb-false}
 use Rattle.std.specs.Result.{result_ok}
 use Rattle.std.proofs.lemmas.Bool.Decides.{nat_tests}
-use Rattle.std.proofs.lemmas.List.{get_or_default}
-use Rattle.std.proofs.lemmas.Bool.{cases_Bool, and_parts}
+use Rattle.std.proofs.lemmas.List.{get_or_default, get_or-map, length-map}
+use Rattle.std.proofs.lemmas.Option.{same_Some, slice_get_within, slice_get-map, slice_get-get_or}
+use Rattle.std.proofs.lemmas.Bool.{cases_Bool, and_parts, and_from}
 use Rattle.std.specs.Ordering.{nat_cmp, ordering_then, ordering_index}
 use Rattle.std.specs.declared.cmp.Ordering.{Ordering}
 use Rattle.std.specs.declared.cmp.Ordering.TheVariants.{Less, Equal, Greater}
@@ -12,7 +13,7 @@ use Rattle.std.specs.List.Sorted.{IsNonDecreasingBy, IsBinarySearchResult, IsSea
 use Rattle.tora_sim.specs.Keyed.{IsFirst}
 use Rattle.tora_sim.specs.Nodes as Nodes
 use Rattle.tora_sim.specs.Nodes.{NodeView, is_of}
-use Rattle.tora_sim.specs.Links.{LinkView, is_at, AreRising, compared}
+use Rattle.tora_sim.specs.Links.{LinkView, is_at, is_key, key_of, AreRising, AreRisingKeys, HasKeyBefore, compared}
 
 -- ---- the first item that passes
 
@@ -69,12 +70,6 @@ le_cases i j le = elim (cases_Bool (ltb i j)) [ inl e ↦ inr (ltb-true i j e) |
 lt_cases : (j i : ℕ) → (j < i) ⊎ (i ≤ j)
 lt_cases j i = elim (cases_Bool (ltb j i)) [ inl e ↦ inl (ltb-true j i e) | inr e ↦ inr (ltb-false j i e) ]
 
-indexes_rise : (n k : ℕ) (links : List LinkView) → AreRising links → IsNonDecreasingBy (λ y. ordering_index (compared n k y)) links
-indexes_rise n k links h i j d le lt = elim (le_cases i j le) [
-  | inl e ↦ subst (λ m. ordering_index (compared n k (get_or links i d)) ≤ ordering_index (compared n k (get_or links m d))) e (omega arith)
-  | inr less ↦ before_index n k (get_or links i d).node (get_or links i d).peer (get_or links j d).node (get_or links j d).peer (h i j d less lt)
-]
-
 pub place_first : (n k : ℕ) (links : List LinkView) (i : ℕ) → AreRising links → i < length links → ((d : LinkView) → compared n k (get_or links i d) ≡ Equal) → IsFirst (is_at n k) links i
 place_first n k links i h lt e = record {
   within = lt;
@@ -91,22 +86,94 @@ equal_compared n k link e = let p = and_parts _ _ e in let a = eqb-true link.nod
 pub read_first : (n k : ℕ) (links : List LinkView) (i : ℕ) (x : LinkView) → AreRising links → i < length links → x ≡ get_or links i x → is_at n k x ≡ true → IsFirst (is_at n k) links i
 read_first n k links i x h lt read e = place_first n k links i h lt (λ d. equal_compared n k (get_or links i d) (subst (λ y. is_at n k y ≡ true) (read ∙ get_or_default links i x d lt) e))
 
-pub place_none : (n k : ℕ) (links : List LinkView) (i : ℕ) → AreRising links → IsBinarySearchResult (compared n k) links (Err i) → find (is_at n k) links ≡ None
-place_none n k links i h e =
-    let parts = e (indexes_rise n k links h) in
-    none_found (is_at n k) links (λ j d lt. elsewhere n k (get_or links j d) (λ a b.
+-- ---- their keys
+
+abbrev key_compared : ℕ → ℕ → ℕ × ℕ → Ordering
+key_compared n k key = ordering_then (nat_cmp key.0 n) (nat_cmp key.1 k)
+
+same_key : (n k : ℕ) (key : ℕ × ℕ) → (key.0 ≡ n) → (key.1 ≡ k) → key ≡ (n, k)
+same_key n k key a b = ap₂ (λ (x y : ℕ). (x, y)) a b
+
+pub key_is : (n k : ℕ) (key : ℕ × ℕ) → is_key n k key ≡ true → key ≡ (n, k)
+key_is n k key e = let p = and_parts (nat_eq key.0 n) (nat_eq key.1 k) e in same_key n k key (eqb-true key.0 n p.0) (eqb-true key.1 k p.1)
+
+pub is_its_key : (n k : ℕ) (key : ℕ × ℕ) → key ≡ (n, k) → is_key n k key ≡ true
+is_its_key n k key e = and_from (nat_eq key.0 n) (nat_eq key.1 k) (eq-eqb key.0 n (ap (λ (x : ℕ × ℕ). x.0) e)) (eq-eqb key.1 k (ap (λ (x : ℕ × ℕ). x.1) e))
+
+key_elsewhere : (n k : ℕ) (key : ℕ × ℕ) → ((key.0 ≡ n) → (key.1 ≡ k) → ⊥) → is_key n k key ≡ false
+key_elsewhere n k key h = elim (cases_Bool (is_key n k key)) [ inl e ↦ absurd (let p = and_parts (nat_eq key.0 n) (nat_eq key.1 k) e in h (eqb-true key.0 n p.0) (eqb-true key.1 k p.1)) | inr e ↦ e ]
+
+key_indexes : (n k : ℕ) (keys : List (ℕ × ℕ)) → AreRisingKeys keys → IsNonDecreasingBy (λ y. ordering_index (key_compared n k y)) keys
+key_indexes n k keys h i j d le lt = elim (le_cases i j le) [
+  | inl e ↦ subst (λ m. ordering_index (key_compared n k (get_or keys i d)) ≤ ordering_index (key_compared n k (get_or keys m d))) e (omega arith)
+  | inr less ↦ before_index n k (get_or keys i d).0 (get_or keys i d).1 (get_or keys j d).0 (get_or keys j d).1 (h i j d less lt)
+]
+
+pub key_found : (n k : ℕ) (keys : List (ℕ × ℕ)) (r : Result ℕ ℕ) → IsSearchInRange r (length keys) → IsBinarySearchResult (key_compared n k) keys r → IfSome (result_ok r) (λ i. slice_get keys i ≡ Some (n, k))
+key_found n k keys (Ok i) lt e =
+    let key = get_or keys i (0, 0) in
+    let at = equal_numbers key.0 n key.1 k (e (0, 0)) in
+    slice_get-get_or keys i (0, 0) lt ∙ ap (λ (x : ℕ × ℕ). Some x) (same_key n k key at.0 at.1)
+key_found n k keys (Err i) lt e = tt
+
+no_key : (n k : ℕ) (keys : List (ℕ × ℕ)) (i : ℕ) → AreRisingKeys keys → IsBinarySearchResult (key_compared n k) keys (Err i) → find (is_key n k) keys ≡ None
+no_key n k keys i h e =
+    let parts = e (key_indexes n k keys h) in
+    none_found (is_key n k) keys (λ j d lt. key_elsewhere n k (get_or keys j d) (λ a b.
     elim (lt_cases j i) [
-      | inl less ↦ less_elsewhere (get_or links j d).node n (get_or links j d).peer k (parts.0 j d (omega arith) less) a b
-      | inr more ↦ greater_elsewhere (get_or links j d).node n (get_or links j d).peer k (parts.1 j d more lt) a b
+      | inl less ↦ less_elsewhere (get_or keys j d).0 n (get_or keys j d).1 k (parts.0 j d (omega arith) less) a b
+      | inr more ↦ greater_elsewhere (get_or keys j d).0 n (get_or keys j d).1 k (parts.1 j d more lt) a b
     ]))
 
-pub placed : (n k : ℕ) (links : List LinkView) (r : Result ℕ ℕ) → AreRising links → IsSearchInRange r (length links) → IsBinarySearchResult (compared n k) links r → IfSome (result_ok r) (IsFirst (is_at n k) links)
-placed n k links (Ok i) h lt e = place_first n k links i h lt e
-placed n k links (Err i) h lt e = tt
+pub key_not_found : (n k : ℕ) (keys : List (ℕ × ℕ)) (r : Result ℕ ℕ) → AreRisingKeys keys → IsBinarySearchResult (key_compared n k) keys r → IfNone (result_ok r) (find (is_key n k) keys ≡ None)
+key_not_found n k keys (Ok i) h e = tt
+key_not_found n k keys (Err i) h e = no_key n k keys i h e
 
-pub not_placed : (n k : ℕ) (links : List LinkView) (r : Result ℕ ℕ) → AreRising links → IsBinarySearchResult (compared n k) links r → IfNone (result_ok r) (find (is_at n k) links ≡ None)
-not_placed n k links (Ok i) h e = tt
-not_placed n k links (Err i) h e = place_none n k links i h e
+-- ---- the ends by their keys
+
+some_at : (links : List LinkView) (i : ℕ) → i < length links → (x : LinkView) × (slice_get links i ≡ Some x)
+some_at [] i lt = absurd (omega (arith, lt))
+some_at (x ∷ links) zero lt = (x, refl)
+some_at (x ∷ links) (suc i) lt = some_at links i (omega (arith, lt))
+
+pub keys_rise : (links : List LinkView) → AreRising links → AreRisingKeys (map key_of links)
+keys_rise links h i j d less lt =
+    let within : j < length links = omega (arith, lt, length-map links key_of) in
+    let x = (some_at links j within).0 in
+    subst (λ (a : ℕ × ℕ). HasKeyBefore a (get_or (map key_of links) j d)) (sym (get_or-map key_of links i x d (omega (arith, less, within))))
+    (subst (λ (b : ℕ × ℕ). HasKeyBefore (key_of (get_or links i x)) b) (sym (get_or-map key_of links j x d within)) (h i j x less within))
+
+found_step : (x : LinkView) (b : Bool) (key : Option (ℕ × ℕ)) (link : Option LinkView) → key ≡ option_map key_of link → cond b (Some (key_of x)) key ≡ option_map key_of (cond b (Some x) link)
+found_step x true key link e = refl
+found_step x false key link e = e
+
+found_mapped : (n k : ℕ) (links : List LinkView) → find (is_key n k) (map key_of links) ≡ option_map key_of (find (is_at n k) links)
+found_mapped n k [] = refl
+found_mapped n k (x ∷ links) = found_step x (is_at n k x) (find (is_key n k) (map key_of links)) (find (is_at n k) links) (found_mapped n k links)
+
+not_mapped : (o : Option LinkView) → option_map key_of o ≡ None → o ≡ None
+not_mapped None e = refl
+not_mapped (Some x) e = absurd (let some : Some (x.node, x.peer) ≡ None = e in cc)
+
+module _ (n k : ℕ) (links : List LinkView) (keys : List (ℕ × ℕ)) (same : keys ≡ map key_of links) where
+  pub first_by_key : (i : ℕ) → AreRising links → slice_get keys i ≡ Some (n, k) → IsFirst (is_at n k) links i
+  first_by_key i h there = go (slice_get links i) refl (sym (slice_get-map key_of links i) ∙ ap (λ (ks : List (ℕ × ℕ)). slice_get ks i) (sym same) ∙ there)
+    where
+      go : (o : Option LinkView) → slice_get links i ≡ o → option_map key_of o ≡ Some (n, k) → IsFirst (is_at n k) links i
+      go None read e = absurd (let none : None ≡ Some (n, k) = e in cc)
+      go (Some x) read e =
+          let key : Some (x.node, x.peer) ≡ Some (n, k) = e in
+          let lt = slice_get_within links i x read in
+          let value : x ≡ get_or links i x = same_Some x (get_or links i x) (sym read ∙ slice_get-get_or links i x lt) in
+          read_first n k links i x h lt value (is_its_key n k (x.node, x.peer) (same_Some (x.node, x.peer) (n, k) key))
+
+  pub found_by_key : (o : Option ℕ) → AreRising links → IfSome o (λ i. slice_get keys i ≡ Some (n, k)) → IfSome o (IsFirst (is_at n k) links)
+  found_by_key None h e = tt
+  found_by_key (Some i) h e = first_by_key i h e
+
+  pub none_by_key : (o : Option ℕ) → IfNone o (find (is_key n k) keys ≡ None) → IfNone o (find (is_at n k) links ≡ None)
+  none_by_key None e = not_mapped (find (is_at n k) links) (sym (found_mapped n k links) ∙ ap (find (is_key n k)) (sym same) ∙ e)
+  none_by_key (Some i) e = tt
 
 -- ---- nodes
 

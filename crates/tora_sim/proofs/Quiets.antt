@@ -37,28 +37,6 @@ earlier until before link le h = record {
   ticks = λ tick lt. h.ticks tick (omega (arith, lt, le));
 }
 
--- one link end more has its key
-pub one_named : (ends : List (ℕ × ℕ)) (links : List LinkView) (n : ℕ) (end : ℕ × ℕ) (x : LinkView) → take n ends ≡ map key_of (take n links) → n < length ends → n < length links → slice_get ends n ≡ Some end → slice_get links n ≡ Some x → is_at end.0 end.1 x ≡ true
-    → take (suc n) ends ≡ map key_of (take (suc n) links)
-one_named [] links n end x e lt less there read at = absurd (omega (arith, lt))
-one_named (y ∷ ends) [] n end x e lt less there read at = absurd (omega (arith, less))
-one_named (y ∷ ends) (z ∷ links) zero end x e lt less there read at =
-    let key : y ≡ end = cc in
-    let link : z ≡ x = cc in
-    let both = and_parts (nat_eq x.node end.0) (nat_eq x.peer end.1) at in
-    ap (λ (k : ℕ × ℕ). k ∷ []) (key ∙ ap₂ (λ (a b : ℕ). (a, b)) (sym (eqb-true x.node end.0 both.0)) (sym (eqb-true x.peer end.1 both.1)) ∙ sym (ap key_of link))
-one_named (y ∷ ends) (z ∷ links) (suc n) end x e lt less there read at =
-    let head : y ≡ key_of z = cc in
-    let rest : take n ends ≡ map key_of (take n links) = cc in
-    ap₂ (λ (k : ℕ × ℕ) (ks : List (ℕ × ℕ)). k ∷ ks) head (one_named ends links n end x rest (omega (arith, lt)) (omega (arith, less)) there read at)
-
--- a link end of another key is not the one that is named
-pub other_named : (ends : List (ℕ × ℕ)) (links : List LinkView) (n : ℕ) (end : ℕ × ℕ) (x : LinkView) → slice_get ends n ≡ Some end → slice_get links n ≡ Some x → is_at end.0 end.1 x ≡ false → ends ≡ map key_of links → ⊥
-other_named ends links n end x there read off same =
-    let named : Some (key_of x) ≡ Some end = sym (ap (option_map key_of) read) ∙ sym (slice_get-map key_of links n) ∙ ap (λ (keys : List (ℕ × ℕ)). slice_get keys n) (sym same) ∙ there in
-    let key : key_of x ≡ end = same_Some (key_of x) end named in
-    both_ways (is_at end.0 end.1 x) off (and_from (nat_eq x.node end.0) (nat_eq x.peer end.1) (eq-eqb x.node end.0 (ap (λ (k : ℕ × ℕ). k.0) key)) (eq-eqb x.peer end.1 (ap (λ (k : ℕ × ℕ). k.1) key)))
-
 -- an end that is put where it stood
 pub set_same : (links : List LinkView) (i : ℕ) (x y : LinkView) → i < length links → x ≡ slice_index_or links i x → y ≡ x → set links i y ≡ links
 set_same [] i x y lt read e = absurd (omega (arith, lt))

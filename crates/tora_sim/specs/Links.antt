@@ -51,6 +51,10 @@ is_at n k link = (link.node == n) && (link.peer == k)
 abbrev pub key_of : LinkView → ℕ × ℕ
 key_of link = (link.node, link.peer)
 
+-- whether a key is that of the end of node n towards k
+abbrev pub is_key : ℕ → ℕ → ℕ × ℕ → Bool
+is_key n k key = (key.0 == n) && (key.1 == k)
+
 -- what waits in the lane
 abbrev pub waiting : LinkView → List Cargo
 waiting link = drop link.pulled link.put
@@ -75,6 +79,13 @@ ComesBefore x y = (x.node < y.node) ⊎ ((x.node ≡ y.node) × (x.peer < y.peer
 
 abbrev pub AreRising : List LinkView → Type 0
 AreRising links = IsOrdered ComesBefore links
+
+-- the keys by ascending node and then peer
+abbrev pub HasKeyBefore : ℕ × ℕ → ℕ × ℕ → Type 0
+HasKeyBefore x y = (x.0 < y.0) ⊎ ((x.0 ≡ y.0) × (x.1 < y.1))
+
+abbrev pub AreRisingKeys : List (ℕ × ℕ) → Type 0
+AreRisingKeys keys = IsOrdered HasKeyBefore keys
 
 abbrev pub compared : ℕ → ℕ → LinkView → Ordering
 compared n k link = ordering_then (nat_cmp link.node n) (nat_cmp link.peer k)

@@ -1,11 +1,10 @@
 //! Where something may be to be done, among the link ends.
-ghost use Rattle.std.specs.Prelude.{◌≡◌, ◌<◌, ◌≤◌, ℕ, true, Some, map, slice_get, slice_index};
-ghost use Rattle.tora_sim.specs.Links.{key_of};
+ghost use Rattle.std.specs.Prelude.{◌≡◌, ◌<◌, ◌≤◌, ℕ, true, Some, slice_get, slice_index};
 ghost use Rattle.tora_sim.specs.Quiet.{IsQuietEnd};
 ghost use Rattle.tora_sim.specs.Readers.{ends_in};
 ghost use Rattle.tora_sim.specs.Store.{world_of};
 
-use crate::links::LinkSlot;
+use crate::links::is_key;
 use crate::sim::Sim;
 use crate::stills::still_at;
 use tora_height::Id;
@@ -16,7 +15,7 @@ impl Sim {
         ensures sound { result ≡ true → ends.now ≡ ends_in self.now.topology }
         ensures complete { ends.now ≡ ends_in self.now.topology → result ≡ true }
     {
-        are_ends(&self.links, ends)
+        are_ends(self.keys.as_slice(), ends)
     }
 
     /// The first place from `place` on, in the order of `ends` and from 0 on, at which a link end may have something to do: the
@@ -31,15 +30,15 @@ impl Sim {
     }
 }
 
-fn are_ends(links: &[LinkSlot], ends: &[(Id, Id)]) -> bool
-    ensures sound { result ≡ true → ends.now ≡ map key_of links.now }
-    ensures complete { ends.now ≡ map key_of links.now → result ≡ true }
+fn are_ends(keys: &[(Id, Id)], ends: &[(Id, Id)]) -> bool
+    ensures sound { result ≡ true → ends.now ≡ keys.now }
+    ensures complete { ends.now ≡ keys.now → result ≡ true }
 {
-    if links.len() != ends.len() {
+    if keys.len() != ends.len() {
         return false;
     }
     for (place, end) in ends.iter().enumerate() {
-        if !links[place].is_end(end.0, end.1) {
+        if !is_key(keys[place], end.0, end.1) {
             return false;
         }
     }

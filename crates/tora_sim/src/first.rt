@@ -16,7 +16,7 @@ use crate::files::open;
 use crate::hints::Hints;
 use crate::kept_cargoes::KeptCargoes;
 use crate::lane::Lane;
-use crate::links::{LinkSlot, end_of};
+use crate::links::{LinkSlot, end_of, keys_of};
 use crate::links_by_bits::{LinkLists, links_by_bits};
 use crate::nodes::{NodeSlot, Sending, no_counts};
 use crate::sim::Sim;
@@ -72,6 +72,7 @@ impl Sim {
         }
         let count = links.len();
         let stills = no_stills(alloc, count)?;
+        let keys = keys_of(alloc, &links)?;
         let hints = Hints::new(&nodes);
         Ok(Sim {
             topology: own,
@@ -79,6 +80,7 @@ impl Sim {
             clock: 0,
             nodes,
             links,
+            keys,
             datagrams: Datagrams::new(alloc),
             hints,
             quiet: 0,

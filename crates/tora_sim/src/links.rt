@@ -1,8 +1,8 @@
 //! The link ends of all nodes, one behind the other.
 ghost use Rattle.tora_arq.specs.Settings.{IsTimes, settings_of};
-ghost use Rattle.std.specs.Prelude.{◌≡◌, ◌==◌, ◌≢◌, ◌<◌, ◌≤◌, ◌+◌, ◌++◌, ◌∷◌, [], ℕ, ⊤, false, IsTrue, IfSome, IfNone, OnOk, IfOk, IfErr, None, MatchOption, find, length, is_some, nat_lt, slice_get};
+ghost use Rattle.std.specs.Prelude.{◌≡◌, ◌==◌, ◌≢◌, ◌<◌, ◌≤◌, ◌+◌, ◌++◌, ◌∷◌, [], ℕ, ⊤, false, IsTrue, IfSome, IfNone, OnOk, IfOk, IfErr, None, Some, MatchOption, MatchResult, find, length, map, is_some, nat_lt, slice_get};
 ghost use Rattle.tora_arq.specs.LinkEnd.{is_closed, after_frame, after_tick, frame_due, after_transmit, first_event, after_poll_event};
-ghost use Rattle.tora_sim.specs.Links.{with_state, after_open_at, after_arm, after_pull_at, is_at, AreRising, AreChanged};
+ghost use Rattle.tora_sim.specs.Links.{with_state, after_open_at, after_arm, after_pull_at, is_at, is_key, key_of, AreRising, AreRisingKeys, AreChanged};
 ghost use Rattle.tora_arq.specs.LinkEnd.{first_end};
 ghost use Rattle.tora_arq.specs.EndRange.{link_end_of};
 ghost use Rattle.tora_seat.specs.declared.TheConstants.{MOST_CARGOES};
@@ -68,13 +68,6 @@ impl LinkSlot {
         ensures { result ≡ (self.now.node, self.now.peer) }
     {
         (self.node, self.peer)
-    }
-
-    /// Whether it is an end of node `n`.
-    pub fn is_of(&self, n: Id) -> bool
-        ensures { result ≡ (self.now.node == n) }
-    {
-        self.node == n
     }
 
     /// Whether it is the end of node `n` towards `k`.
@@ -292,31 +285,62 @@ pub fn end_of(
     }
 }
 
-/// The place of the end of node `n` towards `k`.
-pub fn place(links: &Vec<LinkSlot>, hints: &Hints, n: Id, k: Id) -> Option<usize>
-    requires { AreRising links.now.items }
-    ensures first { IfSome result (λ i. IsFirst (is_at n k) links.now.items i) }
-    ensures none { IfNone result (find (is_at n k) links.now.items ≡ None) }
+/// The keys of the link ends, in their order.
+///
+/// # Errors
+/// `Memory`.
+pub fn keys_of(alloc: Global, links: &[LinkSlot]) -> Result<Vec<(Id, Id)>, SimError>
+    ensures { MatchResult result (λ keys. keys.items ≡ map key_of links.now) (λ e. e ≡ SimError.Memory) }
 {
-    match near(links, hints.first_end(n), n, k) {
+    let mut keys = Vec::new(alloc);
+    for link in links {
+        match keys.push(link.key()) {
+            Ok(()) => {}
+            Err(_) => return Err(SimError::Memory),
+        }
+    }
+    Ok(keys)
+}
+
+/// Whether a key is that of the end of node `n` towards `k`.
+pub fn is_key(key: (Id, Id), n: Id, k: Id) -> bool
+    ensures { result ≡ is_key n k key }
+{
+    key.0 == n && key.1 == k
+}
+
+/// The place of the end of node `n` towards `k`, by the keys of the ends: the ends themselves are not looked at.
+pub fn place(
+    _links: &Vec<LinkSlot>,
+    keys: &Vec<(Id, Id)>,
+    hints: &Hints,
+    n: Id,
+    k: Id,
+) -> Option<usize>
+    requires rising { AreRising _links.now.items }
+    requires keys { keys.now.items ≡ map key_of _links.now.items }
+    ensures first { IfSome result (λ i. IsFirst (is_at n k) _links.now.items i) }
+    ensures none { IfNone result (find (is_at n k) _links.now.items ≡ None) }
+{
+    let ends = keys.as_slice();
+    match near(ends, hints.first_end(n), n, k) {
         Some(at) => Some(at),
-        None => search(links, n, k),
+        None => search(ends, n, k),
     }
 }
 
 /// The place of the end, where it is among the first ends of its node, which stand from the place `first` on.
-fn near(links: &[LinkSlot], first: usize, n: Id, k: Id) -> Option<usize>
-    requires { AreRising links.now }
-    ensures { IfSome result (λ i. IsFirst (is_at n k) links.now i) }
+fn near(keys: &[(Id, Id)], first: usize, n: Id, k: Id) -> Option<usize>
+    ensures { IfSome result (λ i. slice_get keys.now i ≡ Some (n, k)) }
 {
     for seat in 0..MOST_TRIED {
         let at = first.saturating_add(seat);
-        match links.get(at) {
-            Some(link) => {
-                if link.is_end(n, k) {
+        match keys.get(at) {
+            Some(key) => {
+                if is_key(*key, n, k) {
                     return Some(at);
                 }
-                if !link.is_of(n) {
+                if key.0 != n {
                     return None;
                 }
             }
@@ -326,12 +350,12 @@ fn near(links: &[LinkSlot], first: usize, n: Id, k: Id) -> Option<usize>
     None
 }
 
-fn search(links: &[LinkSlot], n: Id, k: Id) -> Option<usize>
-    requires { AreRising links.now }
-    ensures first { IfSome result (λ i. IsFirst (is_at n k) links.now i) }
-    ensures none { IfNone result (find (is_at n k) links.now ≡ None) }
+fn search(keys: &[(Id, Id)], n: Id, k: Id) -> Option<usize>
+    requires { AreRisingKeys keys.now }
+    ensures first { IfSome result (λ i. slice_get keys.now i ≡ Some (n, k)) }
+    ensures none { IfNone result (find (is_key n k) keys.now ≡ None) }
 {
-    links.binary_search_by_key(&(n, k), |link| link.key()).ok()
+    keys.binary_search(&(n, k)).ok()
 }
 
 /// The next such call of each life file fails, at the `count` ends from the place `first` on.

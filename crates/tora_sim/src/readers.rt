@@ -141,7 +141,7 @@ impl Sim {
     pub fn sent_count(&self, a: Id, b: Id, life: Life) -> usize
         ensures { result ≡ length (sent_packets (world_of self.now) a b life) }
     {
-        match place(&self.links, &self.hints, a, b) {
+        match place(&self.links, &self.keys, &self.hints, a, b) {
             Some(at) => self.links[at].sent_count(life),
             None => 0,
         }
@@ -157,7 +157,7 @@ impl Sim {
     pub fn sent(&self, alloc: Global, a: Id, b: Id, life: Life) -> Result<Vec<Packet>, AllocError>
         ensures { IfOk result (λ v. v.items ≡ sent_packets (world_of self.now) a b life) }
     {
-        match place(&self.links, &self.hints, a, b) {
+        match place(&self.links, &self.keys, &self.hints, a, b) {
             Some(at) => self.links[at].sent(alloc, life),
             None => Ok(Vec::new(alloc)),
         }
@@ -168,7 +168,7 @@ impl Sim {
     pub fn taken_count(&self, b: Id, a: Id, life: Life) -> usize
         ensures { result ≡ length (taken_packets (world_of self.now) b a life) }
     {
-        match place(&self.links, &self.hints, b, a) {
+        match place(&self.links, &self.keys, &self.hints, b, a) {
             Some(at) => self.links[at].taken_count(life),
             None => 0,
         }
@@ -184,7 +184,7 @@ impl Sim {
     pub fn taken(&self, alloc: Global, b: Id, a: Id, life: Life) -> Result<Vec<Packet>, AllocError>
         ensures { IfOk result (λ v. v.items ≡ taken_packets (world_of self.now) b a life) }
     {
-        match place(&self.links, &self.hints, b, a) {
+        match place(&self.links, &self.keys, &self.hints, b, a) {
             Some(at) => self.links[at].taken(alloc, life),
             None => Ok(Vec::new(alloc)),
         }

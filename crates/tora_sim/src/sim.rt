@@ -34,6 +34,9 @@ pub struct Sim {
     pub(crate) clock: u64,
     pub(crate) nodes: Vec<NodeSlot>,
     pub(crate) links: Vec<LinkSlot>,
+    /// Of each link end its node and its peer, by which the ends are in order. They stand here, too, since each end lies in other lines
+    /// of the cache, and to find one others would be looked at.
+    pub(crate) keys: Vec<(Id, Id)>,
     pub(crate) datagrams: Datagrams,
     /// Where the nodes and the link ends may stand.
     pub(crate) hints: Hints,
@@ -47,14 +50,16 @@ pub struct Sim {
 }
 
 impl Model for Sim {
+    ghost use Rattle.std.specs.Prelude.{◌≡◌};
     ghost use Rattle.tora_sim.specs.Store.{SimState, IsStore, state_of};
     ghost use Rattle.tora_sim.specs.Quiet.{AreStill, AreStillEach};
+    ghost use Rattle.tora_sim.specs.Readers.{ends_in};
 
     ghost Value = { SimState };
 
     ghost view = { λ s. state_of s.topology s.times s.clock s.nodes.items s.links.items s.datagrams.items };
 
-    ghost invariant = { λ s. IsStore (state_of s.topology s.times s.clock s.nodes.items s.links.items s.datagrams.items) × AreStill s.quiet s.nodes.items s.links.items × AreStillEach s.clock s.stills.items s.links.items };
+    ghost invariant = { λ s. IsStore (state_of s.topology s.times s.clock s.nodes.items s.links.items s.datagrams.items) × AreStill s.quiet s.nodes.items s.links.items × AreStillEach s.clock s.stills.items s.links.items × (s.keys.items ≡ ends_in s.topology) };
 }
 
 impl Sim {
@@ -79,7 +84,7 @@ impl Sim {
     pub(crate) fn open(&mut self, n: Id, k: Id) -> Result<(), SimError>
         ensures { Does self.old (Open n k) result self.new }
     {
-        let Some(at) = place(&self.links, &self.hints, n, k) else {
+        let Some(at) = place(&self.links, &self.keys, &self.hints, n, k) else {
             return Err(SimError::NoNode);
         };
         if !self.links[at].is_closed() {
@@ -94,7 +99,7 @@ impl Sim {
     pub(crate) fn pull(&mut self, n: Id, k: Id) -> Result<(), SimError>
         ensures { Does self.old (Pull n k) result self.new }
     {
-        let Some(at) = place(&self.links, &self.hints, n, k) else {
+        let Some(at) = place(&self.links, &self.keys, &self.hints, n, k) else {
             return Err(SimError::NoNode);
         };
         if !self.links[at].has_cargo() {
@@ -124,7 +129,7 @@ impl Sim {
     pub(crate) fn transmit(&mut self, n: Id, k: Id) -> Result<(), SimError>
         ensures { Does self.old (Transmit n k) result self.new }
     {
-        let Some(at) = place(&self.links, &self.hints, n, k) else {
+        let Some(at) = place(&self.links, &self.keys, &self.hints, n, k) else {
             return Err(SimError::NoNode);
         };
         if !self.links[at].has_frame_due(self.clock) {
@@ -149,7 +154,7 @@ impl Sim {
     pub(crate) fn pump(&mut self, n: Id, k: Id) -> Result<(), SimError>
         ensures { Does self.old (Pump n k) result self.new }
     {
-        let Some(at) = place(&self.links, &self.hints, n, k) else {
+        let Some(at) = place(&self.links, &self.keys, &self.hints, n, k) else {
             return Err(SimError::NoNode);
         };
         let Some(event) = self.links[at].next_event() else {
@@ -188,7 +193,13 @@ impl Sim {
             self.nodes[home].arm_receive(false);
             return Ok(());
         }
-        let Some(at) = place(&self.links, &self.hints, header.receiver, header.sender) else {
+        let Some(at) = place(
+            &self.links,
+            &self.keys,
+            &self.hints,
+            header.receiver,
+            header.sender,
+        ) else {
             return Err(SimError::NoDatagram);
         };
         self.quiet = 0;

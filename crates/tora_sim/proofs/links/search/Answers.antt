@@ -1,18 +1,14 @@
-use Rattle.std.proofs.Common.{ℕ, Option, IfSome, IfNone, None, find, ◌≡◌, sym, subst, rules}
-use Rattle.std.proofs.lemmas.List.Sorted.{answers_always}
-use Rattle.tora_sim.specs.Keyed.{IsFirst}
-use Rattle.tora_sim.specs.Links.{LinkView, is_at}
-use Rattle.tora_sim.proofs.Keys.{placed, not_placed}
+use Rattle.std.proofs.Common.{◌≡◌, ℕ, Option, Some, None, IfSome, IfNone, slice_get, find, sym, subst}
+use Rattle.tora_sim.specs.Links.{is_key}
+use Rattle.tora_sim.proofs.Keys.{key_found, key_not_found}
 use Rattle.tora_sim.proofs.links.search.Goals as goal
 
 pub returns-clause-first : goal.returns-clause-first
 returns-clause-first c =
-    let by_key = c.binary_search_by_key.ensures.position (λ (link : LinkView). (link.node, link.peer)) (answers_always _ _ _ (λ f a r g called. search rules)) in
-    subst (λ (o : Option ℕ). IfSome o (IsFirst (is_at c.args.n c.args.k) c.args.links.now)) (sym c.ok.ensures.value)
-    (placed c.args.n c.args.k c.args.links.now c.binary_search_by_key.result c.requires c.binary_search_by_key.ensures.bound by_key)
+    subst (λ (o : Option ℕ). IfSome o (λ i. slice_get c.args.keys.now i ≡ Some (c.args.n, c.args.k))) (sym c.ok.ensures.value)
+    (key_found c.args.n c.args.k c.args.keys.now c.binary_search.result c.binary_search.ensures.bound c.binary_search.ensures.position)
 
 pub returns-clause-none : goal.returns-clause-none
 returns-clause-none c =
-    let by_key = c.binary_search_by_key.ensures.position (λ (link : LinkView). (link.node, link.peer)) (answers_always _ _ _ (λ f a r g called. search rules)) in
-    subst (λ (o : Option ℕ). IfNone o (find (is_at c.args.n c.args.k) c.args.links.now ≡ None)) (sym c.ok.ensures.value)
-    (not_placed c.args.n c.args.k c.args.links.now c.binary_search_by_key.result c.requires by_key)
+    subst (λ (o : Option ℕ). IfNone o (find (is_key c.args.n c.args.k) c.args.keys.now ≡ None)) (sym c.ok.ensures.value)
+    (key_not_found c.args.n c.args.k c.args.keys.now c.binary_search.result c.requires c.binary_search.ensures.position)

@@ -15,6 +15,7 @@ invariant_of-self c =
       sends_store s.topology s.times s.clock s.nodes.items s.links.items s.datagrams.items c.self.invariant.0 c.args.n c.in-Some.home c.index_mut.result.now c.in-Some.ensures.first c.index_mut.ensures.value Sends.IsLost c.arm_sending.new.self c.arm_sending.ensures,
       λ none. absurd (omega (arith, none)),
       c.self.invariant.2,
+      c.self.invariant.3,
     )
 
 pub invariant_of-self-in-SendGone : goal.invariant_of-self-in-SendGone
@@ -23,6 +24,7 @@ invariant_of-self-in-SendGone c =
       sends_store s.topology s.times s.clock s.nodes.items s.links.items s.datagrams.items c.self.invariant.0 c.args.n c.in-Some.home c.index_mut-in-SendGone.result.now c.in-Some.ensures.first c.index_mut-in-SendGone.ensures.value Sends.IsGone c.arm_sending-in-SendGone.new.self c.arm_sending-in-SendGone.ensures,
       λ none. absurd (omega (arith, none)),
       c.self.invariant.2,
+      c.self.invariant.3,
     )
 
 pub invariant_of-self-in-Receive : goal.invariant_of-self-in-Receive
@@ -31,6 +33,7 @@ invariant_of-self-in-Receive c =
       receive_store s.topology s.times s.clock s.nodes.items s.links.items s.datagrams.items c.self.invariant.0 c.args.n c.in-Some.home c.index_mut-in-Receive.result.now c.in-Some.ensures.first c.index_mut-in-Receive.ensures.value c.arm_receive.new.self c.arm_receive.ensures,
       λ none. absurd (omega (arith, none)),
       c.self.invariant.2,
+      c.self.invariant.3,
     )
 
 pub returns-in-SendLost : goal.returns-in-SendLost

@@ -41,6 +41,7 @@ invariant_of-self c =
       λ none. absurd (omega (arith, none)),
       mapped_still s.clock s.stills.items s.links.items c.arm.new.links.items (armed_of c.args.n c.args.call) (armed c)
           (λ until x h. cond_both (nat_eq x.node c.args.n) (after_arm x c.args.call) x (λ (z : LinkView). IsStill until z) (λ _. h) (λ _. h)) c.self.invariant.2,
+      c.self.invariant.3,
     )
 
 pub returns : goal.returns

@@ -45,6 +45,7 @@ invariant_of-self c =
       λ none. absurd (omega (arith, none)),
       alike_still s.clock c.forget.new.stills.items s.links.items c.make_room.new.links.items c.make_room.ensures.same
           (forgotten_still s.clock s.stills.items c.forget.new.stills.items s.links.items c.first-first.result c.count-count.result c.forget.ensures c.self.invariant.2),
+      c.self.invariant.3,
     )
 
 waits : (nodes : List NodeView) (home : ℕ) (x y : NodeView) (count : ℕ) → home < length nodes → x ≡ slice_index_or nodes home x → y ≡ slice_index_or nodes home y → count ≡ length x.items → 0 < count → 0 < length y.items
@@ -75,6 +76,7 @@ invariant_of-self-2 c =
       λ none. absurd (omega (arith, none)),
       turned_still s.clock c.forget.new.stills.items c.index_mut.result.now c.turn.new.node c.make_room.new.links.items c.turn.new.links.items c.turn.result (none_at_node s.stills.items c.forget.new.stills.items c.first-first.result c.count-count.result node first count c.forget.ensures) c.turn.ensures
           (alike_still s.clock c.forget.new.stills.items s.links.items c.make_room.new.links.items c.make_room.ensures.same (forgotten_still s.clock s.stills.items c.forget.new.stills.items s.links.items c.first-first.result c.count-count.result c.forget.ensures c.self.invariant.2)),
+      c.self.invariant.3,
     )
 
 pub returns : goal.returns

@@ -1,10 +1,13 @@
-use Rattle.std.proofs.Common.{◌≡◌, subst, arith}
+use Rattle.std.proofs.Common.{◌≡◌, subst, arith, sym, ◌∙◌}
 use Rattle.std.specs.Prelude.{slice_set}
 use Rattle.tora_sim.specs.Cuts.{after_cut_at}
 use Rattle.tora_sim.specs.Store.{SimState, state_of, world_of}
 use Rattle.tora_sim.proofs.Opens.{cut_done, cut_store}
 use Rattle.tora_sim.proofs.StillEnds.{unknown_still, one_forgotten, forgotten_still}
 use Rattle.tora_sim.proofs.sim.Sim.cut_bound.Goals as goal
+
+pub place-requires-clause-keys : goal.place-requires-clause-keys
+place-requires-clause-keys c = c.self.invariant.3 ∙ sym c.self.invariant.0.keys
 
 pub forget-requires : goal.forget-requires
 forget-requires c = omega (arith, c.in-Some.ensures.first.within, c.self.invariant.2.as_many)
@@ -17,6 +20,7 @@ invariant_of-self c =
       λ none. absurd (omega (arith, none)),
       unknown_still s.clock c.forget.new.stills.items s.links.items c.in-Some.at c.cut_bound.new.self (one_forgotten s.stills.items c.forget.new.stills.items c.in-Some.at c.forget.ensures)
           (forgotten_still s.clock s.stills.items c.forget.new.stills.items s.links.items c.in-Some.at 1 c.forget.ensures c.self.invariant.2),
+      c.self.invariant.3,
     )
 
 pub returns-in-Some : goal.returns-in-Some

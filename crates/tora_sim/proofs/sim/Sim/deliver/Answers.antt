@@ -12,6 +12,9 @@ use Rattle.tora_sim.proofs.Receives.{home_is_there, failed_done, failed_store, r
 use Rattle.tora_sim.proofs.StillEnds.{unknown_still, one_forgotten, forgotten_still}
 use Rattle.tora_sim.proofs.sim.Sim.deliver.Goals as goal
 
+pub place-requires-2-clause-keys : goal.place-requires-2-clause-keys
+place-requires-2-clause-keys c = c.self.invariant.3 ∙ sym c.self.invariant.0.keys
+
 pub returns-in_default-node_place : goal.returns-in_default-node_place
 returns-in_default-node_place c =
     let s = c.self.inside in
@@ -34,6 +37,7 @@ invariant_of-self c =
           c.in-Some-node_place.home c.index_mut.result.now (first c) c.index_mut.ensures.value c.arm_receive.new.self c.arm_receive.ensures,
       λ none. absurd (omega (arith, none)),
       c.self.invariant.2,
+      c.self.invariant.3,
     )
 
 pub returns-then-receive : goal.returns-then-receive
@@ -56,6 +60,7 @@ invariant_of-self-2 c =
       λ none. absurd (omega (arith, none)),
       unknown_still s.clock c.forget.new.stills.items s.links.items c.in-Some-place.at c.receive-2.new.self (one_forgotten s.stills.items c.forget.new.stills.items c.in-Some-place.at c.forget.ensures)
           (forgotten_still s.clock s.stills.items c.forget.new.stills.items s.links.items c.in-Some-place.at 1 c.forget.ensures c.self.invariant.2),
+      c.self.invariant.3,
     )
 
 pub returns : goal.returns

@@ -1,9 +1,12 @@
-use Rattle.std.proofs.Common.{map, sym, ap, ◌∙◌}
-use Rattle.tora_sim.specs.Links.{key_of}
+use Rattle.std.proofs.Common.{sym, ap, ◌∙◌}
 use Rattle.tora_sim.specs.Readers.{ends_in}
 use Rattle.tora_sim.specs.Store.{SimState}
 use Rattle.tora_sim.proofs.sim.Sim.has_ends.Goals as goal
 
+pub returns-clause-sound : goal.returns-clause-sound
+returns-clause-sound c known =
+    c.are_ends.ensures.sound known ∙ c.as_slice.ensures.value ∙ c.self.invariant.3 ∙ ap (λ (w : SimState). ends_in w.topology) c.self.view_is
+
 pub returns-clause-complete : goal.returns-clause-complete
 returns-clause-complete c same =
-    c.are_ends.ensures.complete (same ∙ sym (c.self.invariant.0.keys ∙ ap (λ (w : SimState). ends_in w.topology) c.self.view_is) ∙ ap (map key_of) (sym c.deref.ensures.value))
+    c.are_ends.ensures.complete (same ∙ sym (c.as_slice.ensures.value ∙ c.self.invariant.3 ∙ ap (λ (w : SimState). ends_in w.topology) c.self.view_is))

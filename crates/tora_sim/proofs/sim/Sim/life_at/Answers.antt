@@ -1,8 +1,11 @@
-use Rattle.std.proofs.Common.{◌∙◌, ap}
+use Rattle.std.proofs.Common.{◌∙◌, ap, sym}
 use Rattle.tora_world.specs.Rest.{life_at}
 use Rattle.tora_sim.specs.Store.{SimState, state_of, world_of}
 use Rattle.tora_sim.proofs.Resting.{life_found}
 use Rattle.tora_sim.proofs.sim.Sim.life_at.Goals as goal
+
+pub place-requires-clause-keys : goal.place-requires-clause-keys
+place-requires-clause-keys c = c.self.invariant.3 ∙ sym c.self.invariant.0.keys
 
 pub returns-in-Some-node_place : goal.returns-in-Some-node_place
 returns-in-Some-node_place c =

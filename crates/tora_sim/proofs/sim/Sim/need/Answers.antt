@@ -57,6 +57,7 @@ invariant_of-self c =
           (last_seat s.topology s.times s.clock s.nodes.items s.links.items s.datagrams.items c.self.invariant.0 c.args.n c.in-Some.home (x c) c.in-Some.ensures.first c.index_mut.ensures.value) (is_put c),
       λ none. absurd (omega (arith, none)),
       c.self.invariant.2,
+      c.self.invariant.3,
     )
 
 pub returns : goal.returns

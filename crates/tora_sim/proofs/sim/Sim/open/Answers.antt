@@ -11,6 +11,9 @@ use Rattle.tora_sim.proofs.Opens.{open_refused, open_done, open_store, same_read
 use Rattle.tora_sim.proofs.StillEnds.{possible_still}
 use Rattle.tora_sim.proofs.sim.Sim.open.Goals as goal
 
+pub place-requires-clause-keys : goal.place-requires-clause-keys
+place-requires-clause-keys c = c.self.invariant.3 ∙ sym c.self.invariant.0.keys
+
 pub returns-then-not-is_closed : goal.returns-then-not-is_closed
 returns-then-not-is_closed c =
     let s = c.self.inside in
@@ -27,6 +30,7 @@ invariant_of-self c =
       possible_still s.clock s.stills.items s.links.items c.in-Some.at c.index_mut.result.now c.open.new.self c.in-Some.ensures.first.within c.index_mut.ensures.value
           (λ until lt h. both_ways (is_closed c.index_mut.result.now.state) h.opened (ap (λ (x : LinkView). is_closed x.state) (same_read s.links.items c.in-Some.at c.index_mut.result.now c.index.result.now c.in-Some.ensures.first.within c.index_mut.ensures.value c.index.ensures)
           ∙ sym c.is_closed.ensures ∙ c.if-not-is_closed.false)) c.self.invariant.2,
+      c.self.invariant.3,
     )
 
 pub returns : goal.returns

@@ -11,6 +11,9 @@ use Rattle.tora_sim.proofs.Opens.{pull_refused, pull_done, pull_store, same_read
 use Rattle.tora_sim.proofs.StillEnds.{possible_still}
 use Rattle.tora_sim.proofs.sim.Sim.pull.Goals as goal
 
+pub place-requires-clause-keys : goal.place-requires-clause-keys
+place-requires-clause-keys c = c.self.invariant.3 ∙ sym c.self.invariant.0.keys
+
 pub returns-then-not-has_cargo : goal.returns-then-not-has_cargo
 returns-then-not-has_cargo c =
     let s = c.self.inside in
@@ -33,6 +36,7 @@ invariant_of-self c =
       λ none. absurd (omega (arith, none)),
       possible_still s.clock s.stills.items s.links.items c.in-Some.at c.index_mut.result.now c.pull.new.self c.in-Some.ensures.first.within c.index_mut.ensures.value
           (λ until lt h. both_ways (nat_lt c.index_mut.result.now.pulled (length c.index_mut.result.now.put)) h.lane (lt-ltb c.index_mut.result.now.pulled (length c.index_mut.result.now.put) (waits c))) c.self.invariant.2,
+      c.self.invariant.3,
     )
 
 pub returns : goal.returns

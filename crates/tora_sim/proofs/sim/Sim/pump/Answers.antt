@@ -16,6 +16,9 @@ use Rattle.tora_sim.proofs.Pumps.{pump_without, pump_full, pump_starved, pump_do
 use Rattle.tora_sim.proofs.StillEnds.{possible_still}
 use Rattle.tora_sim.proofs.sim.Sim.pump.Goals as goal
 
+pub place-requires-clause-keys : goal.place-requires-clause-keys
+place-requires-clause-keys c = c.self.invariant.3 ∙ sym c.self.invariant.0.keys
+
 waits : (nodes : List NodeView) (home : ℕ) (y z : NodeView) (count : ℕ) → home < length nodes → y ≡ slice_index_or nodes home y → z ≡ slice_index_or nodes home z → count ≡ length y.items → count < 1024 → nat_lt (length z.items) 1024 ≡ true
 waits nodes home y z count lt a b e less = subst (λ (v : NodeView). nat_lt (length v.items) 1024 ≡ true) (same_read nodes home y z lt a b) (lt-ltb (length y.items) 1024 (omega (arith, e, less)))
 
@@ -78,6 +81,7 @@ invariant_of-self c =
       λ none. absurd (omega (arith, none)),
       possible_still s.clock s.stills.items s.links.items c.in-Some.at c.index.result.now c.take_event.new.self c.in-Some.ensures.first.within c.index.ensures
           (λ until lt h. both_ways (is_some (first_event c.index.result.now.state)) h.events (ap is_some (sym c.next_event.ensures ∙ c.in-Some-next_event.is))) c.self.invariant.2,
+      c.self.invariant.3,
     )
 
 pub returns-in-Ok : goal.returns-in-Ok

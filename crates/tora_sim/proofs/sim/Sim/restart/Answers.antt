@@ -79,6 +79,7 @@ invariant_of-self c =
       changed_still s.clock c.forget.new.stills.items s.links.items c.restart_ends.new.links.items (restarted c.args.torn) c.first-first.result (length c.in-Ok-new_ends.ends.items)
           (λ place lt. let many = c.in-Ok-new_ends.ensures.as_many in c.forget.ensures.here place (omega (arith, lt, many))) c.restart_ends.ensures
           (forgotten_still s.clock s.stills.items c.forget.new.stills.items s.links.items c.first-first.result c.count-count.result c.forget.ensures c.self.invariant.2),
+      c.self.invariant.3,
     )
 
 pub returns : goal.returns

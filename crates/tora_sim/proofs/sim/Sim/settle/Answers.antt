@@ -18,4 +18,5 @@ invariant_of-self c =
       subst (λ (xs : List LinkView). IsStore (state_of s.topology s.times s.clock s.nodes.items xs s.datagrams.items)) (sym c.settle_ends.ensures.links) c.self.invariant.0,
       c.quiet_until-until.ensures,
       subst (λ (xs : List LinkView). AreStillEach s.clock c.settle_ends.new.stills.items xs) (sym c.settle_ends.ensures.links) c.settle_ends.ensures.stills,
+      c.self.invariant.3,
     )

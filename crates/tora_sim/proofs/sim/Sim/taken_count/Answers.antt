@@ -1,8 +1,11 @@
-use Rattle.std.proofs.Common.{◌∙◌, ap, length}
+use Rattle.std.proofs.Common.{◌∙◌, ap, length, sym}
 use Rattle.tora_world.specs.World.{taken_packets}
 use Rattle.tora_sim.specs.Store.{SimState, state_of, world_of}
 use Rattle.tora_sim.proofs.Lookups.{taken_found}
 use Rattle.tora_sim.proofs.sim.Sim.taken_count.Goals as goal
+
+pub place-requires-clause-keys : goal.place-requires-clause-keys
+place-requires-clause-keys c = c.self.invariant.3 ∙ sym c.self.invariant.0.keys
 
 pub returns-in-Some : goal.returns-in-Some
 returns-in-Some c =

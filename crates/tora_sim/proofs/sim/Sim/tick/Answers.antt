@@ -20,6 +20,7 @@ invariant_of-self c =
       tick_store s.topology s.times s.clock s.nodes.items s.links.items s.datagrams.items c.self.invariant.0 c.in-Some.now s.links.items c.in-Some.ensures.1 (sym (still_ticks s.quiet c.in-Some.now s.links.items lt (c.self.invariant.1 (omega (arith, lt))).1)),
       c.self.invariant.1,
       later_still s.clock c.in-Some.now s.stills.items s.links.items (on c.in-Some.now s.clock c.in-Some.ensures.1) c.self.invariant.2,
+      c.self.invariant.3,
     )
 
 pub returns-then-now-self : goal.returns-then-now-self
@@ -35,6 +36,7 @@ invariant_of-self-2 c =
       tick_store s.topology s.times s.clock s.nodes.items s.links.items s.datagrams.items c.self.invariant.0 c.in-Some.now c.tick.new.links.items c.in-Some.ensures.1 c.tick.ensures,
       λ none. absurd (omega (arith, none)),
       ticked_still s.clock c.in-Some.now s.stills.items s.links.items c.tick.new.links.items (on c.in-Some.now s.clock c.in-Some.ensures.1) c.tick.ensures c.self.invariant.2,
+      c.self.invariant.3,
     )
 
 pub returns : goal.returns

@@ -14,6 +14,9 @@ use Rattle.tora_sim.proofs.Sends.{transmit_refused, transmit_starved, transmit_d
 use Rattle.tora_sim.proofs.StillEnds.{possible_still}
 use Rattle.tora_sim.proofs.sim.Sim.transmit.Goals as goal
 
+pub place-requires-clause-keys : goal.place-requires-clause-keys
+place-requires-clause-keys c = c.self.invariant.3 ∙ sym c.self.invariant.0.keys
+
 pub returns-then-not-has_frame_due : goal.returns-then-not-has_frame_due
 returns-then-not-has_frame_due c =
     let s = c.self.inside in
@@ -52,6 +55,7 @@ invariant_of-self c =
       subst (λ (ds : List FrameParts). IsStore (state_of s.topology s.times s.clock s.nodes.items s.links.items ds)) (sym c.reserve.ensures.items) c.self.invariant.0,
       c.self.invariant.1,
       c.self.invariant.2,
+      c.self.invariant.3,
     )
 
 pub invariant_of-self-2 : goal.invariant_of-self-2
@@ -63,6 +67,7 @@ invariant_of-self-2 c =
       λ none. absurd (omega (arith, none)),
       possible_still s.clock s.stills.items s.links.items c.in-Some.at c.index_mut.result.now c.send.new.self c.in-Some.ensures.first.within c.index_mut.ensures.value
           (λ until lt h. both_ways (is_some (frame_due c.index_mut.result.now.settings c.index_mut.result.now.state s.clock)) (h.frames s.clock lt) (ap is_some (due c))) c.self.invariant.2,
+      c.self.invariant.3,
     )
 
 pub returns : goal.returns

@@ -1,10 +1,11 @@
-use Rattle.std.proofs.Common.{◌≡◌, ◌<◌, ℕ, List, take, length, get_or, sym, ap, ◌∙◌, subst, arith}
+use Rattle.std.proofs.Common.{◌≡◌, ◌<◌, ℕ, List, map, take, length, get_or, sym, ap, ◌∙◌, subst, arith}
 use Rattle.std.proofs.lemmas.List.{take_more, take_all}
 use Rattle.tora_frame.specs.FrameParts.{FrameParts}
 use Rattle.tora_world.specs.Topology.{Topology, nodes_in}
 use Rattle.tora_world.specs.World.{first_world}
 use Rattle.tora_sim.specs.Store.{IsStore, state_of, world_of}
 use Rattle.tora_sim.specs.Firsts.{AreMade, IsMade}
+use Rattle.tora_sim.specs.Links.{key_of}
 use Rattle.tora_sim.proofs.Peers.{positive-node}
 use Rattle.tora_sim.proofs.FirstStore.{is-store, is-first}
 use Rattle.tora_sim.proofs.StillEnds.{none_known}
@@ -36,11 +37,12 @@ module _ (c : goal.After-new-2) where
 
 pub invariant_of-result : goal.invariant_of-result
 invariant_of-result c =
-    let many : c.len-count.result ≡ length c.loop-n.links.items = omega (arith, c.len-count.ensures) in (
-      subst (λ (ds : List FrameParts). IsStore (state_of c.in-Ok.own c.args.times 0 c.loop-n.nodes.items c.loop-n.links.items ds)) (sym c.new.ensures)
-          (is-store c.numbers_are_put_in_order.ensures.order c.numbers_come_and_go.ensures.in_order c.in-Ok.own c.args.times c.nodes-named.ensures.kept c.loop-n.nodes.items c.loop-n.links.items (made c)),
+    let many : c.len-count.result ≡ length c.loop-n.links.items = omega (arith, c.len-count.ensures) in
+    let store = is-store c.numbers_are_put_in_order.ensures.order c.numbers_come_and_go.ensures.in_order c.in-Ok.own c.args.times c.nodes-named.ensures.kept c.loop-n.nodes.items c.loop-n.links.items (made c) in (
+      subst (λ (ds : List FrameParts). IsStore (state_of c.in-Ok.own c.args.times 0 c.loop-n.nodes.items c.loop-n.links.items ds)) (sym c.new.ensures) store,
       λ none. absurd (omega (arith, none)),
       none_known 0 c.len-count.result c.in_ok-stills.stills.items c.loop-n.links.items c.in_ok-stills.ensures many,
+      c.in_ok-keys.ensures ∙ ap (map key_of) c.deref.ensures.value ∙ store.keys,
     )
 
 pub returns-clause-made : goal.returns-clause-made
