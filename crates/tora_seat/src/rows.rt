@@ -3,7 +3,7 @@ ghost use Rattle.std.specs.Prelude.{◌≡◌, ◌<◌, ◌≤◌, ℕ, List, le
 ghost use Rattle.tora_core.specs.Numbers.{has_number, has_repeat};
 ghost use Rattle.tora_core.specs.CoreRun.{CoreView};
 ghost use Rattle.tora_seat.specs.Serving.{after_cuts_tried, after_broadcast, after_broadcasts, first_cut, is_current};
-ghost use Rattle.tora_seat.specs.Rows.{neighbours_of, current_of, pending_of, new_row, first_cut_of};
+ghost use Rattle.tora_seat.specs.Rows.{neighbours_of, current_of, pending_of, new_row, is_cut, first_cut_of};
 ghost use Rattle.tora_seat.specs.Bodies.{TriesCut, SendsTo, RowsGo};
 
 use crate::{Cargo, OutLanes};
@@ -101,8 +101,19 @@ pub fn first_cut(core: &Core, rows: &[LinkRow]) -> Option<Id>
     ensures { result ≡ first_cut_of core.now rows.now }
 {
     rows.iter()
-        .find(|row| core.is_up(row.neighbour) && row.current.is_none())
+        .find(|row| is_cut(core, row))
         .map(|row| row.neighbour)
+}
+
+/// Whether the link of a row is up at the core without a current life. The core, which looks at one link after another, is asked last: most
+/// links have a life.
+fn is_cut(core: &Core, row: &LinkRow) -> bool
+    ensures { result ≡ is_cut core.now row.now }
+{
+    if row.current.is_some() {
+        return false;
+    }
+    core.is_up(row.neighbour)
 }
 
 /// Whether it is the current life.
