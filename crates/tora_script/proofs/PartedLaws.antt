@@ -1,15 +1,12 @@
 -- The keys of parted pairs, as pairs come and go.
 use Rattle.std.proofs.Common.{◌≡◌, ℕ, ◌<◌, ◌==◌, ◌&&◌, ◌||◌, ◌⊎◌, Bool, true, false, not, cond, min, max, List, [], ◌∷◌, ◌++◌, refl, sym, ap, ap₂, ◌∙◌, inl, inr, arith}
 use Rattle.std.specs.List.{list_any, filter}
-use Rattle.std.specs.Ordering.{is_eq}
-use Rattle.std.specs.BTreeMap.{is_at}
-use Rattle.std.specs.BTreeSet.{BTreeSet, contains}
+use Rattle.std.specs.HashSet.{HashSet, contains}
 use Rattle.std.proofs.lemmas.Bool.{false≢true, eqb-true, eq-eqb, and_parts, and_from, or_cases, or_left, or_right, cases_order, both_ways, false_from_ne_true}
 use Rattle.std.proofs.lemmas.List.Folds.{list_any-append}
-use Rattle.tora_script.specs.Pairs.{pair_cmp}
+use Rattle.tora_script.specs.Pairs.{pair_eq}
 use Rattle.tora_script.specs.Parted.{is_same_pair, is_parted}
 use Rattle.tora_script.specs.PartedKeys.{key_of, AreKeys}
-use Rattle.tora_script.proofs.PairOrder.{same_pair, tied_pair}
 
 -- ---- two pairs have one key where they name the same two nodes
 
@@ -59,20 +56,26 @@ agree true false there back = absurd (false≢true (there refl))
 agree false true there back = absurd (false≢true (back refl))
 agree false false there back = refl
 
--- the order of the keys tells whether they name the same two
-same_key : (p q : ℕ × ℕ) → is_eq (pair_cmp (key_of q) (key_of p)) ≡ is_same_pair p q
+-- the keys are the same where they name the same two
+from_equal : (p q : ℕ × ℕ) → pair_eq p q ≡ true → p ≡ q
+from_equal p q e = let two = and_parts (p.0 == q.0) (p.1 == q.1) e in ap₂ (λ (a b : ℕ). (a, b)) (eqb-true p.0 q.0 two.0) (eqb-true p.1 q.1 two.1)
+
+equal_from : (p q : ℕ × ℕ) → p ≡ q → pair_eq p q ≡ true
+equal_from p q e = both p.0 p.1 q.0 q.1 (ap (λ (k : ℕ × ℕ). k.0) e) (ap (λ (k : ℕ × ℕ). k.1) e)
+
+same_key : (p q : ℕ × ℕ) → pair_eq (key_of q) (key_of p) ≡ is_same_pair p q
 same_key p q =
-    agree (is_eq (pair_cmp (key_of q) (key_of p))) (is_same_pair p q) (λ e. named_from_key p q (same_pair (key_of q) (key_of p) e)) (λ h. tied_pair (key_of q) (key_of p) (key_from_named p q h))
+    agree (pair_eq (key_of q) (key_of p)) (is_same_pair p q) (λ e. named_from_key p q (from_equal (key_of q) (key_of p) e)) (λ h. equal_from (key_of q) (key_of p) (key_from_named p q h))
 
 -- ---- no pairs
 
-pub no_keys : (keys : BTreeSet (ℕ × ℕ)) (pairs : List (ℕ × ℕ)) → keys.keys ≡ [] → pairs ≡ [] → AreKeys keys pairs
-no_keys keys pairs none empty a b = ap (λ (ks : List (ℕ × ℕ)). list_any (is_at (pair_cmp (key_of (a, b)))) ks) none ∙ sym (ap (λ (ps : List (ℕ × ℕ)). is_parted ps a b) empty)
+pub no_keys : {S : Type 0} → (keys : HashSet (ℕ × ℕ) S) (pairs : List (ℕ × ℕ)) → keys.keys ≡ [] → pairs ≡ [] → AreKeys keys pairs
+no_keys keys pairs none empty a b = ap (λ (ks : List (ℕ × ℕ)). list_any (pair_eq (key_of (a, b))) ks) none ∙ sym (ap (λ (ps : List (ℕ × ℕ)). is_parted ps a b) empty)
 
 -- the same keys of the same pairs
-pub kept_keys : (old new : BTreeSet (ℕ × ℕ)) (before after : List (ℕ × ℕ)) → new.keys ≡ old.keys → after ≡ before → AreKeys old before → AreKeys new after
+pub kept_keys : {S : Type 0} → (old new : HashSet (ℕ × ℕ) S) (before after : List (ℕ × ℕ)) → new.keys ≡ old.keys → after ≡ before → AreKeys old before → AreKeys new after
 kept_keys old new before after keys pairs h a b =
-    ap (λ (ks : List (ℕ × ℕ)). list_any (is_at (pair_cmp (key_of (a, b)))) ks) keys ∙ h a b ∙ sym (ap (λ (ps : List (ℕ × ℕ)). is_parted ps a b) pairs)
+    ap (λ (ks : List (ℕ × ℕ)). list_any (pair_eq (key_of (a, b))) ks) keys ∙ h a b ∙ sym (ap (λ (ps : List (ℕ × ℕ)). is_parted ps a b) pairs)
 
 -- ---- a pair more
 
@@ -82,10 +85,10 @@ put_in true false = refl
 put_in false true = refl
 put_in false false = refl
 
-pub more_keys : (old new : BTreeSet (ℕ × ℕ)) (before after : List (ℕ × ℕ)) (pair key : ℕ × ℕ) → key ≡ key_of pair → ((q : ℕ × ℕ) → contains pair_cmp new q ≡ cond (is_eq (pair_cmp key q)) true (contains pair_cmp old q)) → after ≡ before ++ pair ∷ [] → AreKeys old before → AreKeys new after
+pub more_keys : {S : Type 0} → (old new : HashSet (ℕ × ℕ) S) (before after : List (ℕ × ℕ)) (pair key : ℕ × ℕ) → key ≡ key_of pair → ((q : ℕ × ℕ) → contains pair_eq new q ≡ cond (pair_eq key q) true (contains pair_eq old q)) → after ≡ before ++ pair ∷ [] → AreKeys old before → AreKeys new after
 more_keys old new before after pair key is updates pairs h a b =
-    updates (key_of (a, b)) ∙ ap (λ (k : ℕ × ℕ). cond (is_eq (pair_cmp k (key_of (a, b)))) true (contains pair_cmp old (key_of (a, b)))) is
-    ∙ ap (λ (was : Bool). cond (is_eq (pair_cmp (key_of pair) (key_of (a, b)))) true was) (h a b) ∙ ap (λ (same : Bool). cond same true (is_parted before a b)) (same_key (a, b) pair) ∙ put_in (is_same_pair (a, b) pair) (is_parted before a b)
+    updates (key_of (a, b)) ∙ ap (λ (k : ℕ × ℕ). cond (pair_eq k (key_of (a, b))) true (contains pair_eq old (key_of (a, b)))) is
+    ∙ ap (λ (was : Bool). cond (pair_eq (key_of pair) (key_of (a, b))) true was) (h a b) ∙ ap (λ (same : Bool). cond same true (is_parted before a b)) (same_key (a, b) pair) ∙ put_in (is_same_pair (a, b) pair) (is_parted before a b)
     ∙ sym (list_any-append (is_same_pair (a, b)) before (pair ∷ [])) ∙ sym (ap (λ (ps : List (ℕ × ℕ)). is_parted ps a b) pairs)
 
 -- ---- a pair less
@@ -94,7 +97,7 @@ more_keys old new before after pair key is updates pairs h a b =
 alike : (p q r : ℕ × ℕ) → is_same_pair p q ≡ true → is_same_pair p r ≡ is_same_pair q r
 alike p q r h =
     let same : key_of q ≡ key_of p = key_from_named p q h in
-    sym (same_key p r) ∙ ap (λ (k : ℕ × ℕ). is_eq (pair_cmp (key_of r) k)) (sym same) ∙ same_key q r
+    sym (same_key p r) ∙ ap (λ (k : ℕ × ℕ). pair_eq (key_of r) k) (sym same) ∙ same_key q r
 
 -- ..., and where they don't, nothing names both
 unlike : (p q r : ℕ × ℕ) → is_same_pair p q ≡ false → is_same_pair q r ≡ true → is_same_pair p r ≡ false
@@ -127,8 +130,8 @@ taken_out p q pairs = go (is_same_pair p q) refl
     go true e = sym (none_left p q pairs e)
     go false e = sym (all_left p q pairs e)
 
-pub fewer_keys : (old new : BTreeSet (ℕ × ℕ)) (before after : List (ℕ × ℕ)) (pair key : ℕ × ℕ) → key ≡ key_of pair → ((q : ℕ × ℕ) → contains pair_cmp new q ≡ cond (is_eq (pair_cmp key q)) false (contains pair_cmp old q)) → after ≡ filter (λ r. not (is_same_pair pair r)) before → AreKeys old before → AreKeys new after
+pub fewer_keys : {S : Type 0} → (old new : HashSet (ℕ × ℕ) S) (before after : List (ℕ × ℕ)) (pair key : ℕ × ℕ) → key ≡ key_of pair → ((q : ℕ × ℕ) → contains pair_eq new q ≡ cond (pair_eq key q) false (contains pair_eq old q)) → after ≡ filter (λ r. not (is_same_pair pair r)) before → AreKeys old before → AreKeys new after
 fewer_keys old new before after pair key is updates pairs h a b =
-    updates (key_of (a, b)) ∙ ap (λ (k : ℕ × ℕ). cond (is_eq (pair_cmp k (key_of (a, b)))) false (contains pair_cmp old (key_of (a, b)))) is
-    ∙ ap (λ (was : Bool). cond (is_eq (pair_cmp (key_of pair) (key_of (a, b)))) false was) (h a b) ∙ ap (λ (same : Bool). cond same false (is_parted before a b)) (same_key (a, b) pair) ∙ taken_out (a, b) pair before
+    updates (key_of (a, b)) ∙ ap (λ (k : ℕ × ℕ). cond (pair_eq k (key_of (a, b))) false (contains pair_eq old (key_of (a, b)))) is
+    ∙ ap (λ (was : Bool). cond (pair_eq (key_of pair) (key_of (a, b))) false was) (h a b) ∙ ap (λ (same : Bool). cond same false (is_parted before a b)) (same_key (a, b) pair) ∙ taken_out (a, b) pair before
     ∙ sym (ap (λ (ps : List (ℕ × ℕ)). is_parted ps a b) pairs)

@@ -1,7 +1,7 @@
 -- One key for each pair of nodes, whichever is named first.
 use Rattle.std.specs.Prelude.{◌≡◌, ℕ, min, max, List}
-use Rattle.std.specs.BTreeSet.{BTreeSet, contains}
-use Rattle.tora_script.specs.Pairs.{pair_cmp}
+use Rattle.std.specs.HashSet.{HashSet, contains}
+use Rattle.tora_script.specs.Pairs.{pair_eq}
 use Rattle.tora_script.specs.Parted.{is_parted}
 
 -- the lesser node, then the greater
@@ -9,5 +9,5 @@ abbrev pub key_of : ℕ × ℕ → ℕ × ℕ
 key_of p = (min p.0 p.1, max p.0 p.1)
 
 -- the keys tell of any two nodes whether they are parted
-abbrev pub AreKeys : BTreeSet (ℕ × ℕ) → List (ℕ × ℕ) → Type 0
-AreKeys keys pairs = (a b : ℕ) → contains pair_cmp keys (key_of (a, b)) ≡ is_parted pairs a b
+abbrev pub AreKeys : {S : Type 0} → HashSet (ℕ × ℕ) S → List (ℕ × ℕ) → Type 0
+AreKeys keys pairs = (a b : ℕ) → contains pair_eq keys (key_of (a, b)) ≡ is_parted pairs a b

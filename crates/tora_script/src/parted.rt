@@ -7,7 +7,7 @@ ghost use Rattle.tora_script.specs.SimulationText.{with_parted, without_parted};
 use crate::pair_record::{NodePair, PairRecord};
 use crate::rounds::either;
 use std::alloc::{AllocError, Global};
-use std::collections::BTreeSet;
+use std::collections::HashSet;
 use std::marker::Model;
 use tora_height::Id;
 
@@ -30,14 +30,14 @@ pub fn is_parted(parted: &[(Id, Id)], a: Id, b: Id) -> bool
     found
 }
 
-/// The pairs of nodes that are parted: whether two nodes are, and that they no longer are, takes no look at all pairs.
+/// The pairs of nodes that are parted: whether two nodes are, and that they no longer are, takes the look at one key.
 ///
 /// Contracts see the pairs in the order in which they were parted. Only their keys are in memory.
 #[derive(Drop)]
 pub struct Parted {
     pairs: PairRecord,
     /// The lesser node of each pair, and the greater.
-    keys: BTreeSet<(Id, Id)>,
+    keys: HashSet<(Id, Id)>,
 }
 
 impl Model for Parted {
@@ -57,7 +57,7 @@ impl Parted {
         ensures { result ≡ [] }
     {
         let pairs = PairRecord::new();
-        let keys = BTreeSet::new(alloc);
+        let keys = HashSet::new(alloc);
         Parted { pairs, keys }
     }
 
