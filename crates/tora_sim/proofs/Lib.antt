@@ -45,5 +45,6 @@ pub mod NodeReads
 pub mod Resting
 pub mod Quiets
 pub mod StillEnds
+pub mod StillBlocks
 pub mod TickEnds
 pub mod CoreEnds

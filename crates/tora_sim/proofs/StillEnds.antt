@@ -1,5 +1,5 @@
 -- Of which link ends it is known until which tick nothing is to be done at them, as ends change.
-use Rattle.std.proofs.Common.{◌≡◌, ℕ, zero, suc, ◌+◌, ◌<◌, ◌≤◌, ◌⊎◌, inl, inr, min, List, [], ◌∷◌, ◌++◌, map, length, set, slice_get, Option, Some, None, Result, Ok, Err, refl, sym, ap, ◌∙◌, subst, arith, option_map}
+use Rattle.std.proofs.Common.{◌≡◌, ℕ, zero, suc, ◌+◌, ◌<◌, ◌≤◌, ◌⊎◌, inl, inr, List, [], ◌∷◌, ◌++◌, map, length, set, slice_get, Option, Some, None, Result, Ok, Err, refl, sym, ap, ◌∙◌, subst, arith, option_map}
 use Rattle.std.specs.Prelude.{replicate, slice_index, slice_index_or}
 use Rattle.std.proofs.lemmas.Bool.{cases_eq}
 use Rattle.std.proofs.lemmas.List.{length-map, length-replicate, length-set, get_or-set_same, get_or-set_other}
@@ -44,23 +44,6 @@ all_still now until stills links h all i x there =
     let many = h.as_many in
     let at = all i (omega (arith, within, many)) in
     earlier (slice_index stills i) until x at.1 (h.still i x at.0 there)
-
--- one end more is passed over
-pub one_due : (stills : List ℕ) (n place now here : ℕ) → here ≡ slice_index stills n → now < here → ((i : ℕ) → place ≤ i → i < n → now < slice_index stills i) → (i : ℕ) → place ≤ i → i < n + 1 → now < slice_index stills i
-one_due stills n place now here is less before i from lt = go (below_next i n lt)
-  where
-    go : (i < n) ⊎ (i ≡ n) → now < slice_index stills i
-    go (inl l) = before i from l
-    go (inr q) = let same : slice_index stills i ≡ here = ap (slice_index stills) q ∙ sym is in omega (arith, same, less)
-
--- one end more is known
-pub more_known : (stills : List ℕ) (n now until here : ℕ) → here ≡ slice_index stills n → now < here → ((i : ℕ) → i < n → (now < slice_index stills i) × (until ≤ slice_index stills i))
-    → (i : ℕ) → i < n + 1 → (now < slice_index stills i) × (min until here ≤ slice_index stills i)
-more_known stills n now until here is less before i lt = go (below_next i n lt)
-  where
-    go : (i < n) ⊎ (i ≡ n) → (now < slice_index stills i) × (min until here ≤ slice_index stills i)
-    go (inl l) = let both = before i l in let least = both.1 in (both.0, omega (arith, least))
-    go (inr q) = let same : slice_index stills i ≡ here = ap (slice_index stills) q ∙ sym is in (omega (arith, same, less), omega (arith, same))
 
 -- ---- what is known of one end
 

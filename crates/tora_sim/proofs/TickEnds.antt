@@ -1,12 +1,14 @@
 -- Every link end is ticked but those that the tick does not change.
-use Rattle.std.proofs.Common.{◌≡◌, ℕ, zero, suc, ◌+◌, ◌<◌, List, [], ◌∷◌, map, length, set, slice_get, Some, refl, sym, ap, ◌∙◌, subst, arith}
+use Rattle.std.proofs.Common.{◌≡◌, ℕ, zero, suc, ◌+◌, ◌-◌, ◌<◌, ◌≤◌, ◌⊎◌, inl, inr, min, List, [], ◌∷◌, map, length, set, slice_get, Some, refl, sym, ap, ◌∙◌, subst, arith}
 use Rattle.std.specs.Prelude.{slice_index, slice_index_or}
 use Rattle.std.proofs.lemmas.Option.{none-some, same_Some, slice_get_read, slice_get_within}
 use Rattle.tora_sim.specs.Links.{LinkView, ticked, AreChanged}
-use Rattle.tora_sim.specs.Quiet.{IsStill, AreStillEach}
+use Rattle.tora_sim.specs.Quiet.{IsStill, AreStillEach, AreStillFrom}
+use Rattle.tora_sim.specs.Stills.{AreLater}
 use Rattle.tora_sim.proofs.FreshEnds.{item_at, was, one_changed}
 use Rattle.tora_sim.proofs.NodeEnds.{by_places}
 use Rattle.tora_sim.proofs.Quiets.{set_same, still_tick}
+use Rattle.tora_sim.proofs.StillBlocks.{before_or_not}
 
 read_of : (xs : List LinkView) (i : ℕ) (x : LinkView) → slice_get xs i ≡ Some x → x ≡ slice_index_or xs i x
 read_of [] i x e = absurd (none-some x e)
@@ -24,29 +26,69 @@ ticked_at now place links x new link within read e there =
     let same : x ≡ link = same_Some x link (sym (slice_get_read links (length links) place x refl within read) ∙ there) in
     ap (λ (z : LinkView). set links place z) (e ∙ ap (ticked now) same)
 
-module _ (now place count : ℕ) (before links : List LinkView) (h : AreChanged (ticked now) before links 0 place) (lt : place < count) (many : count ≡ length before) where
-  here : 0 + place ≡ place
-  here = omega arith
-
-  read_here : (x : LinkView) → slice_get links place ≡ Some x → x ≡ slice_index_or links (0 + place) x
-  read_here x there = subst (λ (n : ℕ). x ≡ slice_index_or links n x) (sym here) (read_of links place x there)
-
+module _ (now first place count : ℕ) (before links : List LinkView) (h : AreChanged (ticked now) before links first place) (lt : place < count) (within : first + count ≤ length before) where
   -- an end whose turn is still to come is as it was
-  pub known_still : (stills : List ℕ) → AreStillEach now stills before → (link : LinkView) → now < slice_index stills place → slice_get links place ≡ Some link → IsStill (slice_index stills place) link
-  known_still stills s link less there =
-      s.still place link less (subst (λ (n : ℕ). slice_get before n ≡ Some link) here (was (ticked now) before links 0 place count h lt (omega (arith, many)) link (read_here link there)))
+  pub known_still : (stills : List ℕ) → AreStillFrom first now stills before → (link : LinkView) → now < slice_index stills (first + place) → slice_get links (first + place) ≡ Some link → IsStill (slice_index stills (first + place)) link
+  known_still stills s link less there = s (first + place) link (omega arith) less (was (ticked now) before links first place count h lt within link (read_of links (first + place) link there))
 
   -- one end more
-  pub one_ticked : (after : List LinkView) → ((link : LinkView) → slice_get links place ≡ Some link → after ≡ set links place (ticked now link)) → AreChanged (ticked now) before after 0 (place + 1)
+  pub one_ticked : (after : List LinkView) → ((link : LinkView) → slice_get links (first + place) ≡ Some link → after ≡ set links (first + place) (ticked now link)) → AreChanged (ticked now) before after first (place + 1)
   one_ticked after e =
       let as_many = h.as_many in
-      let x = item_at links place (omega (arith, lt, many, as_many)) in
-      let after_is : after ≡ set links (0 + place) (ticked now x.0) = subst (λ (n : ℕ). after ≡ set links n (ticked now x.0)) (sym here) (e x.0 x.1) in
-      subst (λ (ys : List LinkView). AreChanged (ticked now) before ys 0 (place + 1)) (sym after_is)
-      (one_changed (ticked now) before links 0 place count h lt (omega (arith, many)) x.0 (read_here x.0 x.1) (ticked now x.0) refl)
+      let x = item_at links (first + place) (omega (arith, lt, within, as_many)) in
+      subst (λ (ys : List LinkView). AreChanged (ticked now) before ys first (place + 1)) (sym (e x.0 x.1))
+      (one_changed (ticked now) before links first place count h lt within x.0 (read_of links (first + place) x.0 x.1) (ticked now x.0) refl)
+
+-- ---- blocks
+
+-- ends whose ticks are still to come
+pub block_same : (now first count : ℕ) (stills : List ℕ) (links : List LinkView) → length stills ≡ length links → AreStillFrom first now stills links → AreLater now first (first + count) stills → AreChanged (ticked now) links links first count
+block_same now first count stills links many s later = record {
+  as_many = refl;
+  done = λ place link lt there.
+      let within = slice_get_within links (first + place) link there in
+      let less : now < slice_index stills (first + place) = later (first + place) (omega arith) (omega (arith, lt)) (omega (arith, within, many)) in
+      there ∙ ap Some (sym (still_tick (slice_index stills (first + place)) now link less (s (first + place) link (omega arith) less there)));
+  rest = λ i link away there. there;
+}
+
+-- all ends of a block, of which there may be fewer
+pub whole_block : (now first count : ℕ) (before links : List LinkView) → count ≡ min 16 (length before - first) → AreChanged (ticked now) before links first count → AreChanged (ticked now) before links first 16
+whole_block now first count before links e h = record {
+  as_many = h.as_many;
+  done = λ place link lt there. let within = slice_get_within before (first + place) link there in h.done place link (omega (arith, within, e, lt)) there;
+  rest = λ i link away there. h.rest i link (λ place lt q. away place (omega (arith, lt, e)) q) there;
+}
+
+-- the ends behind those that are ticked are as still as they were
+pub still_behind : (now first : ℕ) (stills : List ℕ) (before links : List LinkView) → AreStillEach now stills before → AreChanged (ticked now) before links 0 first → AreStillFrom first now stills links
+still_behind now first stills before links s h at link from less there =
+    let within = slice_get_within links at link there in
+    let as_many = h.as_many in
+    let old = item_at before at (omega (arith, within, as_many)) in
+    let away : (place : ℕ) → place < first → at ≡ 0 + place → ⊥ = λ place lt q. omega (arith, lt, q, from) in
+    let same : old.0 ≡ link = same_Some old.0 link (sym (h.rest at old.0 away old.1) ∙ there) in
+    subst (λ (z : LinkView). IsStill (slice_index stills at) z) same (s.still at old.0 less old.1)
+
+-- the ends of a block more
+pub more_ticked : (now first count many : ℕ) (before between links : List LinkView) → first + count ≡ many → AreChanged (ticked now) before between 0 first → AreChanged (ticked now) between links first count → AreChanged (ticked now) before links 0 many
+more_ticked now first count many before between links e h k = record {
+  as_many = k.as_many ∙ h.as_many;
+  done = λ place link lt there. done place link lt there (before_or_not place first);
+  rest = λ i link away there.
+      k.rest i link (λ place lt q. away (first + place) (omega (arith, lt, e)) (omega (arith, q)))
+      (h.rest i link (λ place lt q. away place (omega (arith, lt, e)) q) there);
+}
+  where
+    done : (place : ℕ) (link : LinkView) → place < many → slice_get before (0 + place) ≡ Some link → (place < first) ⊎ (first ≤ place) → slice_get links (0 + place) ≡ Some (ticked now link)
+    done place link lt there (inl less) = k.rest (0 + place) (ticked now link) (λ j _ q. absurd (omega (arith, less, q))) (h.done place link less there)
+    done place link lt there (inr more) =
+        let same : 0 + place ≡ first + (place - first) = omega (arith, more) in
+        let old : slice_get between (0 + place) ≡ Some link = h.rest (0 + place) link (λ j less q. absurd (omega (arith, less, q, more))) there in
+        ap (slice_get links) same ∙ k.done (place - first) link (omega (arith, lt, e, more)) (ap (slice_get between) (sym same) ∙ old)
 
 -- all ends
-pub all_ticked : (now count : ℕ) (before links : List LinkView) → count ≡ length before → AreChanged (ticked now) before links 0 count → links ≡ map (ticked now) before
+pub all_ticked : (now count : ℕ) (before links : List LinkView) → length before ≤ count → AreChanged (ticked now) before links 0 count → links ≡ map (ticked now) before
 all_ticked now count before links many h =
     by_places (ticked now) before links h.as_many
     (λ j x at.

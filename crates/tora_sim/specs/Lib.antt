@@ -21,6 +21,7 @@ pub mod Turns
 pub mod Restarts
 pub mod Resting
 pub mod Quiet
+pub mod Stills
 pub mod SamePackets
 pub mod KeptCargoes
 pub mod Lane

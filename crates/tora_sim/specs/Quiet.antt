@@ -1,5 +1,5 @@
 -- Worlds in which nothing is to be done, and until which tick what is stored stays so.
-use Rattle.std.specs.Prelude.{◌≡◌, ℕ, ◌+◌, ◌<◌, ◌⊎◌, ◌==◌, Bool, true, false, is_some, List, length, slice_get, slice_index, Some}
+use Rattle.std.specs.Prelude.{◌≡◌, ℕ, ◌+◌, ◌<◌, ◌≤◌, ◌⊎◌, ◌==◌, Bool, true, false, is_some, List, length, slice_get, slice_index, Some}
 use Rattle.std.specs.List.{list_all}
 use Rattle.tora_arq.specs.Settings.{Settings}
 use Rattle.tora_arq.specs.LinkEnd.{EndState, is_closed, first_event, frame_due, after_tick}
@@ -52,6 +52,10 @@ AreStill until nodes links = 0 < until → (list_all is_idle nodes ≡ true) × 
 pub record AreStillEach (clock : ℕ) (stills : List ℕ) (links : List LinkView) : Type 0 where
   pub as_many : length stills ≡ length links
   pub still : (at : ℕ) (link : LinkView) → clock < slice_index stills at → slice_get links at ≡ Some link → IsStill (slice_index stills at) link
+
+-- the same of the link ends from a place on
+abbrev pub AreStillFrom : ℕ → ℕ → List ℕ → List LinkView → Type 0
+AreStillFrom from clock stills links = (at : ℕ) (link : LinkView) → from ≤ at → clock < slice_index stills at → slice_get links at ≡ Some link → IsStill (slice_index stills at) link
 
 -- of so many ends from a place on nothing is known any more, and of any other what was, or nothing
 pub record AreForgotten (before stills : List ℕ) (first count : ℕ) : Type 0 where

@@ -1,5 +1,5 @@
 //! Until which tick nothing is to be done.
-ghost use Rattle.std.specs.Prelude.{◌≡◌, ◌<◌, ◌≤◌, ℕ, true, length, slice_index};
+ghost use Rattle.std.specs.Prelude.{◌≡◌, ◌*◌, ◌<◌, true, length};
 ghost use Rattle.std.specs.List.{list_all};
 ghost use Rattle.tora_sim.specs.Quiet.{IsQuiet, IsStillIf, is_idle, AreStill, AreStillEach};
 ghost use Rattle.tora_sim.specs.Store.{world_of};
@@ -7,7 +7,9 @@ ghost use Rattle.tora_sim.specs.Store.{world_of};
 use crate::links::LinkSlot;
 use crate::nodes::NodeSlot;
 use crate::sim::Sim;
-use crate::stills::{keep_still, still_at};
+use crate::stills::{
+    Stills, block_count, ends_of, is_still_block, keep_block, keep_still, still_at, still_until,
+};
 
 impl Sim {
     /// Whether it is known that nothing is to be done: no core has an item to take, and no link end can be opened, take a
@@ -35,8 +37,8 @@ impl Sim {
 }
 
 /// Before which tick nothing is to be done; 0 where something is to be done at once.
-fn quiet_until(nodes: &Vec<NodeSlot>, _links: &Vec<LinkSlot>, stills: &Vec<u64>, now: u64) -> u64
-    requires { AreStillEach now stills.now.items _links.now.items }
+fn quiet_until(nodes: &Vec<NodeSlot>, _links: &Vec<LinkSlot>, stills: &Stills, now: u64) -> u64
+    requires { AreStillEach now stills.now _links.now.items }
     ensures { AreStill result nodes.now.items _links.now.items }
 {
     if !are_idle(nodes) {
@@ -46,23 +48,39 @@ fn quiet_until(nodes: &Vec<NodeSlot>, _links: &Vec<LinkSlot>, stills: &Vec<u64>,
 }
 
 /// Looks at each link end of which no tick is known that is still to come, for the tick before which nothing is to be done at it.
-fn settle_ends(links: &mut Vec<LinkSlot>, stills: &mut Vec<u64>, now: u64)
-    requires { AreStillEach now stills.old.items links.old.items }
+fn settle_ends(links: &mut Vec<LinkSlot>, stills: &mut Stills, now: u64)
+    requires { AreStillEach now stills.old links.old.items }
     ensures links { links.new.items ≡ links.old.items }
-    ensures stills { AreStillEach now stills.new.items links.old.items }
+    ensures stills { AreStillEach now stills.new links.old.items }
 {
-    let count = stills.len();
-    for place in 0..count {
-        settle_end(links, stills, place, now);
+    for block in 0..block_count(stills) {
+        settle_block(links, stills, block, now);
     }
 }
 
-#[inline(always)]
-fn settle_end(links: &mut Vec<LinkSlot>, stills: &mut Vec<u64>, place: usize, now: u64)
-    requires within { place < length stills.old.items }
-    requires still { AreStillEach now stills.old.items links.old.items }
+/// Looks at each such end of a block, and keeps the tick of the block anew, unless it tells that there is none.
+fn settle_block(links: &mut Vec<LinkSlot>, stills: &mut Stills, block: usize, now: u64)
+    requires within { 16 * block < length stills.old }
+    requires still { AreStillEach now stills.old links.old.items }
     ensures links { links.new.items ≡ links.old.items }
-    ensures stills { AreStillEach now stills.new.items links.old.items }
+    ensures stills { AreStillEach now stills.new links.old.items }
+{
+    if is_still_block(stills, block, now) {
+        return;
+    }
+    let (first, count) = ends_of(stills, block);
+    for place in 0..count {
+        settle_end(links, stills, first + place, now);
+    }
+    keep_block(stills, block);
+}
+
+#[inline(always)]
+fn settle_end(links: &mut Vec<LinkSlot>, stills: &mut Stills, place: usize, now: u64)
+    requires within { place < length stills.old }
+    requires still { AreStillEach now stills.old links.old.items }
+    ensures links { links.new.items ≡ links.old.items }
+    ensures stills { AreStillEach now stills.new links.old.items }
 {
     if now < still_at(stills, place) {
         return;
@@ -75,22 +93,6 @@ fn are_idle(nodes: &Vec<NodeSlot>) -> bool
     ensures { result ≡ list_all is_idle nodes.now.items }
 {
     nodes.as_slice().iter().all(|node| node.is_idle())
-}
-
-/// Before which tick nothing is to be done at any of the link ends; 0 where something may be to be done at once.
-fn still_until(stills: &Vec<u64>, now: u64) -> u64
-    ensures { 0 < result → (at : ℕ) → at < length stills.now.items → (now < slice_index stills.now.items at) × (result ≤ slice_index stills.now.items at) }
-{
-    let mut until = u64::MAX;
-    let count = stills.len();
-    for place in 0..count {
-        let here = still_at(stills, place);
-        if here <= now {
-            return 0;
-        }
-        until = until.min(here);
-    }
-    until
 }
 
 impl NodeSlot {

@@ -14,7 +14,7 @@ use crate::lanes::make_room;
 use crate::links::{LinkSlot, arm, place};
 use crate::nodes::{NodeSlot, Sending, place as node_place};
 use crate::restarts::{new_ends, restart_ends};
-use crate::stills::forget;
+use crate::stills::{Stills, forget};
 use crate::ticking::tick;
 use crate::topology::Topology;
 use crate::turns::turn;
@@ -44,7 +44,7 @@ pub struct Sim {
     pub(crate) quiet: u64,
     /// Of each link end the tick before which nothing is to be done at it, where that tick is still to come; else it says nothing. Each
     /// end keeps its own, too; they stand here as well, since every part of a round asks them of all ends.
-    pub(crate) stills: Vec<u64>,
+    pub(crate) stills: Stills,
     /// Where the packets of a frame stand while it is sent.
     pub(crate) packets: Packets,
 }
@@ -59,7 +59,7 @@ impl Model for Sim {
 
     ghost view = { λ s. state_of s.topology s.times s.clock s.nodes.items s.links.items s.datagrams.items };
 
-    ghost invariant = { λ s. IsStore (state_of s.topology s.times s.clock s.nodes.items s.links.items s.datagrams.items) × AreStill s.quiet s.nodes.items s.links.items × AreStillEach s.clock s.stills.items s.links.items × (s.keys.items ≡ ends_in s.topology) };
+    ghost invariant = { λ s. IsStore (state_of s.topology s.times s.clock s.nodes.items s.links.items s.datagrams.items) × AreStill s.quiet s.nodes.items s.links.items × AreStillEach s.clock s.stills s.links.items × (s.keys.items ≡ ends_in s.topology) };
 }
 
 impl Sim {

@@ -1,46 +1,190 @@
-//! Of each link end the tick before which nothing is to be done at it.
-ghost use Rattle.std.specs.Prelude.{◌≡◌, ◌+◌, ◌<◌, ◌≤◌, MatchResult, length, replicate, slice_index, slice_set};
+//! Of each link end the tick before which nothing is to be done at it, and of each block of ends one for them all.
+ghost use Rattle.std.specs.Prelude.{◌≡◌, ◌+◌, ◌*◌, ◌-◌, ◌^◌, ◌<◌, ◌≤◌, ℕ, true, MatchResult, length, min, replicate, slice_index, slice_set};
 ghost use Rattle.tora_sim.specs.Quiet.{AreForgotten};
+ghost use Rattle.tora_sim.specs.Stills.{AreLater};
 
 use crate::SimError;
 use std::alloc::Global;
+use std::marker::Model;
+
+/// How many link ends stand in a block; fewer may stand in the last.
+const BLOCK: usize = 16;
+
+/// Of each link end the tick before which nothing is to be done at it, in the order of the ends.
+///
+/// The ends stand in blocks of 16, and each block has a tick, too, so that a block at whose ends nothing is to be done is passed over by
+/// one look.
+#[derive(Drop)]
+pub struct Stills {
+    ends: Vec<u64>,
+    /// Of each block a tick that none of the ticks of its ends is before; 0 where nothing is known.
+    blocks: Vec<u64>,
+}
+
+impl Model for Stills {
+    ghost use Rattle.std.specs.Prelude.{ℕ, List};
+    ghost use Rattle.tora_sim.specs.Stills.{AreBlocks};
+
+    ghost Value = { List ℕ };
+
+    ghost view = { λ s. s.ends.items };
+
+    ghost invariant = { λ s. AreBlocks s.blocks.items s.ends.items };
+}
 
 /// Nothing is known of so many ends.
-pub fn no_stills(alloc: Global, count: usize) -> Result<Vec<u64>, SimError>
-    ensures { MatchResult result (λ stills. stills.items ≡ replicate count 0) (λ e. e ≡ SimError.Memory) }
+pub fn no_stills(alloc: Global, count: usize) -> Result<Stills, SimError>
+    ensures { MatchResult result (λ stills. stills ≡ replicate count 0) (λ e. e ≡ SimError.Memory) }
 {
-    let mut stills = Vec::new(alloc);
-    match stills.resize(count, 0) {
-        Ok(()) => Ok(stills),
+    let ends = zeros(alloc, count)?;
+    let blocks = zeros(alloc, blocks_of(count))?;
+    Ok(Stills { ends, blocks })
+}
+
+fn zeros(alloc: Global, count: usize) -> Result<Vec<u64>, SimError>
+    ensures { MatchResult result (λ zeros. zeros.items ≡ replicate count 0) (λ e. e ≡ SimError.Memory) }
+{
+    let mut zeros = Vec::new(alloc);
+    match zeros.resize(count, 0) {
+        Ok(()) => Ok(zeros),
         Err(_) => Err(SimError::Memory),
     }
 }
 
-/// The tick of an end.
+/// The number of the block in which an end stands.
 #[inline(always)]
-pub fn still_at(stills: &Vec<u64>, at: usize) -> u64
-    requires { at < length stills.now.items }
-    ensures { result ≡ slice_index stills.now.items at }
+pub fn block_of(at: usize) -> usize
+    ensures from { 16 * result ≤ at }
+    ensures to { at < 16 * result + 16 }
 {
-    stills[at]
+    at / BLOCK
 }
 
-/// Keeps the tick of an end.
-#[inline(always)]
-pub fn keep_still(stills: &mut Vec<u64>, at: usize, until: u64)
-    requires { at < length stills.old.items }
-    ensures { stills.new.items ≡ slice_set stills.old.items at until }
+/// In how many blocks so many ends stand.
+fn blocks_of(count: usize) -> usize
+    ensures all { count ≤ 16 * result }
+    ensures each { 16 * result < count + 16 }
 {
-    stills[at] = until;
+    let whole = count / BLOCK;
+    if whole * BLOCK < count {
+        whole + 1
+    } else {
+        whole
+    }
+}
+
+/// How many ends there are.
+#[inline(always)]
+pub fn end_count(stills: &Stills) -> usize
+    ensures { result ≡ length stills.now }
+{
+    stills.ends.len()
+}
+
+/// How many blocks there are.
+pub fn block_count(stills: &Stills) -> usize
+    ensures all { length stills.now ≤ 16 * result }
+    ensures each { 16 * result < length stills.now + 16 }
+{
+    blocks_of(stills.ends.len())
+}
+
+/// The place of the first end of a block, and how many ends stand in it.
+#[inline(always)]
+pub fn ends_of(stills: &Stills, block: usize) -> (usize, usize)
+    requires { 16 * block < length stills.now }
+    ensures first { result.0 ≡ 16 * block }
+    ensures count { result.1 ≡ min 16 (length stills.now - 16 * block) }
+    ensures behind { result.0 + result.1 < 2 ^ 64 }
+{
+    let many = stills.ends.len();
+    let first = block * BLOCK;
+    (first, (many - first).min(BLOCK))
+}
+
+/// The tick of an end.
+#[inline(always)]
+pub fn still_at(stills: &Stills, at: usize) -> u64
+    requires { at < length stills.now }
+    ensures { result ≡ slice_index stills.now at }
+{
+    stills.ends[at]
+}
+
+/// Whether the tick of a block tells that the ticks of its ends are still to come.
+#[inline(always)]
+pub fn is_still_block(stills: &Stills, block: usize, now: u64) -> bool
+    requires { 16 * block < length stills.now }
+    ensures { result ≡ true → AreLater now (16 * block) (16 * block + 16) stills.now }
+{
+    now < stills.blocks[block]
+}
+
+/// Keeps the tick of an end. Nothing is known of its block any more.
+#[inline(always)]
+pub fn keep_still(stills: &mut Stills, at: usize, until: u64)
+    requires { at < length stills.old }
+    ensures { stills.new ≡ slice_set stills.old at until }
+{
+    let block = block_of(at);
+    stills.blocks[block] = 0;
+    stills.ends[at] = until;
+}
+
+/// Looks for the tick of a block: the first of those of its ends.
+#[inline(always)]
+pub fn keep_block(stills: &mut Stills, block: usize)
+    requires { 16 * block < length stills.old }
+    ensures { stills.new ≡ stills.old }
+{
+    let (first, count) = ends_of(stills, block);
+    let until = first_tick(&stills.ends, first, count);
+    stills.blocks[block] = until;
+}
+
+/// The first of the ticks of the `count` ends from the place `first` on.
+fn first_tick(ends: &Vec<u64>, first: usize, count: usize) -> u64
+    requires { first + count ≤ length ends.now.items }
+    ensures { (at : ℕ) → first ≤ at → at < first + count → result ≤ slice_index ends.now.items at }
+{
+    let mut until = u64::MAX;
+    for place in 0..count {
+        until = until.min(ends[first + place]);
+    }
+    until
 }
 
 /// Nothing is known any more of the `count` ends from the place `first` on.
-pub fn forget(stills: &mut Vec<u64>, first: usize, count: usize)
-    requires { first + count ≤ length stills.old.items }
-    ensures { AreForgotten stills.old.items stills.new.items first count }
+pub fn forget(stills: &mut Stills, first: usize, count: usize)
+    requires { first + count ≤ length stills.old }
+    ensures { AreForgotten stills.old stills.new first count }
 {
+    let _many = end_count(stills);
     for place in 0..count {
         let at = first + place;
         keep_still(stills, at, 0);
     }
+}
+
+/// Before which tick nothing is to be done at any of the ends; 0 where something may be to be done at once. It looks at the ticks of the
+/// blocks alone.
+pub fn still_until(stills: &Stills, now: u64) -> u64
+    ensures { 0 < result → (at : ℕ) → at < length stills.now → (now < slice_index stills.now at) × (result ≤ slice_index stills.now at) }
+{
+    first_after(&stills.blocks, now)
+}
+
+/// The first of these ticks, where all are still to come; else 0.
+fn first_after(ticks: &Vec<u64>, now: u64) -> u64
+    ensures { 0 < result → (at : ℕ) → at < length ticks.now.items → (now < slice_index ticks.now.items at) × (result ≤ slice_index ticks.now.items at) }
+{
+    let mut until = u64::MAX;
+    for at in 0..ticks.len() {
+        let here = ticks[at];
+        if here <= now {
+            return 0;
+        }
+        until = until.min(here);
+    }
+    until
 }

@@ -25,5 +25,5 @@ returns-clause-stills c =
     let links = c.args.links.now.items in
     let many = c.requires.still.as_many in
     let within : c.args.place < length links = omega (arith, c.requires.within, many) in
-    known_here c.args.now c.args.stills.now.items c.keep_still.new.stills.items links c.args.place c.settled-until.result c.index_mut.result.now c.keep_still.ensures c.requires.within
+    known_here c.args.now c.args.stills.now c.keep_still.new.stills links c.args.place c.settled-until.result c.index_mut.result.now c.keep_still.ensures c.requires.within
     (slice_get_read links (length links) c.args.place c.index_mut.result.now refl within c.index_mut.ensures.value) c.settled-until.ensures.until c.requires.still

@@ -4,7 +4,7 @@ use Rattle.tora_sim.proofs.StillEnds.{none_forgotten, one_more_forgotten}
 use Rattle.tora_sim.proofs.stills.forget.Goals as goal
 
 pub loop-place-init : goal.loop-place-init
-loop-place-init c = none_forgotten c.args.stills.now.items c.args.first
+loop-place-init c = none_forgotten c.args.stills.now c.args.first
 
 pub keep_still-requires : goal.keep_still-requires
 keep_still-requires c = let many = c.loop-place.invariant.as_many in omega (arith, c.loop-place-test.true, c.requires, many)
@@ -13,11 +13,11 @@ pub loop-place-preserved : goal.loop-place-preserved
 loop-place-preserved c =
     let l = c.loop-place in
     let many = l.invariant.as_many in
-    let within : c.args.first + l.place < length l.stills.items = omega (arith, c.loop-place-test.true, c.requires, many) in
-    one_more_forgotten c.args.stills.now.items l.stills.items c.keep_still.new.stills.items c.args.first l.place within c.keep_still.ensures l.invariant
+    let within : c.args.first + l.place < length l.stills = omega (arith, c.loop-place-test.true, c.requires, many) in
+    one_more_forgotten c.args.stills.now l.stills c.keep_still.new.stills c.args.first l.place within c.keep_still.ensures l.invariant
 
 pub returns : goal.returns
 returns c =
     let l = c.loop-place in
     let all : l.place ≡ c.args.count = omega (arith, c.loop-place-test.false, l.auto.place-end) in
-    subst (λ (n : ℕ). AreForgotten c.args.stills.now.items l.stills.items c.args.first n) all l.invariant
+    subst (λ (n : ℕ). AreForgotten c.args.stills.now l.stills c.args.first n) all l.invariant

@@ -1,37 +1,35 @@
-use Rattle.std.proofs.Common.{◌≡◌, ℕ, length, subst, arith}
-use Rattle.tora_sim.specs.Links.{ticked, AreChanged}
+use Rattle.std.proofs.Common.{◌≡◌, ◌+◌, ◌*◌, ◌≤◌, length, arith}
+use Rattle.tora_sim.specs.Links.{ticked}
 use Rattle.tora_sim.proofs.FreshEnds.{none_changed}
-use Rattle.tora_sim.proofs.TickEnds.{known_still, one_ticked, all_ticked}
+use Rattle.tora_sim.proofs.TickEnds.{still_behind, more_ticked, all_ticked}
 use Rattle.tora_sim.proofs.ticking.tick.Goals as goal
 
-pub loop-place-init : goal.loop-place-init
-loop-place-init c = none_changed (ticked c.args.now) c.args.links.now.items 0
+pub loop-block-init : goal.loop-block-init
+loop-block-init c = none_changed (ticked c.args.now) c.args.links.now.items 0
 
-pub tick_end-requires-clause-known : goal.tick_end-requires-clause-known
-tick_end-requires-clause-known c = omega (arith, c.loop-place-test.true, c.len-count.ensures)
+pub tick_block-requires-clause-within : goal.tick_block-requires-clause-within
+tick_block-requires-clause-within c = omega (arith, c.loop-block-test.true, c.block_count-block-end.ensures.each)
 
-pub tick_end-requires-clause-within : goal.tick_end-requires-clause-within
-tick_end-requires-clause-within c =
+pub tick_block-requires-clause-many : goal.tick_block-requires-clause-many
+tick_block-requires-clause-many c =
     let as_many = c.requires.as_many in
-    let same = c.loop-place.invariant.as_many in
-    omega (arith, c.loop-place-test.true, c.len-count.ensures, as_many, same)
+    let same = c.loop-block.invariant.as_many in
+    omega (arith, as_many, same)
 
-pub tick_end-requires-clause-still : goal.tick_end-requires-clause-still
-tick_end-requires-clause-still c =
-    let as_many = c.requires.as_many in
-    let many : c.len-count.result ≡ length c.args.links.now.items = omega (arith, c.len-count.ensures, as_many) in
-    known_still c.args.now c.loop-place.place c.len-count.result c.args.links.now.items c.loop-place.links.items c.loop-place.invariant c.loop-place-test.true many c.args.stills.now.items c.requires
+pub tick_block-requires-clause-still : goal.tick_block-requires-clause-still
+tick_block-requires-clause-still c =
+    let block = c.loop-block.block in
+    still_behind c.args.now (16 * block) c.args.stills.now c.args.links.now.items c.loop-block.links.items c.requires c.loop-block.invariant
 
-pub loop-place-preserved : goal.loop-place-preserved
-loop-place-preserved c =
-    let as_many = c.requires.as_many in
-    let many : c.len-count.result ≡ length c.args.links.now.items = omega (arith, c.len-count.ensures, as_many) in
-    one_ticked c.args.now c.loop-place.place c.len-count.result c.args.links.now.items c.loop-place.links.items c.loop-place.invariant c.loop-place-test.true many c.tick_end.new.links.items c.tick_end.ensures
+pub loop-block-preserved : goal.loop-block-preserved
+loop-block-preserved c =
+    let block = c.loop-block.block in
+    let next : 16 * block + 16 ≡ 16 * (block + 1) = omega arith in
+    more_ticked c.args.now (16 * block) 16 (16 * (block + 1)) c.args.links.now.items c.loop-block.links.items c.tick_block.new.links.items next c.loop-block.invariant c.tick_block.ensures
 
 pub returns : goal.returns
 returns c =
-    let l = c.loop-place in
+    let block = c.loop-block.block in
     let as_many = c.requires.as_many in
-    let many : c.len-count.result ≡ length c.args.links.now.items = omega (arith, c.len-count.ensures, as_many) in
-    let all : l.place ≡ c.len-count.result = omega (arith, l.auto.place-end, c.loop-place-test.false) in
-    all_ticked c.args.now c.len-count.result c.args.links.now.items l.links.items many (subst (λ (m : ℕ). AreChanged (ticked c.args.now) c.args.links.now.items l.links.items 0 m) all l.invariant)
+    let all : length c.args.links.now.items ≤ 16 * block = omega (arith, as_many, c.block_count-block-end.ensures.all, c.loop-block-test.false) in
+    all_ticked c.args.now (16 * block) c.args.links.now.items c.loop-block.links.items all c.loop-block.invariant

@@ -5,7 +5,7 @@ use Rattle.tora_sim.proofs.ticking.tick_end.Goals as goal
 pub returns-then-not-is_to_tick : goal.returns-then-not-is_to_tick
 returns-then-not-is_to_tick c link there =
     let lt = c.is_to_tick.ensures c.if-not-is_to_tick.true in
-    still_same c.args.now c.args.place (slice_index c.args.stills.now.items c.args.place) c.args.links.now.items link there lt (c.requires.still link lt there)
+    still_same c.args.now c.args.place (slice_index c.args.stills.now c.args.place) c.args.links.now.items link there lt (c.requires.still link lt there)
 
 pub returns : goal.returns
 returns c link there = ticked_at c.args.now c.args.place c.args.links.now.items c.index_mut.result.now c.tick.new.self link c.requires.within c.index_mut.ensures.value c.tick.ensures there

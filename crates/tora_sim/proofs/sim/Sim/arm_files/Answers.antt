@@ -39,7 +39,7 @@ invariant_of-self c =
     let s = c.self.inside in (
       files_store s.topology s.times s.clock s.nodes.items s.links.items s.datagrams.items c.self.invariant.0 c.args.n c.args.call c.arm.new.links.items (armed c),
       λ none. absurd (omega (arith, none)),
-      mapped_still s.clock s.stills.items s.links.items c.arm.new.links.items (armed_of c.args.n c.args.call) (armed c)
+      mapped_still s.clock s.stills s.links.items c.arm.new.links.items (armed_of c.args.n c.args.call) (armed c)
           (λ until x h. cond_both (nat_eq x.node c.args.n) (after_arm x c.args.call) x (λ (z : LinkView). IsStill until z) (λ _. h) (λ _. h)) c.self.invariant.2,
       c.self.invariant.3,
     )

@@ -43,8 +43,8 @@ invariant_of-self c =
     let s = c.self.inside in (
       store_same s.topology s.times s.clock s.nodes.items s.links.items c.make_room.new.links.items s.datagrams.items (same_alike s.links.items c.make_room.new.links.items c.make_room.ensures.same) c.self.invariant.0,
       λ none. absurd (omega (arith, none)),
-      alike_still s.clock c.forget.new.stills.items s.links.items c.make_room.new.links.items c.make_room.ensures.same
-          (forgotten_still s.clock s.stills.items c.forget.new.stills.items s.links.items c.first-first.result c.count-count.result c.forget.ensures c.self.invariant.2),
+      alike_still s.clock c.forget.new.stills s.links.items c.make_room.new.links.items c.make_room.ensures.same
+          (forgotten_still s.clock s.stills c.forget.new.stills s.links.items c.first-first.result c.count-count.result c.forget.ensures c.self.invariant.2),
       c.self.invariant.3,
     )
 
@@ -74,8 +74,8 @@ invariant_of-self-2 c =
       turn_store s.topology s.times s.clock s.nodes.items s.links.items s.datagrams.items c.self.invariant.0 c.args.n c.in-Some.home c.index_mut.result.now c.in-Some.ensures.first c.index_mut.ensures.value
           c.make_room.new.links.items c.make_room.ensures.same c.turn.new.node c.turn.new.links.items c.turn.result c.turn.ensures,
       λ none. absurd (omega (arith, none)),
-      turned_still s.clock c.forget.new.stills.items c.index_mut.result.now c.turn.new.node c.make_room.new.links.items c.turn.new.links.items c.turn.result (none_at_node s.stills.items c.forget.new.stills.items c.first-first.result c.count-count.result node first count c.forget.ensures) c.turn.ensures
-          (alike_still s.clock c.forget.new.stills.items s.links.items c.make_room.new.links.items c.make_room.ensures.same (forgotten_still s.clock s.stills.items c.forget.new.stills.items s.links.items c.first-first.result c.count-count.result c.forget.ensures c.self.invariant.2)),
+      turned_still s.clock c.forget.new.stills c.index_mut.result.now c.turn.new.node c.make_room.new.links.items c.turn.new.links.items c.turn.result (none_at_node s.stills c.forget.new.stills c.first-first.result c.count-count.result node first count c.forget.ensures) c.turn.ensures
+          (alike_still s.clock c.forget.new.stills s.links.items c.make_room.new.links.items c.make_room.ensures.same (forgotten_still s.clock s.stills c.forget.new.stills s.links.items c.first-first.result c.count-count.result c.forget.ensures c.self.invariant.2)),
       c.self.invariant.3,
     )
 

@@ -18,8 +18,8 @@ invariant_of-self c =
       cut_store s.topology s.times s.clock s.nodes.items s.links.items s.datagrams.items c.self.invariant.0 c.args.n c.args.k c.in-Some.at c.index_mut.result.now c.in-Some.ensures.first c.index_mut.ensures.value
           c.cut_bound.new.self c.cut_bound.ensures,
       λ none. absurd (omega (arith, none)),
-      unknown_still s.clock c.forget.new.stills.items s.links.items c.in-Some.at c.cut_bound.new.self (one_forgotten s.stills.items c.forget.new.stills.items c.in-Some.at c.forget.ensures)
-          (forgotten_still s.clock s.stills.items c.forget.new.stills.items s.links.items c.in-Some.at 1 c.forget.ensures c.self.invariant.2),
+      unknown_still s.clock c.forget.new.stills s.links.items c.in-Some.at c.cut_bound.new.self (one_forgotten s.stills c.forget.new.stills c.in-Some.at c.forget.ensures)
+          (forgotten_still s.clock s.stills c.forget.new.stills s.links.items c.in-Some.at 1 c.forget.ensures c.self.invariant.2),
       c.self.invariant.3,
     )
 

@@ -58,8 +58,8 @@ invariant_of-self-2 c =
       received_store s.topology s.times s.clock s.nodes.items s.links.items s.datagrams.items c.self.invariant.0 c.args.i c.in-Some.frame (sym c.in-Some.ensures)
           c.in-Some-node_place.home c.index.result.now home_first c.index.ensures c.in-Some-place.at c.index_mut-2.result.now end_first c.index_mut-2.ensures.value c.receive-2.new.self c.receive-2.ensures,
       λ none. absurd (omega (arith, none)),
-      unknown_still s.clock c.forget.new.stills.items s.links.items c.in-Some-place.at c.receive-2.new.self (one_forgotten s.stills.items c.forget.new.stills.items c.in-Some-place.at c.forget.ensures)
-          (forgotten_still s.clock s.stills.items c.forget.new.stills.items s.links.items c.in-Some-place.at 1 c.forget.ensures c.self.invariant.2),
+      unknown_still s.clock c.forget.new.stills s.links.items c.in-Some-place.at c.receive-2.new.self (one_forgotten s.stills c.forget.new.stills c.in-Some-place.at c.forget.ensures)
+          (forgotten_still s.clock s.stills c.forget.new.stills s.links.items c.in-Some-place.at 1 c.forget.ensures c.self.invariant.2),
       c.self.invariant.3,
     )
 

@@ -27,7 +27,7 @@ invariant_of-self c =
       open_store s.topology s.times s.clock s.nodes.items s.links.items s.datagrams.items c.self.invariant.0 c.args.n c.args.k c.in-Some.at c.index_mut.result.now c.in-Some.ensures.first c.index_mut.ensures.value
           c.open.new.self c.open.ensures,
       λ none. absurd (omega (arith, none)),
-      possible_still s.clock s.stills.items s.links.items c.in-Some.at c.index_mut.result.now c.open.new.self c.in-Some.ensures.first.within c.index_mut.ensures.value
+      possible_still s.clock s.stills s.links.items c.in-Some.at c.index_mut.result.now c.open.new.self c.in-Some.ensures.first.within c.index_mut.ensures.value
           (λ until lt h. both_ways (is_closed c.index_mut.result.now.state) h.opened (ap (λ (x : LinkView). is_closed x.state) (same_read s.links.items c.in-Some.at c.index_mut.result.now c.index.result.now c.in-Some.ensures.first.within c.index_mut.ensures.value c.index.ensures)
           ∙ sym c.is_closed.ensures ∙ c.if-not-is_closed.false)) c.self.invariant.2,
       c.self.invariant.3,

@@ -34,7 +34,7 @@ invariant_of-self c =
       pull_store s.topology s.times s.clock s.nodes.items s.links.items s.datagrams.items c.self.invariant.0 c.args.n c.args.k c.in-Some.at c.index_mut.result.now c.in-Some.ensures.first c.index_mut.ensures.value
           c.pull.new.self (waits c) c.pull.ensures,
       λ none. absurd (omega (arith, none)),
-      possible_still s.clock s.stills.items s.links.items c.in-Some.at c.index_mut.result.now c.pull.new.self c.in-Some.ensures.first.within c.index_mut.ensures.value
+      possible_still s.clock s.stills s.links.items c.in-Some.at c.index_mut.result.now c.pull.new.self c.in-Some.ensures.first.within c.index_mut.ensures.value
           (λ until lt h. both_ways (nat_lt c.index_mut.result.now.pulled (length c.index_mut.result.now.put)) h.lane (lt-ltb c.index_mut.result.now.pulled (length c.index_mut.result.now.put) (waits c))) c.self.invariant.2,
       c.self.invariant.3,
     )

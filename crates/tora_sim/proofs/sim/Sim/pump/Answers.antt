@@ -79,7 +79,7 @@ invariant_of-self c =
       pump_store s.topology s.times s.clock s.nodes.items s.links.items s.datagrams.items c.self.invariant.0 c.args.n c.args.k c.in-Some.at c.index.result.now c.in-Some.ensures.first c.index.ensures c.in-Some-next_event.event (sym c.next_event.ensures ∙ c.in-Some-next_event.is)
           c.in-Some-node_place.home c.index_mut.result.now c.in-Some-node_place.ensures.first c.index_mut.ensures.value c.take_event.new.self c.put_item.new.self (link_is c) (node_is c),
       λ none. absurd (omega (arith, none)),
-      possible_still s.clock s.stills.items s.links.items c.in-Some.at c.index.result.now c.take_event.new.self c.in-Some.ensures.first.within c.index.ensures
+      possible_still s.clock s.stills s.links.items c.in-Some.at c.index.result.now c.take_event.new.self c.in-Some.ensures.first.within c.index.ensures
           (λ until lt h. both_ways (is_some (first_event c.index.result.now.state)) h.events (ap is_some (sym c.next_event.ensures ∙ c.in-Some-next_event.is))) c.self.invariant.2,
       c.self.invariant.3,
     )

@@ -76,9 +76,9 @@ invariant_of-self c =
       restart_store s.topology s.times s.clock s.nodes.items s.links.items s.datagrams.items c.self.invariant.0 c.args.n c.in-Some.home (x c) c.in-Some.ensures.first c.index_mut.ensures.value c.args.torn (core_kept c)
           c.in-Ok.seat c.restart.new.self c.restart_ends.new.links.items (made c) c.restart.ensures (ends c),
       λ none. absurd (omega (arith, none)),
-      changed_still s.clock c.forget.new.stills.items s.links.items c.restart_ends.new.links.items (restarted c.args.torn) c.first-first.result (length c.in-Ok-new_ends.ends.items)
+      changed_still s.clock c.forget.new.stills s.links.items c.restart_ends.new.links.items (restarted c.args.torn) c.first-first.result (length c.in-Ok-new_ends.ends.items)
           (λ place lt. let many = c.in-Ok-new_ends.ensures.as_many in c.forget.ensures.here place (omega (arith, lt, many))) c.restart_ends.ensures
-          (forgotten_still s.clock s.stills.items c.forget.new.stills.items s.links.items c.first-first.result c.count-count.result c.forget.ensures c.self.invariant.2),
+          (forgotten_still s.clock s.stills c.forget.new.stills s.links.items c.first-first.result c.count-count.result c.forget.ensures c.self.invariant.2),
       c.self.invariant.3,
     )
 

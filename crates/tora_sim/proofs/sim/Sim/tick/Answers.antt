@@ -11,7 +11,7 @@ on : (now clock : ℕ) → now ≡ clock + 1 → clock ≤ now
 on now clock e = omega (arith, e)
 
 pub tick-requires : goal.tick-requires
-tick-requires c = let s = c.self.inside in later_still s.clock c.in-Some.now s.stills.items s.links.items (on c.in-Some.now s.clock c.in-Some.ensures.1) c.self.invariant.2
+tick-requires c = let s = c.self.inside in later_still s.clock c.in-Some.now s.stills s.links.items (on c.in-Some.now s.clock c.in-Some.ensures.1) c.self.invariant.2
 
 pub invariant_of-self : goal.invariant_of-self
 invariant_of-self c =
@@ -19,7 +19,7 @@ invariant_of-self c =
     let lt : c.in-Some.now < s.quiet = omega (arith, c.if-now-self.true) in (
       tick_store s.topology s.times s.clock s.nodes.items s.links.items s.datagrams.items c.self.invariant.0 c.in-Some.now s.links.items c.in-Some.ensures.1 (sym (still_ticks s.quiet c.in-Some.now s.links.items lt (c.self.invariant.1 (omega (arith, lt))).1)),
       c.self.invariant.1,
-      later_still s.clock c.in-Some.now s.stills.items s.links.items (on c.in-Some.now s.clock c.in-Some.ensures.1) c.self.invariant.2,
+      later_still s.clock c.in-Some.now s.stills s.links.items (on c.in-Some.now s.clock c.in-Some.ensures.1) c.self.invariant.2,
       c.self.invariant.3,
     )
 
@@ -35,7 +35,7 @@ invariant_of-self-2 c =
     let s = c.self.inside in (
       tick_store s.topology s.times s.clock s.nodes.items s.links.items s.datagrams.items c.self.invariant.0 c.in-Some.now c.tick.new.links.items c.in-Some.ensures.1 c.tick.ensures,
       λ none. absurd (omega (arith, none)),
-      ticked_still s.clock c.in-Some.now s.stills.items s.links.items c.tick.new.links.items (on c.in-Some.now s.clock c.in-Some.ensures.1) c.tick.ensures c.self.invariant.2,
+      ticked_still s.clock c.in-Some.now s.stills s.links.items c.tick.new.links.items (on c.in-Some.now s.clock c.in-Some.ensures.1) c.tick.ensures c.self.invariant.2,
       c.self.invariant.3,
     )
 

@@ -65,7 +65,7 @@ invariant_of-self-2 c =
           c.in-Some-node_place.home c.index_mut-2.result.now c.in-Some-node_place.ensures.first c.index_mut-2.ensures.value c.in-Some-send.frame (due c)
           c.data_frames_are_what_was_submitted.ensures.frame c.send.new.self c.note_sent.new.node c.note_sent.new.datagrams.items c.in-Some-send.ensures.state c.note_sent.ensures.node (all c),
       λ none. absurd (omega (arith, none)),
-      possible_still s.clock s.stills.items s.links.items c.in-Some.at c.index_mut.result.now c.send.new.self c.in-Some.ensures.first.within c.index_mut.ensures.value
+      possible_still s.clock s.stills s.links.items c.in-Some.at c.index_mut.result.now c.send.new.self c.in-Some.ensures.first.within c.index_mut.ensures.value
           (λ until lt h. both_ways (is_some (frame_due c.index_mut.result.now.settings c.index_mut.result.now.state s.clock)) (h.frames s.clock lt) (ap is_some (due c))) c.self.invariant.2,
       c.self.invariant.3,
     )

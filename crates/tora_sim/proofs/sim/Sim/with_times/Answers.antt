@@ -41,7 +41,7 @@ invariant_of-result c =
     let store = is-store c.numbers_are_put_in_order.ensures.order c.numbers_come_and_go.ensures.in_order c.in-Ok.own c.args.times c.nodes-named.ensures.kept c.loop-n.nodes.items c.loop-n.links.items (made c) in (
       subst (λ (ds : List FrameParts). IsStore (state_of c.in-Ok.own c.args.times 0 c.loop-n.nodes.items c.loop-n.links.items ds)) (sym c.new.ensures) store,
       λ none. absurd (omega (arith, none)),
-      none_known 0 c.len-count.result c.in_ok-stills.stills.items c.loop-n.links.items c.in_ok-stills.ensures many,
+      none_known 0 c.len-count.result c.in_ok-stills.stills c.loop-n.links.items c.in_ok-stills.ensures many,
       c.in_ok-keys.ensures ∙ ap (map key_of) c.deref.ensures.value ∙ store.keys,
     )
 

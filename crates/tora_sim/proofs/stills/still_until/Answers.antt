@@ -1,0 +1,11 @@
+use Rattle.std.proofs.Common.{◌<◌, ◌≤◌, ℕ, List, length, subst}
+use Rattle.std.specs.Prelude.{slice_index}
+use Rattle.tora_sim.proofs.StillBlocks.{all_later}
+use Rattle.tora_sim.proofs.stills.still_until.Goals as goal
+
+pub returns : goal.returns
+returns c some =
+    let s = c.stills.inside in
+    let until = c.first_after.result in
+    subst (λ (ends : List ℕ). (at : ℕ) → at < length ends → (c.args.now < slice_index ends at) × (until ≤ slice_index ends at)) c.stills.view_is
+    (all_later c.args.now until s.blocks.items s.ends.items c.stills.invariant (c.first_after.ensures some))
