@@ -1,9 +1,10 @@
 //! All datagrams that were ever sent.
-ghost use Rattle.std.specs.Prelude.{◌≡◌, ◌<◌, ◌^◌, ◌∷◌, ◌++◌, [], length, slice_get, vec_len, vec_capacity, Some, IfSome, IsTrue, OnOk};
+ghost use Rattle.std.specs.Prelude.{◌≡◌, ◌<◌, ◌^◌, ◌∷◌, ◌++◌, [], length, option_map, slice_get, vec_len, vec_capacity, Some, IfSome, IsTrue, OnOk};
 ghost use Rattle.tora_frame.specs.BorrowedFrames.{body_of};
 ghost use Rattle.tora_frame.specs.FrameParts.{batch};
 ghost use Rattle.tora_frame.specs.declared.parts.Body.TheVariants as Carries;
 ghost use Rattle.tora_sim.specs.Datagrams.{DatagramList, HasRoom, IsMore};
+ghost use Rattle.tora_sim.specs.Readers.{way_of};
 
 use crate::kept_frames::KeptFrames;
 use crate::places::Places;
@@ -11,6 +12,7 @@ use crate::same_packets::are_same_packets;
 use std::alloc::{AllocError, Global};
 use std::marker::Model;
 use tora_frame::{BorrowedBody, BorrowedFrame, Version};
+use tora_height::Id;
 use tora_packet::Packet;
 
 /// How many forms of frames there are: HELLOs of either version, DATA frames, and ACKs.
@@ -98,6 +100,16 @@ impl Datagrams {
             return None;
         };
         self.frames.get(at as usize)
+    }
+
+    /// From which node to which the datagram goes that stands behind so many others: only its frame's header is looked at.
+    pub fn way(&self, place: usize) -> Option<(Id, Id)>
+        ensures { result ≡ option_map way_of (slice_get self.now.items place) }
+    {
+        let Some(at) = self.places.get(place) else {
+            return None;
+        };
+        self.frames.way(at as usize)
     }
 }
 

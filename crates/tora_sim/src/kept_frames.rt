@@ -1,15 +1,17 @@
 //! Frames, each kept once where that is seen, with their headers and packets apart.
-ghost use Rattle.std.specs.Prelude.{◌≡◌, ◌<◌, ◌≤◌, ◌+◌, ◌^◌, ◌∷◌, ◌++◌, [], length, slice_get, slice_range, vec_len, vec_capacity, Some, IfSome, OnOk};
+ghost use Rattle.std.specs.Prelude.{◌≡◌, ◌<◌, ◌≤◌, ◌+◌, ◌^◌, ◌∷◌, ◌++◌, [], length, option_map, slice_get, slice_range, vec_len, vec_capacity, Some, IfSome, OnOk};
 ghost use Rattle.std.specs.List.{AllByRecursion};
 ghost use Rattle.tora_frame.specs.FrameParts.{IsFrame, batch, frame_of};
 ghost use Rattle.tora_frame.specs.declared.parts.Body.TheVariants as Carries;
 ghost use Rattle.tora_sim.specs.Datagrams.{DatagramList, HasRoom, IsKept, IsMore, IsWithin, body_in, frame_in, header_at};
+ghost use Rattle.tora_sim.specs.Readers.{way_of};
 
 use crate::same_packets::are_same_packets;
 use crate::split_number::SplitNumber;
 use std::alloc::{AllocError, Global};
 use std::marker::Model;
 use tora_frame::{BorrowedBody, BorrowedFrame, Header, MOST_PACKETS, Version};
+use tora_height::Id;
 use tora_packet::Packet;
 
 /// The most headers and the most packets that are kept: the place of each fits 32 bits.
@@ -115,6 +117,17 @@ impl KeptFrames {
             return None;
         };
         Some(frame_of(&self.headers, &self.packets, kept))
+    }
+
+    /// From which node to which the frame goes that stands behind so many others: only its header is looked at.
+    pub fn way(&self, place: usize) -> Option<(Id, Id)>
+        ensures { result ≡ option_map way_of (slice_get self.now.items place) }
+    {
+        let Some(kept) = self.frames.get(place) else {
+            return None;
+        };
+        let header = header_at(&self.headers, kept.header);
+        Some((header.sender, header.receiver))
     }
 }
 

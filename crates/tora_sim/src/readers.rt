@@ -13,12 +13,11 @@ use crate::datagrams::Datagrams;
 use crate::kept_cargoes::KeptCargoes;
 use crate::links::{LinkSlot, place};
 use crate::nodes::{NodeSlot, place as node_place};
-use crate::sim::{Sim, numbered};
+use crate::sim::Sim;
 use crate::topology::Topology;
 use std::alloc::{AllocError, Global};
 use tora_arq::Life;
 use tora_core::numbers_come_and_go;
-use tora_frame::BorrowedFrame;
 use tora_height::{Entry, Id};
 use tora_packet::Packet;
 use tora_seat::Cargo;
@@ -259,16 +258,8 @@ fn put_ends(ends: &mut Vec<(Id, Id)>, n: Id, neighbours: &[Id]) -> Result<(), Al
 fn way_of_numbered(datagrams: &Datagrams, i: u64) -> Option<(Id, Id)>
     ensures { result ≡ option_map way_of (numbered i datagrams.now.items) }
 {
-    match numbered(datagrams, i) {
-        Some(frame) => Some(way_of(&frame)),
-        None => None,
-    }
-}
-
-fn way_of(frame: &BorrowedFrame<'_>) -> (Id, Id)
-    ensures { result ≡ way_of frame.now }
-{
-    (frame.header().sender, frame.header().receiver)
+    let place = usize::try_from(i).ok()?.checked_sub(1)?;
+    datagrams.way(place)
 }
 
 /// The packet of a cargo, where it is of this life.
