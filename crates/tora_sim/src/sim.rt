@@ -20,7 +20,7 @@ use crate::topology::Topology;
 use crate::turns::turn;
 use crate::{Call, Event, SimError};
 use std::marker::Model;
-use tora_arq::{Times, data_frames_are_what_was_submitted};
+use tora_arq::{Times, calls_keep_an_end, data_frames_are_what_was_submitted};
 use tora_frame::{BorrowedFrame, Packets};
 use tora_height::Id;
 use tora_life::DiskCall;
@@ -132,20 +132,21 @@ impl Sim {
         let Some(at) = place(&self.links, &self.keys, &self.hints, n, k) else {
             return Err(SimError::NoNode);
         };
-        if !self.links[at].has_frame_due(self.clock) {
-            return Err(SimError::NotPossible);
-        }
         let Some(home) = node_place(&self.nodes, &self.hints, n) else {
             return Err(SimError::NoNode);
         };
         if self.datagrams.reserve(at).is_err() {
+            if !self.links[at].has_frame_due(self.clock) {
+                return Err(SimError::NotPossible);
+            }
             return Err(SimError::Memory);
         }
         data_frames_are_what_was_submitted();
-        self.quiet = 0;
+        calls_keep_an_end();
         let Some(frame) = self.links[at].send(self.clock, &mut self.packets) else {
             return Err(SimError::NotPossible);
         };
+        self.quiet = 0;
         note_sent(&mut self.nodes[home], &mut self.datagrams, at, &frame);
         Ok(())
     }
