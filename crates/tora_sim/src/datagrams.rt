@@ -93,6 +93,7 @@ impl Datagrams {
     }
 
     /// The datagram that stands behind so many others, with its packets where they stand.
+    #[inline(always)]
     pub fn get(&self, place: usize) -> Option<BorrowedFrame<'_>>
         ensures { result ≡ slice_get self.now.items place }
     {
@@ -103,6 +104,7 @@ impl Datagrams {
     }
 
     /// From which node to which the datagram goes that stands behind so many others: only its frame's header is looked at.
+    #[inline(always)]
     pub fn way(&self, place: usize) -> Option<(Id, Id)>
         ensures { result ≡ option_map way_of (slice_get self.now.items place) }
     {
@@ -114,11 +116,13 @@ impl Datagrams {
 }
 
 /// Where the guesses of a link end begin.
+#[inline(always)]
 fn first_guess(end: usize) -> usize {
     end.saturating_mul(FORMS)
 }
 
 /// Where the guess for a frame of a link end stands.
+#[inline(always)]
 fn guess_of(end: usize, frame: &BorrowedFrame<'_>) -> usize {
     let form = match frame.body() {
         BorrowedBody::Hello => match frame.header().version {
@@ -152,6 +156,7 @@ fn is_same_data(
 }
 
 /// Whether two bodies are seen to be the same.
+#[inline(always)]
 fn is_same_body(a: BorrowedBody<'_>, b: BorrowedBody<'_>) -> bool
     ensures { IsTrue result → body_of a.entry ≡ body_of b.entry }
 {
@@ -171,6 +176,7 @@ fn is_same_body(a: BorrowedBody<'_>, b: BorrowedBody<'_>) -> bool
 }
 
 /// The place of a frame that is kept, if the guess is right.
+#[inline(always)]
 fn found(frames: &KeptFrames, guess: Option<u32>, frame: &BorrowedFrame<'_>) -> Option<u32>
     ensures { IfSome result (λ place. slice_get frames.now.items place ≡ Some frame.now) }
 {

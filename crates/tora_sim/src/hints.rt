@@ -33,6 +33,7 @@ fn kept_end(place: usize) -> u32
 }
 
 /// The bits of a number that a guess goes by.
+#[inline(always)]
 pub fn bits(n: Id) -> usize
     ensures { result ≡ last_bits n }
 {
@@ -57,6 +58,7 @@ impl Hints {
     }
 
     /// Where a node may stand among the nodes.
+    #[inline(always)]
     pub fn node(&self, n: Id) -> usize
         ensures { result ≡ slice_index self.now.nodes (last_bits n) }
     {
@@ -64,6 +66,7 @@ impl Hints {
     }
 
     /// Where the first link end of a node may stand among the link ends.
+    #[inline(always)]
     pub fn first_end(&self, n: Id) -> usize
         ensures { result ≡ slice_index self.now.ends (last_bits n) }
     {

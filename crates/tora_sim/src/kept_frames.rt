@@ -75,6 +75,7 @@ impl KeptFrames {
     }
 
     /// How many there are.
+    #[inline(always)]
     pub fn len(&self) -> usize
         ensures { result ≡ length self.now.items }
     {
@@ -110,6 +111,7 @@ impl KeptFrames {
     }
 
     /// The frame that stands behind so many others, with its packets where they stand.
+    #[inline(always)]
     pub fn get(&self, place: usize) -> Option<BorrowedFrame<'_>>
         ensures { result ≡ slice_get self.now.items place }
     {
@@ -120,6 +122,7 @@ impl KeptFrames {
     }
 
     /// From which node to which the frame goes that stands behind so many others: only its header is looked at.
+    #[inline(always)]
     pub fn way(&self, place: usize) -> Option<(Id, Id)>
         ensures { result ≡ option_map way_of (slice_get self.now.items place) }
     {
@@ -247,6 +250,7 @@ fn append(packets: &mut Vec<Packet>, carried: &[Packet])
 }
 
 /// The header of a number.
+#[inline(always)]
 fn header_at(headers: &[Header], number: u32) -> Header
     ensures { result ≡ header_at headers.now number }
 {
@@ -263,6 +267,7 @@ fn header_at(headers: &[Header], number: u32) -> Header
 }
 
 /// The frame that is kept so.
+#[inline(always)]
 fn frame_of<'a>(headers: &[Header], packets: &'a [Packet], kept: &KeptFrame) -> BorrowedFrame<'a>
     requires { IsKept headers.now packets.now kept.now }
     ensures { result ≡ frame_in headers.now packets.now kept.now }
@@ -271,6 +276,7 @@ fn frame_of<'a>(headers: &[Header], packets: &'a [Packet], kept: &KeptFrame) -> 
 }
 
 /// The frame of a header and of a body that is kept so.
+#[inline(always)]
 fn frame_with<'a>(header: Header, packets: &'a [Packet], body: &KeptBody) -> BorrowedFrame<'a>
     requires within { IsWithin packets.now body.now }
     requires frame { IsFrame (frame_of header (body_in packets.now body.now)) }

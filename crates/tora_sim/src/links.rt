@@ -126,6 +126,7 @@ impl LinkSlot {
     }
 
     /// Takes the first frame due, whose packets are put into `packets`.
+    #[inline(always)]
     pub fn send<'a>(&mut self, now: u64, packets: &'a mut Packets) -> Option<BorrowedFrame<'a>>
         ensures frame { result ≡ frame_due self.old.settings self.old.state now }
         ensures state { self.new ≡ with_state self.old (after_transmit self.old.settings self.old.state now) }
@@ -136,6 +137,7 @@ impl LinkSlot {
     }
 
     /// Takes a frame in.
+    #[inline(always)]
     pub fn receive(&mut self, frame: &BorrowedFrame<'_>, now: u64)
         ensures { self.new ≡ with_state self.old (after_frame self.old.settings self.old.state frame.now now) }
     {
@@ -303,6 +305,7 @@ pub fn keys_of(alloc: Global, links: &[LinkSlot]) -> Result<Vec<(Id, Id)>, SimEr
 }
 
 /// Whether a key is that of the end of node `n` towards `k`.
+#[inline(always)]
 pub fn is_key(key: (Id, Id), n: Id, k: Id) -> bool
     ensures { result ≡ is_key n k key }
 {
@@ -310,6 +313,7 @@ pub fn is_key(key: (Id, Id), n: Id, k: Id) -> bool
 }
 
 /// The place of the end of node `n` towards `k`, by the keys of the ends: the ends themselves are not looked at.
+#[inline(always)]
 pub fn place(
     _links: &Vec<LinkSlot>,
     keys: &Vec<(Id, Id)>,
@@ -330,6 +334,7 @@ pub fn place(
 }
 
 /// The place of the end, where it is among the first ends of its node, which stand from the place `first` on.
+#[inline(always)]
 fn near(keys: &[(Id, Id)], first: usize, n: Id, k: Id) -> Option<usize>
     ensures { IfSome result (λ i. slice_get keys.now i ≡ Some (n, k)) }
 {

@@ -61,6 +61,7 @@ impl Model for NodeSlot {
 
 impl NodeSlot {
     /// Its number, by which the nodes are in order.
+    #[inline(always)]
     pub fn key(&self) -> Id
         ensures { result ≡ self.now.node }
     {
@@ -68,6 +69,7 @@ impl NodeSlot {
     }
 
     /// Whether it is node `n`.
+    #[inline(always)]
     pub fn is_node(&self, n: Id) -> bool
         ensures { result ≡ is_of n self.now }
     {
@@ -82,6 +84,7 @@ impl NodeSlot {
     }
 
     /// How many items wait for the core.
+    #[inline(always)]
     pub fn waiting(&self) -> usize
         ensures { result ≡ length self.now.items }
     {
@@ -89,6 +92,7 @@ impl NodeSlot {
     }
 
     /// What becomes of the next datagram that it sends.
+    #[inline(always)]
     pub fn sending(&self) -> Sending
         ensures { result ≡ self.now.sending }
     {
@@ -96,6 +100,7 @@ impl NodeSlot {
     }
 
     /// Arms its next send.
+    #[inline(always)]
     pub fn arm_sending(&mut self, sending: Sending)
         ensures { self.new ≡ record self.old { sending = sending } }
     {
@@ -103,6 +108,7 @@ impl NodeSlot {
     }
 
     /// Whether the next datagram for it is not handed over.
+    #[inline(always)]
     pub fn receive(&self) -> bool
         ensures { result ≡ self.now.receive }
     {
@@ -110,6 +116,7 @@ impl NodeSlot {
     }
 
     /// Arms its next receive, or disarms it.
+    #[inline(always)]
     pub fn arm_receive(&mut self, receive: bool)
         ensures { self.new ≡ record self.old { receive = receive } }
     {
@@ -245,6 +252,7 @@ fn note_inputs(inputs: &mut Vec<(Input, u64)>, accepted: &[Input], now: u64)
 }
 
 /// The place of a node.
+#[inline(always)]
 pub fn place(nodes: &Vec<NodeSlot>, hints: &Hints, n: Id) -> Option<usize>
     requires { AreRising nodes.now.items }
     ensures first { IfSome result (λ i. IsFirst (is_of n) nodes.now.items i) }
@@ -257,6 +265,7 @@ pub fn place(nodes: &Vec<NodeSlot>, hints: &Hints, n: Id) -> Option<usize>
 }
 
 /// The place, where the node stands there.
+#[inline(always)]
 fn near(nodes: &[NodeSlot], place: usize, n: Id) -> Option<usize>
     requires { AreRising nodes.now }
     ensures { IfSome result (λ i. IsFirst (is_of n) nodes.now i) }

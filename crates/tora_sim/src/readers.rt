@@ -255,6 +255,7 @@ fn put_ends(ends: &mut Vec<(Id, Id)>, n: Id, neighbours: &[Id]) -> Result<(), Al
     Ok(())
 }
 
+#[inline(always)]
 fn way_of_numbered(datagrams: &Datagrams, i: u64) -> Option<(Id, Id)>
     ensures { result ≡ option_map way_of (numbered i datagrams.now.items) }
 {

@@ -330,6 +330,7 @@ impl Sim {
 }
 
 /// The datagram of a number from 1 on.
+#[inline(always)]
 pub fn numbered(datagrams: &Datagrams, i: u64) -> Option<BorrowedFrame<'_>>
     ensures { result ≡ numbered i datagrams.now.items }
 {
@@ -338,6 +339,7 @@ pub fn numbered(datagrams: &Datagrams, i: u64) -> Option<BorrowedFrame<'_>>
 }
 
 /// Notes a datagram that a node sent by its link end at this place, unless the send is armed to lose it; the arm is used.
+#[inline(always)]
 fn note_sent(node: &mut NodeSlot, datagrams: &mut Datagrams, end: usize, frame: &BorrowedFrame<'_>)
     requires { HasRoom datagrams.old }
     ensures node { node.new ≡ record node.old { sending = Sending.Goes } }
