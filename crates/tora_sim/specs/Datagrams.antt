@@ -16,9 +16,12 @@ pub record DatagramList : Type 0 where
   pub places : ℕ
   pub packet_places : ℕ
 
--- there is room for one more frame
+-- room for so many frames and packets is room for one more frame
+abbrev pub IsRoom : ℕ → ℕ → Type 0
+IsRoom places packet_places = (0 < places) × (16 ≤ packet_places)
+
 abbrev pub HasRoom : DatagramList → Type 0
-HasRoom d = (0 < d.places) × (16 ≤ d.packet_places)
+HasRoom d = IsRoom d.places d.packet_places
 
 -- the body that is kept so
 abbrev pub body_in : List Packet → KeptBody → Body

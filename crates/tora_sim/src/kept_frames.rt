@@ -44,12 +44,14 @@ pub struct KeptFrames {
     headers: Vec<Header>,
     frames: Vec<KeptFrame>,
     packets: Vec<Packet>,
+    /// Whether it is known that there is room for one more: most datagrams say what one before them said, and take none.
+    is_ready: bool,
 }
 
 impl Model for KeptFrames {
-    ghost use Rattle.std.specs.Prelude.{◌-◌, ◌^◌, map, min, length, vec_capacity};
+    ghost use Rattle.std.specs.Prelude.{◌-◌, ◌^◌, ◌≡◌, true, map, min, length, vec_capacity};
     ghost use Rattle.std.specs.List.{AllByRecursion};
-    ghost use Rattle.tora_sim.specs.Datagrams.{DatagramList, IsKept, frame_in};
+    ghost use Rattle.tora_sim.specs.Datagrams.{DatagramList, IsKept, IsRoom, frame_in};
 
     ghost Value = { DatagramList };
 
@@ -59,7 +61,7 @@ impl Model for KeptFrames {
       packet_places = min (vec_capacity d.packets - length d.packets.items) (2 ^ 32 - length d.packets.items);
     } };
 
-    ghost invariant = { λ d. AllByRecursion (IsKept d.headers.items d.packets.items) d.frames.items };
+    ghost invariant = { λ d. AllByRecursion (IsKept d.headers.items d.packets.items) d.frames.items × (d.is_ready ≡ true → IsRoom (min (vec_capacity d.frames - length d.frames.items) (min (vec_capacity d.headers - length d.headers.items) (2 ^ 32 - length d.headers.items))) (min (vec_capacity d.packets - length d.packets.items) (2 ^ 32 - length d.packets.items))) };
 }
 
 impl KeptFrames {
@@ -71,6 +73,7 @@ impl KeptFrames {
             headers: Vec::new(alloc),
             frames: Vec::new(alloc),
             packets: Vec::new(alloc),
+            is_ready: false,
         }
     }
 
@@ -82,11 +85,25 @@ impl KeptFrames {
         self.frames.len()
     }
 
-    /// Makes room for one more.
+    /// Makes room for one more. Where it is known that there is room nothing is asked.
+    #[inline(always)]
     pub fn reserve(&mut self) -> Result<(), AllocError>
         ensures items { self.new.items ≡ self.old.items }
         ensures room { OnOk result (HasRoom self.new) }
     {
+        if self.is_ready {
+            return Ok(());
+        }
+        self.make_room()
+    }
+
+    /// Makes room for one more.
+    #[inline(never)]
+    fn make_room(&mut self) -> Result<(), AllocError>
+        ensures items { self.new.items ≡ self.old.items }
+        ensures room { OnOk result (HasRoom self.new) }
+    {
+        self.is_ready = false;
         if self.headers.len() >= MOST_KEPT {
             return Err(AllocError);
         }
@@ -95,7 +112,9 @@ impl KeptFrames {
         }
         self.headers.reserve(1)?;
         self.frames.reserve(1)?;
-        self.packets.reserve(MOST_PACKETS)
+        self.packets.reserve(MOST_PACKETS)?;
+        self.is_ready = true;
+        Ok(())
     }
 
     /// Appends a frame. There must be room for it. Its header may be that of the frame that stands at the guess: a wrong guess
@@ -108,6 +127,7 @@ impl KeptFrames {
         let header = number_of(&mut self.headers, guess, frame);
         let body = keep_body(&mut self.packets, frame);
         self.frames.push_reserved(KeptFrame { header, body });
+        self.is_ready = false;
     }
 
     /// The frame that stands behind so many others, with its packets where they stand.
