@@ -338,18 +338,10 @@ pub fn place(
 fn near(keys: &[(Id, Id)], first: usize, n: Id, k: Id) -> Option<usize>
     ensures { IfSome result (λ i. slice_get keys.now i ≡ Some (n, k)) }
 {
-    for seat in 0..MOST_TRIED {
-        let at = first.saturating_add(seat);
-        match keys.get(at) {
-            Some(key) => {
-                if is_key(*key, n, k) {
-                    return Some(at);
-                }
-                if key.0 != n {
-                    return None;
-                }
-            }
-            None => return None,
+    let behind = keys.len().min(first.saturating_add(MOST_TRIED));
+    for at in first..behind {
+        if is_key(keys[at], n, k) {
+            return Some(at);
         }
     }
     None

@@ -79,7 +79,7 @@ invariant_of-self-in_default-send c =
       subst (λ (ds : List FrameParts). IsStore (state_of s.topology s.times s.clock s.nodes.items (slice_set s.links.items c.in-Some.at c.send.new.self) ds)) (sym c.reserve.ensures.items)
           (subst (λ (xs : List LinkView). IsStore (state_of s.topology s.times s.clock s.nodes.items xs s.datagrams.items)) (sym (same c)) c.self.invariant.0),
       subst (λ (xs : List LinkView). AreStill s.quiet s.nodes.items xs) (sym (same c)) c.self.invariant.1,
-      subst (λ (xs : List LinkView). AreStillEach s.clock s.stills.items xs) (sym (same c)) c.self.invariant.2,
+      subst (λ (xs : List LinkView). AreStillEach s.clock s.stills xs) (sym (same c)) c.self.invariant.2,
       c.self.invariant.3,
     )
 
