@@ -81,6 +81,7 @@ impl Sim {
     }
 
     /// A closed end is opened with a number of its life file.
+    #[inline(never)]
     pub(crate) fn open(&mut self, n: Id, k: Id) -> Result<(), SimError>
         ensures { Does self.old (Open n k) result self.new }
     {
@@ -111,6 +112,7 @@ impl Sim {
     }
 
     /// The need of a destination goes into a node's lane.
+    #[inline(never)]
     pub(crate) fn need(&mut self, n: Id, d: Id) -> Result<(), SimError>
         ensures { Does self.old (Need n d) result self.new }
     {
@@ -210,6 +212,7 @@ impl Sim {
     }
 
     /// The core of a node serves the first item of its lane.
+    #[inline(never)]
     pub(crate) fn core_turn(&mut self, n: Id) -> Result<(), SimError>
         ensures { Does self.old (CoreTurn n) result self.new }
     {
@@ -230,6 +233,7 @@ impl Sim {
     }
 
     /// A node restarts: its core, ends and lanes are made anew, and its life files are opened after a crash.
+    #[inline(never)]
     pub(crate) fn restart(&mut self, n: Id, torn: Option<[u8; 16]>) -> Result<(), SimError>
         ensures { Does self.old (Restart n torn) result self.new }
     {
@@ -253,6 +257,7 @@ impl Sim {
     }
 
     /// A call of a node is made to fail.
+    #[inline(never)]
     pub(crate) fn arm(&mut self, n: Id, call: Call) -> Result<(), SimError>
         ensures { Does self.old (Arm n call) result self.new }
     {
@@ -301,6 +306,7 @@ impl Sim {
     pub fn step(&mut self, event: &Event) -> Result<(), SimError>
         ensures { Does self.old event.now result self.new }
     {
+        // What happens seldom is never put in here: each event would pay for the locals of all.
         match event {
             Event::Need(n, d) => self.need(*n, *d),
             Event::Tick => self.tick(),
