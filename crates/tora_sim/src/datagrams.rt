@@ -1,19 +1,14 @@
 //! All datagrams that were ever sent.
-ghost use Rattle.std.specs.Prelude.{◌≡◌, ◌<◌, ◌^◌, ◌∷◌, ◌++◌, [], length, option_map, slice_get, vec_len, vec_capacity, Some, IfSome, IsTrue, OnOk};
-ghost use Rattle.tora_frame.specs.BorrowedFrames.{body_of};
-ghost use Rattle.tora_frame.specs.FrameParts.{batch};
-ghost use Rattle.tora_frame.specs.declared.parts.Body.TheVariants as Carries;
+ghost use Rattle.std.specs.Prelude.{◌≡◌, ◌<◌, ◌^◌, ◌∷◌, ◌++◌, [], length, option_map, slice_get, vec_len, vec_capacity, Some, IfSome, OnOk};
 ghost use Rattle.tora_sim.specs.Datagrams.{DatagramList, HasRoom, IsMore};
 ghost use Rattle.tora_sim.specs.Readers.{way_of};
 
 use crate::kept_frames::KeptFrames;
 use crate::places::Places;
-use crate::same_packets::are_same_packets;
 use std::alloc::{AllocError, Global};
 use std::marker::Model;
 use tora_frame::{BorrowedBody, BorrowedFrame, Version};
 use tora_height::Id;
-use tora_packet::Packet;
 
 /// How many forms of frames there are: HELLOs of either version, DATA frames, and ACKs.
 const FORMS: usize = 4;
@@ -135,46 +130,6 @@ fn guess_of(end: usize, frame: &BorrowedFrame<'_>) -> usize {
     first_guess(end).saturating_add(form)
 }
 
-/// Whether the numbers and the packets of two DATA frames are seen to be the same.
-fn is_same_data(
-    number: u64,
-    count: u64,
-    packets: &[Packet],
-    other: u64,
-    accepted: u64,
-    others: &[Packet],
-) -> bool
-    ensures { IsTrue result → Carries.Data number count (batch packets.now) ≡ Carries.Data other accepted (batch others.now) }
-{
-    if number != other {
-        return false;
-    }
-    if count != accepted {
-        return false;
-    }
-    are_same_packets(packets, others)
-}
-
-/// Whether two bodies are seen to be the same.
-#[inline(always)]
-fn is_same_body(a: BorrowedBody<'_>, b: BorrowedBody<'_>) -> bool
-    ensures { IsTrue result → body_of a.entry ≡ body_of b.entry }
-{
-    match a {
-        BorrowedBody::Hello => matches!(b, BorrowedBody::Hello),
-        BorrowedBody::Data(number, count, packets) => match b {
-            BorrowedBody::Data(other, accepted, others) => {
-                is_same_data(number, count, packets, other, accepted, others)
-            }
-            _ => false,
-        },
-        BorrowedBody::Ack(count) => match b {
-            BorrowedBody::Ack(other) => count == other,
-            _ => false,
-        },
-    }
-}
-
 /// The place of a frame that is kept, if the guess is right.
 #[inline(always)]
 fn found(frames: &KeptFrames, guess: Option<u32>, frame: &BorrowedFrame<'_>) -> Option<u32>
@@ -183,10 +138,7 @@ fn found(frames: &KeptFrames, guess: Option<u32>, frame: &BorrowedFrame<'_>) -> 
     let Some(place) = guess else {
         return None;
     };
-    let Some(other) = frames.get(place as usize) else {
-        return None;
-    };
-    let is_same = *other.header() == *frame.header() && is_same_body(other.body(), frame.body());
+    let is_same = frames.is_at(place as usize, frame);
     if is_same { Some(place) } else { None }
 }
 

@@ -1,11 +1,12 @@
 //! Frames, each kept once where that is seen, with their headers and packets apart.
-ghost use Rattle.std.specs.Prelude.{◌≡◌, ◌<◌, ◌≤◌, ◌+◌, ◌^◌, ◌∷◌, ◌++◌, [], length, option_map, slice_get, slice_range, vec_len, vec_capacity, Some, IfSome, OnOk};
+ghost use Rattle.std.specs.Prelude.{◌≡◌, ◌<◌, ◌≤◌, ◌+◌, ◌^◌, ◌∷◌, ◌++◌, [], length, option_map, slice_get, slice_range, vec_len, vec_capacity, Some, IfSome, IsTrue, OnOk};
 ghost use Rattle.std.specs.List.{AllByRecursion};
 ghost use Rattle.tora_frame.specs.FrameParts.{IsFrame, batch, frame_of};
 ghost use Rattle.tora_frame.specs.declared.parts.Body.TheVariants as Carries;
 ghost use Rattle.tora_sim.specs.Datagrams.{DatagramList, HasRoom, IsKept, IsMore, IsWithin, body_in, frame_in, header_at};
 ghost use Rattle.tora_sim.specs.Readers.{way_of};
 
+use crate::same_frames::is_kept_frame;
 use crate::same_packets::are_same_packets;
 use crate::split_number::SplitNumber;
 use std::alloc::{AllocError, Global};
@@ -139,6 +140,17 @@ impl KeptFrames {
             return None;
         };
         Some(frame_of(&self.headers, &self.packets, kept))
+    }
+
+    /// Whether the frame that stands behind so many others is seen to be this one: it is compared where it stands.
+    #[inline(always)]
+    pub fn is_at(&self, place: usize, frame: &BorrowedFrame<'_>) -> bool
+        ensures { IsTrue result → slice_get self.now.items place ≡ Some frame.now }
+    {
+        let Some(kept) = self.frames.get(place) else {
+            return false;
+        };
+        is_kept_frame(&self.headers, &self.packets, kept, frame)
     }
 
     /// From which node to which the frame goes that stands behind so many others: only its header is looked at.

@@ -36,6 +36,7 @@ mod quiet;
 mod readers;
 mod rest;
 mod restarts;
+mod same_frames;
 mod same_packets;
 mod sim;
 mod split_number;

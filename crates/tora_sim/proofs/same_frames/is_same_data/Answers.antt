@@ -1,6 +1,6 @@
 use Rattle.std.proofs.Common.{◌≡◌, arith}
 use Rattle.tora_sim.proofs.SamePackets.{same_data}
-use Rattle.tora_sim.proofs.datagrams.is_same_data.Goals as goal
+use Rattle.tora_sim.proofs.same_frames.is_same_data.Goals as goal
 
 pub returns : goal.returns
 returns c same =
