@@ -22,6 +22,5 @@ pub mod Restarts
 pub mod Resting
 pub mod Quiet
 pub mod Stills
-pub mod SamePackets
 pub mod KeptCargoes
 pub mod Lane
