@@ -1,5 +1,5 @@
 //! The lane from a core to a link end, and what was ever put into it.
-ghost use Rattle.std.specs.Prelude.{◌≡◌, ◌<◌, ◌≤◌, ◌+◌, ◌++◌, ◌∷◌, [], true, suc, Some, length, nat_lt, slice_get, OnOk, IfOk};
+ghost use Rattle.std.specs.Prelude.{◌≡◌, ◌<◌, ◌≤◌, ◌+◌, ◌++◌, ◌∷◌, [], true, suc, Some, length, nat_lt, slice_get, take, OnOk, IfOk};
 ghost use Rattle.tora_seat.specs.declared.TheConstants.{MOST_CARGOES};
 ghost use Rattle.tora_world.specs.Lists.{packets_of, parcels_in};
 ghost use Rattle.tora_sim.specs.Lane.{has_place_in};
@@ -125,7 +125,7 @@ impl Lane {
     }
 }
 
-/// Keeps the cargoes that left a lane in less, one after another.
+/// Keeps the cargoes that left a lane in less: all of them, or those before the first for which there is no memory.
 fn keep_taken(
     past: &mut KeptCargoes,
     cargoes: &mut Vec<Cargo>,
@@ -137,11 +137,22 @@ fn keep_taken(
     ensures within { taken.new ≤ length cargoes.new.items }
     ensures done { OnOk result (taken.new ≡ 0) }
 {
-    for _ in 0..*taken {
-        past.reserve()?;
-        let cargo = cargoes.remove(0);
-        past.push(&cargo);
-        *taken -= 1;
+    let kept = keep_first(past, &cargoes[..*taken]);
+    cargoes.drain(..kept);
+    *taken -= kept;
+    if *taken == 0 { Ok(()) } else { Err(AllocError) }
+}
+
+/// Appends cargoes up to the first for which there is no memory, and says how many they are.
+fn keep_first(past: &mut KeptCargoes, cargoes: &[Cargo]) -> usize
+    ensures kept { past.new.items ≡ past.old.items ++ take result cargoes.now }
+    ensures within { result ≤ length cargoes.now }
+{
+    for place in 0..cargoes.len() {
+        if past.reserve().is_err() {
+            return place;
+        }
+        past.push(&cargoes[place]);
     }
-    Ok(())
+    cargoes.len()
 }
