@@ -1,4 +1,4 @@
-use Rattle.std.proofs.Common.{ℕ, Some, ◌∙◌, ap, sym, arith, length, get_or}
+use Rattle.std.proofs.Common.{ℕ, Some, ◌∙◌, ap, sym, arith, get_or}
 use Rattle.std.proofs.lemmas.Option.{slice_get-get_or}
 use Rattle.tora_sim.proofs.Keys.{key_is}
 use Rattle.tora_sim.proofs.links.near.Goals as goal
