@@ -39,7 +39,7 @@ pub use rounds::{
     EndTurn, make_parted_rounds, make_parted_rounds_over, make_rounds, make_rounds_over, repeat,
     turn_cores, turn_end, turn_ends,
 };
-pub use running_simulation::{Running, has_end, mend, part};
+pub use running_simulation::{Running, has_end};
 pub use script_line::SimulationLine;
 pub use setup::Setup;
 pub use simulation::{Simulation, Stage};

@@ -7,10 +7,10 @@ ghost use Rattle.tora_lines.specs.LineText.{numbered, TakesReply};
 ghost use Rattle.tora_world.specs.World.{sent_packets, taken_packets};
 ghost use Rattle.tora_script.specs.Simulator.{ArePairs, AreIds, started};
 ghost use Rattle.tora_script.specs.RunningView.{running_view};
-ghost use Rattle.tora_script.specs.SimulationText.{begun_in, has_end, with_parted, without_parted, node_line, heights_text, heights_reply, count_text, exact_reply, rest_text, nodes_text, walk_text, walk_reply, at_rest_text, at_rest_reply, running_reply, event_reply, after_rounds, part_of, where_linked, known_height};
+ghost use Rattle.tora_script.specs.SimulationText.{begun_in, has_end, without_parted, node_line, heights_text, heights_reply, count_text, exact_reply, rest_text, nodes_text, walk_text, walk_reply, at_rest_text, at_rest_reply, running_reply, event_reply, after_rounds, part_of, where_linked, known_height};
 
 use crate::air::Air;
-use crate::parted::{Parted, is_parted, is_same_pair};
+use crate::parted::Parted;
 use crate::rounds::make_parted_rounds;
 use crate::script_line::SimulationLine;
 use crate::setup::Setup;
@@ -77,24 +77,6 @@ fn is_end(a: Id, b: Id, end: (Id, Id)) -> bool
     ensures { result ≡ ((end.0 == a) && (end.1 == b)) }
 {
     end.0 == a && end.1 == b
-}
-
-/// Parts two nodes.
-pub fn part(parted: &mut Vec<(Id, Id)>, a: Id, b: Id) -> Result<(), AllocError>
-    ensures { OnOk result (parted.new.items ≡ with_parted a b parted.old.items) }
-{
-    if is_parted(parted.as_slice(), a, b) {
-        return Ok(());
-    }
-    parted.push((a, b))?;
-    Ok(())
-}
-
-/// Mends two nodes.
-pub fn mend(parted: &mut Vec<(Id, Id)>, a: Id, b: Id)
-    ensures { parted.new.items ≡ without_parted a b parted.old.items }
-{
-    parted.retain(|p| !is_same_pair((a, b), *p));
 }
 
 fn known_height(height: Option<Entry>) -> Entry
