@@ -1,11 +1,13 @@
 //! The life file of a link end.
-ghost use Rattle.std.specs.Prelude.{◌≡◌, ◌≢◌, ◌<◌, ◌≤◌, ◌^◌, ℕ, IfSome, IfNone};
+ghost use Rattle.std.specs.Prelude.{◌≡◌, ◌≢◌, ◌<◌, ◌≤◌, ◌^◌, ℕ, IfSome, IfNone, MatchResult};
 ghost use Rattle.tora_life.specs.LifeRun.{opened, after_event, drawn_by, owner_in};
 ghost use Rattle.tora_life.specs.LifeRun.LifeEvent.{Draw, Arm};
 ghost use Rattle.tora_world.specs.World.{reopened};
 ghost use Rattle.tora_sim.specs.Files.{disk_of, IsDrawn};
 ghost use Rattle.tora_arq.specs.LinkFacts.{list_of};
 
+use crate::SimError;
+use std::alloc::Global;
 use tora_life::{DiskCall, LifeFile, MemDisk, Owner};
 
 /// An open life file, or the disk of one that did not open for its owner.
@@ -25,6 +27,19 @@ pub fn open(disk: MemDisk, owner: Owner) -> FileSlot
     match LifeFile::open(disk, owner.node, owner.peer) {
         Ok(file) => FileSlot::Opened(file),
         Err(fault) => FileSlot::Unopened(owner, fault.disk),
+    }
+}
+
+/// A file in a place of its own.
+///
+/// # Errors
+/// `Memory`.
+pub fn apart(alloc: Global, file: FileSlot) -> Result<Box<FileSlot>, SimError>
+    ensures { MatchResult result (λ place. place.value ≡ file) (λ e. e ≡ SimError.Memory) }
+{
+    match Box::new(alloc, file) {
+        Ok(place) => Ok(place),
+        Err(_) => Err(SimError::Memory),
     }
 }
 

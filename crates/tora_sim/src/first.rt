@@ -12,7 +12,7 @@ ghost use Rattle.tora_sim.specs.LinksByBits.{rows_in, AreRowsOf};
 
 use crate::SimError;
 use crate::datagrams::Datagrams;
-use crate::files::open;
+use crate::files::{apart, open};
 use crate::hints::Hints;
 use crate::kept_cargoes::KeptCargoes;
 use crate::lane::Lane;
@@ -200,12 +200,13 @@ fn new_link(
     let Ok(end) = end_of(alloc, version, n, k, times) else {
         return Err(SimError::Memory);
     };
+    let file = apart(alloc, open(MemDisk::new(), Owner { node: n, peer: k }))?;
     Ok(LinkSlot {
         node: n,
         peer: k,
         seat,
         end,
-        file: open(MemDisk::new(), Owner { node: n, peer: k }),
+        file,
         lane: Lane::new(alloc),
         still: 0,
         steps: KeptCargoes::new(alloc),
