@@ -62,6 +62,7 @@ impl Datagrams {
     }
 
     /// Makes room for one more, which the link end at a place sends.
+    #[inline(always)]
     pub fn reserve(&mut self, end: usize) -> Result<(), AllocError>
         ensures items { self.new.items ≡ self.old.items }
         ensures room { OnOk result (HasRoom self.new) }
@@ -79,6 +80,7 @@ impl Datagrams {
     }
 
     /// Appends a datagram that the link end at a place sends. There must be room for it.
+    #[inline(always)]
     pub fn push(&mut self, end: usize, frame: &BorrowedFrame<'_>)
         requires { HasRoom self.old }
         ensures { self.new.items ≡ self.old.items ++ frame.now ∷ [] }
@@ -143,6 +145,7 @@ fn found(frames: &KeptFrames, guess: Option<u32>, frame: &BorrowedFrame<'_>) -> 
 }
 
 /// The place of a frame, which is kept now if it was not.
+#[inline(always)]
 fn place_of(
     frames: &mut KeptFrames,
     guesses: &mut [u32],

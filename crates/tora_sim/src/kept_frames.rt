@@ -120,6 +120,7 @@ impl KeptFrames {
 
     /// Appends a frame. There must be room for it. Its header may be that of the frame that stands at the guess: a wrong guess
     /// costs memory and nothing else.
+    #[inline(never)]
     pub fn push(&mut self, frame: &BorrowedFrame<'_>, guess: Option<u32>)
         requires { HasRoom self.old }
         ensures { self.new.items ≡ self.old.items ++ frame.now ∷ [] }
