@@ -41,7 +41,7 @@ pub struct LinkSlot {
     /// The lane from the node's core.
     pub(crate) lane: Lane,
     pub(crate) end: LinkEnd,
-    /// In a place of its own, since it takes more bytes than all else here and is seldom looked at: so the ends lie close together.
+    /// In a place of its own, since it is seldom looked at: so the ends lie close together.
     pub(crate) file: Box<FileSlot>,
     /// The packets of the peer that the node's core ever stepped, each with its life.
     pub(crate) steps: KeptCargoes,
