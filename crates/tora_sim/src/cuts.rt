@@ -19,7 +19,6 @@ impl LinkSlot {
         ensures { self.new ≡ with_state self.old (after_cut_of_bound self.old.state (bound_life self.old.state)) }
     {
         lives_are_bound_once();
-        self.still = 0;
         cut_bound(&mut self.end);
     }
 }

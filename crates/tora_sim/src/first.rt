@@ -208,7 +208,6 @@ fn new_link(
         end,
         file,
         lane: Lane::new(alloc),
-        still: 0,
         steps: KeptCargoes::new(alloc),
     })
 }

@@ -35,10 +35,7 @@ pub struct LinkSlot {
     pub(crate) peer: Id,
     /// The place of the peer among the node's neighbours.
     pub(crate) seat: usize,
-    /// Before this tick nothing is to be done here, and no tick changes the end; 0 where that isn't known. What a round asks
-    /// of an end that it does not pass over stands in front.
-    pub(crate) still: u64,
-    /// The lane from the node's core.
+    /// The lane from the node's core. What a round asks of an end that it does not pass over stands in front.
     pub(crate) lane: Lane,
     pub(crate) end: LinkEnd,
     /// In a place of its own, since it is seldom looked at: so the ends lie close together.
@@ -54,13 +51,12 @@ impl Model for LinkSlot {
     ghost use Rattle.tora_world.specs.World.{owner_of};
     ghost use Rattle.tora_sim.specs.Files.{disk_of, IsDrawn};
     ghost use Rattle.tora_sim.specs.Links.{LinkView, link_of};
-    ghost use Rattle.tora_sim.specs.Quiet.{IsStillIf};
 
     ghost Value = { LinkView };
 
     ghost view = { λ s. link_of s.node s.peer s.seat s.end (disk_of s.file.value) s.lane.put s.lane.pulled s.lane.room s.steps.items (length (parcels_in s.steps.items) + s.steps.places) };
 
-    ghost invariant = { λ s. IsDrawn s.end.state.last_life (disk_of s.file.value) × (s.lane.pulled ≤ length s.lane.put) × (owner_in (disk_of s.file.value) ≡ owner_of s.end.settings.me s.end.settings.peer) × IsStillIf s.still (link_of s.node s.peer s.seat s.end (disk_of s.file.value) s.lane.put s.lane.pulled s.lane.room s.steps.items (length (parcels_in s.steps.items) + s.steps.places)) };
+    ghost invariant = { λ s. IsDrawn s.end.state.last_life (disk_of s.file.value) × (s.lane.pulled ≤ length s.lane.put) × (owner_in (disk_of s.file.value) ≡ owner_of s.end.settings.me s.end.settings.peer) };
 }
 
 impl LinkSlot {
@@ -118,11 +114,7 @@ impl LinkSlot {
     pub fn tick(&mut self, now: u64)
         ensures { self.new ≡ with_state self.old (after_tick self.old.settings self.old.state now) }
     {
-        if now < self.still {
-            return;
-        }
         lives_are_bound_once();
-        self.still = 0;
         self.end.on_tick(now);
     }
 
@@ -133,7 +125,6 @@ impl LinkSlot {
         ensures state { self.new ≡ with_state self.old (after_transmit self.old.settings self.old.state now) }
     {
         lives_are_bound_once();
-        self.still = 0;
         self.end.poll_transmit_into(now, packets)
     }
 
@@ -143,7 +134,6 @@ impl LinkSlot {
         ensures { self.new ≡ with_state self.old (after_frame self.old.settings self.old.state frame.now now) }
     {
         lives_are_bound_once();
-        self.still = 0;
         self.end.on_borrowed_frame(frame, now);
     }
 
@@ -153,7 +143,6 @@ impl LinkSlot {
         ensures state { self.new ≡ with_state self.old (after_poll_event self.old.state) }
     {
         lives_are_bound_once();
-        self.still = 0;
         self.end.poll_event()
     }
 
@@ -162,7 +151,6 @@ impl LinkSlot {
         requires { IsTrue (is_closed self.old.state) }
         ensures { self.new ≡ after_open_at self.old now }
     {
-        self.still = 0;
         if let Some(number) = self.file.draw() {
             self.end.open(number, now);
         }
@@ -189,7 +177,6 @@ impl LinkSlot {
     {
         lives_are_bound_once();
         let cargo = self.lane.take();
-        self.still = 0;
         hand_in(&mut self.end, &cargo);
     }
 
@@ -221,7 +208,6 @@ impl LinkSlot {
         if !self.lane.has_place() {
             return false;
         }
-        self.still = 0;
         self.lane.put(cargo);
         true
     }
@@ -252,7 +238,6 @@ impl LinkSlot {
             node: self.end.me(),
             peer: self.end.peer(),
         };
-        self.still = 0;
         mem::swap(&mut self.end, end);
         let file = mem::replace(&mut *self.file, FileSlot::Unopened(owner, MemDisk::new()));
         *self.file = file.restart(owner, torn);

@@ -30,7 +30,7 @@ impl Sim {
         if self.clock < self.quiet {
             return;
         }
-        settle_ends(&mut self.links, &mut self.stills, self.clock);
+        settle_ends(&self.links, &mut self.stills, self.clock);
         let until = quiet_until(&self.nodes, &self.links, &self.stills, self.clock);
         self.quiet = until;
     }
@@ -48,10 +48,9 @@ fn quiet_until(nodes: &Vec<NodeSlot>, _links: &Vec<LinkSlot>, stills: &Stills, n
 }
 
 /// Looks at each link end of which no tick is known that is still to come, for the tick before which nothing is to be done at it.
-fn settle_ends(links: &mut Vec<LinkSlot>, stills: &mut Stills, now: u64)
-    requires { AreStillEach now stills.old links.old.items }
-    ensures links { links.new.items ≡ links.old.items }
-    ensures stills { AreStillEach now stills.new links.old.items }
+fn settle_ends(links: &Vec<LinkSlot>, stills: &mut Stills, now: u64)
+    requires { AreStillEach now stills.old links.now.items }
+    ensures { AreStillEach now stills.new links.now.items }
 {
     for block in 0..block_count(stills) {
         settle_block(links, stills, block, now);
@@ -59,11 +58,10 @@ fn settle_ends(links: &mut Vec<LinkSlot>, stills: &mut Stills, now: u64)
 }
 
 /// Looks at each such end of a block, and keeps the tick of the block anew, unless it tells that there is none.
-fn settle_block(links: &mut Vec<LinkSlot>, stills: &mut Stills, block: usize, now: u64)
+fn settle_block(links: &Vec<LinkSlot>, stills: &mut Stills, block: usize, now: u64)
     requires within { 16 * block < length stills.old }
-    requires still { AreStillEach now stills.old links.old.items }
-    ensures links { links.new.items ≡ links.old.items }
-    ensures stills { AreStillEach now stills.new links.old.items }
+    requires still { AreStillEach now stills.old links.now.items }
+    ensures { AreStillEach now stills.new links.now.items }
 {
     if is_still_block(stills, block, now) {
         return;
@@ -76,16 +74,15 @@ fn settle_block(links: &mut Vec<LinkSlot>, stills: &mut Stills, block: usize, no
 }
 
 #[inline(always)]
-fn settle_end(links: &mut Vec<LinkSlot>, stills: &mut Stills, place: usize, now: u64)
+fn settle_end(links: &Vec<LinkSlot>, stills: &mut Stills, place: usize, now: u64)
     requires within { place < length stills.old }
-    requires still { AreStillEach now stills.old links.old.items }
-    ensures links { links.new.items ≡ links.old.items }
-    ensures stills { AreStillEach now stills.new links.old.items }
+    requires still { AreStillEach now stills.old links.now.items }
+    ensures { AreStillEach now stills.new links.now.items }
 {
     if now < still_at(stills, place) {
         return;
     }
-    let until = links[place].settled(now);
+    let until = links[place].still_until();
     keep_still(stills, place, until);
 }
 
@@ -105,36 +102,6 @@ impl NodeSlot {
 }
 
 impl LinkSlot {
-    /// Looks before which tick nothing is to be done here, unless it is known at a tick that nothing is.
-    #[inline(always)]
-    fn settle(&mut self, now: u64)
-        ensures { self.new ≡ self.old }
-    {
-        if now < self.still {
-            return;
-        }
-        let until = self.still_until();
-        self.still = until;
-    }
-
-    /// Before which tick it is known that nothing is to be done here; 0 where that isn't known.
-    #[inline(always)]
-    fn known_still(&self) -> u64
-        ensures { IsStillIf result self.now }
-    {
-        self.still
-    }
-
-    /// Looks as `settle` does, and tells before which tick nothing is to be done here; 0 where something is to be done at once.
-    #[inline(always)]
-    fn settled(&mut self, now: u64) -> u64
-        ensures same { self.new ≡ self.old }
-        ensures until { IsStillIf result self.old }
-    {
-        self.settle(now);
-        self.known_still()
-    }
-
     /// Before which tick nothing is to be done here; 0 where something is to be done at once.
     fn still_until(&self) -> u64
         ensures { IsStillIf result self.now }

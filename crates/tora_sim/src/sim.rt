@@ -42,8 +42,8 @@ pub struct Sim {
     pub(crate) hints: Hints,
     /// Before this tick nothing is to be done at any node or link end, and no tick changes one; 0 where that isn't known.
     pub(crate) quiet: u64,
-    /// Of each link end the tick before which nothing is to be done at it, where that tick is still to come; else it says nothing. Each
-    /// end keeps its own, too; they stand here as well, since every part of a round asks them of all ends.
+    /// Of each link end the tick before which nothing is to be done at it, where that tick is still to come; else it says nothing. They
+    /// stand here, and not at the ends, since every part of a round asks them of all ends.
     pub(crate) stills: Stills,
     /// Where the packets of a frame stand while it is sent.
     pub(crate) packets: Packets,

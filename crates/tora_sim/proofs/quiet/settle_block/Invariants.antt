@@ -1,9 +1,5 @@
-use Rattle.std.proofs.Common.{◌≡◌}
 use Rattle.tora_sim.specs.Quiet.{AreStillEach}
 use Rattle.tora_sim.proofs.quiet.settle_block.Given as goal
 
 abbrev pub invariant-loop-place : goal.invariant-loop-place
-invariant-loop-place l = record {
-  links : l.links.items ≡ l.initial.links.items;
-  stills : AreStillEach l.now l.stills l.initial.links.items;
-}
+invariant-loop-place l = AreStillEach l.now l.stills l.links.items

@@ -1,4 +1,4 @@
-use Rattle.std.proofs.Common.{arith, ap, sym, ◌∙◌}
+use Rattle.std.proofs.Common.{ap, sym, ◌∙◌}
 use Rattle.tora_arq.specs.LinkEnd.{bound_life}
 use Rattle.tora_arq.specs.EndRange.{LinkEndView}
 use Rattle.tora_seat.specs.Between.{after_cut_of_bound}
@@ -13,5 +13,4 @@ invariant_of-self c =
           (bound_stays c.lives_are_bound_once.ensures.number end.settings end.state (bound_life end.state)) c.self.invariant.0,
       c.self.invariant.1,
       c.self.invariant.2 ∙ sym (ap (λ (e : LinkEndView). owner_of e.settings.me e.settings.peer) c.cut_bound.ensures),
-      λ none. absurd (omega (arith, none)),
     )

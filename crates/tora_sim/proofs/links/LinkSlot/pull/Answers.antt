@@ -20,7 +20,6 @@ invariant_of-self c =
           (cargo_stays c.lives_are_bound_once.ensures.number end.settings end.state c.take-cargo.result) c.self.invariant.0,
       (let w : c.self.inside.lane.pulled < length c.self.inside.lane.put = subst (λ (v : LinkView). v.pulled < length v.put) (sym c.self.view_is) c.requires in subst (λ (v : LaneView). v.pulled ≤ length v.put) (sym c.take-cargo.ensures.lane) (omega (arith, w))),
       c.self.invariant.2 ∙ sym (ap (λ (e : LinkEndView). owner_of e.settings.me e.settings.peer) c.hand_in.ensures),
-      λ none. absurd (omega (arith, none)),
     )
 
 pub returns : goal.returns

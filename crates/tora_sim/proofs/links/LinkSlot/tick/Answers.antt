@@ -1,4 +1,4 @@
-use Rattle.std.proofs.Common.{arith, ap, sym, ◌∙◌}
+use Rattle.std.proofs.Common.{ap, sym, ◌∙◌}
 use Rattle.tora_arq.specs.LinkEnd.{after_tick}
 use Rattle.tora_arq.specs.EndRange.{LinkEndView}
 use Rattle.tora_world.specs.World.{owner_of}
@@ -12,5 +12,4 @@ invariant_of-self c =
           (tick_stays c.lives_are_bound_once.ensures.number end.settings end.state c.args.now) c.self.invariant.0,
       c.self.invariant.1,
       c.self.invariant.2 ∙ sym (ap (λ (e : LinkEndView). owner_of e.settings.me e.settings.peer) c.on_tick.ensures),
-      λ none. absurd (omega (arith, none)),
     )
