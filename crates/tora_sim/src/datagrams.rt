@@ -1,5 +1,5 @@
-//! All datagrams that were ever sent.
-ghost use Rattle.std.specs.Prelude.{◌≡◌, ◌<◌, ◌^◌, ◌∷◌, ◌++◌, [], length, option_map, slice_get, vec_len, vec_capacity, Some, IfSome, OnOk};
+//! The datagrams that were sent.
+ghost use Rattle.std.specs.Prelude.{◌≡◌, ◌<◌, ◌^◌, ◌∷◌, ◌++◌, [], length, drop, option_map, option_to_list, slice_get, vec_len, vec_capacity, Some, IfOk, IfSome, OnOk};
 ghost use Rattle.tora_sim.specs.Datagrams.{DatagramList, HasRoom, IsMore};
 ghost use Rattle.tora_sim.specs.Readers.{way_of};
 
@@ -16,7 +16,10 @@ const FORMS: usize = 4;
 /// The most frames that are kept: the place of each fits 32 bits.
 const MOST_FRAMES: usize = 0xffff_ffff;
 
-/// All datagrams that were ever sent, in order.
+/// So many frames are kept beside twice as many as there are datagrams, before those that no datagram has are let go.
+const MOST_UNUSED: usize = 1024;
+
+/// All datagrams that were ever sent, in order, but for the first ones that were let go.
 ///
 /// Most of them say what one before them said, as every HELLO does but the first of a life, and every DATA frame that is sent again: such a
 /// frame is kept once where it is found, and a datagram is the place of its frame, in three bytes up to the first place that needs four. Where the frame of a datagram may stand already is a guess: where
@@ -109,6 +112,60 @@ impl Datagrams {
             return None;
         };
         self.frames.way(at as usize)
+    }
+
+    /// Lets the first datagrams go, so many or all. What they took is for those to come: their places, and their frames once those that no
+    /// datagram has any more are most of all.
+    pub fn forget_first(&mut self, many: usize)
+        ensures { self.new.items ≡ drop many self.old.items }
+    {
+        self.forget_places(many);
+        self.renew();
+    }
+
+    /// Lets the places of the first datagrams go.
+    fn forget_places(&mut self, many: usize)
+        ensures { self.new.items ≡ drop many self.old.items }
+    {
+        self.places.forget_first(many);
+    }
+
+    /// Keeps only the frames that datagrams have, where most of those that are kept are of none. Where memory for them is refused, all stays as
+    /// it is.
+    fn renew(&mut self)
+        ensures { self.new.items ≡ self.old.items }
+    {
+        let most = self.places.len().saturating_mul(2);
+        if self.frames.len() <= most.saturating_add(MOST_UNUSED) {
+            return;
+        }
+        if let Ok(renewed) = self.renewed() {
+            *self = renewed;
+        }
+    }
+
+    /// The same datagrams, whose frames are kept anew.
+    fn renewed(&self) -> Result<Datagrams, AllocError>
+        ensures { IfOk result (λ renewed. renewed.items ≡ self.now.items) }
+    {
+        let alloc = *self.guesses.allocator();
+        let mut renewed = Datagrams::new(alloc);
+        for place in 0..self.len() {
+            renewed.push_from(self, place)?;
+        }
+        Ok(renewed)
+    }
+
+    /// Appends the datagram that stands behind so many others of these.
+    fn push_from(&mut self, datagrams: &Datagrams, place: usize) -> Result<(), AllocError>
+        ensures { OnOk result (self.new.items ≡ self.old.items ++ option_to_list (slice_get datagrams.now.items place)) }
+    {
+        let Some(frame) = datagrams.get(place) else {
+            return Ok(());
+        };
+        self.reserve(0)?;
+        self.push(0, &frame);
+        Ok(())
     }
 }
 
