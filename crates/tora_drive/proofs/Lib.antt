@@ -1,6 +1,8 @@
 pub mod AnswerLaws
 pub mod DigitLaws
 pub mod DriveLaws
+pub mod GivesLaws
+pub mod GoneLaws
 pub mod HopLaws
 pub mod NumberLaws
 pub mod OrderLaws
@@ -13,3 +15,7 @@ pub mod SimulatedLaws
 pub mod StepLaws
 pub mod TakenLaws
 pub mod TellLaws
+pub mod WholeEvents
+pub mod WholeLines
+pub mod WholePlans
+pub mod WholeRounds

@@ -8,3 +8,4 @@ pub mod Runs
 pub mod Scripts
 pub mod Steps
 pub mod Taking
+pub mod Whole
