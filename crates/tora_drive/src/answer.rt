@@ -1,5 +1,5 @@
 //! The answer to a line of a running simulation.
-ghost use Rattle.std.specs.Prelude.{◌≡◌, ◌++◌, [], OnOk, IfOk, Err, Some, None, string_bytes, is_some, if◌then◌else◌};
+ghost use Rattle.std.specs.Prelude.{◌≡◌, ◌+◌, ◌++◌, [], length, OnOk, IfOk, Err, Some, None, string_bytes, is_some, if◌then◌else◌};
 ghost use Rattle.std.specs.List.{flat_map};
 ghost use Rattle.std.specs.Option.{option_map_or};
 ghost use Rattle.tora_lines.specs.Gives.{Gives};
@@ -7,16 +7,18 @@ ghost use Rattle.tora_lines.specs.LineText.{TakesReply};
 ghost use Rattle.tora_world.specs.World.{refusal_of};
 ghost use Rattle.tora_script.specs.RunningView.{running_view};
 ghost use Rattle.tora_script.specs.SimulationText.{refusal_text, event_reply, has_end};
-ghost use Rattle.tora_drive.specs.DriveText.{named, with_far, without_far, outcome, shown, unnamed, is_forgotten, event_outcome, after_step, need_line, needs_text, bytes_line, silenced, noticed, forgetting, outcome_of, may_change_hops, closing, answer_to};
+ghost use Rattle.tora_drive.specs.DriveText.{named, with_far, without_far, outcome, shown, unnamed, is_forgotten, event_outcome, after_step, need_line, needs_text, bytes_line, silenced, noticed, forgetting, outcome_of, closing, answer_to};
 ghost use Rattle.tora_drive.specs.DriveView.{own_view, record_view};
-ghost use Rattle.tora_drive.specs.Records.{routes_of};
 ghost use Rattle.tora_drive.specs.Recording.{events_text, with_record, step_recorded, line_recorded, answer_recorded};
 ghost use Rattle.tora_drive.specs.Steps.{step};
+ghost use Rattle.tora_drive.specs.Whole.{whole, whole_run, whole_own, outcome_behind};
 
 use crate::driven::Driven;
+use crate::gone::Gone;
 use crate::line::DriveLine;
+use crate::lowering::lowered;
 use crate::own::Own;
-use crate::records::{Route, routes, write_frame, write_hops, write_sent};
+use crate::records::{routes_before, write_frame, write_hops, write_sent};
 use crate::stepping::make_step;
 use crate::taken::line_in;
 use crate::telling::make_step_told;
@@ -187,20 +189,22 @@ fn notice<S: Driven>(
 fn write_bytes<S: Driven>(
     running: &Running<S>,
     own: &Own,
+    gone: &Gone,
     i: u64,
     out: &mut String,
 ) -> Result<bool, AllocError>
     requires { string_bytes out.old ≡ [] }
     ensures { IfOk result (λ r. outcome (running_view S.world running.now) (own_view own.now) (string_bytes out.new) r
-        ≡ option_map_or (λ f. shown (running_view S.world running.now) (own_view own.now) (bytes_line i f)) (named (own_view own.now) (S.world running.now.sim) i) (unnamed (running_view S.world running.now) (own_view own.now))) }
+        ≡ option_map_or (λ f. shown (running_view S.world running.now) (own_view own.now) (bytes_line (length gone.now + i) f)) (named (own_view own.now) (S.world running.now.sim) i) (unnamed (running_view S.world running.now) (own_view own.now))) }
 {
     if i <= own.forgotten {
         refuse(out, SimError::NoDatagram)?;
         return Ok(true);
     }
+    let number = gone.with(i)?;
     match running.sim.frame(i) {
         Some(frame) => {
-            write_frame(out, i, &frame)?;
+            write_frame(out, number, &frame)?;
             Ok(false)
         }
         None => {
@@ -232,16 +236,36 @@ fn forget<S: Driven>(
 }
 
 /// Does what a line asks for, puts what is printed first behind an empty text, and says whether it was refused.
-#[tactic(auto, unfolding(crate::specs::DriveText::outcome_of))]
 fn perform<S: Driven>(
     alloc: Global,
     running: &mut Running<S>,
     own: &mut Own,
+    gone: &Gone,
     line: DriveLine,
     out: &mut String,
 ) -> Result<bool, LineError>
     requires { string_bytes out.old ≡ [] }
-    ensures gives { Gives (λ r. outcome (running_view S.world running.new) (own_view own.new) (string_bytes out.new) r) result (outcome_of (running_view S.world running.old) (own_view own.old) line) }
+    ensures gives { Gives (λ r. outcome (whole_run gone.now (running_view S.world running.new)) (whole_own (length gone.now) (own_view own.new)) (string_bytes out.new) r) result (outcome_of (whole_run gone.now (running_view S.world running.old)) (whole_own (length gone.now) (own_view own.old)) line) }
+    ensures kept { result ≡ Err LineError.Fault → running_view S.world running.new ≡ running_view S.world running.old }
+    ensures own { result ≡ Err LineError.Fault → own_view own.new ≡ own_view own.old }
+    ensures record { IfOk result (λ r. record_view own.new ≡ step_recorded (record_view own.old) (whole_run gone.now (running_view S.world running.old)) (whole_own (length gone.now) (own_view own.old)) line) }
+{
+    let left = lowered(gone.count(), line);
+    perform_left(alloc, running, own, gone, left, out)
+}
+
+/// The same for a line by the numbers of the datagrams that are left, over the world that has only those.
+#[tactic(auto, unfolding(crate::specs::Whole::outcome_behind))]
+fn perform_left<S: Driven>(
+    alloc: Global,
+    running: &mut Running<S>,
+    own: &mut Own,
+    gone: &Gone,
+    line: DriveLine,
+    out: &mut String,
+) -> Result<bool, LineError>
+    requires { string_bytes out.old ≡ [] }
+    ensures gives { Gives (λ r. outcome (running_view S.world running.new) (own_view own.new) (string_bytes out.new) r) result (outcome_behind (length gone.now) (running_view S.world running.old) (own_view own.old) line) }
     ensures kept { result ≡ Err LineError.Fault → running_view S.world running.new ≡ running_view S.world running.old }
     ensures own { result ≡ Err LineError.Fault → own_view own.new ≡ own_view own.old }
     ensures record { IfOk result (λ r. record_view own.new ≡ step_recorded (record_view own.old) (running_view S.world running.old) (own_view own.old) line) }
@@ -276,41 +300,13 @@ fn perform<S: Driven>(
             Ok(is_refused)
         }
         DriveLine::Bytes(i) => {
-            let is_refused = write_bytes(running, own, i, out)?;
+            let is_refused = write_bytes(running, own, gone, i, out)?;
             Ok(is_refused)
         }
         DriveLine::Forget(i) => {
             let is_refused = forget(running, own, i, out)?;
             Ok(is_refused)
         }
-    }
-}
-
-/// Whether a line may turn a core, or make one anew: no other changes a next hop.
-fn may_change_hops(line: &DriveLine) -> bool
-    ensures { result ≡ may_change_hops line.now }
-{
-    match line {
-        DriveLine::Script(SimulationLine::Happens(Event::CoreTurn(_))) => true,
-        DriveLine::Script(SimulationLine::Happens(Event::Restart(_, _))) => true,
-        DriveLine::Script(SimulationLine::Rounds(_)) => true,
-        DriveLine::Step => true,
-        _ => false,
-    }
-}
-
-/// The next hops before a line, where it may change them.
-fn routes_before<S: Driven>(
-    alloc: Global,
-    running: &Running<S>,
-    line: &DriveLine,
-) -> Result<Vec<Route>, AllocError>
-    ensures { IfOk result (λ v. v.items ≡ (if may_change_hops line.now then routes_of (S.world running.now.sim) running.now.nodes.items running.now.dests.items else [])) }
-{
-    if may_change_hops(line) {
-        routes(alloc, &running.sim, &running.nodes, &running.dests)
-    } else {
-        Ok(Vec::new(alloc))
     }
 }
 
@@ -355,21 +351,22 @@ pub fn answer<S: Driven>(
     alloc: Global,
     running: &mut Running<S>,
     own: &mut Own,
+    gone: &Gone,
     text: &[u8],
     out: &mut String,
 ) -> Result<(), LineError>
     requires { string_bytes out.old ≡ [] }
-    ensures gives { Gives (λ _. (running_view S.world running.new, own_view own.new, string_bytes out.new)) result (answer_to (running_view S.world running.old) (own_view own.old) text.now) }
+    ensures gives { Gives (λ _. (whole_run gone.now (running_view S.world running.new), whole_own (length gone.now) (own_view own.new), string_bytes out.new)) result (answer_to (whole_run gone.now (running_view S.world running.old)) (whole_own (length gone.now) (own_view own.old)) text.now) }
     ensures kept { result ≡ Err LineError.Fault → running_view S.world running.new ≡ running_view S.world running.old }
     ensures own { result ≡ Err LineError.Fault → own_view own.new ≡ own_view own.old }
-    ensures record { OnOk result (record_view own.new ≡ answer_recorded (record_view own.old) (running_view S.world running.old) (own_view own.old) text.now) }
+    ensures record { OnOk result (record_view own.new ≡ answer_recorded (record_view own.old) (whole_run gone.now (running_view S.world running.old)) (whole_own (length gone.now) (own_view own.old)) text.now) }
 {
-    let line = line_in(alloc, &running.sim, own.forgotten, text)?;
+    let line = line_in(alloc, &running.sim, gone, own.forgotten, text)?;
     let first = running.sim.datagrams();
     let before = routes_before(alloc, running, &line)?;
-    let is_refused = perform(alloc, running, own, line, out)?;
+    let is_refused = perform(alloc, running, own, gone, line, out)?;
     record_line(alloc, own, &line, text, is_refused)?;
-    write_sent(out, &running.sim, first)?;
+    write_sent(out, &running.sim, gone, first)?;
     write_hops(out, &running.sim, &before)?;
     close(out, is_refused)?;
     Ok(())

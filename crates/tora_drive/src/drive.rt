@@ -1,13 +1,14 @@
 //! What is kept of a drive between two lines.
 ghost use Rattle.tora_arq.specs.Settings.{IsTimes};
 
+use crate::gone::Gone;
 use crate::own::Own;
 use tora_arq::Times;
 use tora_script::Stage;
 use tora_world::Limits;
 
 /// A drive, by how many lines came, how large its world may be, the times of its link ends, none of which is 0, the simulation that
-/// the lines made, and what is kept beside it.
+/// the lines made, what is kept beside it, and the datagrams that it let go.
 #[derive(Drop)]
 pub struct Drive<S> {
     pub lines: u64,
@@ -15,5 +16,6 @@ pub struct Drive<S> {
     pub times: Times,
     pub stage: Stage<S>,
     pub own: Own,
+    pub gone: Gone,
     ghost are_times: { ∥ IsTimes times ∥₁ },
 }

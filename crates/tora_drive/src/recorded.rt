@@ -8,6 +8,7 @@ ghost use Rattle.tora_drive.specs.Recording.{DrivesRecorded, IsRecordedBegun};
 
 use crate::drive::Drive;
 use crate::driven::Driven;
+use crate::gone::Gone;
 use crate::line::says_notice;
 use crate::own::Own;
 use std::alloc::{AllocError, Global};
@@ -85,6 +86,7 @@ pub fn drive_recorded<S: Driven, R: Read, W: Write, V: Output>(
             times,
             stage: Stage::First,
             own: Own::recorded(alloc),
+            gone: Gone::new(),
         },
         out,
     };

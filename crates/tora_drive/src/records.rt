@@ -1,16 +1,20 @@
 //! What is told of a line that changed a world.
-ghost use Rattle.std.specs.Prelude.{◌≡◌, ◌-◌, ◌++◌, ◌∷◌, [], codes, OnOk, IfOk, length, string_bytes};
+ghost use Rattle.std.specs.Prelude.{◌≡◌, ◌<◌, ◌+◌, ◌-◌, ◌++◌, ◌∷◌, [], codes, OnOk, IfOk, length, string_bytes, if◌then◌else◌};
 ghost use Rattle.tora_drive.specs.Records.{sent_line, sent_of, sent_from, is_same_hop, hop_line, routes_at, routes_of};
 ghost use Rattle.std.specs.List.{flat_map};
 ghost use Rattle.std.specs.Fmt.{decimal};
-ghost use Rattle.tora_drive.specs.DriveText.{bytes_line};
+ghost use Rattle.tora_drive.specs.DriveText.{bytes_line, may_change_hops};
+ghost use Rattle.tora_drive.specs.Whole.{whole};
 
 use crate::driven::Driven;
+use crate::gone::Gone;
+use crate::line::DriveLine;
 use std::alloc::{AllocError, Global};
 use tora_frame::{Frame, LONGEST_FRAME, encode};
 use tora_height::Id;
-use tora_script::Simulator;
+use tora_script::{Running, SimulationLine, Simulator};
 use tora_trace::HopText;
+use tora_world::Event;
 
 /// The next hop of a node to a destination, as it was.
 #[derive(Clone, Copy, Debug)]
@@ -32,22 +36,34 @@ fn write_datagram(out: &mut String, i: u64, frame: &Frame) -> Result<(), AllocEr
     writeln!(out, "sent {sender} {receiver} {i} {length}")
 }
 
-/// Puts the line of a datagram behind a text.
-fn write_sent_one<S: Driven>(out: &mut String, sim: &S, i: u64) -> Result<(), AllocError>
-    ensures { OnOk result (string_bytes out.new ≡ string_bytes out.old ++ sent_of (S.world sim.now) i) }
+/// Puts the line of a datagram behind a text, by its number from 1 among those that are left.
+fn write_sent_one<S: Driven>(
+    out: &mut String,
+    sim: &S,
+    gone: &Gone,
+    i: u64,
+) -> Result<(), AllocError>
+    requires { 0 < i }
+    ensures { OnOk result (string_bytes out.new ≡ string_bytes out.old ++ sent_of (whole gone.now (S.world sim.now)) (length gone.now + i)) }
 {
+    let number = gone.with(i)?;
     match sim.frame(i) {
-        Some(frame) => write_datagram(out, i, &frame),
+        Some(frame) => write_datagram(out, number, &frame),
         None => Ok(()),
     }
 }
 
-/// Puts the lines of the datagrams behind the first ones behind a text.
-pub fn write_sent<S: Driven>(out: &mut String, sim: &S, first: u64) -> Result<(), AllocError>
-    ensures { OnOk result (string_bytes out.new ≡ string_bytes out.old ++ sent_from (S.world sim.now) first (length (S.world sim.now).datagrams - first)) }
+/// Puts the lines of the datagrams behind a text that are left behind the first ones.
+pub fn write_sent<S: Driven>(
+    out: &mut String,
+    sim: &S,
+    gone: &Gone,
+    first: u64,
+) -> Result<(), AllocError>
+    ensures { OnOk result (string_bytes out.new ≡ string_bytes out.old ++ sent_from (whole gone.now (S.world sim.now)) (length gone.now + first) (length (S.world sim.now).datagrams - first)) }
 {
     for i in first..sim.datagrams() {
-        write_sent_one(out, sim, i + 1)?;
+        write_sent_one(out, sim, gone, i + 1)?;
     }
     Ok(())
 }
@@ -109,6 +125,34 @@ pub fn routes<S: Simulator>(
         put_routes(&mut routes, sim, *n, dests)?;
     }
     Ok(routes)
+}
+
+/// Whether a line may turn a core, or make one anew: no other changes a next hop.
+fn may_change_hops(line: &DriveLine) -> bool
+    ensures { result ≡ may_change_hops line.now }
+{
+    match line {
+        DriveLine::Script(SimulationLine::Happens(Event::CoreTurn(_))) => true,
+        DriveLine::Script(SimulationLine::Happens(Event::Restart(_, _))) => true,
+        DriveLine::Script(SimulationLine::Rounds(_)) => true,
+        DriveLine::Step => true,
+        _ => false,
+    }
+}
+
+/// The next hops before a line, where it may change them.
+pub fn routes_before<S: Driven>(
+    alloc: Global,
+    running: &Running<S>,
+    line: &DriveLine,
+) -> Result<Vec<Route>, AllocError>
+    ensures { IfOk result (λ v. v.items ≡ (if may_change_hops line.now then routes_of (S.world running.now.sim) running.now.nodes.items running.now.dests.items else [])) }
+{
+    if may_change_hops(line) {
+        routes(alloc, &running.sim, &running.nodes, &running.dests)
+    } else {
+        Ok(Vec::new(alloc))
+    }
 }
 
 fn is_same_hop(a: Option<Id>, b: Option<Id>) -> bool
