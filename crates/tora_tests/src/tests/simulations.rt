@@ -285,3 +285,55 @@ fn times_are_those_given(rt: HostRuntime) {
     let mut sim = Sim::with_times(rt.alloc(), &topology, TIMES).expect(&rt, "a simulator");
     runs(&rt, rt.alloc(), &mut sim, HELLOS);
 }
+
+/// What is left of two datagrams once the first is gone.
+const LEFT: &[Step] = &[
+    Datagrams(1),
+    Datagram(0, None),
+    Datagram(1, Some((2, 1))),
+    Datagram(2, None),
+    Does(Event::Deliver(1)),
+];
+
+#[test]
+fn first_datagrams_go(rt: HostRuntime) {
+    let mut sim = row(&rt, rt.alloc());
+    happen(
+        &rt,
+        &mut sim,
+        &[
+            Event::Open(1, 2),
+            Event::Transmit(1, 2),
+            Event::Open(2, 1),
+            Event::Transmit(2, 1),
+        ],
+    );
+    sim.forget_first(1);
+    runs(&rt, rt.alloc(), &mut sim, LEFT);
+    sim.forget_first(5);
+    runs(
+        &rt,
+        rt.alloc(),
+        &mut sim,
+        &[Datagrams(0), Datagram(1, None)],
+    );
+}
+
+#[test]
+fn frames_of_datagrams_that_are_left_stay(rt: HostRuntime) {
+    let mut sim = row(&rt, rt.alloc());
+    for _ in 0..1100 {
+        happen(
+            &rt,
+            &mut sim,
+            &[
+                Event::Restart(1, None),
+                Event::Open(1, 2),
+                Event::Transmit(1, 2),
+            ],
+        );
+    }
+    happen(&rt, &mut sim, &[Event::Open(2, 1), Event::Transmit(2, 1)]);
+    sim.forget_first(1100);
+    runs(&rt, rt.alloc(), &mut sim, LEFT);
+}

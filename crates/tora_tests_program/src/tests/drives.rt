@@ -70,6 +70,19 @@ const OWN_LINES: &[Row] = &[
          refused 3\nrefused 3\nrefused 3\nok\nrefused 3\nrefused 3\nok\nrefused 3\nok\n",
         Ended::Whole,
     ),
+    // Numbers go on behind datagrams whose memory was given back.
+    (
+        &[STEPPED],
+        &[
+            "deliver 1\ndeliver 2\ndeliver 3\ndeliver 4\nforget 3\nbytes 4\nforget 4\nstep\nbytes 4\nforget 7\n\
+           deliver 5\ndeliver 6\nforget 6\nstep\ndeliver 0\ndeliver 6\ndeliver 7\n",
+        ],
+        "ok\nok\nok\nsent 1 2 1 28\nsent 1 2 2 28\nsent 2 1 3 28\nsent 2 1 4 28\nok\n\
+         ok\nok\nok\nok\nok\nbytes 4 01010000000000020000000100000000000000010000000000000000\nok\nok\n\
+         sent 1 2 5 28\nsent 2 1 6 28\nok\nrefused 3\nrefused 3\n\
+         ok\nok\nok\nsent 1 2 7 80\nhop 1 2 2\nok\nrefused 3\nrefused 3\nok\n",
+        Ended::Whole,
+    ),
     // The HELLO of version 1 of node 2, in its bytes: as what node 1 got from 2, and from others.
     (
         &[STEPPED],
