@@ -1,9 +1,10 @@
 -- Of which link ends it is known until which tick nothing is to be done at them, as ends change.
-use Rattle.std.proofs.Common.{◌≡◌, ℕ, zero, suc, ◌+◌, ◌<◌, ◌≤◌, ◌⊎◌, inl, inr, List, [], ◌∷◌, ◌++◌, map, length, set, slice_get, Option, Some, None, Result, Ok, Err, refl, sym, ap, ◌∙◌, subst, arith, option_map}
+use Rattle.std.proofs.Common.{◌≡◌, ℕ, zero, suc, ◌+◌, ◌<◌, ◌≤◌, ◌⊎◌, inl, inr, Bool, true, false, true≢false, nat_lt, if◌then◌else◌, List, [], ◌∷◌, ◌++◌, map, length, set, slice_get, Option, Some, None, Result, Ok, Err, refl, sym, ap, ◌∙◌, subst, arith, option_map}
 use Rattle.std.specs.Prelude.{replicate, slice_index, slice_index_or}
-use Rattle.std.proofs.lemmas.Bool.{cases_eq}
-use Rattle.std.proofs.lemmas.List.{length-map, length-replicate, length-set, get_or-set_same, get_or-set_other}
+use Rattle.std.proofs.lemmas.Bool.{cases_Bool, cases_eq, ltb-false, le-ltb}
+use Rattle.std.proofs.lemmas.List.{length-append, length-map, length-replicate, length-set, get_or-set_same, get_or-set_other}
 use Rattle.std.proofs.lemmas.Option.{none-some, same_Some, slice_get_read, slice_get_within, slice_get-map}
+use Rattle.tora_seat.specs.declared.cargo.Cargo.{Cargo}
 use Rattle.tora_seat.specs.declared.stepped.Stepped.{Stepped}
 use Rattle.tora_seat.specs.Offers.{AreOffered, place_of}
 use Rattle.tora_seat.specs.Serving.{Offer}
@@ -11,7 +12,8 @@ use Rattle.tora_world.specs.declared.sim_error.SimError.{SimError}
 use Rattle.tora_sim.specs.Lanes.{LanesView, after_offer_at, bare, AreAlike, DidOffer}
 use Rattle.tora_sim.specs.Links.{LinkView, ticked, AreChanged}
 use Rattle.tora_sim.specs.Nodes.{NodeView}
-use Rattle.tora_sim.specs.Quiet.{IsStill, IsStillIf, AreStillEach, AreForgotten}
+use Rattle.tora_sim.specs.Possible.{has_cargo}
+use Rattle.tora_sim.specs.Quiet.{IsStill, IsStillIf, AreStillEach, AreForgotten, IsForgottenWhere, AreForgottenWhere}
 use Rattle.tora_sim.specs.Store.{EachOf}
 use Rattle.tora_sim.specs.Turns.{IsNoted, Turns}
 use Rattle.tora_sim.proofs.FreshEnds.{item_at, below_next}
@@ -99,14 +101,6 @@ unknown_still clock stills links at new nothing h = record { as_many = h.as_many
     go j y lt (inl p) = let zero_there : slice_index stills j ≡ 0 = ap (slice_index stills) p.0 ∙ nothing in absurd (omega (arith, lt, zero_there))
     go j y lt (inr old) = h.still j y lt old
 
--- an end that is as still as it was
-pub same_still : (clock : ℕ) (stills : List ℕ) (links : List LinkView) (at : ℕ) (x new : LinkView) → slice_get links at ≡ Some x → ((until : ℕ) → IsStill until x → IsStill until new) → AreStillEach clock stills links → AreStillEach clock stills (set links at new)
-same_still clock stills links at x new there keeps h = record { as_many = h.as_many ∙ sym (length-set links at new); still = λ j y lt found. go j y lt (set_read links at new j y found) }
-  where
-    go : (j : ℕ) (y : LinkView) → clock < slice_index stills j → ((j ≡ at) × (new ≡ y)) ⊎ (slice_get links j ≡ Some y) → IsStill (slice_index stills j) y
-    go j y lt (inl p) = subst (λ (z : LinkView). IsStill (slice_index stills j) z) p.1 (keeps (slice_index stills j) (h.still j x lt (ap (slice_get links) p.0 ∙ there)))
-    go j y lt (inr old) = h.still j y lt old
-
 -- ends that are each as still as they were
 pub mapped_still : (clock : ℕ) (stills : List ℕ) (links after : List LinkView) (f : LinkView → LinkView) → after ≡ map f links → ((until : ℕ) (x : LinkView) → IsStill until x → IsStill until (f x)) → AreStillEach clock stills links → AreStillEach clock stills after
 mapped_still clock stills links after f e keeps h = record {
@@ -134,9 +128,6 @@ alike_still clock stills links after e h = record {
 
 pub one_forgotten : (before stills : List ℕ) (at : ℕ) → AreForgotten before stills at 1 → slice_index stills at ≡ 0
 one_forgotten before stills at f = let here : at + 0 ≡ at = omega arith in subst (λ (n : ℕ). slice_index stills n ≡ 0) here (f.here 0 (omega arith))
-
-pub none_at_node : (before stills : List ℕ) (first count : ℕ) (node : NodeView) → first ≡ node.first → count ≡ node.count → AreForgotten before stills first count → (place : ℕ) → place < node.count → slice_index stills (node.first + place) ≡ 0
-none_at_node before stills first count node e q f place lt = subst (λ (n : ℕ). slice_index stills (n + place) ≡ 0) e (f.here place (omega (arith, lt, q)))
 
 pub forgotten_still : (clock : ℕ) (before stills : List ℕ) (links : List LinkView) (first count : ℕ) → AreForgotten before stills first count → AreStillEach clock before links → AreStillEach clock stills links
 forgotten_still clock before stills links first count f h = record { as_many = f.as_many ∙ h.as_many; still = λ at link lt there. go at link lt there (f.others at) }
@@ -187,25 +178,130 @@ changed_still clock stills before links change first count nothing c h = record 
 
 -- ---- a turn of a core
 
-offered_still : (clock : ℕ) (stills : List ℕ) (ks : List ℕ) (offers : List Offer) (lanes after : LanesView) → ((place : ℕ) → place < lanes.count → slice_index stills (lanes.first + place) ≡ 0) → AreOffered DidOffer ks lanes offers after
-    → AreStillEach clock stills lanes.links → AreStillEach clock stills after.links
-offered_still clock stills ks [] lanes after nothing e h = subst (λ (v : LanesView). AreStillEach clock stills v.links) (sym e) h
-offered_still clock stills ks (o ∷ offers) lanes after nothing (between, did, rest) h =
-    let first : between.first ≡ lanes.first = ap (λ (v : LanesView). v.first) did.lanes in
-    let count : between.count ≡ lanes.count = ap (λ (v : LanesView). v.count) did.lanes in
-    offered_still clock stills ks offers between after
-    (λ place lt. subst (λ (n : ℕ). slice_index stills (n + place) ≡ 0) (sym first) (nothing place (omega (arith, lt, count)))) rest
-    (subst (λ (v : LanesView). AreStillEach clock stills v.links) (sym did.lanes) (unknown_still clock stills lanes.links (lanes.first + place_of o.to ks) (after_offer_at did.link o.cargo o.put) (nothing (place_of o.to ks) did.within) h))
+-- what is known of each end but of those of so many from a place on in whose lane a cargo waits
+pub record AreStillBut (clock : ℕ) (stills : List ℕ) (links : List LinkView) (first count : ℕ) : Type 0 where
+  pub as_many : length stills ≡ length links
+  pub still : (at : ℕ) (link : LinkView) → clock < slice_index stills at → slice_get links at ≡ Some link → ((place : ℕ) → place < count → at ≡ first + place → has_cargo link ≡ false) → IsStill (slice_index stills at) link
 
-noted_still : (clock : ℕ) (stills : List ℕ) (lanes : LanesView) (seat : ℕ) (stepped : Option Stepped) (links : List LinkView) → IsNoted lanes seat stepped links → AreStillEach clock stills lanes.links → AreStillEach clock stills links
-noted_still clock stills lanes seat None links e h = subst (λ (xs : List LinkView). AreStillEach clock stills xs) (sym e) h
-noted_still clock stills lanes seat (Some p) links (link, there, is) h =
+all_but : (clock : ℕ) (stills : List ℕ) (links : List LinkView) (first count : ℕ) → AreStillEach clock stills links → AreStillBut clock stills links first count
+all_but clock stills links first count h = record { as_many = h.as_many; still = λ at link lt there free. h.still at link lt there }
+
+-- where no cargo waits behind an offer, none waited before it
+none_before : (pulled : ℕ) (cargoes more : List Cargo) → nat_lt pulled (length (cargoes ++ more)) ≡ false → nat_lt pulled (length cargoes) ≡ false
+none_before pulled cargoes more e =
+    let all = ltb-false pulled (length (cargoes ++ more)) e in
+    let both = length-append cargoes more in
+    le-ltb pulled (length cargoes) (omega (arith, all, both))
+
+still_offered : (until : ℕ) (x : LinkView) (cargo : Cargo) (put : Bool) → has_cargo (after_offer_at x cargo put) ≡ false → IsStill until x → IsStill until (after_offer_at x cargo put)
+still_offered until x cargo put none h = record { opened = h.opened; lane = none; events = h.events; frames = h.frames; ticks = h.ticks }
+
+offered_at : (clock : ℕ) (stills : List ℕ) (links : List LinkView) (first count place at : ℕ) (x : LinkView) (cargo : Cargo) (put : Bool) → at ≡ first + place → place < count → slice_get links at ≡ Some x → AreStillBut clock stills links first count
+    → AreStillBut clock stills (set links at (after_offer_at x cargo put)) first count
+offered_at clock stills links first count place at x cargo put here within there h = record {
+  as_many = h.as_many ∙ sym (length-set links at (after_offer_at x cargo put));
+  still = λ j y lt found free. go j y lt free (set_read links at (after_offer_at x cargo put) j y found);
+}
+  where
+    go : (j : ℕ) (y : LinkView) → clock < slice_index stills j → ((p : ℕ) → p < count → j ≡ first + p → has_cargo y ≡ false) → ((j ≡ at) × (after_offer_at x cargo put ≡ y)) ⊎ (slice_get links j ≡ Some y) → IsStill (slice_index stills j) y
+    go j y lt free (inl p) =
+        let none : has_cargo (after_offer_at x cargo put) ≡ false = ap has_cargo p.1 ∙ free place within (p.0 ∙ here) in
+        let before : has_cargo x ≡ false = none_before x.pulled x.put (if put then cargo ∷ [] else []) none in
+        let s : IsStill (slice_index stills j) x = h.still j x lt (ap (slice_get links) p.0 ∙ there) (λ q less e. before) in
+        subst (λ (z : LinkView). IsStill (slice_index stills j) z) p.1 (still_offered (slice_index stills j) x cargo put none s)
+    go j y lt free (inr old) = h.still j y lt old free
+
+all_offers : (clock : ℕ) (stills ks : List ℕ) (first count : ℕ) (offers : List Offer) (lanes after : LanesView) → lanes.first ≡ first → lanes.count ≡ count → AreOffered DidOffer ks lanes offers after → AreStillBut clock stills lanes.links first count
+    → AreStillBut clock stills after.links first count
+all_offers clock stills ks first count [] lanes after f n e h = subst (λ (v : LanesView). AreStillBut clock stills v.links first count) (sym e) h
+all_offers clock stills ks first count (o ∷ offers) lanes after f n (between, did, rest) h =
+    let here : lanes.first + place_of o.to ks ≡ first + place_of o.to ks = ap (λ (m : ℕ). m + place_of o.to ks) f in
+    let within : place_of o.to ks < count = subst (λ (m : ℕ). place_of o.to ks < m) n did.within in
+    all_offers clock stills ks first count offers between after (ap (λ (v : LanesView). v.first) did.lanes ∙ f) (ap (λ (v : LanesView). v.count) did.lanes ∙ n) rest
+    (subst (λ (v : LanesView). AreStillBut clock stills v.links first count) (sym did.lanes)
+    (offered_at clock stills lanes.links first count (place_of o.to ks) (lanes.first + place_of o.to ks) did.link o.cargo o.put here within did.there h))
+
+-- a packet that was stepped changes nothing of what is known
+noted_at : (clock : ℕ) (stills : List ℕ) (links : List LinkView) (first count at : ℕ) (x new : LinkView) → slice_get links at ≡ Some x → has_cargo x ≡ has_cargo new → ((until : ℕ) → IsStill until x → IsStill until new) → AreStillBut clock stills links first count
+    → AreStillBut clock stills (set links at new) first count
+noted_at clock stills links first count at x new there lane keeps h = record {
+  as_many = h.as_many ∙ sym (length-set links at new);
+  still = λ j y lt found free. go j y lt free (set_read links at new j y found);
+}
+  where
+    go : (j : ℕ) (y : LinkView) → clock < slice_index stills j → ((p : ℕ) → p < count → j ≡ first + p → has_cargo y ≡ false) → ((j ≡ at) × (new ≡ y)) ⊎ (slice_get links j ≡ Some y) → IsStill (slice_index stills j) y
+    go j y lt free (inl p) =
+        let s : IsStill (slice_index stills j) x = h.still j x lt (ap (slice_get links) p.0 ∙ there) (λ q less e. lane ∙ ap has_cargo p.1 ∙ free q less e) in
+        subst (λ (z : LinkView). IsStill (slice_index stills j) z) p.1 (keeps (slice_index stills j) s)
+    go j y lt free (inr old) = h.still j y lt old free
+
+noted_but : (clock : ℕ) (stills : List ℕ) (first count : ℕ) (lanes : LanesView) (seat : ℕ) (stepped : Option Stepped) (links : List LinkView) → IsNoted lanes seat stepped links → AreStillBut clock stills lanes.links first count → AreStillBut clock stills links first count
+noted_but clock stills first count lanes seat None links e h = subst (λ (xs : List LinkView). AreStillBut clock stills xs first count) (sym e) h
+noted_but clock stills first count lanes seat (Some p) links (link, there, is) h =
     let new : LinkView = record link { steps = link.steps ++ record { life = p.life; packet = p.packet } ∷ [] } in
-    subst (λ (xs : List LinkView). AreStillEach clock stills xs) (sym is) (same_still clock stills lanes.links (lanes.first + seat) link new there (λ until s. s) h)
+    subst (λ (xs : List LinkView). AreStillBut clock stills xs first count) (sym is) (noted_at clock stills lanes.links first count (lanes.first + seat) link new there refl (λ until s. s) h)
 
-pub turned_still : (clock : ℕ) (stills : List ℕ) (node y : NodeView) (links after : List LinkView) (r : Result (Unit {0}) SimError) → ((place : ℕ) → place < node.count → slice_index stills (node.first + place) ≡ 0) → Turns node links r y after → AreStillEach clock stills links
-    → AreStillEach clock stills after
-turned_still clock stills node y links after (Ok u) nothing d h =
-    noted_still clock stills d.lanes d.item.seat y.seat.stepped after d.noted
-    (offered_still clock stills node.seat.core.neighbours d.served.offers (record { links = links; first = node.first; count = node.count }) d.lanes nothing d.served.offered h)
-turned_still clock stills node y links after (Err e) nothing d h = subst (λ (xs : List LinkView). AreStillEach clock stills xs) (sym d.2) h
+-- of the ends of the node in whose lane no cargo waits, and of all others, what was known is still so
+pub turned_but : (clock : ℕ) (stills : List ℕ) (node y : NodeView) (links after : List LinkView) (r : Result (Unit {0}) SimError) (first count : ℕ) → first ≡ node.first → count ≡ node.count → Turns node links r y after → AreStillEach clock stills links
+    → AreStillBut clock stills after first count
+turned_but clock stills node y links after (Ok u) first count f n d h =
+    noted_but clock stills first count d.lanes d.item.seat y.seat.stepped after d.noted
+    (all_offers clock stills node.seat.core.neighbours first count d.served.offers (record { links = links; first = node.first; count = node.count }) d.lanes (sym f) (sym n) d.served.offered (all_but clock stills links first count h))
+turned_but clock stills node y links after (Err e) first count f n d h = subst (λ (xs : List LinkView). AreStillBut clock stills xs first count) (sym d.2) (all_but clock stills links first count h)
+
+-- ---- ends of a node in whose lane a cargo waits
+
+pub none_waits : (links : List LinkView) (at : ℕ) (x : LinkView) (waits : Bool) → at < length links → x ≡ slice_index_or links at x → waits ≡ has_cargo x → waits ≡ false → (link : LinkView) → slice_get links at ≡ Some link → has_cargo link ≡ false
+none_waits links at x waits within read is none link there =
+    let same : x ≡ link = same_Some x link (sym (slice_get_read links (length links) at x refl within read) ∙ there) in
+    ap has_cargo (sym same) ∙ sym is ∙ none
+
+pub none_forgotten_where : (links : List LinkView) (stills : List ℕ) (first : ℕ) → AreForgottenWhere links stills stills first 0
+none_forgotten_where links stills first = record { as_many = refl; here = λ place link lt there waits. absurd (omega (arith, lt)); others = λ at. inr refl }
+
+pub one_more_where : (links : List LinkView) (before stills after : List ℕ) (first place : ℕ) → first + place < length stills → IsForgottenWhere links stills after (first + place) → AreForgottenWhere links before stills first place → AreForgottenWhere links before after first (place + 1)
+one_more_where links before stills after first place within step f = go step
+  where
+    value : slice_index (set stills (first + place) 0) (first + place) ≡ 0
+    value = get_or-set_same stills (first + place) 0 0 within
+
+    zero_at : (p : ℕ) (link : LinkView) → slice_get links (first + p) ≡ Some link → has_cargo link ≡ true → (p < place) ⊎ (p ≡ place) → slice_index (set stills (first + place) 0) (first + p) ≡ 0
+    zero_at p link there waits (inl less) = get_or-set_other stills (first + place) (first + p) 0 0 (λ (q : first + p ≡ first + place). absurd (omega (arith, less, q))) ∙ f.here p link less there waits
+    zero_at p link there waits (inr same) = ap (λ (n : ℕ). slice_index (set stills (first + place) 0) (first + n)) same ∙ value
+
+    other : (at : ℕ) → (at ≡ first + place) ⊎ (at ≡ first + place → ⊥) → (slice_index (set stills (first + place) 0) at ≡ 0) ⊎ (slice_index (set stills (first + place) 0) at ≡ slice_index before at)
+    other at (inl q) = inl (ap (slice_index (set stills (first + place) 0)) q ∙ value)
+    other at (inr off) =
+        let old : slice_index (set stills (first + place) 0) at ≡ slice_index stills at = get_or-set_other stills (first + place) at 0 0 off in
+        subst (λ (n : ℕ). (n ≡ 0) ⊎ (n ≡ slice_index before at)) (sym old) (f.others at)
+
+    kept_at : ((link : LinkView) → slice_get links (first + place) ≡ Some link → has_cargo link ≡ false) → (p : ℕ) (link : LinkView) → slice_get links (first + p) ≡ Some link → has_cargo link ≡ true → (p < place) ⊎ (p ≡ place) → slice_index stills (first + p) ≡ 0
+    kept_at none p link there waits (inl less) = f.here p link less there waits
+    kept_at none p link there waits (inr same) = absurd (true≢false (sym waits ∙ none link (ap (λ (n : ℕ). slice_get links (first + n)) (sym same) ∙ there)))
+
+    go : (after ≡ set stills (first + place) 0) ⊎ ((after ≡ stills) × ((link : LinkView) → slice_get links (first + place) ≡ Some link → has_cargo link ≡ false)) → AreForgottenWhere links before after first (place + 1)
+    go (inl e) = record {
+      as_many = ap length e ∙ length-set stills (first + place) 0 ∙ f.as_many;
+      here = λ p link lt there waits. ap (λ (ys : List ℕ). slice_index ys (first + p)) e ∙ zero_at p link there waits (below_next p place lt);
+      others = λ at. subst (λ (n : ℕ). (n ≡ 0) ⊎ (n ≡ slice_index before at)) (sym (ap (λ (ys : List ℕ). slice_index ys at) e)) (other at (cases_eq at (first + place)));
+    }
+    go (inr k) = record {
+      as_many = ap length k.0 ∙ f.as_many;
+      here = λ p link lt there waits. ap (λ (ys : List ℕ). slice_index ys (first + p)) k.0 ∙ kept_at k.1 p link there waits (below_next p place lt);
+      others = λ at. subst (λ (n : ℕ). (n ≡ 0) ⊎ (n ≡ slice_index before at)) (sym (ap (λ (ys : List ℕ). slice_index ys at) k.0)) (f.others at);
+    }
+
+pub where_forgotten : (clock : ℕ) (before stills : List ℕ) (links : List LinkView) (first count : ℕ) → AreForgottenWhere links before stills first count → AreStillBut clock before links first count → AreStillEach clock stills links
+where_forgotten clock before stills links first count f h = record { as_many = f.as_many ∙ h.as_many; still = λ at link lt there. go at link lt there (f.others at) }
+  where
+    free : (at : ℕ) (link : LinkView) → clock < slice_index stills at → slice_get links at ≡ Some link → (place : ℕ) → place < count → at ≡ first + place → (has_cargo link ≡ true) ⊎ (has_cargo link ≡ false) → has_cargo link ≡ false
+    free at link lt there place less q (inl waits) =
+        let nothing : slice_index stills at ≡ 0 = ap (slice_index stills) q ∙ f.here place link less (ap (slice_get links) (sym q) ∙ there) waits in
+        absurd (omega (arith, lt, nothing))
+    free at link lt there place less q (inr none) = none
+
+    go : (at : ℕ) (link : LinkView) → clock < slice_index stills at → slice_get links at ≡ Some link → (slice_index stills at ≡ 0) ⊎ (slice_index stills at ≡ slice_index before at) → IsStill (slice_index stills at) link
+    go at link lt there (inl nothing) = absurd (omega (arith, lt, nothing))
+    go at link lt there (inr same) =
+        subst (λ (n : ℕ). IsStill n link) (sym same)
+        (h.still at link (subst (λ (n : ℕ). clock < n) same lt) there (λ place less q. free at link lt there place less q (cases_Bool (has_cargo link))))

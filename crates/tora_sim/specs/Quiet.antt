@@ -1,5 +1,5 @@
 -- Worlds in which nothing is to be done, and until which tick what is stored stays so.
-use Rattle.std.specs.Prelude.{◌≡◌, ℕ, ◌+◌, ◌<◌, ◌≤◌, ◌⊎◌, ◌==◌, Bool, true, false, is_some, List, length, slice_get, slice_index, Some}
+use Rattle.std.specs.Prelude.{◌≡◌, ℕ, ◌+◌, ◌<◌, ◌≤◌, ◌⊎◌, ◌==◌, Bool, true, false, is_some, List, length, slice_get, slice_index, slice_set, Some}
 use Rattle.std.specs.List.{list_all}
 use Rattle.tora_arq.specs.Settings.{Settings}
 use Rattle.tora_arq.specs.LinkEnd.{EndState, is_closed, first_event, frame_due, after_tick}
@@ -61,4 +61,14 @@ AreStillFrom from clock stills links = (at : ℕ) (link : LinkView) → from ≤
 pub record AreForgotten (before stills : List ℕ) (first count : ℕ) : Type 0 where
   pub as_many : length stills ≡ length before
   pub here : (place : ℕ) → place < count → slice_index stills (first + place) ≡ 0
+  pub others : (at : ℕ) → (slice_index stills at ≡ 0) ⊎ (slice_index stills at ≡ slice_index before at)
+
+-- nothing is known any more of the link end at a place, or in its lane no cargo waits, and of each end is known what was
+abbrev pub IsForgottenWhere : List LinkView → List ℕ → List ℕ → ℕ → Type 0
+IsForgottenWhere links before stills at = (stills ≡ slice_set before at 0) ⊎ ((stills ≡ before) × ((link : LinkView) → slice_get links at ≡ Some link → has_cargo link ≡ false))
+
+-- nothing is known any more of those of so many link ends from a place on in whose lane a cargo waits, and of any other what was, or nothing
+pub record AreForgottenWhere (links : List LinkView) (before stills : List ℕ) (first count : ℕ) : Type 0 where
+  pub as_many : length stills ≡ length before
+  pub here : (place : ℕ) (link : LinkView) → place < count → slice_get links (first + place) ≡ Some link → has_cargo link ≡ true → slice_index stills (first + place) ≡ 0
   pub others : (at : ℕ) → (slice_index stills at ≡ 0) ⊎ (slice_index stills at ≡ slice_index before at)

@@ -17,7 +17,7 @@ use crate::restarts::{new_ends, restart_ends};
 use crate::stills::{Stills, forget};
 use crate::ticking::tick;
 use crate::topology::Topology;
-use crate::turns::turn;
+use crate::turns::{forget_waiting, turn};
 use crate::{Call, Event, SimError};
 use std::marker::Model;
 use tora_arq::{Times, calls_keep_an_end, data_frames_are_what_was_submitted};
@@ -225,11 +225,12 @@ impl Sim {
         let first = self.nodes[home].first();
         let count = self.nodes[home].count();
         self.quiet = 0;
-        forget(&mut self.stills, first, count);
         if make_room(&mut self.links, first, count).is_err() {
             return Err(SimError::Memory);
         }
-        turn(&mut self.nodes[home], &mut self.links)
+        let turned = turn(&mut self.nodes[home], &mut self.links);
+        forget_waiting(&self.links, &mut self.stills, first, count);
+        turned
     }
 
     /// A node restarts: its core, ends and lanes are made anew, and its life files are opened after a crash.

@@ -1,12 +1,14 @@
 //! Turns of a node's core.
-ghost use Rattle.std.specs.Prelude.{◌≡◌, ◌<◌, length};
+ghost use Rattle.std.specs.Prelude.{◌≡◌, ◌+◌, ◌<◌, ◌≤◌, length};
 ghost use Rattle.tora_sim.specs.Lanes.{lanes_of, AreReady};
+ghost use Rattle.tora_sim.specs.Quiet.{AreForgottenWhere, IsForgottenWhere};
 ghost use Rattle.tora_sim.specs.Turns.{Turns};
 
 use crate::SimError;
 use crate::lanes::NodeLanes;
 use crate::links::LinkSlot;
 use crate::nodes::NodeSlot;
+use crate::stills::{Stills, keep_still};
 use std::mem;
 use tora_seat::offers_are_their_own_answers;
 
@@ -34,4 +36,30 @@ pub fn turn(node: &mut NodeSlot, links: &mut Vec<LinkSlot>) -> Result<(), SimErr
             Err(error)
         }
     }
+}
+
+/// Nothing is known any more of those of the `count` link ends from the place `first` on in whose lane a cargo waits. Of a node's ends a
+/// turn of its core changes the lanes and the packets that were stepped alone, so that any other is as still as it was.
+pub fn forget_waiting(links: &Vec<LinkSlot>, stills: &mut Stills, first: usize, count: usize)
+    requires within { first + count ≤ length links.now.items }
+    requires known { length stills.old ≡ length links.now.items }
+    ensures { AreForgottenWhere links.now.items stills.old stills.new first count }
+{
+    for place in 0..count {
+        let at = first + place;
+        forget_if_waiting(links, stills, at);
+    }
+}
+
+/// Nothing is known any more of the link end at a place, where a cargo waits in its lane.
+#[inline(always)]
+fn forget_if_waiting(links: &Vec<LinkSlot>, stills: &mut Stills, at: usize)
+    requires within { at < length links.now.items }
+    requires known { at < length stills.old }
+    ensures { IsForgottenWhere links.now.items stills.old stills.new at }
+{
+    if !links[at].has_cargo() {
+        return;
+    }
+    keep_still(stills, at, 0);
 }

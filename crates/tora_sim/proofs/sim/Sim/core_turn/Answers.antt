@@ -8,7 +8,7 @@ use Rattle.tora_sim.specs.Steps.{IsRefused, Does}
 use Rattle.tora_sim.proofs.Opens.{same_read}
 use Rattle.tora_sim.proofs.SameLinks.{same_alike, store_same}
 use Rattle.tora_sim.proofs.Turning.{turn_refused, turn_starved, ends_within, as_many, turn_does, turn_store}
-use Rattle.tora_sim.proofs.StillEnds.{none_at_node, forgotten_still, alike_still, turned_still}
+use Rattle.tora_sim.proofs.StillEnds.{AreStillBut, alike_still, turned_but, where_forgotten}
 use Rattle.tora_sim.proofs.sim.Sim.core_turn.Goals as goal
 
 pub returns-then-waiting-eq0 : goal.returns-then-waiting-eq0
@@ -17,16 +17,6 @@ returns-then-waiting-eq0 c =
     subst (λ (w : SimState). IsRefused (world_of w) (CoreTurn c.args.n) Refused.NotPossible (world_of w)) c.self.view_is
     (turn_refused s.topology s.times s.clock s.nodes.items s.links.items s.datagrams.items c.self.invariant.0 c.args.n c.in-Some.home c.index.result.now c.in-Some.ensures.first c.index.ensures
     (sym c.waiting.ensures ∙ c.if-waiting-eq0.true))
-
-pub forget-requires : goal.forget-requires
-forget-requires c =
-    let s = c.self.inside in
-    let within = ends_within s.topology s.times s.clock s.nodes.items s.links.items s.datagrams.items c.self.invariant.0 c.args.n c.in-Some.home c.index.result.now c.in-Some.ensures.first c.index.ensures in
-    let first : c.first-first.result ≡ c.index.result.now.first =
-    c.first-first.ensures ∙ ap (λ (x : NodeView). x.first) (same_read s.nodes.items c.in-Some.home c.index-2.result.now c.index.result.now c.in-Some.ensures.first.within c.index-2.ensures c.index.ensures) in
-    let count : c.count-count.result ≡ c.index.result.now.count =
-    c.count-count.ensures ∙ ap (λ (x : NodeView). x.count) (same_read s.nodes.items c.in-Some.home c.index-3.result.now c.index.result.now c.in-Some.ensures.first.within c.index-3.ensures c.index.ensures) in
-    omega (arith, within, first, count, c.self.invariant.2.as_many)
 
 pub make_room-requires : goal.make_room-requires
 make_room-requires c =
@@ -43,8 +33,7 @@ invariant_of-self c =
     let s = c.self.inside in (
       store_same s.topology s.times s.clock s.nodes.items s.links.items c.make_room.new.links.items s.datagrams.items (same_alike s.links.items c.make_room.new.links.items c.make_room.ensures.same) c.self.invariant.0,
       λ none. absurd (omega (arith, none)),
-      alike_still s.clock c.forget.new.stills s.links.items c.make_room.new.links.items c.make_room.ensures.same
-          (forgotten_still s.clock s.stills c.forget.new.stills s.links.items c.first-first.result c.count-count.result c.forget.ensures c.self.invariant.2),
+      alike_still s.clock s.stills s.links.items c.make_room.new.links.items c.make_room.ensures.same c.self.invariant.2,
       c.self.invariant.3,
     )
 
@@ -58,10 +47,39 @@ returns-then-is_err c =
     (turn_starved s.topology s.times s.clock s.nodes.items s.links.items s.datagrams.items c.self.invariant.0 c.args.n c.in-Some.home c.index.result.now c.in-Some.ensures.first c.index.ensures
     (omega (arith, c.waiting.ensures, c.if-waiting-eq0.false)) c.make_room.new.links.items c.make_room.ensures.same)
 
-pub turn-requires-clause-neighbours : goal.turn-requires-clause-neighbours
-turn-requires-clause-neighbours c =
+pub turn-turned-requires-clause-neighbours : goal.turn-turned-requires-clause-neighbours
+turn-turned-requires-clause-neighbours c =
     let s = c.self.inside in
     as_many s.topology s.times s.clock s.nodes.items s.links.items s.datagrams.items c.self.invariant.0 c.args.n c.in-Some.home c.index_mut.result.now c.in-Some.ensures.first c.index_mut.ensures.value
+
+pub forget_waiting-requires-clause-within : goal.forget_waiting-requires-clause-within
+forget_waiting-requires-clause-within c =
+    let s = c.self.inside in
+    let node = c.index_mut.result.now in
+    let first : c.first-first.result ≡ node.first =
+    c.first-first.ensures ∙ ap (λ (x : NodeView). x.first) (same_read s.nodes.items c.in-Some.home c.index-2.result.now node c.in-Some.ensures.first.within c.index-2.ensures c.index_mut.ensures.value) in
+    let count : c.count-count.result ≡ node.count =
+    c.count-count.ensures ∙ ap (λ (x : NodeView). x.count) (same_read s.nodes.items c.in-Some.home c.index-3.result.now node c.in-Some.ensures.first.within c.index-3.ensures c.index_mut.ensures.value) in
+    let but : AreStillBut s.clock s.stills c.turn-turned.new.links.items c.first-first.result c.count-count.result =
+    turned_but s.clock s.stills node c.turn-turned.new.node c.make_room.new.links.items c.turn-turned.new.links.items c.turn-turned.result c.first-first.result c.count-count.result first count c.turn-turned.ensures
+    (alike_still s.clock s.stills s.links.items c.make_room.new.links.items c.make_room.ensures.same c.self.invariant.2) in
+    let within = ends_within s.topology s.times s.clock s.nodes.items s.links.items s.datagrams.items c.self.invariant.0 c.args.n c.in-Some.home node c.in-Some.ensures.first c.index_mut.ensures.value in
+    let before = c.self.invariant.2.as_many in
+    let many = but.as_many in
+    omega (arith, within, first, count, before, many)
+
+pub forget_waiting-requires-clause-known : goal.forget_waiting-requires-clause-known
+forget_waiting-requires-clause-known c =
+    let s = c.self.inside in
+    let node = c.index_mut.result.now in
+    let first : c.first-first.result ≡ node.first =
+    c.first-first.ensures ∙ ap (λ (x : NodeView). x.first) (same_read s.nodes.items c.in-Some.home c.index-2.result.now node c.in-Some.ensures.first.within c.index-2.ensures c.index_mut.ensures.value) in
+    let count : c.count-count.result ≡ node.count =
+    c.count-count.ensures ∙ ap (λ (x : NodeView). x.count) (same_read s.nodes.items c.in-Some.home c.index-3.result.now node c.in-Some.ensures.first.within c.index-3.ensures c.index_mut.ensures.value) in
+    let but : AreStillBut s.clock s.stills c.turn-turned.new.links.items c.first-first.result c.count-count.result =
+    turned_but s.clock s.stills node c.turn-turned.new.node c.make_room.new.links.items c.turn-turned.new.links.items c.turn-turned.result c.first-first.result c.count-count.result first count c.turn-turned.ensures
+    (alike_still s.clock s.stills s.links.items c.make_room.new.links.items c.make_room.ensures.same c.self.invariant.2) in
+    but.as_many
 
 pub invariant_of-self-2 : goal.invariant_of-self-2
 invariant_of-self-2 c =
@@ -70,19 +88,21 @@ invariant_of-self-2 c =
     let first : c.first-first.result ≡ node.first =
     c.first-first.ensures ∙ ap (λ (x : NodeView). x.first) (same_read s.nodes.items c.in-Some.home c.index-2.result.now node c.in-Some.ensures.first.within c.index-2.ensures c.index_mut.ensures.value) in
     let count : c.count-count.result ≡ node.count =
-    c.count-count.ensures ∙ ap (λ (x : NodeView). x.count) (same_read s.nodes.items c.in-Some.home c.index-3.result.now node c.in-Some.ensures.first.within c.index-3.ensures c.index_mut.ensures.value) in (
+    c.count-count.ensures ∙ ap (λ (x : NodeView). x.count) (same_read s.nodes.items c.in-Some.home c.index-3.result.now node c.in-Some.ensures.first.within c.index-3.ensures c.index_mut.ensures.value) in
+    let but : AreStillBut s.clock s.stills c.turn-turned.new.links.items c.first-first.result c.count-count.result =
+    turned_but s.clock s.stills node c.turn-turned.new.node c.make_room.new.links.items c.turn-turned.new.links.items c.turn-turned.result c.first-first.result c.count-count.result first count c.turn-turned.ensures
+    (alike_still s.clock s.stills s.links.items c.make_room.new.links.items c.make_room.ensures.same c.self.invariant.2) in (
       turn_store s.topology s.times s.clock s.nodes.items s.links.items s.datagrams.items c.self.invariant.0 c.args.n c.in-Some.home c.index_mut.result.now c.in-Some.ensures.first c.index_mut.ensures.value
-          c.make_room.new.links.items c.make_room.ensures.same c.turn.new.node c.turn.new.links.items c.turn.result c.turn.ensures,
+          c.make_room.new.links.items c.make_room.ensures.same c.turn-turned.new.node c.turn-turned.new.links.items c.turn-turned.result c.turn-turned.ensures,
       λ none. absurd (omega (arith, none)),
-      turned_still s.clock c.forget.new.stills c.index_mut.result.now c.turn.new.node c.make_room.new.links.items c.turn.new.links.items c.turn.result (none_at_node s.stills c.forget.new.stills c.first-first.result c.count-count.result node first count c.forget.ensures) c.turn.ensures
-          (alike_still s.clock c.forget.new.stills s.links.items c.make_room.new.links.items c.make_room.ensures.same (forgotten_still s.clock s.stills c.forget.new.stills s.links.items c.first-first.result c.count-count.result c.forget.ensures c.self.invariant.2)),
+      where_forgotten s.clock s.stills c.forget_waiting.new.stills c.turn-turned.new.links.items c.first-first.result c.count-count.result c.forget_waiting.ensures but,
       c.self.invariant.3,
     )
 
 pub returns : goal.returns
 returns c =
     let s = c.self.inside in
-    subst (λ (before : SimState). Does before (CoreTurn c.args.n) c.turn.result (state_of s.topology s.times s.clock (slice_set s.nodes.items c.in-Some.home c.turn.new.node) c.turn.new.links.items s.datagrams.items)) c.self.view_is
+    subst (λ (before : SimState). Does before (CoreTurn c.args.n) c.turn-turned.result (state_of s.topology s.times s.clock (slice_set s.nodes.items c.in-Some.home c.turn-turned.new.node) c.turn-turned.new.links.items s.datagrams.items)) c.self.view_is
     (turn_does s.topology s.times s.clock s.nodes.items s.links.items s.datagrams.items c.self.invariant.0 c.args.n c.in-Some.home c.index_mut.result.now c.in-Some.ensures.first c.index_mut.ensures.value
-    c.make_room.new.links.items c.make_room.ensures.same c.turn.new.node c.turn.new.links.items c.turn.result
-    (waits s.nodes.items c.in-Some.home c.index.result.now c.index_mut.result.now c.waiting.result c.in-Some.ensures.first.within c.index.ensures c.index_mut.ensures.value c.waiting.ensures (omega (arith, c.if-waiting-eq0.false))) c.turn.ensures)
+    c.make_room.new.links.items c.make_room.ensures.same c.turn-turned.new.node c.turn-turned.new.links.items c.turn-turned.result
+    (waits s.nodes.items c.in-Some.home c.index.result.now c.index_mut.result.now c.waiting.result c.in-Some.ensures.first.within c.index.ensures c.index_mut.ensures.value c.waiting.ensures (omega (arith, c.if-waiting-eq0.false))) c.turn-turned.ensures)
