@@ -45,6 +45,7 @@ pub mod NodeReads
 pub mod Resting
 pub mod Quiets
 pub mod StillEnds
+pub mod PlainEnds
 pub mod StillBlocks
 pub mod TickEnds
 pub mod CoreEnds

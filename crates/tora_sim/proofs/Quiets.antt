@@ -16,6 +16,7 @@ use Rattle.tora_world.specs.World.{World, settings, is_empty, has_room, unless_p
 use Rattle.tora_sim.specs.Keyed.{IsFirst}
 use Rattle.tora_sim.specs.Links.{LinkView, is_at, key_of, ticked, with_state}
 use Rattle.tora_sim.specs.Nodes.{NodeView, is_of}
+use Rattle.tora_sim.specs.Plains.{MayOnlySend, IsPlain}
 use Rattle.tora_sim.specs.Quiet.{IsQuiet, IsQuietEnd, IsStill, is_idle, AreStill}
 use Rattle.tora_sim.specs.Readers.{ends_in}
 use Rattle.tora_sim.specs.Store.{state_of, world_of, IsStore, EachOf, node_at, link_at}
@@ -123,6 +124,29 @@ module _ (t : Topology) (times : Times) (clock : ℕ) (nodes : List NodeView) (l
             opens = is_impossible w (Open end.0 end.1) (open_refused t times clock nodes links ds h end.0 end.1 at x first value s.opened);
             pulls = is_impossible w (Pull end.0 end.1) (pull_refused t times clock nodes links ds h end.0 end.1 at x first value (ltb-false x.pulled (length x.put) s.lane));
             sends = is_impossible w (Transmit end.0 end.1) (transmit_refused t times clock nodes links ds h end.0 end.1 at x first value (s.frames clock (omega arith)));
+            pumps = is_impossible w (Pump end.0 end.1) (pump_without t times clock nodes links ds h end.0 end.1 at x first value (no_event (first_event x.state) s.events));
+          }
+        where
+          both : x.node ≡ end.0 → x.peer ≡ end.1 → is_at end.0 end.1 x ≡ true
+          both a b = and_from (nat_eq x.node end.0) (nat_eq x.peer end.1) (eq-eqb x.node end.0 a) (eq-eqb x.peer end.1 b)
+
+  -- nothing but a frame may be due at the end that stands where this key does
+  pub only_sends_at : (at : ℕ) (end : ℕ × ℕ) → slice_get (ends_in t) at ≡ Some end → ((link : LinkView) → slice_get links at ≡ Some link → IsPlain link) → MayOnlySend w end.0 end.1
+  only_sends_at at end there plain = go (slice_get links at) refl (sym (slice_get-map key_of links at) ∙ ap (λ (keys : List (ℕ × ℕ)). slice_get keys at) h.keys ∙ there)
+    where
+      go : (o : Option LinkView) → slice_get links at ≡ o → option_map key_of o ≡ Some end → MayOnlySend w end.0 end.1
+      go None read e = absurd (let none : None ≡ Some end = e in cc)
+      go (Some x) read e =
+          let key : Some (x.node, x.peer) ≡ Some end = e in
+          let same : (x.node, x.peer) ≡ end = cc in
+          let n : x.node ≡ end.0 = ap (λ (p : ℕ × ℕ). p.0) same in
+          let k : x.peer ≡ end.1 = ap (λ (p : ℕ × ℕ). p.1) same in
+          let value = read_of links at x read in
+          let first = read_first end.0 end.1 links at x h.rising_links (slice_get_within links at x read) value (both n k) in
+          let s = plain x read in
+          record {
+            opens = is_impossible w (Open end.0 end.1) (open_refused t times clock nodes links ds h end.0 end.1 at x first value s.opened);
+            pulls = is_impossible w (Pull end.0 end.1) (pull_refused t times clock nodes links ds h end.0 end.1 at x first value (ltb-false x.pulled (length x.put) s.lane));
             pumps = is_impossible w (Pump end.0 end.1) (pump_without t times clock nodes links ds h end.0 end.1 at x first value (no_event (first_event x.state) s.events));
           }
         where

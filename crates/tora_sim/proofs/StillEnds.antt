@@ -187,7 +187,7 @@ all_but : (clock : ℕ) (stills : List ℕ) (links : List LinkView) (first count
 all_but clock stills links first count h = record { as_many = h.as_many; still = λ at link lt there free. h.still at link lt there }
 
 -- where no cargo waits behind an offer, none waited before it
-none_before : (pulled : ℕ) (cargoes more : List Cargo) → nat_lt pulled (length (cargoes ++ more)) ≡ false → nat_lt pulled (length cargoes) ≡ false
+pub none_before : (pulled : ℕ) (cargoes more : List Cargo) → nat_lt pulled (length (cargoes ++ more)) ≡ false → nat_lt pulled (length cargoes) ≡ false
 none_before pulled cargoes more e =
     let all = ltb-false pulled (length (cargoes ++ more)) e in
     let both = length-append cargoes more in

@@ -21,6 +21,7 @@ pub mod Turns
 pub mod Restarts
 pub mod Resting
 pub mod Quiet
+pub mod Plains
 pub mod Stills
 pub mod KeptCargoes
 pub mod Lane

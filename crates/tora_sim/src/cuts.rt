@@ -32,6 +32,7 @@ impl Sim {
         if let Some(at) = place(&self.links, &self.keys, &self.hints, n, k) {
             self.quiet = 0;
             forget(&mut self.stills, at, 1);
+            forget(&mut self.plains, at, 1);
             self.links[at].cut_bound();
         }
     }

@@ -1,5 +1,6 @@
 //! Where something may be to be done, among the link ends.
 ghost use Rattle.std.specs.Prelude.{◌≡◌, ◌+◌, ◌*◌, ◌<◌, ◌≤◌, ℕ, true, Some, IfNone, IfSome, length, max, slice_get, slice_index};
+ghost use Rattle.tora_sim.specs.Plains.{MayOnlySend};
 ghost use Rattle.tora_sim.specs.Quiet.{IsQuietEnd};
 ghost use Rattle.tora_sim.specs.Readers.{ends_in};
 ghost use Rattle.tora_sim.specs.Stills.{AreLater};
@@ -28,6 +29,17 @@ impl Sim {
         ensures passed { (at : ℕ) (end : ℕ × ℕ) → place ≤ at → at < result → slice_get (ends_in self.now.topology) at ≡ Some end → IsQuietEnd (world_of self.now) end.0 end.1 }
     {
         next_due(&self.stills, self.clock, place)
+    }
+
+    /// The first place from `place` on, in the order of `ends` and from 0 on, at which more than a frame may be due: the ends that are
+    /// passed over can't be opened, take a cargo or give an event. Only ends are passed over that `settle` found to be so, and that no event
+    /// has made otherwise since.
+    #[inline(always)]
+    pub fn next_busy(&self, place: usize) -> usize
+        ensures onward { place ≤ result }
+        ensures passed { (at : ℕ) (end : ℕ × ℕ) → place ≤ at → at < result → slice_get (ends_in self.now.topology) at ≡ Some end → MayOnlySend (world_of self.now) end.0 end.1 }
+    {
+        next_due(&self.plains, self.clock, place)
     }
 }
 

@@ -72,6 +72,7 @@ impl Sim {
         }
         let count = links.len();
         let stills = no_stills(alloc, count)?;
+        let plains = no_stills(alloc, count)?;
         let keys = keys_of(alloc, &links)?;
         let hints = Hints::new(&nodes);
         Ok(Sim {
@@ -85,6 +86,7 @@ impl Sim {
             hints,
             quiet: 0,
             stills,
+            plains,
             packets: Packets::new(),
         })
     }

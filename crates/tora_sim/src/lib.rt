@@ -33,6 +33,7 @@ mod links_by_bits;
 mod name_counts;
 mod nodes;
 mod places;
+mod plains;
 mod possible;
 mod quiet;
 mod readers;

@@ -6,6 +6,7 @@ ghost use Rattle.tora_sim.specs.Store.{world_of};
 
 use crate::links::LinkSlot;
 use crate::nodes::NodeSlot;
+use crate::plains::mark_ends;
 use crate::sim::Sim;
 use crate::stills::{
     Stills, block_count, ends_of, is_still_block, keep_block, keep_still, still_at, still_until,
@@ -23,7 +24,8 @@ impl Sim {
     }
 
     /// Looks at every node, and at each link end of which no tick is known that is still to come, for the tick before which nothing is to
-    /// be done: until then a tick changes the clock alone, and `next_due` leaves a link end out. The world stays as it is.
+    /// be done: until then a tick changes the clock alone, and `next_due` leaves a link end out. It looks, too, at which ends nothing but a
+    /// frame may be due, which `next_busy` leaves out. The world stays as it is.
     pub fn settle(&mut self)
         ensures { self.new ≡ self.old }
     {
@@ -31,6 +33,7 @@ impl Sim {
             return;
         }
         settle_ends(&self.links, &mut self.stills, self.clock);
+        mark_ends(&self.links, &mut self.plains, self.clock);
         let until = quiet_until(&self.nodes, &self.links, &self.stills, self.clock);
         self.quiet = until;
     }
@@ -106,13 +109,7 @@ impl LinkSlot {
     fn still_until(&self) -> u64
         ensures { IsStillIf result self.now }
     {
-        if self.is_closed() {
-            return 0;
-        }
-        if self.has_cargo() {
-            return 0;
-        }
-        if self.next_event().is_some() {
+        if self.is_busy() {
             return 0;
         }
         self.quiet_end_until()

@@ -13,6 +13,7 @@ use crate::hints::Hints;
 use crate::lanes::make_room;
 use crate::links::{LinkSlot, arm, place};
 use crate::nodes::{NodeSlot, Sending, place as node_place};
+use crate::plains::forget_busy;
 use crate::restarts::{new_ends, restart_ends};
 use crate::stills::{Stills, forget};
 use crate::ticking::tick;
@@ -45,6 +46,9 @@ pub struct Sim {
     /// Of each link end the tick before which nothing is to be done at it, where that tick is still to come; else it says nothing. They
     /// stand here, and not at the ends, since every part of a round asks them of all ends.
     pub(crate) stills: Stills,
+    /// Of each link end the tick before which it is plain: it is open, no cargo waits in its lane, and it has no event to give, so that nothing
+    /// but a frame may be due at it. Time makes no end otherwise but by a tick: so it is the last tick, or 0 where nothing is known.
+    pub(crate) plains: Stills,
     /// Where the packets of a frame stand while it is sent.
     pub(crate) packets: Packets,
 }
@@ -53,13 +57,14 @@ impl Model for Sim {
     ghost use Rattle.std.specs.Prelude.{◌≡◌};
     ghost use Rattle.tora_sim.specs.Store.{SimState, IsStore, state_of};
     ghost use Rattle.tora_sim.specs.Quiet.{AreStill, AreStillEach};
+    ghost use Rattle.tora_sim.specs.Plains.{ArePlainEach};
     ghost use Rattle.tora_sim.specs.Readers.{ends_in};
 
     ghost Value = { SimState };
 
     ghost view = { λ s. state_of s.topology s.times s.clock s.nodes.items s.links.items s.datagrams.items };
 
-    ghost invariant = { λ s. IsStore (state_of s.topology s.times s.clock s.nodes.items s.links.items s.datagrams.items) × AreStill s.quiet s.nodes.items s.links.items × AreStillEach s.clock s.stills s.links.items × (s.keys.items ≡ ends_in s.topology) };
+    ghost invariant = { λ s. IsStore (state_of s.topology s.times s.clock s.nodes.items s.links.items s.datagrams.items) × AreStill s.quiet s.nodes.items s.links.items × AreStillEach s.clock s.stills s.links.items × (s.keys.items ≡ ends_in s.topology) × ArePlainEach s.clock s.plains s.links.items };
 }
 
 impl Sim {
@@ -75,7 +80,7 @@ impl Sim {
             return Ok(());
         }
         self.quiet = 0;
-        tick(&mut self.links, &self.stills, now);
+        tick(&mut self.links, &self.stills, &mut self.plains, now);
         self.clock = now;
         Ok(())
     }
@@ -207,7 +212,8 @@ impl Sim {
         };
         self.quiet = 0;
         forget(&mut self.stills, at, 1);
-        self.links[at].receive(&frame, self.clock);
+        let busy = self.links[at].receive_and_look(&frame, self.clock);
+        forget_busy(&mut self.plains, at, busy);
         Ok(())
     }
 
@@ -230,6 +236,7 @@ impl Sim {
         }
         let turned = turn(&mut self.nodes[home], &mut self.links);
         forget_waiting(&self.links, &mut self.stills, first, count);
+        forget_waiting(&self.links, &mut self.plains, first, count);
         turned
     }
 
@@ -252,6 +259,7 @@ impl Sim {
         };
         self.quiet = 0;
         forget(&mut self.stills, first, count);
+        forget(&mut self.plains, first, count);
         restart_ends(&mut self.links, first, &mut ends, torn);
         self.nodes[home].restart(seat);
         Ok(())

@@ -1,4 +1,5 @@
-//! Of each link end the tick before which nothing is to be done at it, and of each block of ends one for them all.
+//! Of each link end a tick before which something holds of it, as that nothing is to be done at it, and of each block of ends one for them
+//! all.
 ghost use Rattle.std.specs.Prelude.{◌≡◌, ◌+◌, ◌*◌, ◌-◌, ◌^◌, ◌<◌, ◌≤◌, ℕ, true, MatchResult, length, min, replicate, slice_index, slice_set};
 ghost use Rattle.tora_sim.specs.Quiet.{AreForgotten};
 ghost use Rattle.tora_sim.specs.Stills.{AreLater};
@@ -10,7 +11,7 @@ use std::marker::Model;
 /// How many link ends stand in a block; fewer may stand in the last.
 const BLOCK: usize = 16;
 
-/// Of each link end the tick before which nothing is to be done at it, in the order of the ends.
+/// Of each link end the tick before which nothing is to be done at it, in the order of the ends; or likewise that before which it is plain.
 ///
 /// The ends stand in blocks of 16, and each block has a tick, too, so that a block at whose ends nothing is to be done is passed over by
 /// one look.

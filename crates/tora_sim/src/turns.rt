@@ -39,7 +39,7 @@ pub fn turn(node: &mut NodeSlot, links: &mut Vec<LinkSlot>) -> Result<(), SimErr
 }
 
 /// Nothing is known any more of those of the `count` link ends from the place `first` on in whose lane a cargo waits. Of a node's ends a
-/// turn of its core changes the lanes and the packets that were stepped alone, so that any other is as still as it was.
+/// turn of its core changes the lanes and the packets that were stepped alone, so that any other is as still, or as plain, as it was.
 pub fn forget_waiting(links: &Vec<LinkSlot>, stills: &mut Stills, first: usize, count: usize)
     requires within { first + count ≤ length links.now.items }
     requires known { length stills.old ≡ length links.now.items }

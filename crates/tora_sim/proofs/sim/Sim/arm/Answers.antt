@@ -16,6 +16,7 @@ invariant_of-self c =
       λ none. absurd (omega (arith, none)),
       c.self.invariant.2,
       c.self.invariant.3,
+      c.self.invariant.4,
     )
 
 pub invariant_of-self-in-SendGone : goal.invariant_of-self-in-SendGone
@@ -25,6 +26,7 @@ invariant_of-self-in-SendGone c =
       λ none. absurd (omega (arith, none)),
       c.self.invariant.2,
       c.self.invariant.3,
+      c.self.invariant.4,
     )
 
 pub invariant_of-self-in-Receive : goal.invariant_of-self-in-Receive
@@ -34,6 +36,7 @@ invariant_of-self-in-Receive c =
       λ none. absurd (omega (arith, none)),
       c.self.invariant.2,
       c.self.invariant.3,
+      c.self.invariant.4,
     )
 
 pub returns-in-SendLost : goal.returns-in-SendLost

@@ -3,6 +3,7 @@ use Rattle.std.proofs.lemmas.Bool.{cond_both}
 use Rattle.tora_world.specs.declared.event.Event.TheVariants.{Arm}
 use Rattle.tora_sim.specs.Keyed.{IsFirst}
 use Rattle.tora_sim.specs.Links.{LinkView, AreChanged, after_arm}
+use Rattle.tora_sim.specs.Plains.{IsPlain}
 use Rattle.tora_sim.specs.Quiet.{IsStill}
 use Rattle.tora_sim.specs.Nodes.{NodeView, is_of}
 use Rattle.tora_sim.specs.Store.{SimState, state_of, world_of, call_of}
@@ -11,6 +12,7 @@ use Rattle.tora_sim.proofs.Opens.{same_read}
 use Rattle.tora_sim.proofs.Arms.{armed_of, files_done, files_store, noded_at}
 use Rattle.tora_sim.proofs.NodeEnds.{ends_within, changed_is}
 use Rattle.tora_sim.proofs.StillEnds.{mapped_still}
+use Rattle.tora_sim.proofs.PlainEnds.{mapped_plain}
 use Rattle.tora_sim.proofs.sim.Sim.arm_files.Goals as goal
 
 pub arm-requires : goal.arm-requires
@@ -42,6 +44,8 @@ invariant_of-self c =
       mapped_still s.clock s.stills s.links.items c.arm.new.links.items (armed_of c.args.n c.args.call) (armed c)
           (λ until x h. cond_both (nat_eq x.node c.args.n) (after_arm x c.args.call) x (λ (z : LinkView). IsStill until z) (λ _. h) (λ _. h)) c.self.invariant.2,
       c.self.invariant.3,
+      mapped_plain s.clock s.plains s.links.items c.arm.new.links.items (armed_of c.args.n c.args.call) (armed c)
+          (λ x h. cond_both (nat_eq x.node c.args.n) (after_arm x c.args.call) x (λ (z : LinkView). IsPlain z) (λ _. h) (λ _. h)) c.self.invariant.4,
     )
 
 pub returns : goal.returns

@@ -9,6 +9,7 @@ use Rattle.tora_sim.proofs.Opens.{same_read}
 use Rattle.tora_sim.proofs.SameLinks.{same_alike, store_same}
 use Rattle.tora_sim.proofs.Turning.{turn_refused, turn_starved, ends_within, as_many, turn_does, turn_store}
 use Rattle.tora_sim.proofs.StillEnds.{AreStillBut, alike_still, turned_but, where_forgotten}
+use Rattle.tora_sim.proofs.PlainEnds.{ArePlainBut, alike_plain, turned_plain, where_plain}
 use Rattle.tora_sim.proofs.sim.Sim.core_turn.Goals as goal
 
 pub returns-then-waiting-eq0 : goal.returns-then-waiting-eq0
@@ -35,6 +36,7 @@ invariant_of-self c =
       λ none. absurd (omega (arith, none)),
       alike_still s.clock s.stills s.links.items c.make_room.new.links.items c.make_room.ensures.same c.self.invariant.2,
       c.self.invariant.3,
+      alike_plain s.clock s.plains s.links.items c.make_room.new.links.items c.make_room.ensures.same c.self.invariant.4,
     )
 
 waits : (nodes : List NodeView) (home : ℕ) (x y : NodeView) (count : ℕ) → home < length nodes → x ≡ slice_index_or nodes home x → y ≡ slice_index_or nodes home y → count ≡ length x.items → 0 < count → 0 < length y.items
@@ -81,6 +83,35 @@ forget_waiting-requires-clause-known c =
     (alike_still s.clock s.stills s.links.items c.make_room.new.links.items c.make_room.ensures.same c.self.invariant.2) in
     but.as_many
 
+pub forget_waiting-requires-2-clause-within : goal.forget_waiting-requires-2-clause-within
+forget_waiting-requires-2-clause-within c =
+    let s = c.self.inside in
+    let node = c.index_mut.result.now in
+    let first : c.first-first.result ≡ node.first =
+    c.first-first.ensures ∙ ap (λ (x : NodeView). x.first) (same_read s.nodes.items c.in-Some.home c.index-2.result.now node c.in-Some.ensures.first.within c.index-2.ensures c.index_mut.ensures.value) in
+    let count : c.count-count.result ≡ node.count =
+    c.count-count.ensures ∙ ap (λ (x : NodeView). x.count) (same_read s.nodes.items c.in-Some.home c.index-3.result.now node c.in-Some.ensures.first.within c.index-3.ensures c.index_mut.ensures.value) in
+    let but : AreStillBut s.clock s.stills c.turn-turned.new.links.items c.first-first.result c.count-count.result =
+    turned_but s.clock s.stills node c.turn-turned.new.node c.make_room.new.links.items c.turn-turned.new.links.items c.turn-turned.result c.first-first.result c.count-count.result first count c.turn-turned.ensures
+    (alike_still s.clock s.stills s.links.items c.make_room.new.links.items c.make_room.ensures.same c.self.invariant.2) in
+    let within = ends_within s.topology s.times s.clock s.nodes.items s.links.items s.datagrams.items c.self.invariant.0 c.args.n c.in-Some.home node c.in-Some.ensures.first c.index_mut.ensures.value in
+    let before = c.self.invariant.2.as_many in
+    let many = but.as_many in
+    omega (arith, within, first, count, before, many)
+
+pub forget_waiting-requires-2-clause-known : goal.forget_waiting-requires-2-clause-known
+forget_waiting-requires-2-clause-known c =
+    let s = c.self.inside in
+    let node = c.index_mut.result.now in
+    let first : c.first-first.result ≡ node.first =
+    c.first-first.ensures ∙ ap (λ (x : NodeView). x.first) (same_read s.nodes.items c.in-Some.home c.index-2.result.now node c.in-Some.ensures.first.within c.index-2.ensures c.index_mut.ensures.value) in
+    let count : c.count-count.result ≡ node.count =
+    c.count-count.ensures ∙ ap (λ (x : NodeView). x.count) (same_read s.nodes.items c.in-Some.home c.index-3.result.now node c.in-Some.ensures.first.within c.index-3.ensures c.index_mut.ensures.value) in
+    let but : ArePlainBut s.clock s.plains c.turn-turned.new.links.items c.first-first.result c.count-count.result =
+    turned_plain s.clock s.plains node c.turn-turned.new.node c.make_room.new.links.items c.turn-turned.new.links.items c.turn-turned.result c.first-first.result c.count-count.result first count c.turn-turned.ensures
+    (alike_plain s.clock s.plains s.links.items c.make_room.new.links.items c.make_room.ensures.same c.self.invariant.4) in
+    but.as_many
+
 pub invariant_of-self-2 : goal.invariant_of-self-2
 invariant_of-self-2 c =
     let s = c.self.inside in
@@ -91,12 +122,16 @@ invariant_of-self-2 c =
     c.count-count.ensures ∙ ap (λ (x : NodeView). x.count) (same_read s.nodes.items c.in-Some.home c.index-3.result.now node c.in-Some.ensures.first.within c.index-3.ensures c.index_mut.ensures.value) in
     let but : AreStillBut s.clock s.stills c.turn-turned.new.links.items c.first-first.result c.count-count.result =
     turned_but s.clock s.stills node c.turn-turned.new.node c.make_room.new.links.items c.turn-turned.new.links.items c.turn-turned.result c.first-first.result c.count-count.result first count c.turn-turned.ensures
-    (alike_still s.clock s.stills s.links.items c.make_room.new.links.items c.make_room.ensures.same c.self.invariant.2) in (
+    (alike_still s.clock s.stills s.links.items c.make_room.new.links.items c.make_room.ensures.same c.self.invariant.2) in
+    let plain : ArePlainBut s.clock s.plains c.turn-turned.new.links.items c.first-first.result c.count-count.result =
+    turned_plain s.clock s.plains node c.turn-turned.new.node c.make_room.new.links.items c.turn-turned.new.links.items c.turn-turned.result c.first-first.result c.count-count.result first count c.turn-turned.ensures
+    (alike_plain s.clock s.plains s.links.items c.make_room.new.links.items c.make_room.ensures.same c.self.invariant.4) in (
       turn_store s.topology s.times s.clock s.nodes.items s.links.items s.datagrams.items c.self.invariant.0 c.args.n c.in-Some.home c.index_mut.result.now c.in-Some.ensures.first c.index_mut.ensures.value
           c.make_room.new.links.items c.make_room.ensures.same c.turn-turned.new.node c.turn-turned.new.links.items c.turn-turned.result c.turn-turned.ensures,
       λ none. absurd (omega (arith, none)),
       where_forgotten s.clock s.stills c.forget_waiting.new.stills c.turn-turned.new.links.items c.first-first.result c.count-count.result c.forget_waiting.ensures but,
       c.self.invariant.3,
+      where_plain s.clock s.plains c.forget_waiting-2.new.stills c.turn-turned.new.links.items c.first-first.result c.count-count.result c.forget_waiting-2.ensures plain,
     )
 
 pub returns : goal.returns

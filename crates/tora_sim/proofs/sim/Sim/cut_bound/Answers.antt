@@ -4,6 +4,7 @@ use Rattle.tora_sim.specs.Cuts.{after_cut_at}
 use Rattle.tora_sim.specs.Store.{SimState, state_of, world_of}
 use Rattle.tora_sim.proofs.Opens.{cut_done, cut_store}
 use Rattle.tora_sim.proofs.StillEnds.{unknown_still, one_forgotten, forgotten_still}
+use Rattle.tora_sim.proofs.PlainEnds.{unknown_plain, forgotten_plain}
 use Rattle.tora_sim.proofs.sim.Sim.cut_bound.Goals as goal
 
 pub place-requires-clause-keys : goal.place-requires-clause-keys
@@ -11,6 +12,9 @@ place-requires-clause-keys c = c.self.invariant.3 ∙ sym c.self.invariant.0.key
 
 pub forget-requires : goal.forget-requires
 forget-requires c = omega (arith, c.in-Some.ensures.first.within, c.self.invariant.2.as_many)
+
+pub forget-requires-in-Some : goal.forget-requires-in-Some
+forget-requires-in-Some c = omega (arith, c.in-Some.ensures.first.within, c.self.invariant.4.as_many)
 
 pub invariant_of-self : goal.invariant_of-self
 invariant_of-self c =
@@ -21,6 +25,8 @@ invariant_of-self c =
       unknown_still s.clock c.forget.new.stills s.links.items c.in-Some.at c.cut_bound.new.self (one_forgotten s.stills c.forget.new.stills c.in-Some.at c.forget.ensures)
           (forgotten_still s.clock s.stills c.forget.new.stills s.links.items c.in-Some.at 1 c.forget.ensures c.self.invariant.2),
       c.self.invariant.3,
+      unknown_plain s.clock c.forget-in-Some.new.stills s.links.items c.in-Some.at c.cut_bound.new.self (one_forgotten s.plains c.forget-in-Some.new.stills c.in-Some.at c.forget-in-Some.ensures)
+          (forgotten_plain s.clock s.plains c.forget-in-Some.new.stills s.links.items c.in-Some.at 1 c.forget-in-Some.ensures c.self.invariant.4),
     )
 
 pub returns-in-Some : goal.returns-in-Some

@@ -10,6 +10,7 @@ use Rattle.tora_sim.specs.Steps.{IsDone}
 use Rattle.tora_sim.proofs.Opens.{same_read}
 use Rattle.tora_sim.proofs.Receives.{home_is_there, failed_done, failed_store, received_done, received_store}
 use Rattle.tora_sim.proofs.StillEnds.{unknown_still, one_forgotten, forgotten_still}
+use Rattle.tora_sim.proofs.PlainEnds.{looked_plain}
 use Rattle.tora_sim.proofs.sim.Sim.deliver.Goals as goal
 
 pub place-requires-2-clause-keys : goal.place-requires-2-clause-keys
@@ -38,6 +39,7 @@ invariant_of-self c =
       λ none. absurd (omega (arith, none)),
       c.self.invariant.2,
       c.self.invariant.3,
+      c.self.invariant.4,
     )
 
 pub returns-then-receive : goal.returns-then-receive
@@ -50,17 +52,22 @@ returns-then-receive c =
 pub forget-requires : goal.forget-requires
 forget-requires c = omega (arith, c.in-Some-place.ensures.first.within, c.self.invariant.2.as_many)
 
+pub forget_busy-requires : goal.forget_busy-requires
+forget_busy-requires c = omega (arith, c.in-Some-place.ensures.first.within, c.self.invariant.4.as_many)
+
 pub invariant_of-self-2 : goal.invariant_of-self-2
 invariant_of-self-2 c =
     let s = c.self.inside in
     let home_first : IsFirst (is_of c.in-Some.frame.header.receiver) s.nodes.items c.in-Some-node_place.home = subst (λ (hd : Header). IsFirst (is_of hd.receiver) s.nodes.items c.in-Some-node_place.home) c.header-header.ensures.value c.in-Some-node_place.ensures.first in
     let end_first : IsFirst (is_at c.in-Some.frame.header.receiver c.in-Some.frame.header.sender) s.links.items c.in-Some-place.at = subst (λ (hd : Header). IsFirst (is_at hd.receiver hd.sender) s.links.items c.in-Some-place.at) c.header-header.ensures.value c.in-Some-place.ensures.first in (
       received_store s.topology s.times s.clock s.nodes.items s.links.items s.datagrams.items c.self.invariant.0 c.args.i c.in-Some.frame (sym c.in-Some.ensures)
-          c.in-Some-node_place.home c.index.result.now home_first c.index.ensures c.in-Some-place.at c.index_mut-2.result.now end_first c.index_mut-2.ensures.value c.receive-2.new.self c.receive-2.ensures,
+          c.in-Some-node_place.home c.index.result.now home_first c.index.ensures c.in-Some-place.at c.index_mut-2.result.now end_first c.index_mut-2.ensures.value c.receive_and_look-busy.new.self c.receive_and_look-busy.ensures.state,
       λ none. absurd (omega (arith, none)),
-      unknown_still s.clock c.forget.new.stills s.links.items c.in-Some-place.at c.receive-2.new.self (one_forgotten s.stills c.forget.new.stills c.in-Some-place.at c.forget.ensures)
+      unknown_still s.clock c.forget.new.stills s.links.items c.in-Some-place.at c.receive_and_look-busy.new.self (one_forgotten s.stills c.forget.new.stills c.in-Some-place.at c.forget.ensures)
           (forgotten_still s.clock s.stills c.forget.new.stills s.links.items c.in-Some-place.at 1 c.forget.ensures c.self.invariant.2),
       c.self.invariant.3,
+      looked_plain s.clock s.plains c.forget_busy.new.plains s.links.items c.in-Some-place.at c.index_mut-2.result.now c.receive_and_look-busy.new.self c.receive_and_look-busy.result c.in-Some-place.ensures.first.within c.index_mut-2.ensures.value
+          (λ e _. c.receive_and_look-busy.ensures.plain e) c.forget_busy.ensures.same c.forget_busy.ensures.forgotten c.self.invariant.4,
     )
 
 pub returns : goal.returns
@@ -68,7 +75,7 @@ returns c =
     let s = c.self.inside in
     let home_first : IsFirst (is_of c.in-Some.frame.header.receiver) s.nodes.items c.in-Some-node_place.home = subst (λ (hd : Header). IsFirst (is_of hd.receiver) s.nodes.items c.in-Some-node_place.home) c.header-header.ensures.value c.in-Some-node_place.ensures.first in
     let end_first : IsFirst (is_at c.in-Some.frame.header.receiver c.in-Some.frame.header.sender) s.links.items c.in-Some-place.at = subst (λ (hd : Header). IsFirst (is_at hd.receiver hd.sender) s.links.items c.in-Some-place.at) c.header-header.ensures.value c.in-Some-place.ensures.first in
-    subst (λ (before : SimState). IsDone (world_of before) (Deliver c.args.i) (world_of (state_of s.topology s.times s.clock s.nodes.items (slice_set s.links.items c.in-Some-place.at c.receive-2.new.self) s.datagrams.items))) c.self.view_is
+    subst (λ (before : SimState). IsDone (world_of before) (Deliver c.args.i) (world_of (state_of s.topology s.times s.clock s.nodes.items (slice_set s.links.items c.in-Some-place.at c.receive_and_look-busy.new.self) s.datagrams.items))) c.self.view_is
     (received_done s.topology s.times s.clock s.nodes.items s.links.items s.datagrams.items c.self.invariant.0 c.args.i c.in-Some.frame (sym c.in-Some.ensures)
-    c.in-Some-node_place.home c.index.result.now home_first c.index.ensures c.in-Some-place.at c.index_mut-2.result.now end_first c.index_mut-2.ensures.value c.receive-2.new.self
-    (sym c.receive.ensures ∙ c.if-receive.false) c.receive-2.ensures)
+    c.in-Some-node_place.home c.index.result.now home_first c.index.ensures c.in-Some-place.at c.index_mut-2.result.now end_first c.index_mut-2.ensures.value c.receive_and_look-busy.new.self
+    (sym c.receive.ensures ∙ c.if-receive.false) c.receive_and_look-busy.ensures.state)

@@ -58,6 +58,7 @@ invariant_of-self c =
       λ none. absurd (omega (arith, none)),
       c.self.invariant.2,
       c.self.invariant.3,
+      c.self.invariant.4,
     )
 
 pub returns : goal.returns

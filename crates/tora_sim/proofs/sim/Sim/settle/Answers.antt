@@ -3,8 +3,11 @@ use Rattle.tora_sim.proofs.sim.Sim.settle.Goals as goal
 pub settle_ends-requires : goal.settle_ends-requires
 settle_ends-requires c = c.self.invariant.2
 
+pub mark_ends-requires : goal.mark_ends-requires
+mark_ends-requires c = c.self.invariant.4
+
 pub quiet_until-until-requires : goal.quiet_until-until-requires
 quiet_until-until-requires c = c.settle_ends.ensures
 
 pub invariant_of-self : goal.invariant_of-self
-invariant_of-self c = (c.self.invariant.0, c.quiet_until-until.ensures, c.settle_ends.ensures, c.self.invariant.3)
+invariant_of-self c = (c.self.invariant.0, c.quiet_until-until.ensures, c.settle_ends.ensures, c.self.invariant.3, c.mark_ends.ensures)

@@ -1,6 +1,7 @@
 use Rattle.std.proofs.Common.{◌≡◌, ℕ, zero, suc, ◌<◌, List, [], ◌∷◌, Some, None, length, set, is_some, refl, ap, sym, ◌∙◌, subst, arith}
 use Rattle.std.specs.Prelude.{slice_set, slice_index_or}
 use Rattle.std.proofs.lemmas.Bool.{both_ways}
+use Rattle.std.proofs.lemmas.Option.{slice_get_read}
 use Rattle.tora_frame.specs.FrameParts.{FrameParts}
 use Rattle.tora_arq.specs.LinkEnd.{frame_due, after_transmit}
 use Rattle.tora_world.specs.declared.event.Event.TheVariants.{Transmit}
@@ -8,12 +9,15 @@ use Rattle.tora_world.specs.declared.sim_error.SimError.TheVariants as Refused
 use Rattle.tora_world.specs.World.{with_datagram}
 use Rattle.tora_sim.specs.Links.{LinkView, with_state}
 use Rattle.tora_sim.specs.Nodes.{sending_of}
+use Rattle.tora_sim.specs.Plains.{IsPlain, ArePlainEach}
+use Rattle.tora_sim.specs.Possible.{has_cargo}
 use Rattle.tora_sim.specs.Quiet.{AreStill, AreStillEach}
 use Rattle.tora_sim.specs.Store.{SimState, IsStore, state_of, world_of}
 use Rattle.tora_sim.specs.Steps.{IsDone, IsRefused}
 use Rattle.tora_sim.proofs.Quiets.{set_same}
 use Rattle.tora_sim.proofs.Sends.{transmit_refused, transmit_starved, transmit_done, transmit_store, at_home}
 use Rattle.tora_sim.proofs.StillEnds.{possible_still}
+use Rattle.tora_sim.proofs.PlainEnds.{same_plain, transmit_plain}
 use Rattle.tora_sim.proofs.sim.Sim.transmit.Goals as goal
 
 pub place-requires-clause-keys : goal.place-requires-clause-keys
@@ -61,6 +65,7 @@ invariant_of-self c =
       c.self.invariant.1,
       c.self.invariant.2,
       c.self.invariant.3,
+      c.self.invariant.4,
     )
 
 -- no frame was due
@@ -81,6 +86,7 @@ invariant_of-self-in_default-send c =
       subst (λ (xs : List LinkView). AreStill s.quiet s.nodes.items xs) (sym (same c)) c.self.invariant.1,
       subst (λ (xs : List LinkView). AreStillEach s.clock s.stills xs) (sym (same c)) c.self.invariant.2,
       c.self.invariant.3,
+      subst (λ (xs : List LinkView). ArePlainEach s.clock s.plains xs) (sym (same c)) c.self.invariant.4,
     )
 
 pub returns-in_default-send : goal.returns-in_default-send
@@ -111,6 +117,8 @@ invariant_of-self-2 c =
       possible_still s.clock s.stills s.links.items c.in-Some.at c.index_mut.result.now c.send.new.self c.in-Some.ensures.first.within c.index_mut.ensures.value
           (λ until lt h. both_ways (is_some (frame_due c.index_mut.result.now.settings c.index_mut.result.now.state s.clock)) (h.frames s.clock lt) (ap is_some (due c))) c.self.invariant.2,
       c.self.invariant.3,
+      same_plain s.clock s.plains s.links.items c.in-Some.at c.index_mut.result.now c.send.new.self (slice_get_read s.links.items (length s.links.items) c.in-Some.at c.index_mut.result.now refl c.in-Some.ensures.first.within c.index_mut.ensures.value)
+          (λ h. subst (λ (x : LinkView). IsPlain x) (sym c.in-Some-send.ensures.state) (transmit_plain c.index_mut.result.now.settings c.index_mut.result.now.state s.clock (has_cargo c.index_mut.result.now) h)) c.self.invariant.4,
     )
 
 pub returns : goal.returns

@@ -1,0 +1,5 @@
+use Rattle.tora_sim.specs.Plains.{ArePlainEach}
+use Rattle.tora_sim.proofs.plains.mark_ends.Given as goal
+
+abbrev pub invariant-loop-block : goal.invariant-loop-block
+invariant-loop-block l = ArePlainEach l.now l.plains l.links.items

@@ -1,0 +1,100 @@
+//! At which link ends nothing but a frame may be due.
+ghost use Rattle.std.specs.Prelude.{◌≡◌, ◌*◌, ◌<◌, true, false, length, slice_set};
+ghost use Rattle.tora_arq.specs.LinkEnd.{is_closed, after_frame, after_tick};
+ghost use Rattle.tora_sim.specs.Links.{with_state};
+ghost use Rattle.tora_sim.specs.Plains.{IsPlain, ArePlainEach};
+
+use crate::links::LinkSlot;
+use crate::stills::{Stills, block_count, ends_of, is_still_block, keep_block, keep_still, still_at};
+use tora_frame::BorrowedFrame;
+
+/// Looks at each link end that is not known to be plain, whether it is. The ends stay as they are.
+pub fn mark_ends(links: &Vec<LinkSlot>, plains: &mut Stills, now: u64)
+    requires { ArePlainEach now plains.old links.now.items }
+    ensures { ArePlainEach now plains.new links.now.items }
+{
+    for block in 0..block_count(plains) {
+        mark_block(links, plains, block, now);
+    }
+}
+
+/// Looks at each such end of a block, and keeps the tick of the block anew, unless it tells that there is none.
+fn mark_block(links: &Vec<LinkSlot>, plains: &mut Stills, block: usize, now: u64)
+    requires within { 16 * block < length plains.old }
+    requires plain { ArePlainEach now plains.old links.now.items }
+    ensures { ArePlainEach now plains.new links.now.items }
+{
+    if is_still_block(plains, block, now) {
+        return;
+    }
+    let (first, count) = ends_of(plains, block);
+    for place in 0..count {
+        mark_end(links, plains, first + place, now);
+    }
+    keep_block(plains, block);
+}
+
+/// Looks at the end at a place, unless it is known to be plain. One that is stays so until something happens at it, whatever the tick.
+#[inline(always)]
+fn mark_end(links: &Vec<LinkSlot>, plains: &mut Stills, place: usize, now: u64)
+    requires within { place < length plains.old }
+    requires plain { ArePlainEach now plains.old links.now.items }
+    ensures { ArePlainEach now plains.new links.now.items }
+{
+    if now < still_at(plains, place) {
+        return;
+    }
+    if links[place].is_busy() {
+        return;
+    }
+    keep_still(plains, place, u64::MAX);
+}
+
+/// Nothing is known any more of the end at a place, where it is busy after what happened at it; else what was known stays.
+#[inline(always)]
+pub fn forget_busy(plains: &mut Stills, place: usize, busy: bool)
+    requires { place < length plains.old }
+    ensures same { busy ≡ false → plains.new ≡ plains.old }
+    ensures forgotten { busy ≡ true → plains.new ≡ slice_set plains.old place 0 }
+{
+    if !busy {
+        return;
+    }
+    keep_still(plains, place, 0);
+}
+
+impl LinkSlot {
+    /// Whether more than a frame may be due here: the end is closed, a cargo waits in its lane, or it has an event to give. Else it is plain.
+    #[inline(always)]
+    pub fn is_busy(&self) -> bool
+        ensures { result ≡ false → IsPlain self.now }
+    {
+        if self.is_closed() {
+            return true;
+        }
+        if self.has_cargo() {
+            return true;
+        }
+        self.next_event().is_some()
+    }
+
+    /// Ticks the end, and tells whether it is closed then. One that isn't is as it was.
+    #[inline(always)]
+    pub fn tick_and_look(&mut self, now: u64) -> bool
+        ensures state { self.new ≡ with_state self.old (after_tick self.old.settings self.old.state now) }
+        ensures closed { result ≡ is_closed self.new.state }
+    {
+        self.tick(now);
+        self.is_closed()
+    }
+
+    /// Takes a frame in, and tells whether the end is busy then.
+    #[inline(always)]
+    pub fn receive_and_look(&mut self, frame: &BorrowedFrame<'_>, now: u64) -> bool
+        ensures state { self.new ≡ with_state self.old (after_frame self.old.settings self.old.state frame.now now) }
+        ensures plain { result ≡ false → IsPlain self.new }
+    {
+        self.receive(frame, now);
+        self.is_busy()
+    }
+}
