@@ -13,10 +13,8 @@ use Rattle.tora_world.specs.declared.call.Call.{Call}
 use Rattle.tora_world.specs.declared.call.Call.TheVariants as Fails
 use Rattle.tora_world.specs.World.{World, Choice, settings, datagram, refusal_of, refusal_by, own_choice, after_pull, after_sending, after_receiving, after_pump, after_turn, after_arming, effect_by, world_by, world_after, world_after_all}
 use Rattle.tora_channel.specs.Table.{Channels}
-use Rattle.tora_sim.specs.Quiet.{IsQuietEnd}
 use Rattle.tora_sim.specs.Readers.{ends_in}
 use Rattle.tora_script.specs.declared.rounds.EndTurn.{EndTurn}
-use Rattle.tora_script.specs.declared.rounds.EndTurn.TheVariants as turn
 use Rattle.tora_script.specs.Rounds.{Plan, end_event, repeats, each, Sky, moment_of, round, after_round, Happened, AreKnown}
 
 -- ---- no event changes the topology
@@ -99,13 +97,7 @@ unfolding repeats
 no_event w zero event stop = refl
 no_event w (suc k) event stop = rw stop refl
 
-no_turn : (kind : EndTurn) (w : World) (end : ℕ × ℕ) → IsQuietEnd w end.0 end.1 → is_some (refusal_of w (end_event kind end)) ≡ true
-no_turn turn.Open w end q = q.opens
-no_turn turn.Pull w end q = q.pulls
-no_turn turn.Transmit w end q = q.sends
-no_turn turn.Pump w end q = q.pumps
-
--- ends that have nothing to do have no turn
-pub pass_over : (kind : EndTurn) (most : ℕ) (ends : List (ℕ × ℕ)) (i j : ℕ) (w : World) → i ≤ j → ((at : ℕ) (end : ℕ × ℕ) → i ≤ at → at < j → slice_get ends at ≡ Some end → IsQuietEnd w end.0 end.1)
+-- ends whose turn is refused have none
+pub pass_over : (kind : EndTurn) (most : ℕ) (ends : List (ℕ × ℕ)) (i j : ℕ) (w : World) → i ≤ j → ((at : ℕ) (end : ℕ × ℕ) → i ≤ at → at < j → slice_get ends at ≡ Some end → is_some (refusal_of w (end_event kind end)) ≡ true)
     → each (λ e. repeats most (end_event kind e)) (drop i ends) w ≡ each (λ e. repeats most (end_event kind e)) (drop j ends) w
-pass_over kind most ends i j w le quiet = each_over (λ (e : ℕ × ℕ). repeats most (end_event kind e)) ends i j w le (λ at end from before there. no_event w most (end_event kind end) (no_turn kind w end (quiet at end from before there)))
+pass_over kind most ends i j w le none = each_over (λ (e : ℕ × ℕ). repeats most (end_event kind e)) ends i j w le (λ at end from before there. no_event w most (end_event kind end) (none at end from before there))

@@ -1,6 +1,6 @@
 //! Rounds of a simulation.
 ghost use Rattle.std.specs.Prelude.{◌≡◌, ◌<◌, ◌≤◌, ◌||◌, ℕ, true, false, Some, is_some, slice_get, IfOk};
-ghost use Rattle.tora_sim.specs.Quiet.{IsQuietEnd};
+ghost use Rattle.tora_sim.specs.Readers.{ends_in};
 ghost use Rattle.tora_world.specs.World.{World, datagram, refusal_of, world_after_all};
 ghost use Rattle.tora_world.specs.declared.event.Event.TheVariants.{CoreTurn};
 ghost use Rattle.tora_channel.specs.Table.{over, alone};
@@ -135,15 +135,36 @@ pub fn turn_end<S: Simulator>(
     repeat(sim, place, &kind.event(end), most)
 }
 
-/// The first place from `place` on at which a link end may have something to do, where it is known that these are the ends of
-/// the simulator; else the place itself.
+/// The first place from `place` on at which a link end of the simulator may have such a turn. In most rounds frames are due at many ends, and
+/// anything else is to be done at few: so the two are asked apart.
 #[inline(always)]
-fn next_place<S: Simulator>(sim: &S, known: bool, _ends: &[(Id, Id)], place: usize) -> usize
+fn next_turn<S: Simulator>(sim: &S, kind: EndTurn, place: usize) -> usize
+    ensures onward { place ≤ result }
+    ensures passed { (at : ℕ) (end : ℕ × ℕ) → place ≤ at → at < result → slice_get (ends_in (S.world sim.now).topology) at ≡ Some end → is_some (refusal_of (S.world sim.now) (end_event kind end)) ≡ true }
+{
+    match kind {
+        EndTurn::Open => sim.next_busy(place),
+        EndTurn::Pull => sim.next_busy(place),
+        EndTurn::Transmit => sim.next_due(place),
+        EndTurn::Pump => sim.next_busy(place),
+    }
+}
+
+/// The first place from `place` on at which a link end may have such a turn, where it is known that these are the ends of the
+/// simulator; else the place itself.
+#[inline(always)]
+fn next_place<S: Simulator>(
+    sim: &S,
+    known: bool,
+    _ends: &[(Id, Id)],
+    kind: EndTurn,
+    place: usize,
+) -> usize
     requires { AreKnown known _ends.now (S.world sim.now) }
     ensures onward { place ≤ result }
-    ensures passed { (at : ℕ) (end : ℕ × ℕ) → place ≤ at → at < result → slice_get _ends.now at ≡ Some end → IsQuietEnd (S.world sim.now) end.0 end.1 }
+    ensures passed { (at : ℕ) (end : ℕ × ℕ) → place ≤ at → at < result → slice_get _ends.now at ≡ Some end → is_some (refusal_of (S.world sim.now) (end_event kind end)) ≡ true }
 {
-    if known { sim.next_due(place) } else { place }
+    if known { next_turn(sim, kind, place) } else { place }
 }
 
 /// Gives each link end its turn, so many times at most. Where it is known that these are the ends of the simulator, those that
@@ -163,11 +184,11 @@ fn turn_known_ends<S: Simulator>(
         return Ok(false);
     }
     let mut some = false;
-    let mut place = next_place(sim, known, ends, 0);
+    let mut place = next_place(sim, known, ends, kind, 0);
     while place < ends.len() {
         let any = turn_end(sim, kind, place, ends[place], most)?;
         some = either(some, any);
-        place = next_place(sim, known, ends, place + 1);
+        place = next_place(sim, known, ends, kind, place + 1);
     }
     Ok(some)
 }

@@ -4,6 +4,7 @@ ghost use Rattle.tora_world.specs.World.{World, refusal_of, world_after, datagra
 ghost use Rattle.tora_arq.specs.Settings.{IsTimes};
 ghost use Rattle.tora_script.specs.Simulator.{ArePairs, AreIds, Starts, nodes_of};
 ghost use Rattle.tora_sim.specs.Cuts.{after_cut_at};
+ghost use Rattle.tora_sim.specs.Plains.{MayOnlySend};
 ghost use Rattle.tora_sim.specs.Quiet.{IsQuiet, IsQuietEnd};
 ghost use Rattle.tora_sim.specs.Readers.{ends_in};
 ghost use Rattle.tora_world.specs.Walks.{height_at, hop_at, exact_in, walk_of};
@@ -57,13 +58,21 @@ pub trait Simulator: Drop {
     /// The first place from `place` on at which a link end may have something to do, in the order of `ends` and from 0 on: of the
     /// ends that are passed over `happen` refuses each `Open`, `Pull`, `Transmit` and `Pump`.
     ///
-    /// It is asked before each end's turn in a part of a round. `settle` may make known what is passed over.
+    /// It is asked before each end's turn to send frames. `settle` may make known what is passed over.
     fn next_due(&self, place: usize) -> usize
         ensures onward { place ≤ result }
         ensures passed { (at : ℕ) (end : ℕ × ℕ) → place ≤ at → at < result → slice_get (ends_in (world self.now).topology) at ≡ Some end → IsQuietEnd (world self.now) end.0 end.1 };
 
-    /// Looks whether nothing is to be done, and until which tick, for `is_quiet`, `next_due` and the ticks that come; the world
-    /// stays as it is.
+    /// The first place from `place` on at which more than a frame may be due, in the order of `ends` and from 0 on: of the ends that are
+    /// passed over `happen` refuses each `Open`, `Pull` and `Pump`.
+    ///
+    /// It is asked before each end's turn but that to send frames. `settle` may make known what is passed over.
+    fn next_busy(&self, place: usize) -> usize
+        ensures onward { place ≤ result }
+        ensures passed { (at : ℕ) (end : ℕ × ℕ) → place ≤ at → at < result → slice_get (ends_in (world self.now).topology) at ≡ Some end → MayOnlySend (world self.now) end.0 end.1 };
+
+    /// Looks whether nothing is to be done, and until which tick, for `is_quiet`, `next_due`, `next_busy` and the ticks that come; the
+    /// world stays as it is.
     fn settle(&mut self)
         ensures { world self.new ≡ world self.old };
 

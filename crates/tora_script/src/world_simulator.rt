@@ -66,6 +66,11 @@ impl Simulator for Sim {
         Sim::next_due(self, place)
     }
 
+    #[inline(always)]
+    fn next_busy(&self, place: usize) -> usize {
+        Sim::next_busy(self, place)
+    }
+
     fn settle(&mut self) {
         Sim::settle(self);
     }

@@ -200,6 +200,11 @@ impl<S: Watched> Simulator for Traced<S> {
         self.sim.next_due(place)
     }
 
+    #[inline(always)]
+    fn next_busy(&self, place: usize) -> usize {
+        self.sim.next_busy(place)
+    }
+
     fn settle(&mut self) {
         self.sim.settle();
     }

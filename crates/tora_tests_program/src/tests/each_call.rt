@@ -53,6 +53,10 @@ impl Simulator for Recorder {
         self.sim.next_due(place)
     }
 
+    fn next_busy(&self, place: usize) -> usize {
+        self.sim.next_busy(place)
+    }
+
     fn settle(&mut self) {
         self.sim.settle();
     }
