@@ -164,7 +164,11 @@ fn next_place<S: Simulator>(
     ensures onward { place ≤ result }
     ensures passed { (at : ℕ) (end : ℕ × ℕ) → place ≤ at → at < result → slice_get _ends.now at ≡ Some end → is_some (refusal_of (S.world sim.now) (end_event kind end)) ≡ true }
 {
-    if known { next_turn(sim, kind, place) } else { place }
+    if known {
+        next_turn(sim, kind, place)
+    } else {
+        place
+    }
 }
 
 /// Gives each link end its turn, so many times at most. Where it is known that these are the ends of the simulator, those that

@@ -47,5 +47,6 @@ pub mod Quiets
 pub mod StillEnds
 pub mod PlainEnds
 pub mod StillBlocks
+pub mod ReadyEnds
 pub mod TickEnds
 pub mod CoreEnds

@@ -19,6 +19,7 @@ use crate::lane::Lane;
 use crate::links::{LinkSlot, end_of, keys_of};
 use crate::links_by_bits::{LinkLists, links_by_bits};
 use crate::nodes::{NodeSlot, Sending, no_counts};
+use crate::ready::none_ready;
 use crate::sim::Sim;
 use crate::stills::no_stills;
 use crate::topology::Topology;
@@ -73,6 +74,7 @@ impl Sim {
         let count = links.len();
         let stills = no_stills(alloc, count)?;
         let plains = no_stills(alloc, count)?;
+        let ready = none_ready(alloc, count)?;
         let keys = keys_of(alloc, &links)?;
         let hints = Hints::new(&nodes);
         Ok(Sim {
@@ -87,6 +89,7 @@ impl Sim {
             quiet: 0,
             stills,
             plains,
+            ready,
             packets: Packets::new(),
         })
     }

@@ -37,6 +37,7 @@ mod plains;
 mod possible;
 mod quiet;
 mod readers;
+mod ready;
 mod rest;
 mod restarts;
 mod same_frames;

@@ -1,6 +1,6 @@
 //! The link ends of all nodes, one behind the other.
 ghost use Rattle.tora_arq.specs.Settings.{IsTimes, settings_of};
-ghost use Rattle.std.specs.Prelude.{◌≡◌, ◌==◌, ◌≢◌, ◌<◌, ◌≤◌, ◌+◌, ◌++◌, ◌∷◌, [], ℕ, ⊤, false, IsTrue, IfSome, IfNone, OnOk, IfOk, IfErr, None, Some, MatchOption, MatchResult, find, length, map, is_some, nat_lt, slice_get};
+ghost use Rattle.std.specs.Prelude.{◌≡◌, ◌==◌, ◌≢◌, ◌<◌, ◌≤◌, ◌+◌, ◌++◌, ◌∷◌, [], ℕ, ⊤, true, false, IsTrue, IfSome, IfNone, OnOk, IfOk, IfErr, None, Some, MatchOption, MatchResult, find, length, map, is_some, nat_lt, slice_get};
 ghost use Rattle.tora_arq.specs.LinkEnd.{is_closed, after_frame, after_tick, frame_due, after_transmit, first_event, after_poll_event};
 ghost use Rattle.tora_sim.specs.Links.{with_state, after_open_at, after_arm, after_pull_at, is_at, is_key, key_of, AreRising, AreRisingKeys, AreChanged};
 ghost use Rattle.tora_arq.specs.LinkEnd.{first_end};
@@ -8,7 +8,7 @@ ghost use Rattle.tora_arq.specs.EndRange.{link_end_of};
 ghost use Rattle.tora_seat.specs.declared.TheConstants.{MOST_CARGOES};
 ghost use Rattle.tora_sim.specs.Keyed.{IsFirst};
 ghost use Rattle.tora_sim.specs.Restarts.{restarted};
-ghost use Rattle.tora_sim.specs.Lanes.{after_offer_at, has_place, bare, HasRoom};
+ghost use Rattle.tora_sim.specs.Lanes.{after_offer_at, has_place, bare, HasRoom, IsReady};
 
 use crate::SimError;
 use crate::files::FileSlot;
@@ -185,7 +185,7 @@ impl LinkSlot {
     ///
     /// # Errors
     /// `Memory`. The end is as it was either way.
-    pub fn make_room(&mut self) -> Result<(), SimError>
+    fn make_room(&mut self) -> Result<(), SimError>
         ensures same { bare self.new ≡ bare self.old }
         ensures room { OnOk result (HasRoom self.new) }
         ensures memory { IfErr result (λ e. e ≡ SimError.Memory) }
@@ -197,6 +197,20 @@ impl LinkSlot {
             return Err(SimError::Memory);
         }
         Ok(())
+    }
+
+    /// Takes that memory as `make_room` does, and answers whether no cargo waits in the lane.
+    ///
+    /// # Errors
+    /// `Memory`. The end is as it was either way.
+    pub fn make_ready(&mut self) -> Result<bool, SimError>
+        ensures same { bare self.new ≡ bare self.old }
+        ensures room { OnOk result (HasRoom self.new) }
+        ensures ready { IfOk result (λ known. known ≡ true → IsReady self.new) }
+        ensures memory { IfErr result (λ e. e ≡ SimError.Memory) }
+    {
+        self.make_room()?;
+        Ok(!self.has_cargo())
     }
 
     /// Puts a cargo at the back of the lane, where fewer wait than it holds, and answers whether it was put.

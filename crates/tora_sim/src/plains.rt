@@ -5,7 +5,9 @@ ghost use Rattle.tora_sim.specs.Links.{with_state};
 ghost use Rattle.tora_sim.specs.Plains.{IsPlain, ArePlainEach};
 
 use crate::links::LinkSlot;
-use crate::stills::{Stills, block_count, ends_of, is_still_block, keep_block, keep_still, still_at};
+use crate::stills::{
+    Stills, block_count, ends_of, is_still_block, keep_block, keep_still, still_at,
+};
 use tora_frame::BorrowedFrame;
 
 /// Looks at each link end that is not known to be plain, whether it is. The ends stay as they are.

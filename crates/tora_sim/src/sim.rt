@@ -49,6 +49,9 @@ pub struct Sim {
     /// Of each link end the tick before which it is plain: it is open, no cargo waits in its lane, and it has no event to give, so that nothing
     /// but a frame may be due at it. Time makes no end otherwise but by a tick: so it is the last tick, or 0 where nothing is known.
     pub(crate) plains: Stills,
+    /// Of each link end whether it is known that its lane is empty, and that there is memory at it for all that one item of its node can
+    /// put. A turn of a core looks at no other end of its node.
+    pub(crate) ready: Vec<bool>,
     /// Where the packets of a frame stand while it is sent.
     pub(crate) packets: Packets,
 }
@@ -56,6 +59,7 @@ pub struct Sim {
 impl Model for Sim {
     ghost use Rattle.std.specs.Prelude.{◌≡◌};
     ghost use Rattle.tora_sim.specs.Store.{SimState, IsStore, state_of};
+    ghost use Rattle.tora_sim.specs.Lanes.{AreReadyEach};
     ghost use Rattle.tora_sim.specs.Quiet.{AreStill, AreStillEach};
     ghost use Rattle.tora_sim.specs.Plains.{ArePlainEach};
     ghost use Rattle.tora_sim.specs.Readers.{ends_in};
@@ -64,7 +68,7 @@ impl Model for Sim {
 
     ghost view = { λ s. state_of s.topology s.times s.clock s.nodes.items s.links.items s.datagrams.items };
 
-    ghost invariant = { λ s. IsStore (state_of s.topology s.times s.clock s.nodes.items s.links.items s.datagrams.items) × AreStill s.quiet s.nodes.items s.links.items × AreStillEach s.clock s.stills s.links.items × (s.keys.items ≡ ends_in s.topology) × ArePlainEach s.clock s.plains s.links.items };
+    ghost invariant = { λ s. IsStore (state_of s.topology s.times s.clock s.nodes.items s.links.items s.datagrams.items) × AreStill s.quiet s.nodes.items s.links.items × AreStillEach s.clock s.stills s.links.items × (s.keys.items ≡ ends_in s.topology) × ArePlainEach s.clock s.plains s.links.items × AreReadyEach s.ready.items s.links.items };
 }
 
 impl Sim {
@@ -231,12 +235,12 @@ impl Sim {
         let first = self.nodes[home].first();
         let count = self.nodes[home].count();
         self.quiet = 0;
-        if make_room(&mut self.links, first, count).is_err() {
+        if make_room(&mut self.links, &mut self.ready, first, count).is_err() {
             return Err(SimError::Memory);
         }
-        let turned = turn(&mut self.nodes[home], &mut self.links);
-        forget_waiting(&self.links, &mut self.stills, first, count);
-        forget_waiting(&self.links, &mut self.plains, first, count);
+        let turned = turn(&mut self.nodes[home], &mut self.links, &mut self.ready);
+        forget_waiting(&self.links, &self.ready, &mut self.stills, first, count);
+        forget_waiting(&self.links, &self.ready, &mut self.plains, first, count);
         turned
     }
 

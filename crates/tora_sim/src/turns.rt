@@ -1,6 +1,6 @@
 //! Turns of a node's core.
 ghost use Rattle.std.specs.Prelude.{◌≡◌, ◌+◌, ◌<◌, ◌≤◌, length};
-ghost use Rattle.tora_sim.specs.Lanes.{lanes_of, AreReady};
+ghost use Rattle.tora_sim.specs.Lanes.{lanes_of, AreReady, AreReadyEach};
 ghost use Rattle.tora_sim.specs.Quiet.{AreForgottenWhere, IsForgottenWhere};
 ghost use Rattle.tora_sim.specs.Turns.{Turns};
 
@@ -8,6 +8,7 @@ use crate::SimError;
 use crate::lanes::NodeLanes;
 use crate::links::LinkSlot;
 use crate::nodes::NodeSlot;
+use crate::ready::is_ready;
 use crate::stills::{Stills, keep_still};
 use std::mem;
 use tora_seat::offers_are_their_own_answers;
@@ -16,23 +17,29 @@ use tora_seat::offers_are_their_own_answers;
 ///
 /// # Errors
 /// `Memory`, which changes nothing.
-pub fn turn(node: &mut NodeSlot, links: &mut Vec<LinkSlot>) -> Result<(), SimError>
-    requires ready { AreReady (lanes_of links.old.items node.old.first node.old.count) }
+pub fn turn(
+    node: &mut NodeSlot,
+    links: &mut Vec<LinkSlot>,
+    ready: &mut Vec<bool>,
+) -> Result<(), SimError>
+    requires room { AreReady (lanes_of links.old.items node.old.first node.old.count) ready.old.items }
     requires waits { 0 < length node.old.items }
     requires neighbours { length node.old.seat.core.neighbours ≡ node.old.count }
-    ensures { Turns node.old links.old.items result node.new links.new.items }
+    ensures turned { Turns node.old links.old.items result node.new links.new.items }
+    ensures marks { AreReadyEach ready.new.items links.new.items }
 {
     let alloc = *links.allocator();
     let ends = mem::replace(links, Vec::new(alloc));
-    let mut lanes = NodeLanes::new(ends, node.first(), node.count());
+    let marks = mem::replace(ready, Vec::new(alloc));
+    let mut lanes = NodeLanes::new(ends, marks, node.first(), node.count());
     match node.serve(&mut lanes) {
         Ok(item) => {
             offers_are_their_own_answers();
-            *links = lanes.into_links(item.seat, node.stepped());
+            *links = lanes.into_links(item.seat, node.stepped(), ready);
             Ok(())
         }
         Err(error) => {
-            *links = lanes.into_links(0, None);
+            *links = lanes.into_links(0, None, ready);
             Err(error)
         }
     }
@@ -40,24 +47,35 @@ pub fn turn(node: &mut NodeSlot, links: &mut Vec<LinkSlot>) -> Result<(), SimErr
 
 /// Nothing is known any more of those of the `count` link ends from the place `first` on in whose lane a cargo waits. Of a node's ends a
 /// turn of its core changes the lanes and the packets that were stepped alone, so that any other is as still, or as plain, as it was.
-pub fn forget_waiting(links: &Vec<LinkSlot>, stills: &mut Stills, first: usize, count: usize)
+pub fn forget_waiting(
+    links: &Vec<LinkSlot>,
+    ready: &Vec<bool>,
+    stills: &mut Stills,
+    first: usize,
+    count: usize,
+)
     requires within { first + count ≤ length links.now.items }
+    requires marks { AreReadyEach ready.now.items links.now.items }
     requires known { length stills.old ≡ length links.now.items }
     ensures { AreForgottenWhere links.now.items stills.old stills.new first count }
 {
     for place in 0..count {
         let at = first + place;
-        forget_if_waiting(links, stills, at);
+        forget_if_waiting(links, ready, stills, at);
     }
 }
 
-/// Nothing is known any more of the link end at a place, where a cargo waits in its lane.
+/// Nothing is known any more of the link end at a place, where a cargo waits in its lane. An end that is ready is not looked at.
 #[inline(always)]
-fn forget_if_waiting(links: &Vec<LinkSlot>, stills: &mut Stills, at: usize)
+fn forget_if_waiting(links: &Vec<LinkSlot>, ready: &Vec<bool>, stills: &mut Stills, at: usize)
     requires within { at < length links.now.items }
+    requires marks { AreReadyEach ready.now.items links.now.items }
     requires known { at < length stills.old }
     ensures { IsForgottenWhere links.now.items stills.old stills.new at }
 {
+    if is_ready(ready, at) {
+        return;
+    }
     if !links[at].has_cargo() {
         return;
     }

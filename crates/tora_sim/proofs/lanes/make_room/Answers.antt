@@ -1,21 +1,41 @@
-use Rattle.std.proofs.Common.{◌≡◌, ◌+◌, ◌<◌, ◌≤◌, ℕ, List, length, arith, Some}
-use Rattle.std.specs.Prelude.{slice_get, slice_index_or}
-use Rattle.tora_sim.specs.Links.{LinkView}
-use Rattle.tora_sim.specs.Lanes.{AreAlike}
-use Rattle.tora_sim.proofs.Rooms.{read_in, alike_set, more_room}
+use Rattle.std.proofs.Common.{◌≡◌, ◌∙◌, ℕ, subst, arith}
+use Rattle.tora_sim.proofs.Rooms.{RoomMade, no_room, same_length, more_room, all_room}
 use Rattle.tora_sim.proofs.lanes.make_room.Goals as goal
 
-there : (before links : List LinkView) (first place count : ℕ) (x : LinkView) → AreAlike before links → place < count → first + count ≤ length before → x ≡ slice_index_or links (first + place) x → slice_get links (first + place) ≡ Some x
-there before links first place count x alike lt within read = read_in before links (first + place) x alike (omega (arith, lt, within)) read
+pub loop-place-init : goal.loop-place-init
+loop-place-init c = record { made = no_room c.args.links.now.items c.args.first; marks = c.requires.marks }
 
-pub returns-in_err-make_room-clause-same : goal.returns-in_err-make_room-clause-same
-returns-in_err-make_room-clause-same c =
+pub make_room_at-requires-clause-within : goal.make_room_at-requires-clause-within
+make_room_at-requires-clause-within c =
     let l = c.loop-place in
-    alike_set c.args.links.now.items l.links.items (c.args.first + l.place) c.index_mut.result.now c.make_room.new.self l.invariant.same
-    (there c.args.links.now.items l.links.items c.args.first l.place c.args.count c.index_mut.result.now l.invariant.same c.loop-place-test.true c.requires c.index_mut.ensures.value) c.in_err-make_room.ensures.same
+    let many = same_length c.args.links.now.items l.links.items l.invariant.made.same in
+    omega (arith, c.loop-place-test.true, c.requires.within, many)
+
+pub make_room_at-requires-clause-marks : goal.make_room_at-requires-clause-marks
+make_room_at-requires-clause-marks c = c.loop-place.invariant.marks
+
+pub returns-in_err-make_room_at-clause-same : goal.returns-in_err-make_room_at-clause-same
+returns-in_err-make_room_at-clause-same c = c.in_err-make_room_at.ensures.same ∙ c.loop-place.invariant.made.same
+
+pub returns-in_err-make_room_at-clause-marks : goal.returns-in_err-make_room_at-clause-marks
+returns-in_err-make_room_at-clause-marks c = c.in_err-make_room_at.ensures.marks
 
 pub loop-place-preserved : goal.loop-place-preserved
 loop-place-preserved c =
     let l = c.loop-place in
-    more_room c.args.links.now.items l.links.items c.args.first l.place c.index_mut.result.now c.make_room.new.self l.invariant
-    (there c.args.links.now.items l.links.items c.args.first l.place c.args.count c.index_mut.result.now l.invariant.same c.loop-place-test.true c.requires c.index_mut.ensures.value) c.in_ok-make_room.ensures.same c.in_ok-make_room.ensures.room
+    record {
+      made = more_room c.args.links.now.items l.links.items c.make_room_at.new.links.items c.args.first l.place l.invariant.made c.in_ok-make_room_at.ensures.same c.in_ok-make_room_at.ensures.room c.in_ok-make_room_at.ensures.others;
+      marks = c.in_ok-make_room_at.ensures.marks;
+    }
+
+pub returns-clause-same : goal.returns-clause-same
+returns-clause-same c = c.loop-place.invariant.made.same
+
+pub returns-clause-room : goal.returns-clause-room
+returns-clause-room c =
+    let l = c.loop-place in
+    let all : l.place ≡ c.args.count = omega (arith, c.loop-place-test.false, l.auto.place-end) in
+    all_room c.args.links.now.items l.links.items c.args.first c.args.count l.ready.items c.requires.within (subst (λ (n : ℕ). RoomMade c.args.links.now.items l.links.items c.args.first n) all l.invariant.made) l.invariant.marks
+
+pub returns-clause-marks : goal.returns-clause-marks
+returns-clause-marks c = c.loop-place.invariant.marks

@@ -9,6 +9,9 @@ loop-place-init c = none_forgotten_where c.args.links.now.items c.args.stills.no
 pub forget_if_waiting-requires-clause-within : goal.forget_if_waiting-requires-clause-within
 forget_if_waiting-requires-clause-within c = omega (arith, c.loop-place-test.true, c.requires.within)
 
+pub forget_if_waiting-requires-clause-marks : goal.forget_if_waiting-requires-clause-marks
+forget_if_waiting-requires-clause-marks c = c.requires.marks
+
 pub forget_if_waiting-requires-clause-known : goal.forget_if_waiting-requires-clause-known
 forget_if_waiting-requires-clause-known c = let many = c.loop-place.invariant.as_many in omega (arith, c.loop-place-test.true, c.requires.within, c.requires.known, many)
 

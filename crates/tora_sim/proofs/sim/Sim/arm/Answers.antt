@@ -17,6 +17,7 @@ invariant_of-self c =
       c.self.invariant.2,
       c.self.invariant.3,
       c.self.invariant.4,
+      c.self.invariant.5,
     )
 
 pub invariant_of-self-in-SendGone : goal.invariant_of-self-in-SendGone
@@ -27,6 +28,7 @@ invariant_of-self-in-SendGone c =
       c.self.invariant.2,
       c.self.invariant.3,
       c.self.invariant.4,
+      c.self.invariant.5,
     )
 
 pub invariant_of-self-in-Receive : goal.invariant_of-self-in-Receive
@@ -37,6 +39,7 @@ invariant_of-self-in-Receive c =
       c.self.invariant.2,
       c.self.invariant.3,
       c.self.invariant.4,
+      c.self.invariant.5,
     )
 
 pub returns-in-SendLost : goal.returns-in-SendLost

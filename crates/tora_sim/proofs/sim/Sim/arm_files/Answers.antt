@@ -2,6 +2,7 @@ use Rattle.std.proofs.Common.{◌≡◌, ℕ, nat_eq, map, ap, sym, subst, ◌�
 use Rattle.std.proofs.lemmas.Bool.{cond_both}
 use Rattle.tora_world.specs.declared.event.Event.TheVariants.{Arm}
 use Rattle.tora_sim.specs.Keyed.{IsFirst}
+use Rattle.tora_sim.specs.Lanes.{IsReady}
 use Rattle.tora_sim.specs.Links.{LinkView, AreChanged, after_arm}
 use Rattle.tora_sim.specs.Plains.{IsPlain}
 use Rattle.tora_sim.specs.Quiet.{IsStill}
@@ -13,6 +14,7 @@ use Rattle.tora_sim.proofs.Arms.{armed_of, files_done, files_store, noded_at}
 use Rattle.tora_sim.proofs.NodeEnds.{ends_within, changed_is}
 use Rattle.tora_sim.proofs.StillEnds.{mapped_still}
 use Rattle.tora_sim.proofs.PlainEnds.{mapped_plain}
+use Rattle.tora_sim.proofs.ReadyEnds.{mapped_ready}
 use Rattle.tora_sim.proofs.sim.Sim.arm_files.Goals as goal
 
 pub arm-requires : goal.arm-requires
@@ -46,6 +48,8 @@ invariant_of-self c =
       c.self.invariant.3,
       mapped_plain s.clock s.plains s.links.items c.arm.new.links.items (armed_of c.args.n c.args.call) (armed c)
           (λ x h. cond_both (nat_eq x.node c.args.n) (after_arm x c.args.call) x (λ (z : LinkView). IsPlain z) (λ _. h) (λ _. h)) c.self.invariant.4,
+      mapped_ready s.ready.items s.links.items c.arm.new.links.items (armed_of c.args.n c.args.call) (armed c)
+          (λ x h. cond_both (nat_eq x.node c.args.n) (after_arm x c.args.call) x (λ (z : LinkView). IsReady z) (λ _. h) (λ _. h)) c.self.invariant.5,
     )
 
 pub returns : goal.returns

@@ -19,8 +19,8 @@ returns-then-waiting-eq0 c =
     (turn_refused s.topology s.times s.clock s.nodes.items s.links.items s.datagrams.items c.self.invariant.0 c.args.n c.in-Some.home c.index.result.now c.in-Some.ensures.first c.index.ensures
     (sym c.waiting.ensures ∙ c.if-waiting-eq0.true))
 
-pub make_room-requires : goal.make_room-requires
-make_room-requires c =
+pub make_room-requires-clause-within : goal.make_room-requires-clause-within
+make_room-requires-clause-within c =
     let s = c.self.inside in
     let within = ends_within s.topology s.times s.clock s.nodes.items s.links.items s.datagrams.items c.self.invariant.0 c.args.n c.in-Some.home c.index.result.now c.in-Some.ensures.first c.index.ensures in
     let first : c.first-first.result ≡ c.index.result.now.first =
@@ -28,6 +28,9 @@ make_room-requires c =
     let count : c.count-count.result ≡ c.index.result.now.count =
     c.count-count.ensures ∙ ap (λ (x : NodeView). x.count) (same_read s.nodes.items c.in-Some.home c.index-3.result.now c.index.result.now c.in-Some.ensures.first.within c.index-3.ensures c.index.ensures) in
     omega (arith, within, first, count)
+
+pub make_room-requires-clause-marks : goal.make_room-requires-clause-marks
+make_room-requires-clause-marks c = c.self.invariant.5
 
 pub invariant_of-self : goal.invariant_of-self
 invariant_of-self c =
@@ -37,6 +40,7 @@ invariant_of-self c =
       alike_still s.clock s.stills s.links.items c.make_room.new.links.items c.make_room.ensures.same c.self.invariant.2,
       c.self.invariant.3,
       alike_plain s.clock s.plains s.links.items c.make_room.new.links.items c.make_room.ensures.same c.self.invariant.4,
+      c.make_room.ensures.marks,
     )
 
 waits : (nodes : List NodeView) (home : ℕ) (x y : NodeView) (count : ℕ) → home < length nodes → x ≡ slice_index_or nodes home x → y ≡ slice_index_or nodes home y → count ≡ length x.items → 0 < count → 0 < length y.items
@@ -63,12 +67,15 @@ forget_waiting-requires-clause-within c =
     let count : c.count-count.result ≡ node.count =
     c.count-count.ensures ∙ ap (λ (x : NodeView). x.count) (same_read s.nodes.items c.in-Some.home c.index-3.result.now node c.in-Some.ensures.first.within c.index-3.ensures c.index_mut.ensures.value) in
     let but : AreStillBut s.clock s.stills c.turn-turned.new.links.items c.first-first.result c.count-count.result =
-    turned_but s.clock s.stills node c.turn-turned.new.node c.make_room.new.links.items c.turn-turned.new.links.items c.turn-turned.result c.first-first.result c.count-count.result first count c.turn-turned.ensures
+    turned_but s.clock s.stills node c.turn-turned.new.node c.make_room.new.links.items c.turn-turned.new.links.items c.turn-turned.result c.first-first.result c.count-count.result first count c.turn-turned.ensures.turned
     (alike_still s.clock s.stills s.links.items c.make_room.new.links.items c.make_room.ensures.same c.self.invariant.2) in
     let within = ends_within s.topology s.times s.clock s.nodes.items s.links.items s.datagrams.items c.self.invariant.0 c.args.n c.in-Some.home node c.in-Some.ensures.first c.index_mut.ensures.value in
     let before = c.self.invariant.2.as_many in
     let many = but.as_many in
     omega (arith, within, first, count, before, many)
+
+pub forget_waiting-requires-clause-marks : goal.forget_waiting-requires-clause-marks
+forget_waiting-requires-clause-marks c = c.turn-turned.ensures.marks
 
 pub forget_waiting-requires-clause-known : goal.forget_waiting-requires-clause-known
 forget_waiting-requires-clause-known c =
@@ -79,7 +86,7 @@ forget_waiting-requires-clause-known c =
     let count : c.count-count.result ≡ node.count =
     c.count-count.ensures ∙ ap (λ (x : NodeView). x.count) (same_read s.nodes.items c.in-Some.home c.index-3.result.now node c.in-Some.ensures.first.within c.index-3.ensures c.index_mut.ensures.value) in
     let but : AreStillBut s.clock s.stills c.turn-turned.new.links.items c.first-first.result c.count-count.result =
-    turned_but s.clock s.stills node c.turn-turned.new.node c.make_room.new.links.items c.turn-turned.new.links.items c.turn-turned.result c.first-first.result c.count-count.result first count c.turn-turned.ensures
+    turned_but s.clock s.stills node c.turn-turned.new.node c.make_room.new.links.items c.turn-turned.new.links.items c.turn-turned.result c.first-first.result c.count-count.result first count c.turn-turned.ensures.turned
     (alike_still s.clock s.stills s.links.items c.make_room.new.links.items c.make_room.ensures.same c.self.invariant.2) in
     but.as_many
 
@@ -92,12 +99,15 @@ forget_waiting-requires-2-clause-within c =
     let count : c.count-count.result ≡ node.count =
     c.count-count.ensures ∙ ap (λ (x : NodeView). x.count) (same_read s.nodes.items c.in-Some.home c.index-3.result.now node c.in-Some.ensures.first.within c.index-3.ensures c.index_mut.ensures.value) in
     let but : AreStillBut s.clock s.stills c.turn-turned.new.links.items c.first-first.result c.count-count.result =
-    turned_but s.clock s.stills node c.turn-turned.new.node c.make_room.new.links.items c.turn-turned.new.links.items c.turn-turned.result c.first-first.result c.count-count.result first count c.turn-turned.ensures
+    turned_but s.clock s.stills node c.turn-turned.new.node c.make_room.new.links.items c.turn-turned.new.links.items c.turn-turned.result c.first-first.result c.count-count.result first count c.turn-turned.ensures.turned
     (alike_still s.clock s.stills s.links.items c.make_room.new.links.items c.make_room.ensures.same c.self.invariant.2) in
     let within = ends_within s.topology s.times s.clock s.nodes.items s.links.items s.datagrams.items c.self.invariant.0 c.args.n c.in-Some.home node c.in-Some.ensures.first c.index_mut.ensures.value in
     let before = c.self.invariant.2.as_many in
     let many = but.as_many in
     omega (arith, within, first, count, before, many)
+
+pub forget_waiting-requires-2-clause-marks : goal.forget_waiting-requires-2-clause-marks
+forget_waiting-requires-2-clause-marks c = c.turn-turned.ensures.marks
 
 pub forget_waiting-requires-2-clause-known : goal.forget_waiting-requires-2-clause-known
 forget_waiting-requires-2-clause-known c =
@@ -108,7 +118,7 @@ forget_waiting-requires-2-clause-known c =
     let count : c.count-count.result ≡ node.count =
     c.count-count.ensures ∙ ap (λ (x : NodeView). x.count) (same_read s.nodes.items c.in-Some.home c.index-3.result.now node c.in-Some.ensures.first.within c.index-3.ensures c.index_mut.ensures.value) in
     let but : ArePlainBut s.clock s.plains c.turn-turned.new.links.items c.first-first.result c.count-count.result =
-    turned_plain s.clock s.plains node c.turn-turned.new.node c.make_room.new.links.items c.turn-turned.new.links.items c.turn-turned.result c.first-first.result c.count-count.result first count c.turn-turned.ensures
+    turned_plain s.clock s.plains node c.turn-turned.new.node c.make_room.new.links.items c.turn-turned.new.links.items c.turn-turned.result c.first-first.result c.count-count.result first count c.turn-turned.ensures.turned
     (alike_plain s.clock s.plains s.links.items c.make_room.new.links.items c.make_room.ensures.same c.self.invariant.4) in
     but.as_many
 
@@ -121,17 +131,18 @@ invariant_of-self-2 c =
     let count : c.count-count.result ≡ node.count =
     c.count-count.ensures ∙ ap (λ (x : NodeView). x.count) (same_read s.nodes.items c.in-Some.home c.index-3.result.now node c.in-Some.ensures.first.within c.index-3.ensures c.index_mut.ensures.value) in
     let but : AreStillBut s.clock s.stills c.turn-turned.new.links.items c.first-first.result c.count-count.result =
-    turned_but s.clock s.stills node c.turn-turned.new.node c.make_room.new.links.items c.turn-turned.new.links.items c.turn-turned.result c.first-first.result c.count-count.result first count c.turn-turned.ensures
+    turned_but s.clock s.stills node c.turn-turned.new.node c.make_room.new.links.items c.turn-turned.new.links.items c.turn-turned.result c.first-first.result c.count-count.result first count c.turn-turned.ensures.turned
     (alike_still s.clock s.stills s.links.items c.make_room.new.links.items c.make_room.ensures.same c.self.invariant.2) in
     let plain : ArePlainBut s.clock s.plains c.turn-turned.new.links.items c.first-first.result c.count-count.result =
-    turned_plain s.clock s.plains node c.turn-turned.new.node c.make_room.new.links.items c.turn-turned.new.links.items c.turn-turned.result c.first-first.result c.count-count.result first count c.turn-turned.ensures
+    turned_plain s.clock s.plains node c.turn-turned.new.node c.make_room.new.links.items c.turn-turned.new.links.items c.turn-turned.result c.first-first.result c.count-count.result first count c.turn-turned.ensures.turned
     (alike_plain s.clock s.plains s.links.items c.make_room.new.links.items c.make_room.ensures.same c.self.invariant.4) in (
       turn_store s.topology s.times s.clock s.nodes.items s.links.items s.datagrams.items c.self.invariant.0 c.args.n c.in-Some.home c.index_mut.result.now c.in-Some.ensures.first c.index_mut.ensures.value
-          c.make_room.new.links.items c.make_room.ensures.same c.turn-turned.new.node c.turn-turned.new.links.items c.turn-turned.result c.turn-turned.ensures,
+          c.make_room.new.links.items c.make_room.ensures.same c.turn-turned.new.node c.turn-turned.new.links.items c.turn-turned.result c.turn-turned.ensures.turned,
       λ none. absurd (omega (arith, none)),
       where_forgotten s.clock s.stills c.forget_waiting.new.stills c.turn-turned.new.links.items c.first-first.result c.count-count.result c.forget_waiting.ensures but,
       c.self.invariant.3,
       where_plain s.clock s.plains c.forget_waiting-2.new.stills c.turn-turned.new.links.items c.first-first.result c.count-count.result c.forget_waiting-2.ensures plain,
+      c.turn-turned.ensures.marks,
     )
 
 pub returns : goal.returns
@@ -140,4 +151,4 @@ returns c =
     subst (λ (before : SimState). Does before (CoreTurn c.args.n) c.turn-turned.result (state_of s.topology s.times s.clock (slice_set s.nodes.items c.in-Some.home c.turn-turned.new.node) c.turn-turned.new.links.items s.datagrams.items)) c.self.view_is
     (turn_does s.topology s.times s.clock s.nodes.items s.links.items s.datagrams.items c.self.invariant.0 c.args.n c.in-Some.home c.index_mut.result.now c.in-Some.ensures.first c.index_mut.ensures.value
     c.make_room.new.links.items c.make_room.ensures.same c.turn-turned.new.node c.turn-turned.new.links.items c.turn-turned.result
-    (waits s.nodes.items c.in-Some.home c.index.result.now c.index_mut.result.now c.waiting.result c.in-Some.ensures.first.within c.index.ensures c.index_mut.ensures.value c.waiting.ensures (omega (arith, c.if-waiting-eq0.false))) c.turn-turned.ensures)
+    (waits s.nodes.items c.in-Some.home c.index.result.now c.index_mut.result.now c.waiting.result c.in-Some.ensures.first.within c.index.ensures c.index_mut.ensures.value c.waiting.ensures (omega (arith, c.if-waiting-eq0.false))) c.turn-turned.ensures.turned)

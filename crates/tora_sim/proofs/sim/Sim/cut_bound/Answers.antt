@@ -5,6 +5,7 @@ use Rattle.tora_sim.specs.Store.{SimState, state_of, world_of}
 use Rattle.tora_sim.proofs.Opens.{cut_done, cut_store}
 use Rattle.tora_sim.proofs.StillEnds.{unknown_still, one_forgotten, forgotten_still}
 use Rattle.tora_sim.proofs.PlainEnds.{unknown_plain, forgotten_plain}
+use Rattle.tora_sim.proofs.ReadyEnds.{kept_as}
 use Rattle.tora_sim.proofs.sim.Sim.cut_bound.Goals as goal
 
 pub place-requires-clause-keys : goal.place-requires-clause-keys
@@ -27,6 +28,7 @@ invariant_of-self c =
       c.self.invariant.3,
       unknown_plain s.clock c.forget-in-Some.new.stills s.links.items c.in-Some.at c.cut_bound.new.self (one_forgotten s.plains c.forget-in-Some.new.stills c.in-Some.at c.forget-in-Some.ensures)
           (forgotten_plain s.clock s.plains c.forget-in-Some.new.stills s.links.items c.in-Some.at 1 c.forget-in-Some.ensures c.self.invariant.4),
+      kept_as s.ready.items s.links.items c.in-Some.at c.index_mut.result.now c.cut_bound.new.self _ c.in-Some.ensures.first.within c.index_mut.ensures.value c.cut_bound.ensures (λ h. h) c.self.invariant.5,
     )
 
 pub returns-in-Some : goal.returns-in-Some

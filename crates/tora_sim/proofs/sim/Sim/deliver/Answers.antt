@@ -11,6 +11,7 @@ use Rattle.tora_sim.proofs.Opens.{same_read}
 use Rattle.tora_sim.proofs.Receives.{home_is_there, failed_done, failed_store, received_done, received_store}
 use Rattle.tora_sim.proofs.StillEnds.{unknown_still, one_forgotten, forgotten_still}
 use Rattle.tora_sim.proofs.PlainEnds.{looked_plain}
+use Rattle.tora_sim.proofs.ReadyEnds.{kept_as}
 use Rattle.tora_sim.proofs.sim.Sim.deliver.Goals as goal
 
 pub place-requires-2-clause-keys : goal.place-requires-2-clause-keys
@@ -40,6 +41,7 @@ invariant_of-self c =
       c.self.invariant.2,
       c.self.invariant.3,
       c.self.invariant.4,
+      c.self.invariant.5,
     )
 
 pub returns-then-receive : goal.returns-then-receive
@@ -68,6 +70,7 @@ invariant_of-self-2 c =
       c.self.invariant.3,
       looked_plain s.clock s.plains c.forget_busy.new.plains s.links.items c.in-Some-place.at c.index_mut-2.result.now c.receive_and_look-busy.new.self c.receive_and_look-busy.result c.in-Some-place.ensures.first.within c.index_mut-2.ensures.value
           (λ e _. c.receive_and_look-busy.ensures.plain e) c.forget_busy.ensures.same c.forget_busy.ensures.forgotten c.self.invariant.4,
+      kept_as s.ready.items s.links.items c.in-Some-place.at c.index_mut-2.result.now c.receive_and_look-busy.new.self _ c.in-Some-place.ensures.first.within c.index_mut-2.ensures.value c.receive_and_look-busy.ensures.state (λ h. h) c.self.invariant.5,
     )
 
 pub returns : goal.returns

@@ -10,6 +10,7 @@ use Rattle.std.specs.Prelude.{slice_set}
 use Rattle.tora_sim.proofs.Opens.{open_refused, open_done, open_store, same_read}
 use Rattle.tora_sim.proofs.StillEnds.{possible_still}
 use Rattle.tora_sim.proofs.PlainEnds.{possible_plain}
+use Rattle.tora_sim.proofs.ReadyEnds.{kept_as}
 use Rattle.tora_sim.proofs.sim.Sim.open.Goals as goal
 
 pub place-requires-clause-keys : goal.place-requires-clause-keys
@@ -35,6 +36,7 @@ invariant_of-self c =
       possible_plain s.clock s.plains s.links.items c.in-Some.at c.index_mut.result.now c.open.new.self c.in-Some.ensures.first.within c.index_mut.ensures.value
           (λ h. both_ways (is_closed c.index_mut.result.now.state) h.opened (ap (λ (x : LinkView). is_closed x.state) (same_read s.links.items c.in-Some.at c.index_mut.result.now c.index.result.now c.in-Some.ensures.first.within c.index_mut.ensures.value c.index.ensures)
           ∙ sym c.is_closed.ensures ∙ c.if-not-is_closed.false)) c.self.invariant.4,
+      kept_as s.ready.items s.links.items c.in-Some.at c.index_mut.result.now c.open.new.self _ c.in-Some.ensures.first.within c.index_mut.ensures.value c.open.ensures (λ h. h) c.self.invariant.5,
     )
 
 pub returns : goal.returns

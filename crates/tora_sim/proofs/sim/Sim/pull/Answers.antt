@@ -10,6 +10,7 @@ use Rattle.tora_sim.specs.Steps.{IsDone, IsRefused}
 use Rattle.tora_sim.proofs.Opens.{pull_refused, pull_done, pull_store, same_read}
 use Rattle.tora_sim.proofs.StillEnds.{possible_still}
 use Rattle.tora_sim.proofs.PlainEnds.{possible_plain}
+use Rattle.tora_sim.proofs.ReadyEnds.{kept_ready}
 use Rattle.tora_sim.proofs.sim.Sim.pull.Goals as goal
 
 pub place-requires-clause-keys : goal.place-requires-clause-keys
@@ -40,6 +41,8 @@ invariant_of-self c =
       c.self.invariant.3,
       possible_plain s.clock s.plains s.links.items c.in-Some.at c.index_mut.result.now c.pull.new.self c.in-Some.ensures.first.within c.index_mut.ensures.value
           (λ h. both_ways (nat_lt c.index_mut.result.now.pulled (length c.index_mut.result.now.put)) h.lane (lt-ltb c.index_mut.result.now.pulled (length c.index_mut.result.now.put) (waits c))) c.self.invariant.4,
+      kept_ready s.ready.items s.links.items c.in-Some.at c.index_mut.result.now c.pull.new.self c.in-Some.ensures.first.within c.index_mut.ensures.value
+          (λ h. absurd (both_ways (nat_lt c.index_mut.result.now.pulled (length c.index_mut.result.now.put)) h.lane (lt-ltb c.index_mut.result.now.pulled (length c.index_mut.result.now.put) (waits c)))) c.self.invariant.5,
     )
 
 pub returns : goal.returns

@@ -15,6 +15,7 @@ use Rattle.tora_sim.proofs.Sends.{at_home}
 use Rattle.tora_sim.proofs.Pumps.{pump_without, pump_full, pump_starved, pump_done, pump_store, seat_room}
 use Rattle.tora_sim.proofs.StillEnds.{possible_still}
 use Rattle.tora_sim.proofs.PlainEnds.{possible_plain}
+use Rattle.tora_sim.proofs.ReadyEnds.{kept_as}
 use Rattle.tora_sim.proofs.sim.Sim.pump.Goals as goal
 
 pub place-requires-clause-keys : goal.place-requires-clause-keys
@@ -85,6 +86,7 @@ invariant_of-self c =
       c.self.invariant.3,
       possible_plain s.clock s.plains s.links.items c.in-Some.at c.index.result.now c.take_event.new.self c.in-Some.ensures.first.within c.index.ensures
           (λ h. both_ways (is_some (first_event c.index.result.now.state)) h.events (ap is_some (sym c.next_event.ensures ∙ c.in-Some-next_event.is))) c.self.invariant.4,
+      kept_as s.ready.items s.links.items c.in-Some.at c.index.result.now c.take_event.new.self _ c.in-Some.ensures.first.within c.index.ensures (link_is c) (λ h. h) c.self.invariant.5,
     )
 
 pub returns-in-Ok : goal.returns-in-Ok

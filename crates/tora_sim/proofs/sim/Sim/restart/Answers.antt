@@ -14,6 +14,7 @@ use Rattle.tora_sim.proofs.Turning.{ends_within}
 use Rattle.tora_sim.proofs.Restarting.{restart_starved, restart_done, restart_store}
 use Rattle.tora_sim.proofs.StillEnds.{forgotten_still, changed_still}
 use Rattle.tora_sim.proofs.PlainEnds.{forgotten_plain, changed_plain}
+use Rattle.tora_sim.proofs.ReadyEnds.{changed_ready, restarted_ready}
 use Rattle.tora_sim.proofs.sim.Sim.restart.Goals as goal
 
 pub returns-in_default-new_seat : goal.returns-in_default-new_seat
@@ -92,6 +93,7 @@ invariant_of-self c =
       changed_plain s.clock c.forget-2.new.stills s.links.items c.restart_ends.new.links.items (restarted c.args.torn) c.first-first.result (length c.in-Ok-new_ends.ends.items)
           (λ place lt. let many = c.in-Ok-new_ends.ensures.as_many in c.forget-2.ensures.here place (omega (arith, lt, many))) c.restart_ends.ensures
           (forgotten_plain s.clock s.plains c.forget-2.new.stills s.links.items c.first-first.result c.count-count.result c.forget-2.ensures c.self.invariant.4),
+      changed_ready s.ready.items s.links.items c.restart_ends.new.links.items (restarted c.args.torn) c.first-first.result (length c.in-Ok-new_ends.ends.items) (restarted_ready c.args.torn) c.restart_ends.ensures c.self.invariant.5,
     )
 
 pub returns : goal.returns

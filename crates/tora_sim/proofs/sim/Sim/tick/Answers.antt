@@ -1,11 +1,13 @@
 use Rattle.std.proofs.Common.{◌≡◌, ℕ, ◌+◌, ◌<◌, ◌≤◌, sym, subst, arith}
 use Rattle.tora_world.specs.declared.event.Event.TheVariants.{Tick}
+use Rattle.tora_sim.specs.Links.{ticked}
 use Rattle.tora_sim.specs.Store.{SimState, state_of, world_of}
 use Rattle.tora_sim.specs.Steps.{IsDone}
 use Rattle.tora_sim.proofs.Ticks.{tick_store, tick_done}
 use Rattle.tora_sim.proofs.Quiets.{still_ticks}
 use Rattle.tora_sim.proofs.StillEnds.{later_still, ticked_still}
 use Rattle.tora_sim.proofs.PlainEnds.{later_plain}
+use Rattle.tora_sim.proofs.ReadyEnds.{mapped_ready}
 use Rattle.tora_sim.proofs.sim.Sim.tick.Goals as goal
 
 on : (now clock : ℕ) → now ≡ clock + 1 → clock ≤ now
@@ -26,6 +28,7 @@ invariant_of-self c =
       later_still s.clock c.in-Some.now s.stills s.links.items (on c.in-Some.now s.clock c.in-Some.ensures.1) c.self.invariant.2,
       c.self.invariant.3,
       later_plain s.clock c.in-Some.now s.plains s.links.items (on c.in-Some.now s.clock c.in-Some.ensures.1) c.self.invariant.4,
+      c.self.invariant.5,
     )
 
 pub returns-then-now-self : goal.returns-then-now-self
@@ -43,6 +46,7 @@ invariant_of-self-2 c =
       ticked_still s.clock c.in-Some.now s.stills s.links.items c.tick.new.links.items (on c.in-Some.now s.clock c.in-Some.ensures.1) c.tick.ensures.links c.self.invariant.2,
       c.self.invariant.3,
       c.tick.ensures.plains,
+      mapped_ready s.ready.items s.links.items c.tick.new.links.items (ticked c.in-Some.now) c.tick.ensures.links (λ x h. h) c.self.invariant.5,
     )
 
 pub returns : goal.returns

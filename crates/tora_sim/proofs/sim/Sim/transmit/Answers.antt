@@ -7,6 +7,7 @@ use Rattle.tora_arq.specs.LinkEnd.{frame_due, after_transmit}
 use Rattle.tora_world.specs.declared.event.Event.TheVariants.{Transmit}
 use Rattle.tora_world.specs.declared.sim_error.SimError.TheVariants as Refused
 use Rattle.tora_world.specs.World.{with_datagram}
+use Rattle.tora_sim.specs.Lanes.{AreReadyEach}
 use Rattle.tora_sim.specs.Links.{LinkView, with_state}
 use Rattle.tora_sim.specs.Nodes.{sending_of}
 use Rattle.tora_sim.specs.Plains.{IsPlain, ArePlainEach}
@@ -18,6 +19,7 @@ use Rattle.tora_sim.proofs.Quiets.{set_same}
 use Rattle.tora_sim.proofs.Sends.{transmit_refused, transmit_starved, transmit_done, transmit_store, at_home}
 use Rattle.tora_sim.proofs.StillEnds.{possible_still}
 use Rattle.tora_sim.proofs.PlainEnds.{same_plain, transmit_plain}
+use Rattle.tora_sim.proofs.ReadyEnds.{kept_as}
 use Rattle.tora_sim.proofs.sim.Sim.transmit.Goals as goal
 
 pub place-requires-clause-keys : goal.place-requires-clause-keys
@@ -66,6 +68,7 @@ invariant_of-self c =
       c.self.invariant.2,
       c.self.invariant.3,
       c.self.invariant.4,
+      c.self.invariant.5,
     )
 
 -- no frame was due
@@ -87,6 +90,7 @@ invariant_of-self-in_default-send c =
       subst (λ (xs : List LinkView). AreStillEach s.clock s.stills xs) (sym (same c)) c.self.invariant.2,
       c.self.invariant.3,
       subst (λ (xs : List LinkView). ArePlainEach s.clock s.plains xs) (sym (same c)) c.self.invariant.4,
+      subst (λ (xs : List LinkView). AreReadyEach s.ready.items xs) (sym (same c)) c.self.invariant.5,
     )
 
 pub returns-in_default-send : goal.returns-in_default-send
@@ -119,6 +123,7 @@ invariant_of-self-2 c =
       c.self.invariant.3,
       same_plain s.clock s.plains s.links.items c.in-Some.at c.index_mut.result.now c.send.new.self (slice_get_read s.links.items (length s.links.items) c.in-Some.at c.index_mut.result.now refl c.in-Some.ensures.first.within c.index_mut.ensures.value)
           (λ h. subst (λ (x : LinkView). IsPlain x) (sym c.in-Some-send.ensures.state) (transmit_plain c.index_mut.result.now.settings c.index_mut.result.now.state s.clock (has_cargo c.index_mut.result.now) h)) c.self.invariant.4,
+      kept_as s.ready.items s.links.items c.in-Some.at c.index_mut.result.now c.send.new.self _ c.in-Some.ensures.first.within c.index_mut.ensures.value c.in-Some-send.ensures.state (λ h. h) c.self.invariant.5,
     )
 
 pub returns : goal.returns

@@ -10,6 +10,7 @@ use Rattle.tora_sim.proofs.Peers.{positive-node}
 use Rattle.tora_sim.proofs.FirstStore.{is-store, is-first}
 use Rattle.tora_sim.proofs.StillEnds.{none_known}
 use Rattle.tora_sim.proofs.PlainEnds.{none_plain}
+use Rattle.tora_sim.proofs.ReadyEnds.{none_known_ready}
 use Rattle.tora_sim.proofs.sim.Sim.with_times.Goals as goal
 
 pub add_node-requires-clause-me : goal.add_node-requires-clause-me
@@ -45,6 +46,7 @@ invariant_of-result c =
       none_known 0 c.len-count.result c.in_ok-stills.stills c.loop-n.links.items c.in_ok-stills.ensures many,
       c.in_ok-keys.ensures ∙ ap (map key_of) c.deref.ensures.value ∙ store.keys,
       none_plain 0 c.len-count.result c.in_ok-plains.plains c.loop-n.links.items c.in_ok-plains.ensures many,
+      none_known_ready c.len-count.result c.in_ok-ready.ready.items c.loop-n.links.items c.in_ok-ready.ensures many,
     )
 
 pub returns-clause-made : goal.returns-clause-made
