@@ -11,6 +11,7 @@ pub mod RecordedLaws
 pub mod RunLaws
 pub mod ScheduleLaws
 pub mod ScriptLaws
+pub mod SendLaws
 pub mod SimulatedLaws
 pub mod StepLaws
 pub mod TakenLaws

@@ -1,12 +1,14 @@
 //! A step: a round in which nothing is delivered, and silent ends send nothing.
 ghost use Rattle.std.specs.Prelude.{◌≡◌, ◌||◌, IfOk};
 ghost use Rattle.tora_world.specs.World.{world_after_all};
-ghost use Rattle.tora_script.specs.Rounds.{each, Happened};
+ghost use Rattle.tora_script.specs.Rounds.{each, Happened, AreKnown};
 ghost use Rattle.tora_drive.specs.Steps.{is_far, sends_of, step_pass, step_passes, step};
 
 use std::alloc::AllocError;
 use tora_height::Id;
-use tora_script::{EndTurn, Simulator, repeat, turn_cores, turn_end, turn_ends};
+use tora_script::{
+    EndTurn, Simulator, are_known, next_place, repeat, turn_cores, turn_end, turn_known_ends,
+};
 use tora_world::Event;
 
 /// The most times that an event is made to happen on end, as in a round.
@@ -44,18 +46,26 @@ fn send_of<S: Simulator>(
     turn_end(sim, EndTurn::Transmit, place, end, MOST_TIMES)
 }
 
-/// Lets each end send its frames that is not silent.
+/// Lets each end send its frames that is not silent. Where it is known that these are the ends of the simulator, those at which nothing is
+/// due are passed over.
 fn send_all<S: Simulator>(
     sim: &mut S,
+    known: bool,
     ends: &[(Id, Id)],
     far: &[(Id, Id)],
 ) -> Result<bool, AllocError>
+    requires { AreKnown known ends.now (S.world sim.old) }
     ensures { IfOk result (λ some. Happened (S.world sim.old) (each (sends_of far.now) ends.now (S.world sim.old)) (S.world sim.new) some) }
 {
+    if sim.is_quiet() {
+        return Ok(false);
+    }
     let mut some = false;
-    for (place, end) in ends.iter().enumerate() {
-        let any = send_of(sim, place, *end, far)?;
+    let mut place = next_place(sim, known, ends, EndTurn::Transmit, 0);
+    while place < ends.len() {
+        let any = send_of(sim, place, ends[place], far)?;
         some = either(some, any);
+        place = next_place(sim, known, ends, EndTurn::Transmit, place + 1);
     }
     Ok(some)
 }
@@ -65,15 +75,17 @@ fn send_all<S: Simulator>(
 fn pass<S: Simulator>(
     sim: &mut S,
     nodes: &[Id],
+    known: bool,
     ends: &[(Id, Id)],
     far: &[(Id, Id)],
 ) -> Result<bool, AllocError>
+    requires { AreKnown known ends.now (S.world sim.old) }
     ensures { IfOk result (λ some. Happened (S.world sim.old) (step_pass nodes.now ends.now far.now (S.world sim.old)) (S.world sim.new) some) }
 {
     let turned = turn_cores(sim, nodes)?;
-    let pulled = turn_ends(sim, ends, EndTurn::Pull, MOST_TIMES)?;
-    let sent = send_all(sim, ends, far)?;
-    let pumped = turn_ends(sim, ends, EndTurn::Pump, MOST_TIMES)?;
+    let pulled = turn_known_ends(sim, known, ends, EndTurn::Pull, MOST_TIMES)?;
+    let sent = send_all(sim, known, ends, far)?;
+    let pumped = turn_known_ends(sim, known, ends, EndTurn::Pump, MOST_TIMES)?;
     Ok(either(turned, either(pulled, either(sent, pumped))))
 }
 
@@ -81,13 +93,15 @@ fn pass<S: Simulator>(
 fn make_passes<S: Simulator>(
     sim: &mut S,
     nodes: &[Id],
+    known: bool,
     ends: &[(Id, Id)],
     far: &[(Id, Id)],
 ) -> Result<(), AllocError>
+    requires { AreKnown known ends.now (S.world sim.old) }
     ensures { IfOk result (λ _. S.world sim.new ≡ world_after_all (S.world sim.old) (step_passes 1000 nodes.now ends.now far.now (S.world sim.old))) }
 {
     for _ in 0..MOST_PASSES {
-        if !pass(sim, nodes, ends, far)? {
+        if !pass(sim, nodes, known, ends, far)? {
             return Ok(());
         }
         sim.settle();
@@ -106,7 +120,8 @@ pub fn make_step<S: Simulator>(
     ensures { IfOk result (λ _. S.world sim.new ≡ world_after_all (S.world sim.old) (step nodes.now ends.now far.now (S.world sim.old))) }
 {
     repeat(sim, 0, &Event::Tick, 1)?;
-    turn_ends(sim, ends, EndTurn::Open, 1)?;
-    make_passes(sim, nodes, ends, far)?;
+    let known = are_known(sim, ends);
+    turn_known_ends(sim, known, ends, EndTurn::Open, 1)?;
+    make_passes(sim, nodes, known, ends, far)?;
     Ok(())
 }

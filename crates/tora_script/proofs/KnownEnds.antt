@@ -16,6 +16,7 @@ use Rattle.tora_channel.specs.Table.{Channels}
 use Rattle.tora_sim.specs.Readers.{ends_in}
 use Rattle.tora_script.specs.declared.rounds.EndTurn.{EndTurn}
 use Rattle.tora_script.specs.Rounds.{Plan, end_event, repeats, each, Sky, moment_of, round, after_round, Happened, AreKnown}
+use Rattle.tora_script.proofs.RoundLaws.{no_event}
 
 -- ---- no event changes the topology
 
@@ -83,7 +84,7 @@ round_keeps known nodes ends parted channel now next h e = still_known known end
 -- ---- ends that are passed over
 
 -- plans without an event are passed over
-each_over : {A : Type 0} (plan : A → Plan) (xs : List A) (i j : ℕ) (w : World) → i ≤ j → ((at : ℕ) (x : A) → i ≤ at → at < j → slice_get xs at ≡ Some x → plan x w ≡ []) → each plan (drop i xs) w ≡ each plan (drop j xs) w
+pub each_over : {A : Type 0} (plan : A → Plan) (xs : List A) (i j : ℕ) (w : World) → i ≤ j → ((at : ℕ) (x : A) → i ≤ at → at < j → slice_get xs at ≡ Some x → plan x w ≡ []) → each plan (drop i xs) w ≡ each plan (drop j xs) w
 each_over {A} plan [] i j w le none = ap (λ (ys : List A). each plan ys w) (drop_all i [] (omega arith) ∙ sym (drop_all j [] (omega arith)))
 each_over plan (x ∷ xs) zero zero w le none = refl
 each_over plan (x ∷ xs) zero (suc j) w le none =
@@ -91,11 +92,6 @@ each_over plan (x ∷ xs) zero (suc j) w le none =
     ∙ each_over plan xs zero j w (omega arith) (λ at y from before there. none (suc at) y (omega (arith, from)) (omega (arith, before)) there)
 each_over plan (x ∷ xs) (suc i) zero w le none = absurd (omega (arith, le))
 each_over plan (x ∷ xs) (suc i) (suc j) w le none = each_over plan xs i j w (omega (arith, le)) (λ at y from before there. none (suc at) y (omega (arith, from)) (omega (arith, before)) there)
-
-no_event : (w : World) (k : ℕ) (event : Event) → is_some (refusal_of w event) ≡ true → repeats k event w ≡ []
-unfolding repeats
-no_event w zero event stop = refl
-no_event w (suc k) event stop = rw stop refl
 
 -- ends whose turn is refused have none
 pub pass_over : (kind : EndTurn) (most : ℕ) (ends : List (ℕ × ℕ)) (i j : ℕ) (w : World) → i ≤ j → ((at : ℕ) (end : ℕ × ℕ) → i ≤ at → at < j → slice_get ends at ≡ Some end → is_some (refusal_of w (end_event kind end)) ≡ true)

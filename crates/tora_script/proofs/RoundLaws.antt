@@ -209,11 +209,11 @@ whole_delivery parted m i w next some (Some f) way copies there is value h =
     subst (λ (events : List Event). Happened w events next some) here h
 
 -- no plan of the list has an event
-each_none : {A : Type 0} (plan : A → Plan) (xs : List A) (w : World) → ((x : A) → plan x w ≡ []) → each plan xs w ≡ []
+pub each_none : {A : Type 0} (plan : A → Plan) (xs : List A) (w : World) → ((x : A) → plan x w ≡ []) → each plan xs w ≡ []
 each_none plan [] w h = refl
 each_none {A} plan (x ∷ xs) w h = ap (λ (events : List Event). events ++ each plan xs (world_after_all w events)) (h x) ∙ each_none plan xs w h
 
-no_event : (w : World) (k : ℕ) (event : Event) → is_some (refusal_of w event) ≡ true → repeats k event w ≡ []
+pub no_event : (w : World) (k : ℕ) (event : Event) → is_some (refusal_of w event) ≡ true → repeats k event w ≡ []
 unfolding repeats
 no_event w zero event stop = refl
 no_event w (suc k) event stop = rw stop refl

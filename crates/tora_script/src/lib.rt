@@ -36,8 +36,8 @@ pub use link_lines::LinkLines;
 pub use parse::{is_word, link, old, pair, simulation_line, simulation_lines_are_read_as_written};
 pub use parted::{Parted, is_parted};
 pub use rounds::{
-    EndTurn, make_parted_rounds, make_parted_rounds_over, make_rounds, make_rounds_over, repeat,
-    turn_cores, turn_end, turn_ends,
+    EndTurn, are_known, make_parted_rounds, make_parted_rounds_over, make_rounds, make_rounds_over,
+    next_place, repeat, turn_cores, turn_end, turn_known_ends,
 };
 pub use running_simulation::{Running, has_end};
 pub use script_line::SimulationLine;

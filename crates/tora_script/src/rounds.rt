@@ -153,7 +153,7 @@ fn next_turn<S: Simulator>(sim: &S, kind: EndTurn, place: usize) -> usize
 /// The first place from `place` on at which a link end may have such a turn, where it is known that these are the ends of the
 /// simulator; else the place itself.
 #[inline(always)]
-fn next_place<S: Simulator>(
+pub fn next_place<S: Simulator>(
     sim: &S,
     known: bool,
     _ends: &[(Id, Id)],
@@ -174,7 +174,7 @@ fn next_place<S: Simulator>(
 /// Gives each link end its turn, so many times at most. Where it is known that these are the ends of the simulator, those that
 /// have nothing to do are passed over.
 #[inline(always)]
-fn turn_known_ends<S: Simulator>(
+pub fn turn_known_ends<S: Simulator>(
     sim: &mut S,
     known: bool,
     ends: &[(Id, Id)],
@@ -197,18 +197,12 @@ fn turn_known_ends<S: Simulator>(
     Ok(some)
 }
 
-/// Gives each link end its turn, so many times at most.
+/// Whether it is known that these are the link ends of the simulator, and may be used: it isn't asked where nothing is to be done.
 #[inline(always)]
-pub fn turn_ends<S: Simulator>(
-    sim: &mut S,
-    ends: &[(Id, Id)],
-    kind: EndTurn,
-    most: u64,
-) -> Result<bool, AllocError>
-    ensures { IfOk result (λ some. Happened (S.world sim.old) (each (λ e. repeats most (end_event kind e)) ends.now (S.world sim.old)) (S.world sim.new) some) }
+pub fn are_known<S: Simulator>(sim: &S, ends: &[(Id, Id)]) -> bool
+    ensures { AreKnown result ends.now (S.world sim.now) }
 {
-    let known = !sim.is_quiet() && sim.has_ends(ends);
-    turn_known_ends(sim, known, ends, kind, most)
+    !sim.is_quiet() && sim.has_ends(ends)
 }
 
 /// Delivers a datagram that was sent before the round, unless its nodes are parted.

@@ -1,17 +1,32 @@
 use Rattle.tora_script.specs.declared.rounds.EndTurn.TheVariants as turn
 use Rattle.tora_script.specs.Rounds.{plan_then, each, each_core, each_end}
 use Rattle.tora_script.proofs.RoundLaws.{Happened-then}
+use Rattle.tora_script.proofs.KnownEnds.{known_then}
 use Rattle.tora_drive.specs.Steps.{sends_of, step_pass}
 use Rattle.tora_drive.proofs.stepping.pass.Goals as goal
+
+pub turn_known_ends-requires : goal.turn_known_ends-requires
+turn_known_ends-requires g c = known_then c.args.known c.args.ends.now c.requires c.in_ok-turned.ensures
+
+pub send_all-requires : goal.send_all-requires
+send_all-requires g c =
+    let turned = known_then c.args.known c.args.ends.now c.requires c.in_ok-turned.ensures in
+    known_then c.args.known c.args.ends.now turned c.in_ok-pulled.ensures
+
+pub turn_known_ends-requires-2 : goal.turn_known_ends-requires-2
+turn_known_ends-requires-2 g c =
+    let turned = known_then c.args.known c.args.ends.now c.requires c.in_ok-turned.ensures in
+    let pulled = known_then c.args.known c.args.ends.now turned c.in_ok-pulled.ensures in
+    known_then c.args.known c.args.ends.now pulled c.in_ok-sent.ensures
 
 pub returns : goal.returns
 unfolding step_pass
 returns g c =
     let w0 = g.S.Simulator.world c.args.sim.now in
     let w1 = g.S.Simulator.world c.turn_cores.new.sim in
-    let w2 = g.S.Simulator.world c.turn_ends.new.sim in
+    let w2 = g.S.Simulator.world c.turn_known_ends.new.sim in
     let w3 = g.S.Simulator.world c.send_all.new.sim in
-    let w4 = g.S.Simulator.world c.turn_ends-2.new.sim in
+    let w4 = g.S.Simulator.world c.turn_known_ends-2.new.sim in
     let cores = each_core c.args.nodes.now in
     let pulls = each_end turn.Pull c.args.ends.now in
     let sends = each (sends_of c.args.far.now) c.args.ends.now in
