@@ -1,4 +1,5 @@
 pub mod AnswerLaws
+pub mod BeginLaws
 pub mod DigitLaws
 pub mod DriveLaws
 pub mod GivesLaws

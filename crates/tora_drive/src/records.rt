@@ -3,6 +3,7 @@ ghost use Rattle.std.specs.Prelude.{◌≡◌, ◌<◌, ◌+◌, ◌-◌, ◌++�
 ghost use Rattle.tora_drive.specs.Records.{sent_line, sent_of, sent_from, is_same_hop, hop_line, routes_at, routes_of};
 ghost use Rattle.std.specs.List.{flat_map};
 ghost use Rattle.std.specs.Fmt.{decimal};
+ghost use Rattle.tora_frame.specs.FrameGrammar.{frame_spelling};
 ghost use Rattle.tora_drive.specs.DriveText.{bytes_line, may_change_hops};
 ghost use Rattle.tora_drive.specs.Whole.{whole};
 
@@ -10,11 +11,17 @@ use crate::driven::Driven;
 use crate::gone::Gone;
 use crate::line::DriveLine;
 use std::alloc::{AllocError, Global};
-use tora_frame::{Frame, LONGEST_FRAME, encode};
+use tora_frame::{Body, Frame, LONGEST_FRAME, encode};
 use tora_height::Id;
 use tora_script::{Running, SimulationLine, Simulator};
 use tora_trace::HopText;
 use tora_world::Event;
+
+/// How many bytes a HELLO has.
+const HELLO_LENGTH: usize = 28;
+
+/// How many bytes an ACK has.
+const ACK_LENGTH: usize = 36;
 
 /// The next hop of a node to a destination, as it was.
 #[derive(Clone, Copy, Debug)]
@@ -25,6 +32,17 @@ pub struct Route {
     pub hop: Option<Id>,
 }
 
+/// How many bytes a frame has; it is spelled for that only where it has packets.
+fn length_of(frame: &Frame) -> usize
+    ensures { result ≡ length (frame_spelling frame.now) }
+{
+    match frame.body() {
+        Body::Hello => HELLO_LENGTH,
+        Body::Data(_, _, _) => encode(frame).len(),
+        Body::Ack(_) => ACK_LENGTH,
+    }
+}
+
 /// Puts `sent A B ID LENGTH` behind a text.
 #[tactic(auto, unfolding(crate::specs::Records::sent_line))]
 fn write_datagram(out: &mut String, i: u64, frame: &Frame) -> Result<(), AllocError>
@@ -32,7 +50,7 @@ fn write_datagram(out: &mut String, i: u64, frame: &Frame) -> Result<(), AllocEr
 {
     let header = *frame.header();
     let (sender, receiver) = (header.sender, header.receiver);
-    let length = encode(frame).len();
+    let length = length_of(frame);
     writeln!(out, "sent {sender} {receiver} {i} {length}")
 }
 

@@ -7,7 +7,7 @@ use Rattle.tora_script.proofs.KnownEnds.{known_then}
 use Rattle.tora_drive.proofs.stepping.make_step.Goals as goal
 
 pub make_passes-requires : goal.make_passes-requires
-make_passes-requires g c = known_then c.args.known c.args.ends.now c.are_known-known.ensures c.in_ok-turn_known_ends.ensures
+make_passes-requires g c = known_then c.are_known-known.result c.args.ends.now c.are_known-known.ensures c.in_ok-turn_known_ends.ensures
 
 pub returns : goal.returns
 unfolding step
