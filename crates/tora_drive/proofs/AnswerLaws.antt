@@ -1,12 +1,15 @@
 -- The parts of an answer, put together.
-use Rattle.std.proofs.Common.{◌≡◌, ℕ, Bool, true, false, List, [], ◌++◌, if◌then◌else◌, Some, refl, sym, ap, ◌∙◌}
+use Rattle.std.proofs.Common.{◌≡◌, ℕ, Bool, true, false, List, [], ◌++◌, if◌then◌else◌, Some, None, refl, sym, ap, ◌∙◌}
+use Rattle.std.specs.Prelude.{option_map}
 use Rattle.std.specs.List.{flat_map}
 use Rattle.tora_script.specs.SimulationText.{RunningView}
 use Rattle.tora_drive.specs.declared.line.DriveLine.{DriveLine}
 use Rattle.tora_drive.specs.declared.records.Route.{Route}
+use Rattle.tora_drive.specs.declared.line.DriveLine.TheVariants.{Step}
 use Rattle.tora_drive.specs.Records.{sent_text, routes_of, hop_line, hops_text}
+use Rattle.tora_drive.specs.Recording.{answer_recorded}
 use Rattle.tora_drive.specs.Taking.{line_in}
-use Rattle.tora_drive.specs.DriveText.{OwnView, Outcome, outcome, outcome_of, may_change_hops, closing, answer_to}
+use Rattle.tora_drive.specs.DriveText.{OwnView, Outcome, outcome, outcome_of, may_change_hops, closing, told}
 use Rattle.tora_drive.proofs.HopLaws.{line_stays, no_hops}
 
 -- the next hops that were looked up tell all changes
@@ -16,13 +19,17 @@ hops_told s o line r true h e = refl
 hops_told s o line r false h e = sym (no_hops s.world r.run.world (line_stays s o line r h e) s.nodes s.dests)
 
 -- the parts of an answer in their order are the answer
-pub answered : (s : RunningView) (o : OwnView) (text : List ℕ) (line : DriveLine) (next : RunningView) (own : OwnView) (first with_sent with_hops last : List ℕ) (routes : List Route) (refused : Bool)
-    → line_in s.world o.forgotten text ≡ Some line → outcome_of s o line ≡ Some (outcome next own first refused) → with_sent ≡ first ++ sent_text s.world next.world
+pub answered : (s : RunningView) (o : OwnView) (line : DriveLine) (next : RunningView) (own : OwnView) (first with_sent with_hops last : List ℕ) (routes : List Route) (refused : Bool)
+    → outcome_of s o line ≡ Some (outcome next own first refused) → with_sent ≡ first ++ sent_text s.world next.world
     → routes ≡ (if may_change_hops line then routes_of s.world s.nodes s.dests else []) → with_hops ≡ with_sent ++ flat_map (hop_line next.world) routes → last ≡ with_hops ++ closing refused
-    → answer_to s o text ≡ Some (next, own, last)
-unfolding answer_to
-answered s o text line next own first with_sent with_hops last routes refused is reply sent looked hops closed =
-    let told : flat_map (hop_line next.world) routes ≡ hops_text s.nodes s.dests s.world next.world =
+    → option_map (told s) (outcome_of s o line) ≡ Some (next, own, last)
+answered s o line next own first with_sent with_hops last routes refused reply sent looked hops closed =
+    let tells : flat_map (hop_line next.world) routes ≡ hops_text s.nodes s.dests s.world next.world =
     ap (λ (x : List Route). flat_map (hop_line next.world) x) looked ∙ hops_told s o line (outcome next own first refused) (may_change_hops line) refl reply in
-    let whole : last ≡ first ++ sent_text s.world next.world ++ hops_text s.nodes s.dests s.world next.world ++ closing refused = rw (closed, hops, sent, told) refl in
-    rw (is, reply, whole) refl
+    let whole : last ≡ first ++ sent_text s.world next.world ++ hops_text s.nodes s.dests s.world next.world ++ closing refused = rw (closed, hops, sent, tells) refl in
+    rw (reply, whole) refl
+
+-- a step of which nothing is recorded has nothing in a record
+pub unrecorded : (s : RunningView) (o : OwnView) (text : List ℕ) → line_in s.world o.forgotten text ≡ Some Step → answer_recorded None s o text ≡ None
+unfolding answer_recorded outcome_of
+unrecorded s o text is = rw is refl

@@ -7,6 +7,7 @@ pub mod GoneLaws
 pub mod HopLaws
 pub mod NumberLaws
 pub mod OrderLaws
+pub mod QuietLaws
 pub mod RecordLaws
 pub mod RecordedLaws
 pub mod RunLaws

@@ -11,7 +11,7 @@ use Rattle.tora_script.proofs.RoundLaws.{each_none, no_event}
 use Rattle.tora_drive.specs.Steps.{is_far, sends_of}
 
 -- an end whose sending is refused sends nothing
-no_sends : (far : List (ℕ × ℕ)) (e : ℕ × ℕ) (w : World) → is_some (refusal_of w (Transmit e.0 e.1)) ≡ true → sends_of far e w ≡ []
+pub no_sends : (far : List (ℕ × ℕ)) (e : ℕ × ℕ) (w : World) → is_some (refusal_of w (Transmit e.0 e.1)) ≡ true → sends_of far e w ≡ []
 no_sends far e w stop = cond_both (is_far far e) [] (while_possible (Transmit e.0 e.1) w) (λ (events : List Event). events ≡ []) (λ _. refl) (λ _. no_event w 1024 (Transmit e.0 e.1) stop)
 
 pub sends_over : (far ends : List (ℕ × ℕ)) (i j : ℕ) (w : World) → i ≤ j → ((at : ℕ) (end : ℕ × ℕ) → i ≤ at → at < j → slice_get ends at ≡ Some end → is_some (refusal_of w (Transmit end.0 end.1)) ≡ true)

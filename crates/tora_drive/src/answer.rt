@@ -1,16 +1,20 @@
 //! The answer to a line of a running simulation.
-ghost use Rattle.std.specs.Prelude.{◌≡◌, ◌+◌, ◌++◌, [], length, OnOk, IfOk, Err, Some, None, string_bytes, is_some, if◌then◌else◌};
+ghost use Rattle.std.specs.Prelude.{◌≡◌, ◌↔◌, ◌+◌, ◌++◌, [], length, OnOk, IfOk, IsTrue, Err, Some, None, string_bytes, is_some, option_map, if◌then◌else◌};
 ghost use Rattle.std.specs.List.{flat_map};
 ghost use Rattle.std.specs.Option.{option_map_or};
 ghost use Rattle.tora_lines.specs.Gives.{Gives};
 ghost use Rattle.tora_lines.specs.LineText.{TakesReply};
-ghost use Rattle.tora_world.specs.World.{refusal_of};
+ghost use Rattle.tora_world.specs.World.{refusal_of, world_after_all};
+ghost use Rattle.tora_script.specs.declared.rounds.EndTurn.TheVariants.{Open};
+ghost use Rattle.tora_script.specs.Rounds.{plan_then, each_end_once};
 ghost use Rattle.tora_script.specs.RunningView.{running_view};
 ghost use Rattle.tora_script.specs.SimulationText.{refusal_text, event_reply, has_end};
-ghost use Rattle.tora_drive.specs.DriveText.{named, with_far, without_far, outcome, shown, unnamed, is_forgotten, event_outcome, after_step, need_line, needs_text, bytes_line, silenced, noticed, forgetting, outcome_of, closing, answer_to};
+ghost use Rattle.tora_drive.specs.DriveText.{named, with_far, without_far, outcome, shown, unnamed, is_forgotten, event_outcome, after_step, need_line, needs_text, bytes_line, silenced, noticed, forgetting, outcome_of, closing, told, answer_to};
 ghost use Rattle.tora_drive.specs.DriveView.{own_view, record_view};
 ghost use Rattle.tora_drive.specs.Recording.{events_text, with_record, step_recorded, line_recorded, answer_recorded};
-ghost use Rattle.tora_drive.specs.Steps.{step};
+ghost use Rattle.tora_drive.specs.declared.line.DriveLine.TheVariants.{Step};
+ghost use Rattle.tora_drive.specs.Records.{sent_text, hops_text};
+ghost use Rattle.tora_drive.specs.Steps.{step, step_passes};
 ghost use Rattle.tora_drive.specs.Whole.{whole, whole_run, whole_own, outcome_behind};
 
 use crate::driven::Driven;
@@ -18,8 +22,8 @@ use crate::gone::Gone;
 use crate::line::DriveLine;
 use crate::lowering::lowered;
 use crate::own::Own;
-use crate::records::{routes_before, write_frame, write_hops, write_sent};
-use crate::stepping::make_step;
+use crate::records::{routes_before, routes_in, write_frame, write_hops, write_sent};
+use crate::stepping::{finish_step, tick};
 use crate::taken::line_in;
 use crate::telling::make_step_told;
 use std::alloc::{AllocError, Global};
@@ -129,9 +133,6 @@ fn step<S: Driven>(alloc: Global, running: &mut Running<S>, own: &mut Own) -> Re
     ensures own { own_view own.new ≡ own_view own.old }
     ensures record { OnOk result (record_view own.new ≡ with_record (record_view own.old) (events_text (step (running_view S.world running.old).nodes (running_view S.world running.old).ends (own_view own.old).far (S.world running.old.sim)))) }
 {
-    if own.recorded.is_none() {
-        return make_step(&mut running.sim, &running.nodes, &running.ends, &own.far);
-    }
     let mut text = String::new(alloc);
     let (nodes, ends) = (&running.nodes, &running.ends);
     make_step_told(&mut running.sim, nodes, ends, &own.far, &mut text)?;
@@ -344,6 +345,84 @@ fn close(out: &mut String, is_refused: bool) -> Result<(), AllocError>
     }
 }
 
+/// Whether a line is a step of which nothing is recorded.
+fn is_unrecorded_step(own: &Own, line: &DriveLine) -> bool
+    ensures { IsTrue result ↔ ((line.now ≡ Step) × (record_view own.now ≡ None)) }
+{
+    match line {
+        DriveLine::Step => own.recorded.is_none(),
+        _ => false,
+    }
+}
+
+/// What a step does behind its tick, and what is told of it, behind a text. Where nothing is to be done nothing changes, and so no next hop is
+/// looked up.
+#[tactic(auto, using(crate::proofs::QuietLaws::quiet_world))]
+fn finish<S: Driven>(
+    alloc: Global,
+    running: &mut Running<S>,
+    own: &Own,
+    gone: &Gone,
+    out: &mut String,
+) -> Result<(), AllocError>
+    ensures view { OnOk result (running_view S.world running.new ≡ record (running_view S.world running.old) { world = world_after_all (S.world running.old.sim) (plan_then (each_end_once Open running.old.ends.items) (step_passes 1000 running.old.nodes.items running.old.ends.items own.now.far.items) (S.world running.old.sim)) }) }
+    ensures told { OnOk result (string_bytes out.new ≡ string_bytes out.old ++ sent_text (whole gone.now (S.world running.old.sim)) (whole gone.now (S.world running.new.sim)) ++ hops_text running.old.nodes.items running.old.dests.items (whole gone.now (S.world running.old.sim)) (whole gone.now (S.world running.new.sim))) }
+{
+    let is_done = running.sim.is_quiet();
+    if is_done {
+        return Ok(());
+    }
+    let first = running.sim.datagrams();
+    let before = routes_in(alloc, running)?;
+    finish_step(&mut running.sim, &running.nodes, &running.ends, &own.far)?;
+    write_sent(out, &running.sim, gone, first)?;
+    write_hops(out, &running.sim, &before)
+}
+
+/// Takes a step of which nothing is recorded, and puts the answer behind an empty text.
+fn answer_step<S: Driven>(
+    alloc: Global,
+    running: &mut Running<S>,
+    own: &Own,
+    gone: &Gone,
+    out: &mut String,
+) -> Result<(), AllocError>
+    requires { string_bytes out.old ≡ [] }
+    ensures { OnOk result (option_map (told (whole_run gone.now (running_view S.world running.old))) (outcome_of (whole_run gone.now (running_view S.world running.old)) (whole_own (length gone.now) (own_view own.now)) Step)
+        ≡ Some (whole_run gone.now (running_view S.world running.new), whole_own (length gone.now) (own_view own.now), string_bytes out.new)) }
+{
+    tick(&mut running.sim)?;
+    finish(alloc, running, own, gone, out)?;
+    close(out, false)
+}
+
+/// Takes any line, whose text it is, and puts the answer behind an empty text, and what stands for the line behind the record, if there is
+/// one.
+fn answer_line<S: Driven>(
+    alloc: Global,
+    running: &mut Running<S>,
+    own: &mut Own,
+    gone: &Gone,
+    line: DriveLine,
+    text: &[u8],
+    out: &mut String,
+) -> Result<(), LineError>
+    requires { string_bytes out.old ≡ [] }
+    ensures gives { Gives (λ _. (whole_run gone.now (running_view S.world running.new), whole_own (length gone.now) (own_view own.new), string_bytes out.new)) result (option_map (told (whole_run gone.now (running_view S.world running.old))) (outcome_of (whole_run gone.now (running_view S.world running.old)) (whole_own (length gone.now) (own_view own.old)) line)) }
+    ensures kept { result ≡ Err LineError.Fault → running_view S.world running.new ≡ running_view S.world running.old }
+    ensures own { result ≡ Err LineError.Fault → own_view own.new ≡ own_view own.old }
+    ensures record { OnOk result (record_view own.new ≡ option_map_or (λ q. line_recorded (step_recorded (record_view own.old) (whole_run gone.now (running_view S.world running.old)) (whole_own (length gone.now) (own_view own.old)) line) line text.now q.refused) (outcome_of (whole_run gone.now (running_view S.world running.old)) (whole_own (length gone.now) (own_view own.old)) line) (record_view own.old)) }
+{
+    let first = running.sim.datagrams();
+    let before = routes_before(alloc, running, &line)?;
+    let is_refused = perform(alloc, running, own, gone, line, out)?;
+    record_line(alloc, own, &line, text, is_refused)?;
+    write_sent(out, &running.sim, gone, first)?;
+    write_hops(out, &running.sim, &before)?;
+    close(out, is_refused)?;
+    Ok(())
+}
+
 /// Takes a line of a running simulation, puts the answer behind an empty text, and what stands for the line behind the record, if there
 /// is one. A line that is a fault changes nothing.
 #[tactic(auto, unfolding(crate::specs::DriveText::answer_to))]
@@ -362,12 +441,9 @@ pub fn answer<S: Driven>(
     ensures record { OnOk result (record_view own.new ≡ answer_recorded (record_view own.old) (whole_run gone.now (running_view S.world running.old)) (whole_own (length gone.now) (own_view own.old)) text.now) }
 {
     let line = line_in(alloc, &running.sim, gone, own.forgotten, text)?;
-    let first = running.sim.datagrams();
-    let before = routes_before(alloc, running, &line)?;
-    let is_refused = perform(alloc, running, own, gone, line, out)?;
-    record_line(alloc, own, &line, text, is_refused)?;
-    write_sent(out, &running.sim, gone, first)?;
-    write_hops(out, &running.sim, &before)?;
-    close(out, is_refused)?;
-    Ok(())
+    if is_unrecorded_step(own, &line) {
+        answer_step(alloc, running, own, gone, out)?;
+        return Ok(());
+    }
+    answer_line(alloc, running, own, gone, line, text, out)
 }

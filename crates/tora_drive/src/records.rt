@@ -130,7 +130,7 @@ pub fn write_frame(out: &mut String, i: u64, frame: &Frame) -> Result<(), AllocE
 }
 
 /// The next hops of nodes to destinations.
-pub fn routes<S: Simulator>(
+fn routes<S: Simulator>(
     alloc: Global,
     sim: &S,
     nodes: &[Id],
@@ -143,6 +143,13 @@ pub fn routes<S: Simulator>(
         put_routes(&mut routes, sim, *n, dests)?;
     }
     Ok(routes)
+}
+
+/// The next hops of all nodes to all destinations.
+pub fn routes_in<S: Driven>(alloc: Global, running: &Running<S>) -> Result<Vec<Route>, AllocError>
+    ensures { IfOk result (λ v. v.items ≡ routes_of (S.world running.now.sim) running.now.nodes.items running.now.dests.items) }
+{
+    routes(alloc, &running.sim, &running.nodes, &running.dests)
 }
 
 /// Whether a line may turn a core, or make one anew: no other changes a next hop.
@@ -167,7 +174,7 @@ pub fn routes_before<S: Driven>(
     ensures { IfOk result (λ v. v.items ≡ (if may_change_hops line.now then routes_of (S.world running.now.sim) running.now.nodes.items running.now.dests.items else [])) }
 {
     if may_change_hops(line) {
-        routes(alloc, &running.sim, &running.nodes, &running.dests)
+        routes_in(alloc, running)
     } else {
         Ok(Vec::new(alloc))
     }

@@ -1,13 +1,15 @@
 //! A step: a round in which nothing is delivered, and silent ends send nothing.
 ghost use Rattle.std.specs.Prelude.{◌≡◌, ◌||◌, IfOk};
-ghost use Rattle.tora_world.specs.World.{world_after_all};
-ghost use Rattle.tora_script.specs.Rounds.{each, Happened, AreKnown};
-ghost use Rattle.tora_drive.specs.Steps.{is_far, sends_of, step_pass, step_passes, step};
+ghost use Rattle.tora_world.specs.World.{world_after, world_after_all};
+ghost use Rattle.tora_world.specs.declared.event.Event.TheVariants.{Tick};
+ghost use Rattle.tora_script.specs.declared.rounds.EndTurn.TheVariants.{Open};
+ghost use Rattle.tora_script.specs.Rounds.{plan_then, each, each_end_once, Happened, AreKnown};
+ghost use Rattle.tora_drive.specs.Steps.{is_far, sends_of, step_pass, step_passes};
 
 use std::alloc::AllocError;
 use tora_height::Id;
 use tora_script::{
-    EndTurn, Simulator, are_known, next_place, repeat, turn_cores, turn_end, turn_known_ends,
+    EndTurn, Simulator, are_known, next_place, turn_cores, turn_end, turn_known_ends,
 };
 use tora_world::Event;
 
@@ -109,17 +111,23 @@ fn make_passes<S: Simulator>(
     Ok(())
 }
 
-/// One step.
-#[tactic(auto, unfolding(crate::specs::Steps::step))]
-pub fn make_step<S: Simulator>(
+/// The tick of a step.
+pub fn tick<S: Simulator>(sim: &mut S) -> Result<(), AllocError>
+    ensures { IfOk result (λ _. S.world sim.new ≡ world_after (S.world sim.old) Tick) }
+{
+    sim.happen(&Event::Tick)?;
+    Ok(())
+}
+
+/// What a step does behind its tick.
+pub fn finish_step<S: Simulator>(
     sim: &mut S,
     nodes: &[Id],
     ends: &[(Id, Id)],
     far: &[(Id, Id)],
 ) -> Result<(), AllocError>
-    ensures { IfOk result (λ _. S.world sim.new ≡ world_after_all (S.world sim.old) (step nodes.now ends.now far.now (S.world sim.old))) }
+    ensures { IfOk result (λ _. S.world sim.new ≡ world_after_all (S.world sim.old) (plan_then (each_end_once Open ends.now) (step_passes 1000 nodes.now ends.now far.now) (S.world sim.old))) }
 {
-    repeat(sim, 0, &Event::Tick, 1)?;
     let known = are_known(sim, ends);
     turn_known_ends(sim, known, ends, EndTurn::Open, 1)?;
     make_passes(sim, nodes, known, ends, far)?;

@@ -1,29 +1,20 @@
-use Rattle.std.proofs.Common.{◌≡◌, ◌++◌, ap, sym, subst, ◌∙◌, refl, length, List, ℕ, Some, string_bytes}
+use Rattle.std.proofs.Common.{◌≡◌, ◌∙◌, ap, sym, subst, Some, length}
 use Rattle.tora_script.specs.RunningView.{running_view}
-use Rattle.tora_drive.specs.DriveText.{OwnView, answer_to}
+use Rattle.tora_drive.specs.declared.line.DriveLine.{DriveLine}
 use Rattle.tora_drive.specs.DriveView.{own_view}
-use Rattle.tora_drive.specs.Recording.{answer_recorded}
+use Rattle.tora_drive.specs.Recording.{Record, answer_recorded}
 use Rattle.tora_drive.specs.Whole.{whole_run, whole_own}
-use Rattle.tora_drive.proofs.AnswerLaws.{answered}
-use Rattle.tora_drive.proofs.WholeLines.{sent_left, hops_left}
+use Rattle.tora_drive.proofs.AnswerLaws.{unrecorded}
 use Rattle.tora_drive.proofs.answer.answer.Goals as goal
 
-pub returns-clause-gives : goal.returns-clause-gives
-returns-clause-gives g c =
-    let world = g.S.Simulator.world in
-    let gone = c.args.gone.now in
-    let before = world c.args.running.now.sim in
-    let after = world c.perform.new.running.sim in
-    subst (λ (own : OwnView). answer_to (whole_run gone (running_view world c.args.running.now)) (whole_own (length gone) (own_view c.args.own.now)) c.args.text.now
-    ≡ Some (whole_run gone (running_view world c.perform.new.running), whole_own (length gone) own, string_bytes c.close.new.out)) (sym c.record_line.ensures.view)
-    (answered (whole_run gone (running_view world c.args.running.now)) (whole_own (length gone) (own_view c.args.own.now)) c.args.text.now c.in_ok-line.line
-    (whole_run gone (running_view world c.perform.new.running)) (whole_own (length gone) (own_view c.perform.new.own)) (string_bytes c.perform.new.out)
-    (string_bytes c.write_sent.new.out) (string_bytes c.write_hops.new.out) (string_bytes c.close.new.out) c.in_ok-before.before.items c.in_ok-is_refused.is_refused c.in_ok-line.ensures c.in_ok-is_refused.ensures.gives
-    ((rw c.datagrams-first.ensures at c.in_ok-write_sent.ensures) ∙ ap (λ (text : List ℕ). string_bytes c.perform.new.out ++ text) (sent_left gone before after))
-    c.in_ok-before.ensures
-    ((rw c.deref.ensures.value at c.in_ok-write_hops.ensures) ∙ ap (λ (text : List ℕ). string_bytes c.write_sent.new.out ++ text) (hops_left gone after c.in_ok-before.before.items))
-    c.in_ok-close.ensures)
+pub returns-then-is_unrecorded_step-clause-record : goal.returns-then-is_unrecorded_step-clause-record
+returns-then-is_unrecorded_step-clause-record g c =
+    let s = whole_run c.args.gone.now (running_view g.S.Simulator.world c.args.running.now) in
+    let o = whole_own (length c.args.gone.now) (own_view c.args.own.now) in
+    let is = c.is_unrecorded_step.ensures.0 c.if-is_unrecorded_step.true in
+    let step = c.in_ok-line.ensures ∙ ap (λ (line : DriveLine). Some line) is.0 in
+    subst (λ (r : Record). r ≡ answer_recorded r s o c.args.text.now) (sym is.1) (sym (unrecorded s o c.args.text.now step))
 
 pub returns-clause-record : goal.returns-clause-record
 unfolding answer_recorded
-returns-clause-record g c = rw (c.in_ok-record_line.ensures.record, c.in_ok-is_refused.ensures.record, c.in_ok-line.ensures, c.in_ok-is_refused.ensures.gives) refl
+returns-clause-record g c = rw c.in_ok-line.ensures c.answer_line.ensures.record

@@ -1,0 +1,140 @@
+-- A step behind whose tick nothing is to be done.
+use Rattle.std.proofs.Common.{◌≡◌, ℕ, zero, suc, ◌-◌, List, [], ◌∷◌, ◌++◌, length, Some, refl, sym, ap, ap₂, ◌∙◌, ◌+◌, arith, append-nil}
+use Rattle.std.specs.Prelude.{false, option_map}
+use Rattle.std.specs.List.{flat_map}
+use Rattle.tora_frame.specs.FrameParts.{FrameParts}
+use Rattle.tora_world.specs.declared.event.Event.{Event}
+use Rattle.tora_world.specs.declared.event.Event.TheVariants.{Tick, CoreTurn}
+use Rattle.tora_world.specs.Walks.{hop_at}
+use Rattle.tora_world.specs.World.{World, world_by, effect_by, world_after, world_after_all}
+use Rattle.tora_sim.specs.Quiet.{IsQuiet}
+use Rattle.tora_script.specs.declared.rounds.EndTurn.{EndTurn}
+use Rattle.tora_script.specs.declared.rounds.EndTurn.TheVariants as turn
+use Rattle.tora_script.specs.Rounds.{Plan, end_event, repeats, while_possible, plan_then, each, each_core, each_end, each_end_once}
+use Rattle.tora_script.specs.SimulationText.{RunningView}
+use Rattle.tora_script.proofs.RoundLaws.{each_none, no_event, quiet_ends}
+use Rattle.tora_drive.specs.declared.line.DriveLine.TheVariants.{Step}
+use Rattle.tora_drive.specs.declared.records.Route.{Route}
+use Rattle.tora_drive.specs.Steps.{sends_of, step_pass, step_passes, step}
+use Rattle.tora_drive.specs.Records.{sent_from, sent_text, routes_at, routes_of, hop_line, hops_text}
+use Rattle.tora_drive.specs.DriveText.{OwnView, shown, after_step, outcome_of, closing, told}
+use Rattle.tora_drive.specs.Whole.{whole, whole_run, whole_own, whole_outcome, outcome_behind}
+use Rattle.tora_drive.proofs.HopLaws.{SameCores, event_stays, no_hops}
+use Rattle.tora_drive.proofs.SendLaws.{no_sends}
+use Rattle.tora_drive.proofs.WholeLines.{outcomes, sent_left, hops_left}
+
+-- ---- nothing is to be done
+
+then_none : (plan rest : Plan) (w : World) → plan w ≡ [] → rest w ≡ [] → plan_then plan rest w ≡ []
+then_none plan rest w first next = ap (λ (events : List Event). events ++ rest (world_after_all w events)) first ∙ next
+
+module _ (nodes : List ℕ) (ends far : List (ℕ × ℕ)) (w : World) (q : IsQuiet w) where
+  no_turns : (kind : EndTurn) (most : ℕ) → each (λ e. repeats most (end_event kind e)) ends w ≡ []
+  no_turns kind most = each_none (λ e. repeats most (end_event kind e)) ends w (λ e. no_event w most (end_event kind e) (quiet_ends kind w q e))
+
+  no_pass : step_pass nodes ends far w ≡ []
+  unfolding step_pass
+  no_pass =
+      let cores : each_core nodes w ≡ [] = each_none (λ n. while_possible (CoreTurn n)) nodes w (λ n. no_event w 1024 (CoreTurn n) (q.cores n)) in
+      let sends : each (sends_of far) ends w ≡ [] = each_none (sends_of far) ends w (λ e. no_sends far e w (q.sends e.0 e.1)) in
+      then_none (each_core nodes) (plan_then (each_end turn.Pull ends) (plan_then (each (sends_of far) ends) (each_end turn.Pump ends))) w cores
+      (then_none (each_end turn.Pull ends) (plan_then (each (sends_of far) ends) (each_end turn.Pump ends)) w (no_turns turn.Pull 1024)
+      (then_none (each (sends_of far) ends) (each_end turn.Pump ends) w sends (no_turns turn.Pump 1024)))
+
+  no_passes : (k : ℕ) → step_passes k nodes ends far w ≡ []
+  unfolding step_passes
+  no_passes zero = refl
+  no_passes (suc k) = rw no_pass refl
+
+  none_behind : plan_then (each_end_once turn.Open ends) (step_passes 1000 nodes ends far) w ≡ []
+  none_behind = then_none (each_end_once turn.Open ends) (step_passes 1000 nodes ends far) w (no_turns turn.Open 1) (no_passes 1000)
+
+  pub quiet_world : world_after_all w (plan_then (each_end_once turn.Open ends) (step_passes 1000 nodes ends far) w) ≡ w
+  quiet_world = ap (world_after_all w) none_behind
+
+none_sent : (w : World) → sent_text w w ≡ []
+unfolding sent_from
+none_sent w =
+    let none : length w.datagrams - length w.datagrams ≡ zero = omega arith in
+    ap (sent_from w (length w.datagrams)) none
+
+-- nothing is told of a world that stays as it is
+pub nothing_told : (w : World) (nodes dests text : List ℕ) → text ≡ text ++ sent_text w w ++ hops_text nodes dests w w
+nothing_told w nodes dests text =
+    sym (append-nil text) ∙ ap (λ (xs : List ℕ). text ++ xs) (sym (none_sent w)) ∙ sym (append-nil (text ++ sent_text w w))
+    ∙ ap (λ (xs : List ℕ). text ++ sent_text w w ++ xs) (sym (no_hops w w (record { seats = refl; topology = refl }) nodes dests))
+
+-- the datagrams and then the next hops, behind a text
+pub told_in_order : (g : List FrameParts) (w v : World) (nodes dests old with_sent last : List ℕ) (routes : List Route)
+    → with_sent ≡ old ++ sent_from (whole g v) (length g + length w.datagrams) (length v.datagrams - length w.datagrams) → routes ≡ routes_of w nodes dests → last ≡ with_sent ++ flat_map (hop_line v) routes
+    → last ≡ old ++ sent_text (whole g w) (whole g v) ++ hops_text nodes dests (whole g w) (whole g v)
+told_in_order g w v nodes dests old with_sent last routes sent looked hops =
+    let told_sent : with_sent ≡ old ++ sent_text (whole g w) (whole g v) = sent ∙ ap (λ (xs : List ℕ). old ++ xs) (sent_left g w v) in
+    let told_hops : flat_map (hop_line v) routes ≡ hops_text nodes dests (whole g w) (whole g v) = ap (λ (rs : List Route). flat_map (hop_line v) rs) looked ∙ hops_left g v (routes_of w nodes dests) in
+    hops ∙ ap₂ (λ (xs ys : List ℕ). xs ++ ys) told_sent told_hops
+
+-- ---- a tick
+
+tick_sends : (w : World) → (world_after w Tick).datagrams ≡ w.datagrams
+unfolding world_by effect_by
+tick_sends w = refl
+
+routes_stay_at : (w v : World) → SameCores w v → (dests : List ℕ) (n : ℕ) → routes_at v dests n ≡ routes_at w dests n
+routes_stay_at w v h [] n = refl
+routes_stay_at w v h (d ∷ dests) n =
+    let hop : hop_at v n d ≡ hop_at w n d = rw (h.topology, h.seats) refl in
+    let route : Route = record { node = n; destination = d; hop = hop_at w n d } in
+    ap₂ (λ (r : Route) (routes : List Route). r ∷ routes) (rw hop refl) (routes_stay_at w v h dests n)
+
+routes_stay : (w v : World) → SameCores w v → (nodes dests : List ℕ) → routes_of v nodes dests ≡ routes_of w nodes dests
+routes_stay w v h [] dests = refl
+routes_stay w v h (n ∷ nodes) dests = ap₂ (λ (xs ys : List Route). xs ++ ys) (routes_stay_at w v h dests n) (routes_stay w v h nodes dests)
+
+-- ---- a step
+
+-- a step is its tick, and the rest
+step_is : (nodes : List ℕ) (ends far : List (ℕ × ℕ)) (w : World)
+    → world_after_all w (step nodes ends far w) ≡ world_after_all (world_after w Tick) (plan_then (each_end_once turn.Open ends) (step_passes 1000 nodes ends far) (world_after w Tick))
+unfolding step repeats
+step_is nodes ends far w = refl
+
+module _ (g : List FrameParts) (s : RunningView) (o : OwnView) where
+  abbrev ticked : World
+  ticked = world_after s.world Tick
+
+  -- the world behind what follows the tick
+  abbrev after : World → World
+  after w = world_after_all w (plan_then (each_end_once turn.Open s.ends) (step_passes 1000 s.nodes s.ends o.far) w)
+
+  -- what is told of a world and one behind it
+  abbrev told_of : World → World → List ℕ
+  told_of w v = sent_text (whole g w) (whole g v) ++ hops_text s.nodes s.dests (whole g w) (whole g v)
+
+  -- what is told behind the tick is told of the whole step
+  told_behind : (v : World) → told_of ticked v ≡ told_of s.world v
+  told_behind v =
+      let same = event_stays s.world Tick refl in
+      let sent : sent_text (whole g ticked) (whole g v) ≡ sent_text (whole g s.world) (whole g v) =
+      ap (λ (datagrams : List FrameParts). sent_from (whole g v) (length (g ++ datagrams)) (length (g ++ v.datagrams) - length (g ++ datagrams))) (tick_sends s.world) in
+      let hops : hops_text s.nodes s.dests (whole g ticked) (whole g v) ≡ hops_text s.nodes s.dests (whole g s.world) (whole g v) =
+      ap (λ (routes : List Route). flat_map (hop_line (whole g v)) routes) (routes_stay (whole g s.world) (whole g ticked) (record { seats = same.seats; topology = same.topology }) s.nodes s.dests) in
+      ap₂ (λ (xs ys : List ℕ). xs ++ ys) sent hops
+
+  answered : (v : World) (text last : List ℕ) → v ≡ after ticked → text ≡ told_of ticked v → last ≡ text ++ closing false
+      → option_map (told (whole_run g s)) (outcome_of (whole_run g s) (whole_own (length g) o) Step) ≡ Some (whole_run g (record s { world = v }), whole_own (length g) o, last)
+  unfolding outcome_behind
+  answered v text last is tells closed =
+      let stepped : after_step s o ≡ v = step_is s.nodes s.ends o.far s.world ∙ sym is in
+      let whole_text : told_of s.world v ++ closing false ≡ last = ap (λ (x : List ℕ). x ++ closing false) (sym (tells ∙ told_behind v)) ∙ sym closed in
+      ap (option_map (told (whole_run g s))) (outcomes g s o Step)
+      ∙ ap (λ (x : World). Some (told (whole_run g s) (whole_outcome g (shown (record s { world = x }) o [])))) stepped
+      ∙ ap (λ (x : List ℕ). Some (whole_run g (record s { world = v }), whole_own (length g) o, x)) whole_text
+
+  -- the parts of the answer to a step in their order are the answer
+  pub step_answered : (u : World) (r : RunningView) (text last : List ℕ) → u ≡ ticked → r ≡ record s { world = after u } → text ≡ told_of u r.world → last ≡ text ++ closing false
+      → option_map (told (whole_run g s)) (outcome_of (whole_run g s) (whole_own (length g) o) Step) ≡ Some (whole_run g r, whole_own (length g) o, last)
+  step_answered u r text last tick is tells closed =
+      let world : r.world ≡ after u = ap (λ (q : RunningView). q.world) is in
+      let run : record s { world = r.world } ≡ r = ap (λ (w : World). record s { world = w }) world ∙ sym is in
+      answered r.world text last (world ∙ ap after tick) (tells ∙ ap (λ (w : World). told_of w r.world) tick) closed
+      ∙ ap (λ (q : RunningView). Some (whole_run g q, whole_own (length g) o, last)) run
