@@ -99,9 +99,12 @@ impl Own {
         ensures view { own_view self.new ≡ own_view self.old }
         ensures record { OnOk result (record_view self.new ≡ with_record (record_view self.old) (event_line event.now)) }
     {
-        let mut line = String::new(alloc);
-        tell_event(&mut line, event)?;
-        self.put(line.as_bytes())
+        if let Some(recorded) = &mut self.recorded {
+            let mut line = String::new(alloc);
+            tell_event(&mut line, event)?;
+            recorded.extend_from_slice(line.as_bytes())?;
+        }
+        Ok(())
     }
 
     /// Makes an end silent.
