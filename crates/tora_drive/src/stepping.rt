@@ -91,7 +91,8 @@ fn pass<S: Simulator>(
     Ok(either(turned, either(pulled, either(sent, pumped))))
 }
 
-/// Passes until one has no event.
+/// Passes until one has no event. The simulator settles behind that one, too: what was delivered since the last step may have left it unknown
+/// whether anything is to be done, and so the steps that follow would look at all.
 fn make_passes<S: Simulator>(
     sim: &mut S,
     nodes: &[Id],
@@ -103,10 +104,11 @@ fn make_passes<S: Simulator>(
     ensures { IfOk result (λ _. S.world sim.new ≡ world_after_all (S.world sim.old) (step_passes 1000 nodes.now ends.now far.now (S.world sim.old))) }
 {
     for _ in 0..MOST_PASSES {
-        if !pass(sim, nodes, known, ends, far)? {
+        let some = pass(sim, nodes, known, ends, far)?;
+        sim.settle();
+        if !some {
             return Ok(());
         }
-        sim.settle();
     }
     Ok(())
 }
