@@ -8,6 +8,7 @@ mod ItemTicks
 pub mod Steps
 pub mod Seats
 pub mod Ups
+mod Marks
 pub mod Histories
 pub mod ItemFacts
 pub mod ItemLaws

@@ -1,5 +1,5 @@
 -- Rows of a seat, by place and by neighbour.
-use Rattle.std.proofs.Common.{◌≡◌, ℕ, zero, suc, ◌<◌, ◌≤◌, ◌+◌, ◌*◌, Bool, true, false, ◌&&◌, ◌||◌, ne_eqb, List, [], ◌∷◌, ◌++◌, map, length, set, get_or, slice_get, find, option_map, Option, Some, None, if◌then◌else◌, refl, sym, ap, ap₂, ◌∙◌, subst, append_assoc, arith}
+use Rattle.std.proofs.Common.{◌≡◌, ℕ, zero, suc, ◌<◌, ◌≤◌, ◌+◌, ◌*◌, Bool, true, false, true≢false, ◌&&◌, ◌||◌, ne_eqb, List, [], ◌∷◌, ◌++◌, map, length, set, get_or, slice_get, find, option_map, Option, Some, None, if◌then◌else◌, refl, sym, ap, ap₂, ◌∙◌, subst, append_assoc, arith}
 use mathlib.Core.Path.{fun_ext}
 use Rattle.std.specs.Prelude.{MatchOption, is_none}
 use Rattle.tora_arq.specs.declared.life.Life.{Life}
@@ -12,9 +12,10 @@ use Rattle.tora_seat.specs.Serving.{put_one, first_cut}
 use Rattle.std.proofs.lemmas.Option.{slice_get-map, slice_get_within, get_or_from_slice_get}
 use Rattle.tora_seat.specs.Bodies.{IsSeat}
 use Rattle.tora_seat.specs.Serving.{Offer, with_current, with_pending}
-use Rattle.tora_seat.specs.Rows.{SeatView, serving_at, neighbours_of, current_of, pending_of, is_cut, first_cut_of, new_row}
+use Rattle.tora_seat.specs.Rows.{SeatView, serving_at, neighbours_of, current_of, pending_of, any_pending, is_cut, first_cut_of, new_row}
 use Rattle.tora_seat.proofs.Places.{not_before, neighbours-append, current_there, pending_there, current_set, pending_set, current_stays, pending_stays}
 use Rattle.tora_seat.proofs.Goings.{at_place}
+use Rattle.tora_seat.proofs.Marks.{pending_kept}
 
 -- the row at the place of a neighbour
 pub row_at : (rows : List LinkRow) (place k : ℕ) (d : LinkRow) → slice_get (neighbours_of rows) place ≡ Some k → (place < length rows) × ((get_or rows place d).neighbour ≡ k)
@@ -93,20 +94,20 @@ module _ (value : LinkRow → Option Life) (of : List LinkRow → ℕ → Option
   live_none rows ks place e a =
       subst (λ o. MatchOption o (no_life ≡ None) (λ k. None ≡ of rows k)) (sym (sym (ap (λ xs. slice_get xs place) e) ∙ slice_get-map (λ (r : LinkRow). r.neighbour) rows place ∙ ap (option_map (λ (r : LinkRow). r.neighbour)) a)) refl
 
-pub current_some : (rows : List LinkRow) (s : SeatView) (place : ℕ) (row : LinkRow) (room : ℕ) → IsSeat s.core s.rows room → rows ≡ s.rows → slice_get rows place ≡ Some row → MatchOption (slice_get s.core.neighbours place) (row.current ≡ None) (λ k. row.current ≡ current_of s.rows k)
+pub current_some : (rows : List LinkRow) (s : SeatView) (place : ℕ) (row : LinkRow) (room : ℕ) {p q : Bool} → IsSeat s.core s.rows room p q → rows ≡ s.rows → slice_get rows place ≡ Some row → MatchOption (slice_get s.core.neighbours place) (row.current ≡ None) (λ k. row.current ≡ current_of s.rows k)
 current_some rows s place row room h e is =
     let q = row_lives s.rows place row (ap has_repeat h.neighbours ∙ h.different) (ap (λ xs. slice_get xs place) (sym e) ∙ is) in
     live_some (λ r. r.current) current_of s.rows s.core.neighbours place row h.neighbours q.0 q.1
 
-pub pending_some : (rows : List LinkRow) (s : SeatView) (place : ℕ) (row : LinkRow) (room : ℕ) → IsSeat s.core s.rows room → rows ≡ s.rows → slice_get rows place ≡ Some row → MatchOption (slice_get s.core.neighbours place) (row.pending ≡ None) (λ k. row.pending ≡ pending_of s.rows k)
+pub pending_some : (rows : List LinkRow) (s : SeatView) (place : ℕ) (row : LinkRow) (room : ℕ) {p q : Bool} → IsSeat s.core s.rows room p q → rows ≡ s.rows → slice_get rows place ≡ Some row → MatchOption (slice_get s.core.neighbours place) (row.pending ≡ None) (λ k. row.pending ≡ pending_of s.rows k)
 pending_some rows s place row room h e is =
     let q = row_lives s.rows place row (ap has_repeat h.neighbours ∙ h.different) (ap (λ xs. slice_get xs place) (sym e) ∙ is) in
     live_some (λ r. r.pending) pending_of s.rows s.core.neighbours place row h.neighbours q.0 q.2
 
-pub current_none : (rows : List LinkRow) (s : SeatView) (place : ℕ) (room : ℕ) → IsSeat s.core s.rows room → rows ≡ s.rows → slice_get rows place ≡ None → MatchOption (slice_get s.core.neighbours place) (no_life ≡ None) (λ k. None ≡ current_of s.rows k)
+pub current_none : (rows : List LinkRow) (s : SeatView) (place : ℕ) (room : ℕ) {p q : Bool} → IsSeat s.core s.rows room p q → rows ≡ s.rows → slice_get rows place ≡ None → MatchOption (slice_get s.core.neighbours place) (no_life ≡ None) (λ k. None ≡ current_of s.rows k)
 current_none rows s place room h e is = live_none (λ r. r.current) current_of s.rows s.core.neighbours place h.neighbours (ap (λ xs. slice_get xs place) (sym e) ∙ is)
 
-pub pending_none : (rows : List LinkRow) (s : SeatView) (place : ℕ) (room : ℕ) → IsSeat s.core s.rows room → rows ≡ s.rows → slice_get rows place ≡ None → MatchOption (slice_get s.core.neighbours place) (no_life ≡ None) (λ k. None ≡ pending_of s.rows k)
+pub pending_none : (rows : List LinkRow) (s : SeatView) (place : ℕ) (room : ℕ) {p q : Bool} → IsSeat s.core s.rows room p q → rows ≡ s.rows → slice_get rows place ≡ None → MatchOption (slice_get s.core.neighbours place) (no_life ≡ None) (λ k. None ≡ pending_of s.rows k)
 pending_none rows s place room h e is = live_none (λ r. r.pending) pending_of s.rows s.core.neighbours place h.neighbours (ap (λ xs. slice_get xs place) (sym e) ∙ is)
 
 -- the first neighbour to be stepped down, by rows
@@ -129,18 +130,25 @@ cut_is core rows h = cut_from core (pending_of rows) [] rows h
 
 -- ---- a seat whose row was changed
 
-pub set_seat : (s t : SeatView) (place k room : ℕ) (row : LinkRow) (life : Option Life) → s ≡ t → IsSeat s.core s.rows room → slice_get t.core.neighbours place ≡ Some k → row ≡ get_or s.rows place row →
+pub set_seat : (s t : SeatView) (place k room : ℕ) (row : LinkRow) (life : Option Life) {p q : Bool} → s ≡ t → IsSeat s.core s.rows room p q → slice_get t.core.neighbours place ≡ Some k → row ≡ get_or s.rows place row →
     IsSet s.rows (set s.rows place (record row { current = life })) (put_one (current_of s.rows) k life) (pending_of s.rows)
 set_seat s t place k room row life e h is at =
     set_current_is s.rows place k row life (ap has_repeat h.neighbours ∙ h.different) (ap (λ xs. slice_get xs place) h.neighbours ∙ ap (λ (x : SeatView). slice_get x.core.neighbours place) e ∙ is) at
 
-pub forget_seat : (s t : SeatView) (place k room : ℕ) (row : LinkRow) → s ≡ t → IsSeat s.core s.rows room → slice_get t.core.neighbours place ≡ Some k → row ≡ get_or s.rows place row →
+pub forget_seat : (s t : SeatView) (place k room : ℕ) (row : LinkRow) {p q : Bool} → s ≡ t → IsSeat s.core s.rows room p q → slice_get t.core.neighbours place ≡ Some k → row ≡ get_or s.rows place row →
     IsSet s.rows (set s.rows place (record row { pending = None })) (current_of s.rows) (put_one (pending_of s.rows) k None)
 forget_seat s t place k room row e h is at =
     forget_pending_is s.rows place k row (ap has_repeat h.neighbours ∙ h.different) (ap (λ xs. slice_get xs place) h.neighbours ∙ ap (λ (x : SeatView). slice_get x.core.neighbours place) e ∙ is) at
 
-pub seat_set : (core : CoreView) (rows new : List LinkRow) (room : ℕ) (f g : ℕ → Option Life) → IsSeat core rows room → IsSet rows new f g → IsSeat core new room
-seat_set core rows new room f g h q = record { neighbours = q.same ∙ h.neighbours; different = h.different; has_room = h.has_room }
+pub seat_set : (core : CoreView) (rows new : List LinkRow) (room : ℕ) (f g : ℕ → Option Life) (mark : Bool) {p q : Bool} → IsSeat core rows room p q → IsSet rows new f g → (mark ≡ false → any_pending new ≡ false) → IsSeat core new room mark true
+seat_set core rows new room f g mark h q none = record { neighbours = q.same ∙ h.neighbours; different = h.different; has_room = h.has_room; none_pending = none; none_cut = λ e. absurd (true≢false e) }
+
+-- another current life leaves what is pending
+pub set_pending : (s t : SeatView) (place k room : ℕ) (row : LinkRow) (life : Option Life) {p q : Bool} → s ≡ t → IsSeat s.core s.rows room p q → slice_get t.core.neighbours place ≡ Some k → row ≡ get_or s.rows place row →
+    any_pending (set s.rows place (record row { current = life })) ≡ any_pending s.rows
+set_pending s t place k room row life e h is at =
+    let lt = (row_at s.rows place k row (ap (λ xs. slice_get xs place) h.neighbours ∙ ap (λ (x : SeatView). slice_get x.core.neighbours place) e ∙ is)).0 in
+    pending_kept s.rows place row (record row { current = life }) lt (ap (λ (r : LinkRow). r.pending) at)
 
 pub set_serves : (s t : SeatView) (new : List LinkRow) (k : ℕ) (life : Option Life) → s ≡ t → IsSet s.rows new (put_one (current_of s.rows) k life) (pending_of s.rows) → (now : ℕ) (before : List Offer) →
     with_current (serving_at now t before) k life ≡ serving_at now (record s { rows = new }) before
@@ -169,5 +177,5 @@ ascending_differ : (ks : List ℕ) → IsAscending ks → has_repeat ks ≡ fals
 ascending_differ [] h = refl
 ascending_differ (k ∷ ks) h = ap (λ b. b || has_repeat ks) (none_below k ks h.0) ∙ ascending_differ ks h.1
 
-pub new_seat : (core : CoreView) (rows : List LinkRow) (room : ℕ) → IsCore core → rows ≡ map new_row core.neighbours → 2 * (length core.neighbours + 1) ≤ room → IsSeat core rows room
-new_seat core rows room kept e enough = record { neighbours = ap neighbours_of e ∙ new_neighbours core.neighbours; different = ascending_differ core.neighbours kept.ascending_neighbours; has_room = enough }
+pub new_seat : (core : CoreView) (rows : List LinkRow) (room : ℕ) → IsCore core → rows ≡ map new_row core.neighbours → 2 * (length core.neighbours + 1) ≤ room → IsSeat core rows room true true
+new_seat core rows room kept e enough = record { neighbours = ap neighbours_of e ∙ new_neighbours core.neighbours; different = ascending_differ core.neighbours kept.ascending_neighbours; has_room = enough; none_pending = λ e. absurd (true≢false e); none_cut = λ e. absurd (true≢false e) }

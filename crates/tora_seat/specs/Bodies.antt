@@ -1,21 +1,29 @@
 -- What the parts of serving an item do, whatever the lanes answer.
-use Rattle.std.specs.Prelude.{◌≡◌, ◌+◌, ◌*◌, ◌≤◌, ℕ, Bool, false, if◌then◌else◌, List, ◌++◌, length, Option, None, Some}
+use Rattle.std.specs.Prelude.{◌≡◌, ◌+◌, ◌*◌, ◌<◌, ◌≤◌, ◌⊎◌, ℕ, Bool, true, false, if◌then◌else◌, List, ◌++◌, length, is_some, Option, None, Some}
 use Rattle.tora_packet.specs.declared.Packet.{Packet}
 use Rattle.tora_arq.specs.declared.life.Life.{Life}
-use Rattle.tora_core.specs.CoreRun.{CoreView}
+use Rattle.tora_core.specs.declared.Input.{Input}
+use Rattle.tora_core.specs.CoreRun.{CoreView, refusal_of, up_after}
 use Rattle.tora_core.specs.Numbers.{has_repeat}
 use Rattle.tora_seat.specs.declared.cargo.Cargo.{Cargo}
 use Rattle.tora_seat.specs.declared.cargo.Cargo.TheVariants as Gives
 use Rattle.tora_seat.specs.declared.rows.LinkRow.{LinkRow}
-use Rattle.tora_seat.specs.Serving.{Offer, Answers, Serving}
+use Rattle.tora_seat.specs.Serving.{Offer, Answers, Serving, first_cut}
 use Rattle.tora_seat.specs.Offers.{AreOffered, Follows}
-use Rattle.tora_seat.specs.Rows.{SeatView, neighbours_of, current_of, pending_of, serving_at}
+use Rattle.tora_seat.specs.Rows.{SeatView, neighbours_of, current_of, pending_of, any_pending, lives, serving_at}
 
--- what the type of a seat keeps: a row for each neighbour, the neighbours are different, and there is room for the inputs of an item
-pub record IsSeat (core : CoreView) (rows : List LinkRow) (room : ℕ) : Type 0 where
+-- no link is up at a core where these are up without a current life
+abbrev pub IsSettled : CoreView → List ℕ → List LinkRow → Type 0
+IsSettled core up rows = first_cut (record { core = record core { up = up }; current = current_of rows; pending = pending_of rows }) core.neighbours ≡ None
+
+-- what the type of a seat keeps: a row for each neighbour, the neighbours are different, and there is room for the inputs of an item; where the
+-- marks say so, no cut is pending, and no link is up without a current life
+pub record IsSeat (core : CoreView) (rows : List LinkRow) (room : ℕ) (has_pending has_cut : Bool) : Type 0 where
   pub neighbours : neighbours_of rows ≡ core.neighbours
   pub different : has_repeat core.neighbours ≡ false
   pub has_room : 2 * (length core.neighbours + 1) ≤ room
+  pub none_pending : has_pending ≡ false → any_pending rows ≡ false
+  pub none_cut : has_cut ≡ false → IsSettled core core.up rows
 
 -- ---- one row
 
@@ -31,7 +39,17 @@ SendsTo did_offer place packet row None outs new after = (new ≡ row) × (after
 SendsTo did_offer place packet row (Some life) outs new after =
     (put : Bool) × did_offer outs place (Gives.Packet life packet) put after × (new ≡ (if put then row else record row { current = None; pending = Some life }))
 
+-- whether the current life of a row is over; where it isn't, the row is as before
+abbrev pub EndsLife : Bool → LinkRow → LinkRow → Type 0
+EndsLife false row new = new ≡ row
+EndsLife true row new = (is_some row.current ≡ true) × (is_some new.current ≡ false)
+
 -- ---- all rows
+
+-- whether the current life of some row is over; where none is, the rows are as before
+abbrev pub EndsLives : Bool → List LinkRow → List LinkRow → Type 0
+EndsLives false rows new = new ≡ rows
+EndsLives true rows new = lives new < lives rows
 
 -- an item that is being served, with these rows and these offers
 abbrev pub on_rows : Serving → List LinkRow → List Offer → Serving
@@ -52,3 +70,8 @@ pub record SeatGoes {O : Type 0} (did_offer : O → ℕ → Cargo → Bool → O
   pub offered : AreOffered did_offer seat.core.neighbours outs made after
   pub same : new.core.neighbours ≡ seat.core.neighbours
   pub leads : (answers : Answers) (before : List Offer) → Follows answers before made → next answers seat.core.neighbours (serving_at now seat before) ≡ serving_at now new (before ++ made)
+
+-- whether an input was stepped with no life over; where it wasn't, the core refused it, or some life is over
+abbrev pub StepsQuietly : Bool → Input → SeatView → SeatView → Type 0
+StepsQuietly true input seat new = (new.core.up ≡ up_after seat.core.up input) × (new.rows ≡ seat.rows)
+StepsQuietly false input seat new = (is_some (refusal_of seat.core input) ≡ true) ⊎ (lives new.rows < lives seat.rows)

@@ -1,5 +1,5 @@
 -- What the core's seat keeps: the core, a row for each neighbour, and what the last item came to.
-use Rattle.std.specs.Prelude.{ℕ, ◌==◌, Bool, if◌then◌else◌, List, [], ◌∷◌, map, find, option_map, is_none, ◌&&◌, Option, None, Some}
+use Rattle.std.specs.Prelude.{ℕ, ◌==◌, ◌+◌, Bool, false, if◌then◌else◌, List, [], ◌∷◌, map, find, option_map, is_some, is_none, ◌&&◌, ◌||◌, Option, None, Some}
 use Rattle.tora_arq.specs.declared.life.Life.{Life}
 use Rattle.tora_core.specs.declared.Input.{Input}
 use Rattle.tora_core.specs.CoreRun.{CoreView}
@@ -28,6 +28,16 @@ current_of (row ∷ rows) k = if k == row.neighbour then row.current else curren
 abbrev pub pending_of : List LinkRow → ℕ → Option Life
 pending_of [] k = None
 pending_of (row ∷ rows) k = if k == row.neighbour then row.pending else pending_of rows k
+
+-- some cut was not put yet
+abbrev pub any_pending : List LinkRow → Bool
+any_pending [] = false
+any_pending (row ∷ rows) = is_some row.pending || any_pending rows
+
+-- how many lives are current
+abbrev pub lives : List LinkRow → ℕ
+lives [] = 0
+lives (row ∷ rows) = (if is_some row.current then 1 else 0) + lives rows
 
 -- the seat as the definition of serving has it
 abbrev pub state_of : SeatView → SeatState

@@ -3,8 +3,8 @@ ghost use Rattle.std.specs.Prelude.{◌≡◌, ◌<◌, ◌≤◌, ℕ, List, le
 ghost use Rattle.tora_core.specs.Numbers.{has_number, has_repeat};
 ghost use Rattle.tora_core.specs.CoreRun.{CoreView};
 ghost use Rattle.tora_seat.specs.Serving.{after_cuts_tried, after_broadcast, after_broadcasts, first_cut, is_current};
-ghost use Rattle.tora_seat.specs.Rows.{neighbours_of, current_of, pending_of, new_row, is_cut, first_cut_of};
-ghost use Rattle.tora_seat.specs.Bodies.{TriesCut, SendsTo, RowsGo};
+ghost use Rattle.tora_seat.specs.Rows.{neighbours_of, current_of, pending_of, any_pending, new_row, is_cut, first_cut_of};
+ghost use Rattle.tora_seat.specs.Bodies.{TriesCut, SendsTo, EndsLife, EndsLives, RowsGo};
 
 use crate::{Cargo, OutLanes};
 use std::alloc::{AllocError, Global};
@@ -37,56 +37,71 @@ fn try_cut<O: OutLanes>(row: &mut LinkRow, place: usize, outs: &mut O)
     }
 }
 
-/// Tries each pending cut once.
-pub fn try_cuts<O: OutLanes>(rows: &mut [LinkRow], outs: &mut O)
+/// Tries each pending cut once, and answers whether there is one that is pending still.
+pub fn try_cuts<O: OutLanes>(rows: &mut [LinkRow], outs: &mut O) -> bool
     requires lanes { length rows.old ≤ O.count outs.old }
     requires different { has_repeat (neighbours_of rows.old) ≡ false }
     ensures count { O.count outs.new ≡ O.count outs.old }
     ensures goes { RowsGo O.did_offer after_cuts_tried rows.old outs.old rows.new outs.new }
+    ensures left { result ≡ any_pending rows.new }
 {
+    let mut is_left = false;
     for (place, row) in rows.iter_mut().enumerate() {
         try_cut(row, place, outs);
+        is_left |= row.pending.is_some();
     }
+    is_left
 }
 
-/// Sends a packet to the neighbour of a row with its current life; where it is handed back, the life is over.
-fn send<O: OutLanes>(row: &mut LinkRow, place: usize, packet: &Packet, outs: &mut O)
+/// Sends a packet to the neighbour of a row with its current life; where it is handed back, the life is over. Answers
+/// whether it was handed back.
+fn send<O: OutLanes>(row: &mut LinkRow, place: usize, packet: &Packet, outs: &mut O) -> bool
     requires { place < O.count outs.old }
     ensures count { O.count outs.new ≡ O.count outs.old }
     ensures sends { SendsTo O.did_offer place packet.now row.old row.old.current outs.old row.new outs.new }
+    ensures ends { EndsLife result row.old row.new }
 {
     if let Some(life) = row.current {
         if !outs.offer(place, Cargo::Packet(life, *packet)) {
             row.current = None;
             row.pending = Some(life);
+            return true;
         }
     }
+    false
 }
 
-/// Sends a packet to each neighbour, in ascending order.
-fn broadcast<O: OutLanes>(rows: &mut [LinkRow], packet: &Packet, outs: &mut O)
+/// Sends a packet to each neighbour, in ascending order. Answers whether one handed it back.
+fn broadcast<O: OutLanes>(rows: &mut [LinkRow], packet: &Packet, outs: &mut O) -> bool
     requires lanes { length rows.old ≤ O.count outs.old }
     requires different { has_repeat (neighbours_of rows.old) ≡ false }
     ensures count { O.count outs.new ≡ O.count outs.old }
     ensures goes { RowsGo O.did_offer (λ answers ks. after_broadcast answers packet.now ks)
         rows.old outs.old rows.new outs.new }
+    ensures ends { EndsLives result rows.old rows.new }
 {
+    let mut is_over = false;
     for (place, row) in rows.iter_mut().enumerate() {
-        send(row, place, packet, outs);
+        is_over |= send(row, place, packet, outs);
     }
+    is_over
 }
 
-/// Sends the packets one after another, each to every neighbour in ascending order.
-pub fn broadcast_all<O: OutLanes>(rows: &mut [LinkRow], packets: &[Packet], outs: &mut O)
+/// Sends the packets one after another, each to every neighbour in ascending order. Answers whether one of them was
+/// handed back; where none was, the rows are as before.
+pub fn broadcast_all<O: OutLanes>(rows: &mut [LinkRow], packets: &[Packet], outs: &mut O) -> bool
     requires lanes { length rows.old ≤ O.count outs.old }
     requires different { has_repeat (neighbours_of rows.old) ≡ false }
     ensures count { O.count outs.new ≡ O.count outs.old }
     ensures goes { RowsGo O.did_offer (λ answers ks. after_broadcasts answers ks packets.now)
         rows.old outs.old rows.new outs.new }
+    ensures ends { EndsLives result rows.old rows.new }
 {
+    let mut is_over = false;
     for packet in packets {
-        broadcast(rows, packet, outs);
+        is_over |= broadcast(rows, packet, outs);
     }
+    is_over
 }
 
 /// The row at a place.

@@ -1,12 +1,13 @@
 //! The core's seat.
-ghost use Rattle.std.specs.Prelude.{◌≡◌, ◌<◌, ◌≤◌, ◌+◌, ◌*◌, ℕ, List, length, [], Option, None, Some, IfOk, IfSome, MatchOption, slice_get, map, is_some, if◌then◌else◌};
+ghost use Rattle.std.specs.Prelude.{true, ◌≡◌, ◌<◌, ◌≤◌, ◌+◌, ◌*◌, ℕ, List, length, [], Option, None, Some, IfOk, IfSome, MatchOption, slice_get, map, is_some, if◌then◌else◌};
 ghost use Rattle.tora_core.specs.Numbers.{has_repeat, IsAscending};
+ghost use Rattle.tora_core.specs.CoreRun.{up_after};
 ghost use Rattle.tora_core.specs.declared.Input.TheVariants as In;
 ghost use Rattle.tora_seat.specs.Serving.{Answers, Offer, first_cut, with_current, with_pending, after_cuts_tried, after_step, after_settling, after_input, after_down, after_old_down, after_up, after_packet, after_link_item, after_other_item, after_item_of, serving_of, is_current};
 ghost use Rattle.tora_seat.specs.Serves.{Serves};
 ghost use Rattle.tora_seat.specs.Offers.{AreOffered, Follows};
 ghost use Rattle.tora_seat.specs.Rows.{SeatView, neighbours_of, current_of, pending_of, state_of, serving_at, first_seat};
-ghost use Rattle.tora_seat.specs.Bodies.{SeatGoes};
+ghost use Rattle.tora_seat.specs.Bodies.{IsSettled, SeatGoes, StepsQuietly};
 
 use crate::rows::{broadcast_all, first_cut, is_current, new_rows, row_at, try_cuts};
 use crate::{Answer, Item, LinkRow, OutLanes, Stepped, What};
@@ -26,6 +27,10 @@ pub struct CoreSeat {
     sends: Sends,
     stepped: Option<Stepped>,
     answer: Answer,
+    /// Where it is false, no cut is pending.
+    has_pending: bool,
+    /// Where it is false, no link is up at the core without a current life.
+    has_cut: bool,
 }
 
 impl Model for CoreSeat {
@@ -37,7 +42,7 @@ impl Model for CoreSeat {
 
     ghost view = { λ s. record { core = s.core; rows = s.rows.items; inputs = s.inputs.items; stepped = s.stepped; answer = s.answer } };
 
-    ghost invariant = { λ s. IsSeat s.core s.rows.items (vec_capacity s.inputs) };
+    ghost invariant = { λ s. IsSeat s.core s.rows.items (vec_capacity s.inputs) s.has_pending s.has_cut };
 }
 
 impl CoreSeat {
@@ -64,21 +69,43 @@ impl CoreSeat {
         first_cut(&self.core, &self.rows)
     }
 
-    /// Steps an input, and sends what the core answers.
-    fn step<O: OutLanes>(&mut self, input: &Input, now: u64, outs: &mut O)
+    /// Whether it is known that no link is up at the core without a current life.
+    fn is_settled(&self) -> bool
+        ensures { result ≡ true → IsSettled self.now.core self.now.core.up self.now.rows }
+    {
+        !self.has_cut
+    }
+
+    /// Notes that no link is up at the core without a current life.
+    fn note_settled(&mut self)
+        requires { IsSettled self.old.core self.old.core.up self.old.rows }
+        ensures { self.new ≡ self.old }
+    {
+        self.has_cut = false;
+    }
+
+    /// Steps an input, and sends what the core answers. Answers whether the core accepted it and no life is over by it.
+    fn step<O: OutLanes>(&mut self, input: &Input, now: u64, outs: &mut O) -> bool
         requires lanes { length self.old.core.neighbours ≤ O.count outs.old }
         requires room { length self.old.inputs < 2 * (length self.old.core.neighbours + 1) }
         ensures count { O.count outs.new ≡ O.count outs.old }
         ensures stepped { length self.new.inputs ≤ length self.old.inputs + 1 }
         ensures goes { SeatGoes O.did_offer (λ answers ks. after_step answers ks input.now now)
             now self.old outs.old self.new outs.new }
+        ensures quietly { StepsQuietly result input.now self.old self.new }
     {
+        self.has_cut = true;
         match self.core.step_into(input, now, &mut self.sends) {
             Ok(()) => {
                 self.inputs.push_reserved(*input);
-                broadcast_all(&mut self.rows, self.sends.as_slice(), outs);
+                let is_over = broadcast_all(&mut self.rows, self.sends.as_slice(), outs);
+                self.has_pending |= is_over;
+                !is_over
             }
-            Err(error) => self.answer = Answer::Refused(error),
+            Err(error) => {
+                self.answer = Answer::Refused(error);
+                false
+            }
         }
     }
 
@@ -94,14 +121,22 @@ impl CoreSeat {
         let most = self.core.neighbours().len();
         for _round in 0..most {
             match self.first_cut() {
-                Some(k) => self.step(&Input::LinkDown(k), now, outs),
-                None => return,
+                Some(k) => {
+                    self.step(&Input::LinkDown(k), now, outs);
+                }
+                None => {
+                    self.note_settled();
+                    return;
+                }
             }
         }
     }
 
-    /// Steps an input, and then all that follows from what it sends.
-    fn take_in<O: OutLanes>(&mut self, input: &Input, now: u64, outs: &mut O)
+    /// Steps an input, and then all that follows from what it sends. Where it is known that no link is up without a
+    /// current life once the input is accepted, and no life is over by it, nothing follows.
+    fn take_in<O: OutLanes>(&mut self, input: &Input, now: u64, is_settled: bool, outs: &mut O)
+        requires settled { is_settled ≡ true
+            → IsSettled self.old.core (up_after self.old.core.up input.now) self.old.rows }
         requires lanes { length self.old.core.neighbours ≤ O.count outs.old }
         requires room { length self.old.inputs ≤ length self.old.core.neighbours + 1 }
         ensures count { O.count outs.new ≡ O.count outs.old }
@@ -109,8 +144,25 @@ impl CoreSeat {
         ensures goes { SeatGoes O.did_offer (λ answers ks. after_input answers ks input.now now)
             now self.old outs.old self.new outs.new }
     {
-        self.step(input, now, outs);
-        self.settle(now, outs);
+        let is_quiet = self.step(input, now, outs);
+        if is_quiet && is_settled {
+            self.note_settled();
+        } else {
+            self.settle(now, outs);
+        }
+    }
+
+    /// Takes in an input that brings no link up or down.
+    fn take_in_calm<O: OutLanes>(&mut self, input: &Input, now: u64, outs: &mut O)
+        requires calm { up_after self.old.core.up input.now ≡ self.old.core.up }
+        requires lanes { length self.old.core.neighbours ≤ O.count outs.old }
+        requires room { length self.old.inputs ≤ length self.old.core.neighbours + 1 }
+        ensures count { O.count outs.new ≡ O.count outs.old }
+        ensures goes { SeatGoes O.did_offer (λ answers ks. after_input answers ks input.now now)
+            now self.old outs.old self.new outs.new }
+    {
+        let is_settled = self.is_settled();
+        self.take_in(input, now, is_settled, outs);
     }
 
     /// Gives the neighbour at a place another current life.
@@ -120,6 +172,7 @@ impl CoreSeat {
         ensures set { (now : ℕ) (before : List Offer)
             → with_current (serving_at now self.old before) k life ≡ serving_at now self.new before }
     {
+        self.has_cut = true;
         let row = &mut self.rows[place];
         row.current = life;
     }
@@ -131,6 +184,8 @@ impl CoreSeat {
         ensures set { (now : ℕ) (before : List Offer)
             → with_pending (serving_at now self.old before) k None ≡ serving_at now self.new before }
     {
+        self.has_pending = true;
+        self.has_cut = true;
         let row = &mut self.rows[place];
         row.pending = None;
     }
@@ -145,8 +200,9 @@ impl CoreSeat {
         ensures goes { SeatGoes O.did_offer (λ answers ks. after_down answers ks k now)
             now self.old outs.old self.new outs.new }
     {
+        let is_settled = self.is_settled();
         self.set_current(place, k, None);
-        self.take_in(&Input::LinkDown(k), now, outs);
+        self.take_in(&Input::LinkDown(k), now, is_settled, outs);
     }
 
     /// The current life of the neighbour at a place is over, if there is one.
@@ -175,8 +231,9 @@ impl CoreSeat {
             (after_old_down answers ks k now v (v.seat.current k))) now self.old outs.old self.new outs.new }
     {
         self.on_old_end(place, k, now, outs);
+        let is_settled = self.is_settled();
         self.set_current(place, k, Some(life));
-        self.take_in(&Input::LinkUp(k), now, outs);
+        self.take_in(&Input::LinkUp(k), now, is_settled, outs);
     }
 
     /// Hands a packet of the neighbour at a place to the core, where its life is current.
@@ -200,7 +257,7 @@ impl CoreSeat {
     {
         if is_current(life, &self.current(place)) {
             self.note_stepped(k, life, packet);
-            self.take_in(&Input::Packet(k, *packet), now, outs);
+            self.take_in_calm(&Input::Packet(k, *packet), now, outs);
         }
     }
 
@@ -253,7 +310,7 @@ impl CoreSeat {
             What::Up(life) => self.on_up(place, k, *life, now, outs),
             What::Packet(life, packet) => self.on_packet(place, k, life, packet, now, outs),
             What::Down(life, _) => self.on_down(place, k, life, now, outs),
-            What::Need(d) => self.take_in(&Input::Need(*d), now, outs),
+            What::Need(d) => self.take_in_calm(&Input::Need(*d), now, outs),
             What::Beat => {}
             What::Show => self.answer = Answer::Show,
             What::Status(_) => self.answer = Answer::Show,
@@ -270,7 +327,7 @@ impl CoreSeat {
             (λ answers ks. after_other_item answers ks now what.now) now self.old outs.old self.new outs.new }
     {
         match what {
-            What::Need(d) => self.take_in(&Input::Need(*d), now, outs),
+            What::Need(d) => self.take_in_calm(&Input::Need(*d), now, outs),
             What::Show => self.answer = Answer::Show,
             What::Status(_) => self.answer = Answer::Show,
             What::Quit => self.answer = Answer::Quit,
@@ -281,14 +338,17 @@ impl CoreSeat {
         }
     }
 
-    /// Tries each pending cut once.
+    /// Tries each pending cut once. Where it is known that there is none, no row is looked at.
     fn try_cuts<O: OutLanes>(&mut self, now: u64, outs: &mut O)
         requires lanes { length self.old.core.neighbours ≤ O.count outs.old }
         ensures count { O.count outs.new ≡ O.count outs.old }
         ensures rest { self.new ≡ record self.old { rows = self.new.rows } }
         ensures goes { SeatGoes O.did_offer after_cuts_tried now self.old outs.old self.new outs.new }
     {
-        try_cuts(&mut self.rows, outs);
+        if self.has_pending {
+            self.has_cut = true;
+            self.has_pending = try_cuts(&mut self.rows, outs);
+        }
     }
 
     /// Takes in an item.
@@ -325,6 +385,8 @@ impl CoreSeat {
             sends: Sends::new(),
             stepped: None,
             answer: Answer::Nothing,
+            has_pending: true,
+            has_cut: true,
         })
     }
 

@@ -12,7 +12,7 @@ pub returns-in-Down-clause-goes : goal.returns-in-Down-clause-goes
 returns-in-Down-clause-goes g c = link_down_goes g.O.OutLanes.did_offer c.args.now c.args.self.now c.args.outs.now c.on_down.new.self c.on_down.new.outs c.args.k c.args.what.now c.in-Down.life _ c.in-Down.is c.on_down.ensures.goes
 
 pub returns-in-Need-clause-goes : goal.returns-in-Need-clause-goes
-returns-in-Need-clause-goes g c = link_need_goes g.O.OutLanes.did_offer c.args.now c.args.self.now c.args.outs.now c.take_in.new.self c.take_in.new.outs c.args.k c.args.what.now c.in-Need.d c.in-Need.is c.take_in.ensures.goes
+returns-in-Need-clause-goes g c = link_need_goes g.O.OutLanes.did_offer c.args.now c.args.self.now c.args.outs.now c.take_in_calm.new.self c.take_in_calm.new.outs c.args.k c.args.what.now c.in-Need.d c.in-Need.is c.take_in_calm.ensures.goes
 
 pub returns-in-Beat-clause-goes : goal.returns-in-Beat-clause-goes
 returns-in-Beat-clause-goes g c = link_beat_goes g.O.OutLanes.did_offer c.args.now c.args.self.now c.args.outs.now c.args.k c.args.what.now c.in-Beat.is

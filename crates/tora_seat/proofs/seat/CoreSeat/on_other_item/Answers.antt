@@ -4,7 +4,7 @@ use Rattle.tora_seat.proofs.Steps.{other_need_goes, other_idle_goes, other_show_
 use Rattle.tora_seat.proofs.seat.CoreSeat.on_other_item.Goals as goal
 
 pub returns-in-Need-clause-goes : goal.returns-in-Need-clause-goes
-returns-in-Need-clause-goes g c = other_need_goes g.O.OutLanes.did_offer c.args.now c.args.self.now c.args.outs.now c.take_in.new.self c.take_in.new.outs c.args.what.now c.in-Need.d c.in-Need.is c.take_in.ensures.goes
+returns-in-Need-clause-goes g c = other_need_goes g.O.OutLanes.did_offer c.args.now c.args.self.now c.args.outs.now c.take_in_calm.new.self c.take_in_calm.new.outs c.args.what.now c.in-Need.d c.in-Need.is c.take_in_calm.ensures.goes
 
 pub returns-in-Show-clause-goes : goal.returns-in-Show-clause-goes
 returns-in-Show-clause-goes g c =

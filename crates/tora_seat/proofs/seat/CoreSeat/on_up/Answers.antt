@@ -1,9 +1,14 @@
-use Rattle.std.proofs.Common.{Some, ap}
+use Rattle.std.proofs.Common.{Some, [], ap}
 use Rattle.tora_core.specs.declared.Input.TheVariants as In
-use Rattle.tora_seat.specs.Serving.{with_current, after_input, after_old_down, after_up}
+use Rattle.tora_seat.specs.Serving.{Serving, with_current, after_input, after_old_down, after_up}
 use Rattle.tora_seat.specs.Rows.{SeatView}
 use Rattle.tora_seat.proofs.Steps.{seat_still, seat_then}
+use Rattle.tora_seat.proofs.Marks.{settled_up}
 use Rattle.tora_seat.proofs.seat.CoreSeat.on_up.Goals as goal
+
+pub take_in-requires-clause-settled : goal.take_in-requires-clause-settled
+take_in-requires-clause-settled g c = λ e.
+    settled_up c.on_old_end.new.self c.set_current.new.self c.args.k c.args.life c.set_current.ensures.rest (ap (λ (v : Serving). v.seat.current) (c.set_current.ensures.set c.args.now [])) (c.is_settled-is_settled.ensures e)
 
 pub returns-clause-goes : goal.returns-clause-goes
 returns-clause-goes g c =

@@ -1,11 +1,14 @@
-use Rattle.std.proofs.Common.{◌≡◌, ◌<◌, length, ap, sym, ◌∙◌, arith}
+use Rattle.std.proofs.Common.{◌≡◌, ◌<◌, length, ap, sym, ◌∙◌, subst, arith}
+use Rattle.tora_seat.specs.Serving.{after_settling}
 use Rattle.tora_seat.specs.Rows.{SeatView}
+use Rattle.tora_seat.specs.Bodies.{SeatGoes}
 use Rattle.tora_seat.proofs.Steps.{rounds_more, rounds_done, rounds_all}
 use Rattle.tora_seat.proofs.seat.CoreSeat.settle.Goals as goal
 
 pub returns-in-None-clause-goes : goal.returns-in-None-clause-goes
 returns-in-None-clause-goes g c =
-    rounds_done g.O.OutLanes.did_offer c.args.now c.args.self.now c.args.outs.now c.loop-round._round c.loop-round.self c.loop-round.outs (sym c.first_cut.ensures ∙ c.in-None.is) c.loop-round.invariant.rounds
+    subst (λ x. SeatGoes g.O.OutLanes.did_offer (λ answers ks. after_settling (length ks) answers ks c.args.now) c.args.now c.args.self.now c.args.outs.now x c.loop-round.outs) (sym c.note_settled.ensures)
+    (rounds_done g.O.OutLanes.did_offer c.args.now c.args.self.now c.args.outs.now c.loop-round._round c.loop-round.self c.loop-round.outs (sym c.first_cut.ensures ∙ c.in-None.is) c.loop-round.invariant.rounds)
 
 pub loop-round-preserved : goal.loop-round-preserved
 loop-round-preserved g c =
