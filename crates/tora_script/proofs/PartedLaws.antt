@@ -85,11 +85,16 @@ put_in true false = refl
 put_in false true = refl
 put_in false false = refl
 
+-- what tells of two nodes whether they are parted, tells it of them with the pair
+pub more_told : (before after : List (ℕ × ℕ)) (pair key : ℕ × ℕ) (was is : Bool) (a b : ℕ) → key ≡ key_of pair → is ≡ cond (pair_eq key (key_of (a, b))) true was → after ≡ before ++ pair ∷ [] → was ≡ is_parted before a b → is ≡ is_parted after a b
+more_told before after pair key was is a b key_is update pairs h =
+    update ∙ ap (λ (k : ℕ × ℕ). cond (pair_eq k (key_of (a, b))) true was) key_is
+    ∙ ap (λ (x : Bool). cond (pair_eq (key_of pair) (key_of (a, b))) true x) h ∙ ap (λ (same : Bool). cond same true (is_parted before a b)) (same_key (a, b) pair) ∙ put_in (is_same_pair (a, b) pair) (is_parted before a b)
+    ∙ sym (list_any-append (is_same_pair (a, b)) before (pair ∷ [])) ∙ sym (ap (λ (ps : List (ℕ × ℕ)). is_parted ps a b) pairs)
+
 pub more_keys : {S : Type 0} → (old new : HashSet (ℕ × ℕ) S) (before after : List (ℕ × ℕ)) (pair key : ℕ × ℕ) → key ≡ key_of pair → ((q : ℕ × ℕ) → contains pair_eq new q ≡ cond (pair_eq key q) true (contains pair_eq old q)) → after ≡ before ++ pair ∷ [] → AreKeys old before → AreKeys new after
 more_keys old new before after pair key is updates pairs h a b =
-    updates (key_of (a, b)) ∙ ap (λ (k : ℕ × ℕ). cond (pair_eq k (key_of (a, b))) true (contains pair_eq old (key_of (a, b)))) is
-    ∙ ap (λ (was : Bool). cond (pair_eq (key_of pair) (key_of (a, b))) true was) (h a b) ∙ ap (λ (same : Bool). cond same true (is_parted before a b)) (same_key (a, b) pair) ∙ put_in (is_same_pair (a, b) pair) (is_parted before a b)
-    ∙ sym (list_any-append (is_same_pair (a, b)) before (pair ∷ [])) ∙ sym (ap (λ (ps : List (ℕ × ℕ)). is_parted ps a b) pairs)
+    more_told before after pair key (contains pair_eq old (key_of (a, b))) (contains pair_eq new (key_of (a, b))) a b is (updates (key_of (a, b))) pairs (h a b)
 
 -- ---- a pair less
 
@@ -130,8 +135,13 @@ taken_out p q pairs = go (is_same_pair p q) refl
     go true e = sym (none_left p q pairs e)
     go false e = sym (all_left p q pairs e)
 
+-- ..., tells it of them without the pair
+pub fewer_told : (before after : List (ℕ × ℕ)) (pair key : ℕ × ℕ) (was is : Bool) (a b : ℕ) → key ≡ key_of pair → is ≡ cond (pair_eq key (key_of (a, b))) false was → after ≡ filter (λ r. not (is_same_pair pair r)) before → was ≡ is_parted before a b → is ≡ is_parted after a b
+fewer_told before after pair key was is a b key_is update pairs h =
+    update ∙ ap (λ (k : ℕ × ℕ). cond (pair_eq k (key_of (a, b))) false was) key_is
+    ∙ ap (λ (x : Bool). cond (pair_eq (key_of pair) (key_of (a, b))) false x) h ∙ ap (λ (same : Bool). cond same false (is_parted before a b)) (same_key (a, b) pair) ∙ taken_out (a, b) pair before
+    ∙ sym (ap (λ (ps : List (ℕ × ℕ)). is_parted ps a b) pairs)
+
 pub fewer_keys : {S : Type 0} → (old new : HashSet (ℕ × ℕ) S) (before after : List (ℕ × ℕ)) (pair key : ℕ × ℕ) → key ≡ key_of pair → ((q : ℕ × ℕ) → contains pair_eq new q ≡ cond (pair_eq key q) false (contains pair_eq old q)) → after ≡ filter (λ r. not (is_same_pair pair r)) before → AreKeys old before → AreKeys new after
 fewer_keys old new before after pair key is updates pairs h a b =
-    updates (key_of (a, b)) ∙ ap (λ (k : ℕ × ℕ). cond (pair_eq k (key_of (a, b))) false (contains pair_eq old (key_of (a, b)))) is
-    ∙ ap (λ (was : Bool). cond (pair_eq (key_of pair) (key_of (a, b))) false was) (h a b) ∙ ap (λ (same : Bool). cond same false (is_parted before a b)) (same_key (a, b) pair) ∙ taken_out (a, b) pair before
-    ∙ sym (ap (λ (ps : List (ℕ × ℕ)). is_parted ps a b) pairs)
+    fewer_told before after pair key (contains pair_eq old (key_of (a, b))) (contains pair_eq new (key_of (a, b))) a b is (updates (key_of (a, b))) pairs (h a b)

@@ -14,6 +14,7 @@ mod clear;
 mod deliveries;
 mod done;
 mod link_lines;
+mod pair_bits;
 mod pair_record;
 mod parse;
 mod parted;

@@ -4,6 +4,7 @@ ghost use Rattle.tora_script.specs.Parted.{is_same_pair, is_parted};
 ghost use Rattle.tora_script.specs.PartedKeys.{key_of};
 ghost use Rattle.tora_script.specs.SimulationText.{with_parted, without_parted};
 
+use crate::pair_bits::{SMALL, clear_bit, has_bit, make_bits, set_bit};
 use crate::pair_record::{NodePair, PairRecord};
 use crate::rounds::either;
 use std::alloc::{AllocError, Global};
@@ -30,25 +31,29 @@ pub fn is_parted(parted: &[(Id, Id)], a: Id, b: Id) -> bool
     found
 }
 
-/// The pairs of nodes that are parted: whether two nodes are, and that they no longer are, takes the look at one key.
+/// The pairs of nodes that are parted: whether two nodes are takes the look at one key, or at one bit where both are below 1,024; that they
+/// no longer are, the look at both.
 ///
-/// Contracts see the pairs in the order in which they were parted. Only their keys are in memory.
+/// Contracts see the pairs in the order in which they were parted. Only their keys and their bits are in memory.
 #[derive(Drop)]
 pub struct Parted {
     pairs: PairRecord,
     /// The lesser node of each pair, and the greater.
     keys: HashSet<(Id, Id)>,
+    /// A bit for each two nodes below 1,024: 128 kB, which are taken when two such nodes are first parted.
+    bits: Vec<u64>,
 }
 
 impl Model for Parted {
     ghost use Rattle.std.specs.Prelude.{ℕ, List};
+    ghost use Rattle.tora_script.specs.PairBits.{AreBits};
     ghost use Rattle.tora_script.specs.PartedKeys.{AreKeys};
 
     ghost Value = { List (ℕ × ℕ) };
 
     ghost view = { λ p. p.pairs.pairs };
 
-    ghost invariant = { λ p. AreKeys p.keys p.pairs.pairs };
+    ghost invariant = { λ p. AreKeys p.keys p.pairs.pairs × AreBits p.bits.items p.pairs.pairs };
 }
 
 impl Parted {
@@ -58,7 +63,8 @@ impl Parted {
     {
         let pairs = PairRecord::new();
         let keys = HashSet::new(alloc);
-        Parted { pairs, keys }
+        let bits = Vec::new(alloc);
+        Parted { pairs, keys, bits }
     }
 
     /// These pairs.
@@ -75,12 +81,17 @@ impl Parted {
         Ok(parted)
     }
 
-    /// Whether the nodes are parted.
+    /// Whether the nodes are parted. Of nodes below 1,024 their bit tells it.
+    #[inline(always)]
     pub fn is_parted(&self, a: Id, b: Id) -> bool
         ensures { result ≡ is_parted self.now a b }
     {
         let key = key_of(a, b);
-        self.keys.contains(&key)
+        if key.1 < SMALL {
+            has_bit(&self.bits, key)
+        } else {
+            self.keys.contains(&key)
+        }
     }
 
     /// Parts two nodes.
@@ -103,6 +114,7 @@ impl Parted {
     {
         let key = key_of(a, b);
         self.keys.remove(&key);
+        clear_bit(&mut self.bits, key);
         let nodes = NodePair {
             first: a,
             second: b,
@@ -115,7 +127,9 @@ impl Parted {
         ensures { OnOk result (self.new ≡ self.old ++ pair ∷ []) }
     {
         let key = key_of(pair.0, pair.1);
+        make_bits(&mut self.bits, key)?;
         self.keys.insert(key)?;
+        set_bit(&mut self.bits, key);
         let nodes = NodePair {
             first: pair.0,
             second: pair.1,
@@ -126,6 +140,7 @@ impl Parted {
 }
 
 /// The lesser node, and the greater.
+#[inline(always)]
 fn key_of(a: Id, b: Id) -> (Id, Id)
     ensures { result ≡ key_of (a, b) }
 {

@@ -1,0 +1,20 @@
+-- A bit for each two nodes below 1,024: whether they are parted.
+use Rattle.std.specs.Prelude.{◌≡◌, ℕ, ◌+◌, ◌*◌, ◌/◌, ◌%◌, ◌<◌, ◌==◌, Bool, List, slice_index}
+use Rattle.std.specs.Int.{bit_at}
+use Rattle.tora_script.specs.Parted.{is_parted}
+use Rattle.tora_script.specs.PartedKeys.{key_of}
+
+-- of each lesser node a row of sixteen words, with a bit for each greater one: the word, and the place in it
+abbrev pub word_of : ℕ × ℕ → ℕ
+word_of key = key.0 * 16 + key.1 / 64
+
+abbrev pub place_of : ℕ × ℕ → ℕ
+place_of key = key.1 % 64
+
+-- the bit of a key is set; beyond the words none is
+abbrev pub has_bit : List ℕ → ℕ × ℕ → Bool
+has_bit words key = bit_at (slice_index words (word_of key)) (place_of key) == 1
+
+-- the bits tell of any two nodes below 1,024 whether they are parted
+abbrev pub AreBits : List ℕ → List (ℕ × ℕ) → Type 0
+AreBits words pairs = (a b : ℕ) → a < 1024 → b < 1024 → has_bit words (key_of (a, b)) ≡ is_parted pairs a b

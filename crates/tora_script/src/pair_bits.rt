@@ -1,0 +1,84 @@
+//! A bit for each two nodes of small numbers: one look at it tells whether they are parted.
+ghost use Rattle.std.specs.Prelude.{◌≡◌, ◌<◌, ◌≤◌, ℕ, true, false, cond, length, OnOk};
+ghost use Rattle.tora_script.specs.Pairs.{pair_eq};
+ghost use Rattle.tora_script.specs.PairBits.{word_of, place_of, has_bit};
+
+use std::alloc::AllocError;
+use tora_height::Id;
+
+/// Nodes below this number have bits.
+pub const SMALL: Id = 1024;
+
+/// How many bits a word has.
+const BITS: Id = 64;
+
+/// How many words the row of a lesser node has.
+const ROW: usize = 16;
+
+/// How many words there are in all, where there are any.
+const WORDS: usize = 16_384;
+
+/// In which word the bit of a lesser node and a greater one stands.
+#[inline(always)]
+fn word_of(key: (Id, Id)) -> usize
+    ensures { result ≡ word_of key }
+{
+    key.0 as usize * ROW + (key.1 / BITS) as usize
+}
+
+/// At which place of its word it stands.
+#[inline(always)]
+fn place_of(key: (Id, Id)) -> Id
+    ensures { result ≡ place_of key }
+{
+    key.1 % BITS
+}
+
+/// Whether the bit of a lesser node and a greater one is set; beyond the words none is.
+#[inline(always)]
+pub fn has_bit(words: &Vec<u64>, key: (Id, Id)) -> bool
+    ensures { result ≡ has_bit words.now.items key }
+{
+    let at = word_of(key);
+    if at < words.len() {
+        (words[at] >> place_of(key)) & 1 == 1
+    } else {
+        false
+    }
+}
+
+/// Takes the memory for the bits, unless it is there or the greater node has none.
+///
+/// # Errors
+/// Want of memory. The bits are as they were either way.
+pub fn make_bits(words: &mut Vec<u64>, key: (Id, Id)) -> Result<(), AllocError>
+    ensures same { (other : ℕ × ℕ) → has_bit words.new.items other ≡ has_bit words.old.items other }
+    ensures many { OnOk result (key.1 < 1024 → 16384 ≤ length words.new.items) }
+{
+    if key.1 < SMALL && words.len() < WORDS {
+        words.resize(WORDS, 0)?;
+    }
+    Ok(())
+}
+
+/// Sets the bit of a lesser node and a greater one, where these have one.
+pub fn set_bit(words: &mut Vec<u64>, key: (Id, Id))
+    requires ordered { key.0 ≤ key.1 }
+    requires many { key.1 < 1024 → 16384 ≤ length words.old.items }
+    ensures { (other : ℕ × ℕ) → other.1 < 1024 → has_bit words.new.items other ≡ cond (pair_eq key other) true (has_bit words.old.items other) }
+{
+    if key.1 < SMALL {
+        let at = word_of(key);
+        words[at] |= 1 << place_of(key);
+    }
+}
+
+/// Clears the bit of a lesser node and a greater one, where these have one.
+pub fn clear_bit(words: &mut Vec<u64>, key: (Id, Id))
+    ensures { (other : ℕ × ℕ) → other.1 < 1024 → has_bit words.new.items other ≡ cond (pair_eq key other) false (has_bit words.old.items other) }
+{
+    let at = word_of(key);
+    if key.1 < SMALL && at < words.len() {
+        words[at] &= !(1 << place_of(key));
+    }
+}
