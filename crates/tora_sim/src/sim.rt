@@ -239,8 +239,14 @@ impl Sim {
             return Err(SimError::Memory);
         }
         let turned = turn(&mut self.nodes[home], &mut self.links, &mut self.ready);
-        forget_waiting(&self.links, &self.ready, &mut self.stills, first, count);
-        forget_waiting(&self.links, &self.ready, &mut self.plains, first, count);
+        forget_waiting(
+            &self.links,
+            &self.ready,
+            &mut self.stills,
+            &mut self.plains,
+            first,
+            count,
+        );
         turned
     }
 

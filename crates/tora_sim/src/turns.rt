@@ -45,33 +45,45 @@ pub fn turn(
     }
 }
 
-/// Nothing is known any more of those of the `count` link ends from the place `first` on in whose lane a cargo waits. Of a node's ends a
-/// turn of its core changes the lanes and the packets that were stepped alone, so that any other is as still, or as plain, as it was.
+/// Nothing is known any more of those of the `count` link ends from the place `first` on in whose lane a cargo waits, neither how long they are
+/// still nor whether they are plain. Of a node's ends a turn of its core changes the lanes and the packets that were stepped alone, so that any
+/// other is as still, and as plain, as it was.
 pub fn forget_waiting(
     links: &Vec<LinkSlot>,
     ready: &Vec<bool>,
     stills: &mut Stills,
+    plains: &mut Stills,
     first: usize,
     count: usize,
 )
     requires within { first + count ≤ length links.now.items }
     requires marks { AreReadyEach ready.now.items links.now.items }
-    requires known { length stills.old ≡ length links.now.items }
-    ensures { AreForgottenWhere links.now.items stills.old stills.new first count }
+    requires stills { length stills.old ≡ length links.now.items }
+    requires plains { length plains.old ≡ length links.now.items }
+    ensures stills { AreForgottenWhere links.now.items stills.old stills.new first count }
+    ensures plains { AreForgottenWhere links.now.items plains.old plains.new first count }
 {
     for place in 0..count {
         let at = first + place;
-        forget_if_waiting(links, ready, stills, at);
+        forget_if_waiting(links, ready, stills, plains, at);
     }
 }
 
 /// Nothing is known any more of the link end at a place, where a cargo waits in its lane. An end that is ready is not looked at.
 #[inline(always)]
-fn forget_if_waiting(links: &Vec<LinkSlot>, ready: &Vec<bool>, stills: &mut Stills, at: usize)
+fn forget_if_waiting(
+    links: &Vec<LinkSlot>,
+    ready: &Vec<bool>,
+    stills: &mut Stills,
+    plains: &mut Stills,
+    at: usize,
+)
     requires within { at < length links.now.items }
     requires marks { AreReadyEach ready.now.items links.now.items }
-    requires known { at < length stills.old }
-    ensures { IsForgottenWhere links.now.items stills.old stills.new at }
+    requires stills { at < length stills.old }
+    requires plains { at < length plains.old }
+    ensures stills { IsForgottenWhere links.now.items stills.old stills.new at }
+    ensures plains { IsForgottenWhere links.now.items plains.old plains.new at }
 {
     if is_ready(ready, at) {
         return;
@@ -80,4 +92,5 @@ fn forget_if_waiting(links: &Vec<LinkSlot>, ready: &Vec<bool>, stills: &mut Stil
         return;
     }
     keep_still(stills, at, 0);
+    keep_still(plains, at, 0);
 }

@@ -2,4 +2,7 @@ use Rattle.tora_sim.specs.Quiet.{AreForgottenWhere}
 use Rattle.tora_sim.proofs.turns.forget_waiting.Given as goal
 
 abbrev pub invariant-loop-place : goal.invariant-loop-place
-invariant-loop-place l = AreForgottenWhere l.links.items l.initial.stills l.stills l.first l.place
+invariant-loop-place l = record {
+  stills : AreForgottenWhere l.links.items l.initial.stills l.stills l.first l.place;
+  plains : AreForgottenWhere l.links.items l.initial.plains l.plains l.first l.place;
+}

@@ -77,8 +77,8 @@ forget_waiting-requires-clause-within c =
 pub forget_waiting-requires-clause-marks : goal.forget_waiting-requires-clause-marks
 forget_waiting-requires-clause-marks c = c.turn-turned.ensures.marks
 
-pub forget_waiting-requires-clause-known : goal.forget_waiting-requires-clause-known
-forget_waiting-requires-clause-known c =
+pub forget_waiting-requires-clause-stills : goal.forget_waiting-requires-clause-stills
+forget_waiting-requires-clause-stills c =
     let s = c.self.inside in
     let node = c.index_mut.result.now in
     let first : c.first-first.result ≡ node.first =
@@ -90,27 +90,8 @@ forget_waiting-requires-clause-known c =
     (alike_still s.clock s.stills s.links.items c.make_room.new.links.items c.make_room.ensures.same c.self.invariant.2) in
     but.as_many
 
-pub forget_waiting-requires-2-clause-within : goal.forget_waiting-requires-2-clause-within
-forget_waiting-requires-2-clause-within c =
-    let s = c.self.inside in
-    let node = c.index_mut.result.now in
-    let first : c.first-first.result ≡ node.first =
-    c.first-first.ensures ∙ ap (λ (x : NodeView). x.first) (same_read s.nodes.items c.in-Some.home c.index-2.result.now node c.in-Some.ensures.first.within c.index-2.ensures c.index_mut.ensures.value) in
-    let count : c.count-count.result ≡ node.count =
-    c.count-count.ensures ∙ ap (λ (x : NodeView). x.count) (same_read s.nodes.items c.in-Some.home c.index-3.result.now node c.in-Some.ensures.first.within c.index-3.ensures c.index_mut.ensures.value) in
-    let but : AreStillBut s.clock s.stills c.turn-turned.new.links.items c.first-first.result c.count-count.result =
-    turned_but s.clock s.stills node c.turn-turned.new.node c.make_room.new.links.items c.turn-turned.new.links.items c.turn-turned.result c.first-first.result c.count-count.result first count c.turn-turned.ensures.turned
-    (alike_still s.clock s.stills s.links.items c.make_room.new.links.items c.make_room.ensures.same c.self.invariant.2) in
-    let within = ends_within s.topology s.times s.clock s.nodes.items s.links.items s.datagrams.items c.self.invariant.0 c.args.n c.in-Some.home node c.in-Some.ensures.first c.index_mut.ensures.value in
-    let before = c.self.invariant.2.as_many in
-    let many = but.as_many in
-    omega (arith, within, first, count, before, many)
-
-pub forget_waiting-requires-2-clause-marks : goal.forget_waiting-requires-2-clause-marks
-forget_waiting-requires-2-clause-marks c = c.turn-turned.ensures.marks
-
-pub forget_waiting-requires-2-clause-known : goal.forget_waiting-requires-2-clause-known
-forget_waiting-requires-2-clause-known c =
+pub forget_waiting-requires-clause-plains : goal.forget_waiting-requires-clause-plains
+forget_waiting-requires-clause-plains c =
     let s = c.self.inside in
     let node = c.index_mut.result.now in
     let first : c.first-first.result ≡ node.first =
@@ -139,9 +120,9 @@ invariant_of-self-2 c =
       turn_store s.topology s.times s.clock s.nodes.items s.links.items s.datagrams.items c.self.invariant.0 c.args.n c.in-Some.home c.index_mut.result.now c.in-Some.ensures.first c.index_mut.ensures.value
           c.make_room.new.links.items c.make_room.ensures.same c.turn-turned.new.node c.turn-turned.new.links.items c.turn-turned.result c.turn-turned.ensures.turned,
       λ none. absurd (omega (arith, none)),
-      where_forgotten s.clock s.stills c.forget_waiting.new.stills c.turn-turned.new.links.items c.first-first.result c.count-count.result c.forget_waiting.ensures but,
+      where_forgotten s.clock s.stills c.forget_waiting.new.stills c.turn-turned.new.links.items c.first-first.result c.count-count.result c.forget_waiting.ensures.stills but,
       c.self.invariant.3,
-      where_plain s.clock s.plains c.forget_waiting-2.new.stills c.turn-turned.new.links.items c.first-first.result c.count-count.result c.forget_waiting-2.ensures plain,
+      where_plain s.clock s.plains c.forget_waiting.new.plains c.turn-turned.new.links.items c.first-first.result c.count-count.result c.forget_waiting.ensures.plains plain,
       c.turn-turned.ensures.marks,
     )
 
