@@ -48,5 +48,6 @@ pub mod StillEnds
 pub mod PlainEnds
 pub mod StillBlocks
 pub mod ReadyEnds
+pub mod UnreadyEnds
 pub mod TickEnds
 pub mod CoreEnds

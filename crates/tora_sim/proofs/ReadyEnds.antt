@@ -12,7 +12,7 @@ use Rattle.tora_sim.proofs.FreshEnds.{item_at, set_same, set_other}
 use Rattle.tora_sim.proofs.StillBlocks.{before_or_not}
 use Rattle.tora_sim.proofs.Stores.{set_read, map_read}
 
-room_of : (link : LinkView) → IsReady link → HasRoom link
+pub room_of : (link : LinkView) → IsReady link → HasRoom link
 room_of link h = record { cargoes = h.cargoes; step = h.step }
 
 from_not : (b : Bool) → not b ≡ true → b ≡ false
@@ -37,14 +37,11 @@ none_known_ready n marks links e many = record {
 
 -- ---- what is known is used
 
-mark_there : (marks : List Bool) (at : ℕ) (mark : Bool) → at < length marks → mark ≡ slice_index_or marks at mark → slice_get marks at ≡ Some mark
+pub mark_there : (marks : List Bool) (at : ℕ) (mark : Bool) → at < length marks → mark ≡ slice_index_or marks at mark → slice_get marks at ≡ Some mark
 mark_there marks at mark within read = slice_get_read marks (length marks) at mark refl within read
 
 pub ready_room : (marks : List Bool) (links : List LinkView) (at : ℕ) (mark : Bool) → at < length marks → mark ≡ slice_index_or marks at mark → mark ≡ true → AreReadyEach marks links → HasRoomAt links at
 ready_room marks links at mark within read on h link there = room_of link (h.ready at link (mark_there marks at mark within read ∙ ap Some on) there)
-
-pub ready_waits : (marks : List Bool) (links : List LinkView) (at : ℕ) (mark : Bool) → at < length marks → mark ≡ slice_index_or marks at mark → mark ≡ true → AreReadyEach marks links → (link : LinkView) → slice_get links at ≡ Some link → has_cargo link ≡ false
-ready_waits marks links at mark within read on h link there = (h.ready at link (mark_there marks at mark within read ∙ ap Some on) there).lane
 
 -- ---- ends that change
 
@@ -82,9 +79,6 @@ known_ready marks after links at new known within e is h = record {
         let same : new ≡ y = same_Some new y (sym (set_same links at new within) ∙ ap (slice_get (set links at new)) (sym q) ∙ there) in
         subst (λ (z : LinkView). IsReady z) same (is yes)
     go j y on there (inr off) = h.ready j y (sym (set_other marks at j known off) ∙ on) (sym (set_other links at j new off) ∙ there)
-
-pub forgotten_ready : (marks after : List Bool) (links : List LinkView) (at : ℕ) (new : LinkView) → at < length links → after ≡ set marks at false → AreReadyEach marks links → AreReadyEach after (set links at new)
-forgotten_ready marks after links at new within e h = known_ready marks after links at new false within e (λ no. absurd (true≢false (sym no))) h
 
 -- ends that are each as ready as they were
 pub mapped_ready : (marks : List Bool) (links after : List LinkView) (f : LinkView → LinkView) → after ≡ map f links → ((x : LinkView) → IsReady x → IsReady (f x)) → AreReadyEach marks links → AreReadyEach marks after

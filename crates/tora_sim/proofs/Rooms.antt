@@ -1,13 +1,15 @@
 -- Memory that is taken at the link ends of a node before an item is served.
-use Rattle.std.proofs.Common.{◌≡◌, ℕ, zero, suc, ◌<◌, ◌≤◌, ◌+◌, ◌⊎◌, inl, inr, Bool, false, List, [], ◌∷◌, map, length, set, slice_get, Some, refl, sym, ap, ◌∙◌, subst, arith}
+use Rattle.std.proofs.Common.{◌≡◌, ℕ, zero, suc, ◌<◌, ◌≤◌, ◌+◌, ◌⊎◌, inl, inr, Bool, List, [], ◌∷◌, map, length, set, slice_get, Some, refl, sym, ap, ◌∙◌, subst, arith}
 use Rattle.std.proofs.lemmas.List.{length-map, length-set}
 use Rattle.std.proofs.lemmas.Option.{slice_get_read}
 use Rattle.std.specs.Prelude.{slice_index_or}
 use Rattle.tora_seat.specs.declared.cargo.Cargo.{Cargo}
+use Rattle.tora_sim.specs.declared.unready.Unready.{Unready}
 use Rattle.tora_sim.specs.Links.{LinkView}
-use Rattle.tora_sim.specs.Lanes.{bare, AreAlike, AreOthersSame, HasRoom, HasRoomAt, AreReadyEach, AreReady, lanes_of, after_offer_at, has_place, DidOffer}
+use Rattle.tora_sim.specs.Unready.{IsOutside}
+use Rattle.tora_sim.specs.Lanes.{bare, AreAlike, AreOthersSame, HasRoom, HasRoomAt, AreReady, lanes_of, after_offer_at, has_place, DidOffer}
 use Rattle.tora_sim.proofs.FreshEnds.{below_next}
-use Rattle.tora_sim.proofs.ReadyEnds.{forgotten_ready}
+use Rattle.tora_sim.proofs.UnreadyEnds.{ready_but}
 use Rattle.tora_sim.proofs.Stores.{set_read}
 
 -- there is room at the first so many of the node's ends
@@ -37,28 +39,23 @@ more_room before links after first place h e room others = record { same = e ∙
     go j link at (inl less) = h.room j link less (sym (others (first + j) (λ (q : first + j ≡ first + place). absurd (omega (arith, less, q)))) ∙ at)
     go j link at (inr same) = room link (ap (λ (m : ℕ). slice_get after (first + m)) (sym same) ∙ at)
 
-pub all_room : (before links : List LinkView) (first count : ℕ) (marks : List Bool) → first + count ≤ length before → RoomMade before links first count → AreReadyEach marks links → AreReady (lanes_of links first count) marks
-all_room before links first count marks within h each =
-    let same = same_length before links h.same in
-    record { within = omega (arith, within, same); room = h.room; each = each }
-
 -- ---- an offer
 
 has_room : (x : LinkView) (cargo : Cargo) (put : Bool) → HasRoom x → HasRoom (after_offer_at x cargo put)
 has_room x cargo put h = record { cargoes = h.cargoes; step = h.step }
 
-module _ (links : List LinkView) (first count place : ℕ) (marks : List Bool) (ready : AreReady (lanes_of links first count) marks) (lt : place < count) (x : LinkView) (read : x ≡ slice_index_or links (first + place) x) where
+module _ (links : List LinkView) (first count place : ℕ) (range : Unready) (ready : AreReady (lanes_of links first count) range) (lt : place < count) (x : LinkView) (read : x ≡ slice_index_or links (first + place) x) where
   pub there : slice_get links (first + place) ≡ Some x
   there = slice_get_read links (length links) (first + place) x refl (let w = ready.within in omega (arith, w, lt)) read
 
-  pub still_ready : (after : List Bool) (y : LinkView) (cargo : Cargo) (put : Bool) → after ≡ set marks (first + place) false → y ≡ after_offer_at x cargo put → AreReady (lanes_of (set links (first + place) y) first count) after
-  still_ready after y cargo put f e = record {
+  pub still_ready : (after : Unready) (y : LinkView) (cargo : Cargo) (put : Bool) → ((other : ℕ) → IsOutside after other → IsOutside range other) → (IsOutside after place → ⊥) → y ≡ after_offer_at x cargo put → AreReady (lanes_of (set links (first + place) y) first count) after
+  still_ready after y cargo put wider here e = record {
     within = subst (λ m. first + count ≤ m) (sym (length-set links (first + place) y)) ready.within;
     room = λ j link less at. elim (set_read links (first + place) y (first + j) link at) [
       | inl told ↦ subst HasRoom (sym e ∙ told.1) (has_room x cargo put (ready.room place x lt there))
       | inr was ↦ ready.room j link less was
     ];
-    each = forgotten_ready marks after links (first + place) y (let w = ready.within in omega (arith, w, lt)) f ready.each;
+    ready = ready_but links first count place range after y wider here ready.ready;
   }
 
   pub did : (y : LinkView) (cargo : Cargo) (put : Bool) → put ≡ has_place x → y ≡ after_offer_at x cargo put → DidOffer (lanes_of links first count) place cargo put (lanes_of (set links (first + place) y) first count)

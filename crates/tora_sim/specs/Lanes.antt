@@ -3,7 +3,9 @@ use Rattle.std.specs.Prelude.{◌≡◌, ℕ, ◌+◌, ◌<◌, ◌≤◌, nat_l
 use Rattle.tora_seat.specs.declared.cargo.Cargo.{Cargo}
 use Rattle.tora_seat.specs.declared.TheConstants.{MOST_CARGOES}
 use Rattle.tora_seat.specs.Serving.{Parcel}
+use Rattle.tora_sim.specs.declared.unready.Unready.{Unready}
 use Rattle.tora_sim.specs.Links.{LinkView, waiting}
+use Rattle.tora_sim.specs.Unready.{IsOutside}
 
 pub record LanesView : Type 0 where
   pub links : List LinkView  -- the ends of all links
@@ -51,11 +53,19 @@ pub record AreReadyEach (marks : List Bool) (links : List LinkView) : Type 0 whe
   pub as_many : length marks ≡ length links
   pub ready : (at : ℕ) (link : LinkView) → slice_get marks at ≡ Some true → slice_get links at ≡ Some link → IsReady link
 
--- there is memory for all that one item can put into the lanes, and the marks of all ends are right
-pub record AreReady (lanes : LanesView) (marks : List Bool) : Type 0 where
+-- each of so many ends from a place on is ready, but for those of a range
+abbrev pub AreReadyOutside : List LinkView → ℕ → ℕ → Unready → Type 0
+AreReadyOutside links first count range = (place : ℕ) (link : LinkView) → place < count → IsOutside range place → slice_get links (first + place) ≡ Some link → IsReady link
+
+-- there is that memory at so many ends from a place on
+abbrev pub HaveRoom : List LinkView → ℕ → ℕ → Type 0
+HaveRoom links first count = (place : ℕ) (link : LinkView) → place < count → slice_get links (first + place) ≡ Some link → HasRoom link
+
+-- there is memory for all that one item can put into the lanes, and each end but for those of a range is ready
+pub record AreReady (lanes : LanesView) (range : Unready) : Type 0 where
   pub within : lanes.first + lanes.count ≤ length lanes.links
-  pub room : (place : ℕ) (link : LinkView) → place < lanes.count → slice_get lanes.links (lanes.first + place) ≡ Some link → HasRoom link
-  pub each : AreReadyEach marks lanes.links
+  pub room : HaveRoom lanes.links lanes.first lanes.count
+  pub ready : AreReadyOutside lanes.links lanes.first lanes.count range
 
 -- a link end but for the memory that it has
 abbrev pub bare : LinkView → LinkView
@@ -68,3 +78,7 @@ AreAlike before after = map bare after ≡ map bare before
 -- each end but the one at a place is as it was
 abbrev pub AreOthersSame : List LinkView → List LinkView → ℕ → Type 0
 AreOthersSame before after at = (i : ℕ) → (i ≡ at → ⊥) → slice_get after i ≡ slice_get before i
+
+-- each end but those of so many from a place on is as it was
+abbrev pub AreOthersKept : List LinkView → List LinkView → ℕ → ℕ → Type 0
+AreOthersKept before after first count = (at : ℕ) → ((place : ℕ) → place < count → at ≡ first + place → ⊥) → slice_get after at ≡ slice_get before at

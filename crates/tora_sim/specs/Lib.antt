@@ -16,6 +16,7 @@ pub mod Steps
 pub mod Readers
 pub mod Possible
 pub mod Firsts
+pub mod Unready
 pub mod Lanes
 pub mod Turns
 pub mod Restarts

@@ -23,6 +23,7 @@ use crate::ready::none_ready;
 use crate::sim::Sim;
 use crate::stills::no_stills;
 use crate::topology::Topology;
+use crate::unready::all_unready;
 use std::alloc::Global;
 use std::collections::VecDeque;
 use tora_arq::{Times, standard_times};
@@ -75,6 +76,7 @@ impl Sim {
         let stills = no_stills(alloc, count)?;
         let plains = no_stills(alloc, count)?;
         let ready = none_ready(alloc, count)?;
+        let unready = all_unready(alloc, nodes.len(), count)?;
         let keys = keys_of(alloc, &links)?;
         let hints = Hints::new(&nodes);
         Ok(Sim {
@@ -90,6 +92,7 @@ impl Sim {
             stills,
             plains,
             ready,
+            unready,
             packets: Packets::new(),
         })
     }

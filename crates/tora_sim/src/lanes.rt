@@ -1,12 +1,14 @@
 //! The lanes from a node's core to its neighbours.
 ghost use Rattle.std.specs.Prelude.{◌≡◌, ◌+◌, ◌<◌, ◌≤◌, ◌++◌, ◌∷◌, [], ⊤, Some, length, slice_get, slice_set, OnOk, IfErr, MatchOption};
-ghost use Rattle.tora_sim.specs.Lanes.{lanes_of, AreReady, AreReadyEach, AreAlike, AreOthersSame, HasRoomAt};
+ghost use Rattle.tora_sim.specs.Lanes.{lanes_of, AreReady, AreReadyEach, AreReadyOutside, AreAlike, AreOthersSame, HasRoomAt, HaveRoom};
 ghost use Rattle.tora_sim.specs.Links.{LinkView};
 ghost use Rattle.tora_sim.specs.Turns.{IsNoted};
+ghost use Rattle.tora_sim.specs.Unready.{AreMarksKept};
 
 use crate::SimError;
 use crate::links::LinkSlot;
 use crate::ready::{is_ready, set_ready};
+use crate::unready::Unready;
 use std::marker::Model;
 use tora_seat::{Cargo, OutLanes, Stepped};
 
@@ -15,10 +17,10 @@ use tora_seat::{Cargo, OutLanes, Stepped};
 #[derive(Drop)]
 pub struct NodeLanes {
     links: Vec<LinkSlot>,
-    /// Of each end whether it is known that its lane is empty, and that there is memory for all that another item can put.
-    ready: Vec<bool>,
     first: usize,
     count: usize,
+    /// At each of the node's other ends the lane is empty, and there is memory for all that another item can put.
+    unready: Unready,
 }
 
 impl Model for NodeLanes {
@@ -28,7 +30,7 @@ impl Model for NodeLanes {
 
     ghost view = { λ l. lanes_of l.links.items l.first l.count };
 
-    ghost invariant = { λ l. AreReady (lanes_of l.links.items l.first l.count) l.ready.items };
+    ghost invariant = { λ l. AreReady (lanes_of l.links.items l.first l.count) l.unready };
 }
 
 impl OutLanes for NodeLanes {
@@ -39,63 +41,61 @@ impl OutLanes for NodeLanes {
     ghost did_offer = { DidOffer };
 
     fn offer(&mut self, place: usize, cargo: Cargo) -> bool {
+        self.unready = self.unready.with_place(place);
         let at = self.first + place;
-        set_ready(&mut self.ready, at, false);
         self.links[at].offer(cargo)
     }
 }
 
 impl NodeLanes {
-    /// The lanes of the node whose `count` ends stand from the place `first` on.
-    pub fn new(links: Vec<LinkSlot>, ready: Vec<bool>, first: usize, count: usize) -> NodeLanes
-        requires { AreReady (lanes_of links.items first count) ready.items }
+    /// The lanes of the node whose `count` ends stand from the place `first` on. Those of them that are not `unready` are ready.
+    pub fn new(links: Vec<LinkSlot>, first: usize, count: usize, unready: Unready) -> NodeLanes
+        requires { AreReady (lanes_of links.items first count) unready }
         ensures { result ≡ lanes_of links.items first count }
     {
         NodeLanes {
             links,
-            ready,
             first,
             count,
+            unready,
         }
     }
 
-    /// The ends, with the packet that was stepped, if one was, noted at the end at a place of the node. What is known of the ends is put
-    /// into `ready`.
+    /// The ends, with the packet that was stepped, if one was, noted at the end at a place of the node. Those of the node outside which each
+    /// is ready are put into `unready`.
     pub fn into_links(
         self,
         place: usize,
         stepped: Option<Stepped>,
-        ready: &mut Vec<bool>,
+        unready: &mut Unready,
     ) -> Vec<LinkSlot>
         requires { MatchOption stepped ⊤ (λ _. place < self.count) }
         ensures noted { IsNoted self place stepped result.items }
-        ensures marks { AreReadyEach ready.new.items result.items }
+        ensures ready { AreReadyOutside result.items self.first self.count unready.new }
     {
         let NodeLanes {
             mut links,
-            ready: marks,
             first,
             count: _,
+            unready: range,
         } = self;
-        *ready = marks;
         let Some(step) = stepped else {
+            *unready = range;
             return links;
         };
+        *unready = range.with_place(place);
         let at = first + place;
-        note(&mut links, ready, at, &step);
+        note(&mut links, at, &step);
         links
     }
 }
 
-/// Notes at the end at a place a packet that was stepped. Nothing is known of the end any more.
-fn note(links: &mut Vec<LinkSlot>, ready: &mut Vec<bool>, at: usize, step: &Stepped)
+/// Notes at the end at a place a packet that was stepped.
+fn note(links: &mut Vec<LinkSlot>, at: usize, step: &Stepped)
     requires within { at < length links.old.items }
     requires room { HasRoomAt links.old.items at }
-    requires marks { AreReadyEach ready.old.items links.old.items }
-    ensures noted { (link : LinkView) × (slice_get links.old.items at ≡ Some link) × (links.new.items ≡ slice_set links.old.items at (record link { steps = link.steps ++ record { life = step.now.life; packet = step.now.packet } ∷ [] })) }
-    ensures marks { AreReadyEach ready.new.items links.new.items }
+    ensures { (link : LinkView) × (slice_get links.old.items at ≡ Some link) × (links.new.items ≡ slice_set links.old.items at (record link { steps = link.steps ++ record { life = step.now.life; packet = step.now.packet } ∷ [] })) }
 {
-    set_ready(ready, at, false);
     links[at].note_step(step.life, step.packet);
 }
 
@@ -113,8 +113,9 @@ pub fn make_room(
     requires within { first + count ≤ length links.old.items }
     requires marks { AreReadyEach ready.old.items links.old.items }
     ensures same { AreAlike links.old.items links.new.items }
-    ensures room { OnOk result (AreReady (lanes_of links.new.items first count) ready.new.items) }
+    ensures room { OnOk result (HaveRoom links.new.items first count) }
     ensures marks { AreReadyEach ready.new.items links.new.items }
+    ensures kept { AreMarksKept ready.old.items ready.new.items }
     ensures memory { IfErr result (λ e. e ≡ SimError.Memory) }
 {
     for place in 0..count {
@@ -133,6 +134,7 @@ fn make_room_at(links: &mut Vec<LinkSlot>, ready: &mut Vec<bool>, at: usize) -> 
     ensures room { OnOk result (HasRoomAt links.new.items at) }
     ensures others { AreOthersSame links.old.items links.new.items at }
     ensures marks { AreReadyEach ready.new.items links.new.items }
+    ensures kept { AreMarksKept ready.old.items ready.new.items }
     ensures memory { IfErr result (λ e. e ≡ SimError.Memory) }
 {
     if is_ready(ready, at) {

@@ -48,6 +48,7 @@ mod stills;
 mod ticking;
 mod topology;
 mod turns;
+mod unready;
 mod walks;
 mod watching;
 

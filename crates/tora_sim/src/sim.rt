@@ -19,6 +19,7 @@ use crate::stills::{Stills, forget};
 use crate::ticking::tick;
 use crate::topology::Topology;
 use crate::turns::{forget_waiting, turn};
+use crate::unready::{Unready, set_unready, still_unready, unready_at};
 use crate::{Call, Event, SimError};
 use std::marker::Model;
 use tora_arq::{Times, calls_keep_an_end, data_frames_are_what_was_submitted};
@@ -50,8 +51,10 @@ pub struct Sim {
     /// but a frame may be due at it. Time makes no end otherwise but by a tick: so it is the last tick, or 0 where nothing is known.
     pub(crate) plains: Stills,
     /// Of each link end whether it is known that its lane is empty, and that there is memory at it for all that one item of its node can
-    /// put. A turn of a core looks at no other end of its node.
+    /// put.
     pub(crate) ready: Vec<bool>,
+    /// Of each node ends of it outside which that is known of each. A turn of its core looks at no other end.
+    pub(crate) unready: Vec<Unready>,
     /// Where the packets of a frame stand while it is sent.
     pub(crate) packets: Packets,
 }
@@ -60,6 +63,7 @@ impl Model for Sim {
     ghost use Rattle.std.specs.Prelude.{◌≡◌};
     ghost use Rattle.tora_sim.specs.Store.{SimState, IsStore, state_of};
     ghost use Rattle.tora_sim.specs.Lanes.{AreReadyEach};
+    ghost use Rattle.tora_sim.specs.Unready.{AreMarkedOutside};
     ghost use Rattle.tora_sim.specs.Quiet.{AreStill, AreStillEach};
     ghost use Rattle.tora_sim.specs.Plains.{ArePlainEach};
     ghost use Rattle.tora_sim.specs.Readers.{ends_in};
@@ -68,7 +72,7 @@ impl Model for Sim {
 
     ghost view = { λ s. state_of s.topology s.times s.clock s.nodes.items s.links.items s.datagrams.items };
 
-    ghost invariant = { λ s. IsStore (state_of s.topology s.times s.clock s.nodes.items s.links.items s.datagrams.items) × AreStill s.quiet s.nodes.items s.links.items × AreStillEach s.clock s.stills s.links.items × (s.keys.items ≡ ends_in s.topology) × ArePlainEach s.clock s.plains s.links.items × AreReadyEach s.ready.items s.links.items };
+    ghost invariant = { λ s. IsStore (state_of s.topology s.times s.clock s.nodes.items s.links.items s.datagrams.items) × AreStill s.quiet s.nodes.items s.links.items × AreStillEach s.clock s.stills s.links.items × (s.keys.items ≡ ends_in s.topology) × ArePlainEach s.clock s.plains s.links.items × AreReadyEach s.ready.items s.links.items × AreMarkedOutside s.unready.items s.nodes.items s.ready.items };
 }
 
 impl Sim {
@@ -235,18 +239,32 @@ impl Sim {
         let first = self.nodes[home].first();
         let count = self.nodes[home].count();
         self.quiet = 0;
-        if make_room(&mut self.links, &mut self.ready, first, count).is_err() {
+        let range = unready_at(&self.unready, home).within(count);
+        let start = first + range.from;
+        if make_room(
+            &mut self.links,
+            &mut self.ready,
+            start,
+            range.behind - range.from,
+        )
+        .is_err()
+        {
             return Err(SimError::Memory);
         }
-        let turned = turn(&mut self.nodes[home], &mut self.links, &mut self.ready);
+        let before = still_unready(&self.ready, first, range);
+        let mut unready = before;
+        let turned = turn(&mut self.nodes[home], &mut self.links, &mut unready);
+        let after = unready.joined(before).within(count);
+        let start = first + after.from;
         forget_waiting(
             &self.links,
-            &self.ready,
+            &mut self.ready,
             &mut self.stills,
             &mut self.plains,
-            first,
-            count,
+            start,
+            after.behind - after.from,
         );
+        set_unready(&mut self.unready, home, after);
         turned
     }
 

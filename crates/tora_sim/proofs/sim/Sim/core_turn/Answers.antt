@@ -1,8 +1,12 @@
-use Rattle.std.proofs.Common.{◌≡◌, ◌<◌, ℕ, List, length, sym, ap, ◌∙◌, subst, arith}
+use Rattle.std.proofs.Common.{◌≡◌, ◌<◌, ◌≤◌, ◌+◌, ◌-◌, ℕ, List, length, refl, sym, ap, ◌∙◌, subst, arith}
 use Rattle.std.specs.Prelude.{slice_set, slice_index_or}
 use Rattle.tora_world.specs.declared.event.Event.TheVariants.{CoreTurn}
 use Rattle.tora_world.specs.declared.sim_error.SimError.TheVariants as Refused
+use Rattle.tora_sim.specs.declared.unready.Unready.{Unready}
+use Rattle.tora_sim.specs.Lanes.{AreReadyOutside}
 use Rattle.tora_sim.specs.Nodes.{NodeView}
+use Rattle.tora_sim.specs.Quiet.{AreForgottenWhere}
+use Rattle.tora_sim.specs.Unready.{AreMarkedOutside, IsMarkedOutside, AreUnmarked}
 use Rattle.tora_sim.specs.Store.{SimState, state_of, world_of}
 use Rattle.tora_sim.specs.Steps.{IsRefused, Does}
 use Rattle.tora_sim.proofs.Opens.{same_read}
@@ -10,6 +14,8 @@ use Rattle.tora_sim.proofs.SameLinks.{same_alike, store_same}
 use Rattle.tora_sim.proofs.Turning.{turn_refused, turn_starved, ends_within, as_many, turn_does, turn_store}
 use Rattle.tora_sim.proofs.StillEnds.{AreStillBut, alike_still, turned_but, where_forgotten}
 use Rattle.tora_sim.proofs.PlainEnds.{ArePlainBut, alike_plain, turned_plain, where_plain}
+use Rattle.tora_sim.proofs.Rooms.{same_length}
+use Rattle.tora_sim.proofs.UnreadyEnds.{ok_room, marks_kept, before_turn, forgotten_of_node, ready_after, marked_after, turned_place}
 use Rattle.tora_sim.proofs.sim.Sim.core_turn.Goals as goal
 
 pub returns-then-waiting-eq0 : goal.returns-then-waiting-eq0
@@ -19,6 +25,9 @@ returns-then-waiting-eq0 c =
     (turn_refused s.topology s.times s.clock s.nodes.items s.links.items s.datagrams.items c.self.invariant.0 c.args.n c.in-Some.home c.index.result.now c.in-Some.ensures.first c.index.ensures
     (sym c.waiting.ensures ∙ c.if-waiting-eq0.true))
 
+pub unready_at-requires : goal.unready_at-requires
+unready_at-requires c = let many = c.self.invariant.6.as_many in omega (arith, many, c.in-Some.ensures.first.within)
+
 pub make_room-requires-clause-within : goal.make_room-requires-clause-within
 make_room-requires-clause-within c =
     let s = c.self.inside in
@@ -27,7 +36,7 @@ make_room-requires-clause-within c =
     c.first-first.ensures ∙ ap (λ (x : NodeView). x.first) (same_read s.nodes.items c.in-Some.home c.index-2.result.now c.index.result.now c.in-Some.ensures.first.within c.index-2.ensures c.index.ensures) in
     let count : c.count-count.result ≡ c.index.result.now.count =
     c.count-count.ensures ∙ ap (λ (x : NodeView). x.count) (same_read s.nodes.items c.in-Some.home c.index-3.result.now c.index.result.now c.in-Some.ensures.first.within c.index-3.ensures c.index.ensures) in
-    omega (arith, within, first, count)
+    omega (arith, within, first, count, c.within-range.ensures.ordered, c.within-range.ensures.within)
 
 pub make_room-requires-clause-marks : goal.make_room-requires-clause-marks
 make_room-requires-clause-marks c = c.self.invariant.5
@@ -41,6 +50,7 @@ invariant_of-self c =
       c.self.invariant.3,
       alike_plain s.clock s.plains s.links.items c.make_room.new.links.items c.make_room.ensures.same c.self.invariant.4,
       c.make_room.ensures.marks,
+      marks_kept s.unready.items s.nodes.items s.ready.items c.make_room.new.ready.items c.make_room.ensures.kept c.self.invariant.6,
     )
 
 waits : (nodes : List NodeView) (home : ℕ) (x y : NodeView) (count : ℕ) → home < length nodes → x ≡ slice_index_or nodes home x → y ≡ slice_index_or nodes home y → count ≡ length x.items → 0 < count → 0 < length y.items
@@ -52,6 +62,56 @@ returns-then-is_err c =
     subst (λ (w : SimState). IsRefused (world_of w) (CoreTurn c.args.n) Refused.Memory (world_of (state_of s.topology s.times s.clock s.nodes.items c.make_room.new.links.items s.datagrams.items))) c.self.view_is
     (turn_starved s.topology s.times s.clock s.nodes.items s.links.items s.datagrams.items c.self.invariant.0 c.args.n c.in-Some.home c.index.result.now c.in-Some.ensures.first c.index.ensures
     (omega (arith, c.waiting.ensures, c.if-waiting-eq0.false)) c.make_room.new.links.items c.make_room.ensures.same)
+
+pub overflow_add-start : goal.overflow_add-start
+overflow_add-start c =
+    let s = c.self.inside in
+    let within = ends_within s.topology s.times s.clock s.nodes.items s.links.items s.datagrams.items c.self.invariant.0 c.args.n c.in-Some.home c.index.result.now c.in-Some.ensures.first c.index.ensures in
+    let first : c.first-first.result ≡ c.index.result.now.first =
+    c.first-first.ensures ∙ ap (λ (x : NodeView). x.first) (same_read s.nodes.items c.in-Some.home c.index-2.result.now c.index.result.now c.in-Some.ensures.first.within c.index-2.ensures c.index.ensures) in
+    let count : c.count-count.result ≡ c.index.result.now.count =
+    c.count-count.ensures ∙ ap (λ (x : NodeView). x.count) (same_read s.nodes.items c.in-Some.home c.index-3.result.now c.index.result.now c.in-Some.ensures.first.within c.index-3.ensures c.index.ensures) in
+    omega (arith, within, first, count, c.within-range.ensures.ordered, c.within-range.ensures.within, s.links.small, s.links.ok)
+
+pub overflow_add-start-2 : goal.overflow_add-start-2
+overflow_add-start-2 c =
+    let s = c.self.inside in
+    let within = ends_within s.topology s.times s.clock s.nodes.items s.links.items s.datagrams.items c.self.invariant.0 c.args.n c.in-Some.home c.index.result.now c.in-Some.ensures.first c.index.ensures in
+    let first : c.first-first.result ≡ c.index.result.now.first =
+    c.first-first.ensures ∙ ap (λ (x : NodeView). x.first) (same_read s.nodes.items c.in-Some.home c.index-2.result.now c.index.result.now c.in-Some.ensures.first.within c.index-2.ensures c.index.ensures) in
+    let count : c.count-count.result ≡ c.index.result.now.count =
+    c.count-count.ensures ∙ ap (λ (x : NodeView). x.count) (same_read s.nodes.items c.in-Some.home c.index-3.result.now c.index.result.now c.in-Some.ensures.first.within c.index-3.ensures c.index.ensures) in
+    omega (arith, within, first, count, c.within-after.ensures.ordered, c.within-after.ensures.within, s.links.small, s.links.ok)
+
+pub still_unready-before-requires-clause-ordered : goal.still_unready-before-requires-clause-ordered
+still_unready-before-requires-clause-ordered c = c.within-range.ensures.ordered
+
+pub still_unready-before-requires-clause-within : goal.still_unready-before-requires-clause-within
+still_unready-before-requires-clause-within c =
+    let s = c.self.inside in
+    let within = ends_within s.topology s.times s.clock s.nodes.items s.links.items s.datagrams.items c.self.invariant.0 c.args.n c.in-Some.home c.index.result.now c.in-Some.ensures.first c.index.ensures in
+    let first : c.first-first.result ≡ c.index.result.now.first =
+    c.first-first.ensures ∙ ap (λ (x : NodeView). x.first) (same_read s.nodes.items c.in-Some.home c.index-2.result.now c.index.result.now c.in-Some.ensures.first.within c.index-2.ensures c.index.ensures) in
+    let count : c.count-count.result ≡ c.index.result.now.count =
+    c.count-count.ensures ∙ ap (λ (x : NodeView). x.count) (same_read s.nodes.items c.in-Some.home c.index-3.result.now c.index.result.now c.in-Some.ensures.first.within c.index-3.ensures c.index.ensures) in
+    let many = c.make_room.ensures.kept.as_many in
+    let each = c.self.invariant.5.as_many in
+    omega (arith, within, first, count, many, each, c.within-range.ensures.within)
+
+pub turn-turned-requires-clause-room : goal.turn-turned-requires-clause-room
+turn-turned-requires-clause-room c =
+    let s = c.self.inside in
+    let node = c.index_mut.result.now in
+    let first : c.first-first.result ≡ node.first =
+    c.first-first.ensures ∙ ap (λ (x : NodeView). x.first) (same_read s.nodes.items c.in-Some.home c.index-2.result.now node c.in-Some.ensures.first.within c.index-2.ensures c.index_mut.ensures.value) in
+    let count : c.count-count.result ≡ node.count =
+    c.count-count.ensures ∙ ap (λ (x : NodeView). x.count) (same_read s.nodes.items c.in-Some.home c.index-3.result.now node c.in-Some.ensures.first.within c.index-3.ensures c.index_mut.ensures.value) in
+    let within = ends_within s.topology s.times s.clock s.nodes.items s.links.items s.datagrams.items c.self.invariant.0 c.args.n c.in-Some.home node c.in-Some.ensures.first c.index_mut.ensures.value in
+    let many = same_length s.links.items c.make_room.new.links.items c.make_room.ensures.same in
+    let start =
+    before_turn s.unready.items s.nodes.items s.ready.items c.make_room.new.ready.items c.make_room.new.links.items c.in-Some.home node c.unready_at.result c.within-range.result c.still_unready-before.result c.first-first.result c.count-count.result
+    c.in-Some.ensures.first.within c.index_mut.ensures.value c.unready_at.ensures first count (omega (arith, within, many)) c.make_room.ensures.kept c.self.invariant.6 c.within-range.ensures.outside c.still_unready-before.ensures c.make_room.ensures.marks (ok_room c.make_room.result (sym c.is_err.ensures.value ∙ c.if-is_err.false) c.make_room.ensures.room) in
+    start.1
 
 pub turn-turned-requires-clause-neighbours : goal.turn-turned-requires-clause-neighbours
 turn-turned-requires-clause-neighbours c =
@@ -66,16 +126,30 @@ forget_waiting-requires-clause-within c =
     c.first-first.ensures ∙ ap (λ (x : NodeView). x.first) (same_read s.nodes.items c.in-Some.home c.index-2.result.now node c.in-Some.ensures.first.within c.index-2.ensures c.index_mut.ensures.value) in
     let count : c.count-count.result ≡ node.count =
     c.count-count.ensures ∙ ap (λ (x : NodeView). x.count) (same_read s.nodes.items c.in-Some.home c.index-3.result.now node c.in-Some.ensures.first.within c.index-3.ensures c.index_mut.ensures.value) in
-    let but : AreStillBut s.clock s.stills c.turn-turned.new.links.items c.first-first.result c.count-count.result =
-    turned_but s.clock s.stills node c.turn-turned.new.node c.make_room.new.links.items c.turn-turned.new.links.items c.turn-turned.result c.first-first.result c.count-count.result first count c.turn-turned.ensures.turned
+    let but : AreStillBut s.clock s.stills c.turn-turned.new.links.items node.first node.count =
+    turned_but s.clock s.stills node c.turn-turned.new.node c.make_room.new.links.items c.turn-turned.new.links.items c.turn-turned.result node.first node.count refl refl c.turn-turned.ensures.turned
     (alike_still s.clock s.stills s.links.items c.make_room.new.links.items c.make_room.ensures.same c.self.invariant.2) in
     let within = ends_within s.topology s.times s.clock s.nodes.items s.links.items s.datagrams.items c.self.invariant.0 c.args.n c.in-Some.home node c.in-Some.ensures.first c.index_mut.ensures.value in
     let before = c.self.invariant.2.as_many in
     let many = but.as_many in
-    omega (arith, within, first, count, before, many)
+    omega (arith, within, first, count, before, many, c.within-after.ensures.ordered, c.within-after.ensures.within)
 
-pub forget_waiting-requires-clause-marks : goal.forget_waiting-requires-clause-marks
-forget_waiting-requires-clause-marks c = c.turn-turned.ensures.marks
+pub forget_waiting-requires-clause-ready : goal.forget_waiting-requires-clause-ready
+forget_waiting-requires-clause-ready c =
+    let s = c.self.inside in
+    let node = c.index_mut.result.now in
+    let first : c.first-first.result ≡ node.first =
+    c.first-first.ensures ∙ ap (λ (x : NodeView). x.first) (same_read s.nodes.items c.in-Some.home c.index-2.result.now node c.in-Some.ensures.first.within c.index-2.ensures c.index_mut.ensures.value) in
+    let count : c.count-count.result ≡ node.count =
+    c.count-count.ensures ∙ ap (λ (x : NodeView). x.count) (same_read s.nodes.items c.in-Some.home c.index-3.result.now node c.in-Some.ensures.first.within c.index-3.ensures c.index_mut.ensures.value) in
+    let but : AreStillBut s.clock s.stills c.turn-turned.new.links.items node.first node.count =
+    turned_but s.clock s.stills node c.turn-turned.new.node c.make_room.new.links.items c.turn-turned.new.links.items c.turn-turned.result node.first node.count refl refl c.turn-turned.ensures.turned
+    (alike_still s.clock s.stills s.links.items c.make_room.new.links.items c.make_room.ensures.same c.self.invariant.2) in
+    let before = c.self.invariant.2.as_many in
+    let many = but.as_many in
+    let kept = c.make_room.ensures.kept.as_many in
+    let each = c.self.invariant.5.as_many in
+    omega (arith, before, many, kept, each)
 
 pub forget_waiting-requires-clause-stills : goal.forget_waiting-requires-clause-stills
 forget_waiting-requires-clause-stills c =
@@ -85,8 +159,8 @@ forget_waiting-requires-clause-stills c =
     c.first-first.ensures ∙ ap (λ (x : NodeView). x.first) (same_read s.nodes.items c.in-Some.home c.index-2.result.now node c.in-Some.ensures.first.within c.index-2.ensures c.index_mut.ensures.value) in
     let count : c.count-count.result ≡ node.count =
     c.count-count.ensures ∙ ap (λ (x : NodeView). x.count) (same_read s.nodes.items c.in-Some.home c.index-3.result.now node c.in-Some.ensures.first.within c.index-3.ensures c.index_mut.ensures.value) in
-    let but : AreStillBut s.clock s.stills c.turn-turned.new.links.items c.first-first.result c.count-count.result =
-    turned_but s.clock s.stills node c.turn-turned.new.node c.make_room.new.links.items c.turn-turned.new.links.items c.turn-turned.result c.first-first.result c.count-count.result first count c.turn-turned.ensures.turned
+    let but : AreStillBut s.clock s.stills c.turn-turned.new.links.items node.first node.count =
+    turned_but s.clock s.stills node c.turn-turned.new.node c.make_room.new.links.items c.turn-turned.new.links.items c.turn-turned.result node.first node.count refl refl c.turn-turned.ensures.turned
     (alike_still s.clock s.stills s.links.items c.make_room.new.links.items c.make_room.ensures.same c.self.invariant.2) in
     but.as_many
 
@@ -98,10 +172,13 @@ forget_waiting-requires-clause-plains c =
     c.first-first.ensures ∙ ap (λ (x : NodeView). x.first) (same_read s.nodes.items c.in-Some.home c.index-2.result.now node c.in-Some.ensures.first.within c.index-2.ensures c.index_mut.ensures.value) in
     let count : c.count-count.result ≡ node.count =
     c.count-count.ensures ∙ ap (λ (x : NodeView). x.count) (same_read s.nodes.items c.in-Some.home c.index-3.result.now node c.in-Some.ensures.first.within c.index-3.ensures c.index_mut.ensures.value) in
-    let but : ArePlainBut s.clock s.plains c.turn-turned.new.links.items c.first-first.result c.count-count.result =
-    turned_plain s.clock s.plains node c.turn-turned.new.node c.make_room.new.links.items c.turn-turned.new.links.items c.turn-turned.result c.first-first.result c.count-count.result first count c.turn-turned.ensures.turned
+    let plain : ArePlainBut s.clock s.plains c.turn-turned.new.links.items node.first node.count =
+    turned_plain s.clock s.plains node c.turn-turned.new.node c.make_room.new.links.items c.turn-turned.new.links.items c.turn-turned.result node.first node.count refl refl c.turn-turned.ensures.turned
     (alike_plain s.clock s.plains s.links.items c.make_room.new.links.items c.make_room.ensures.same c.self.invariant.4) in
-    but.as_many
+    plain.as_many
+
+pub set_unready-requires : goal.set_unready-requires
+set_unready-requires c = let many = c.self.invariant.6.as_many in omega (arith, many, c.in-Some.ensures.first.within)
 
 pub invariant_of-self-2 : goal.invariant_of-self-2
 invariant_of-self-2 c =
@@ -111,19 +188,40 @@ invariant_of-self-2 c =
     c.first-first.ensures ∙ ap (λ (x : NodeView). x.first) (same_read s.nodes.items c.in-Some.home c.index-2.result.now node c.in-Some.ensures.first.within c.index-2.ensures c.index_mut.ensures.value) in
     let count : c.count-count.result ≡ node.count =
     c.count-count.ensures ∙ ap (λ (x : NodeView). x.count) (same_read s.nodes.items c.in-Some.home c.index-3.result.now node c.in-Some.ensures.first.within c.index-3.ensures c.index_mut.ensures.value) in
-    let but : AreStillBut s.clock s.stills c.turn-turned.new.links.items c.first-first.result c.count-count.result =
-    turned_but s.clock s.stills node c.turn-turned.new.node c.make_room.new.links.items c.turn-turned.new.links.items c.turn-turned.result c.first-first.result c.count-count.result first count c.turn-turned.ensures.turned
+    let within = ends_within s.topology s.times s.clock s.nodes.items s.links.items s.datagrams.items c.self.invariant.0 c.args.n c.in-Some.home node c.in-Some.ensures.first c.index_mut.ensures.value in
+    let many = same_length s.links.items c.make_room.new.links.items c.make_room.ensures.same in
+    let start =
+    before_turn s.unready.items s.nodes.items s.ready.items c.make_room.new.ready.items c.make_room.new.links.items c.in-Some.home node c.unready_at.result c.within-range.result c.still_unready-before.result c.first-first.result c.count-count.result
+    c.in-Some.ensures.first.within c.index_mut.ensures.value c.unready_at.ensures first count (omega (arith, within, many)) c.make_room.ensures.kept c.self.invariant.6 c.within-range.ensures.outside c.still_unready-before.ensures c.make_room.ensures.marks (ok_room c.make_room.result (sym c.is_err.ensures.value ∙ c.if-is_err.false) c.make_room.ensures.room) in
+    let but : AreStillBut s.clock s.stills c.turn-turned.new.links.items node.first node.count =
+    turned_but s.clock s.stills node c.turn-turned.new.node c.make_room.new.links.items c.turn-turned.new.links.items c.turn-turned.result node.first node.count refl refl c.turn-turned.ensures.turned
     (alike_still s.clock s.stills s.links.items c.make_room.new.links.items c.make_room.ensures.same c.self.invariant.2) in
-    let plain : ArePlainBut s.clock s.plains c.turn-turned.new.links.items c.first-first.result c.count-count.result =
-    turned_plain s.clock s.plains node c.turn-turned.new.node c.make_room.new.links.items c.turn-turned.new.links.items c.turn-turned.result c.first-first.result c.count-count.result first count c.turn-turned.ensures.turned
-    (alike_plain s.clock s.plains s.links.items c.make_room.new.links.items c.make_room.ensures.same c.self.invariant.4) in (
+    let plain : ArePlainBut s.clock s.plains c.turn-turned.new.links.items node.first node.count =
+    turned_plain s.clock s.plains node c.turn-turned.new.node c.make_room.new.links.items c.turn-turned.new.links.items c.turn-turned.result node.first node.count refl refl c.turn-turned.ensures.turned
+    (alike_plain s.clock s.plains s.links.items c.make_room.new.links.items c.make_room.ensures.same c.self.invariant.4) in
+    let links = c.turn-turned.new.links.items in
+    let range = c.within-after.result in
+    let inside : (place : ℕ) → place < node.count → place < c.count-count.result = λ place lt. omega (arith, lt, count) in
+    let small : range.behind ≤ node.count = omega (arith, c.within-after.ensures.within, count) in
+    let out : AreReadyOutside links node.first node.count range = λ place link lt off there. c.turn-turned.ensures.ready place link lt (c.joined.ensures.these place (c.within-after.ensures.outside place (inside place lt) off)) there in
+    let own : IsMarkedOutside range node.first node.count c.make_room.new.ready.items = λ place lt off. start.0 place lt (c.joined.ensures.others place (c.within-after.ensures.outside place (inside place lt) off)) in
+    let unmarked = subst (λ (m : ℕ). AreUnmarked c.make_room.new.ready.items c.forget_waiting.new.ready.items (m + range.from) (range.behind - range.from)) first c.forget_waiting.ensures.ready in
+    let stills = subst (λ (m : ℕ). AreForgottenWhere links s.stills c.forget_waiting.new.stills (m + range.from) (range.behind - range.from)) first c.forget_waiting.ensures.stills in
+    let plains = subst (λ (m : ℕ). AreForgottenWhere links s.plains c.forget_waiting.new.plains (m + range.from) (range.behind - range.from)) first c.forget_waiting.ensures.plains in
+    let before = c.self.invariant.2.as_many in
+    let after = but.as_many in
+    let same : length links ≡ length c.make_room.new.links.items = omega (arith, before, after, many) in (
       turn_store s.topology s.times s.clock s.nodes.items s.links.items s.datagrams.items c.self.invariant.0 c.args.n c.in-Some.home c.index_mut.result.now c.in-Some.ensures.first c.index_mut.ensures.value
           c.make_room.new.links.items c.make_room.ensures.same c.turn-turned.new.node c.turn-turned.new.links.items c.turn-turned.result c.turn-turned.ensures.turned,
       λ none. absurd (omega (arith, none)),
-      where_forgotten s.clock s.stills c.forget_waiting.new.stills c.turn-turned.new.links.items c.first-first.result c.count-count.result c.forget_waiting.ensures.stills but,
+      where_forgotten s.clock s.stills c.forget_waiting.new.stills links node.first node.count (forgotten_of_node links s.stills c.forget_waiting.new.stills node.first node.count range out stills) but,
       c.self.invariant.3,
-      where_plain s.clock s.plains c.forget_waiting.new.plains c.turn-turned.new.links.items c.first-first.result c.count-count.result c.forget_waiting.ensures.plains plain,
-      c.turn-turned.ensures.marks,
+      where_plain s.clock s.plains c.forget_waiting.new.plains links node.first node.count (forgotten_of_node links s.plains c.forget_waiting.new.plains node.first node.count range out plains) plain,
+      ready_after c.make_room.new.links.items links c.make_room.new.ready.items c.forget_waiting.new.ready.items node.first node.count range small same c.turn-turned.ensures.others out unmarked c.make_room.ensures.marks,
+      subst (λ (ranges : List Unready). AreMarkedOutside ranges (slice_set s.nodes.items c.in-Some.home c.turn-turned.new.node) c.forget_waiting.new.ready.items) (sym c.set_unready.ensures)
+          (marked_after s.topology s.times s.clock s.nodes.items s.links.items s.datagrams.items c.self.invariant.0 s.unready.items c.make_room.new.ready.items c.forget_waiting.new.ready.items c.in-Some.home node c.turn-turned.new.node range
+          c.in-Some.ensures.first.within c.index_mut.ensures.value (turned_place node c.turn-turned.new.node c.make_room.new.links.items links c.turn-turned.result c.turn-turned.ensures.turned) small own unmarked
+          (marks_kept s.unready.items s.nodes.items s.ready.items c.make_room.new.ready.items c.make_room.ensures.kept c.self.invariant.6)),
     )
 
 pub returns : goal.returns

@@ -29,6 +29,7 @@ invariant_of-self c =
       unknown_plain s.clock c.forget-in-Some.new.stills s.links.items c.in-Some.at c.cut_bound.new.self (one_forgotten s.plains c.forget-in-Some.new.stills c.in-Some.at c.forget-in-Some.ensures)
           (forgotten_plain s.clock s.plains c.forget-in-Some.new.stills s.links.items c.in-Some.at 1 c.forget-in-Some.ensures c.self.invariant.4),
       kept_as s.ready.items s.links.items c.in-Some.at c.index_mut.result.now c.cut_bound.new.self _ c.in-Some.ensures.first.within c.index_mut.ensures.value c.cut_bound.ensures (λ h. h) c.self.invariant.5,
+      c.self.invariant.6,
     )
 
 pub returns-in-Some : goal.returns-in-Some

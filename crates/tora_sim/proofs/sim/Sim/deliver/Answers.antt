@@ -1,4 +1,4 @@
-use Rattle.std.proofs.Common.{◌≡◌, true, None, ap, sym, ◌∙◌, subst, find, arith}
+use Rattle.std.proofs.Common.{◌≡◌, true, None, refl, ap, sym, ◌∙◌, subst, find, arith}
 use Rattle.std.specs.Prelude.{slice_set}
 use Rattle.tora_frame.specs.declared.parts.Header.{Header}
 use Rattle.tora_world.specs.declared.event.Event.TheVariants.{Deliver}
@@ -12,6 +12,7 @@ use Rattle.tora_sim.proofs.Receives.{home_is_there, failed_done, failed_store, r
 use Rattle.tora_sim.proofs.StillEnds.{unknown_still, one_forgotten, forgotten_still}
 use Rattle.tora_sim.proofs.PlainEnds.{looked_plain}
 use Rattle.tora_sim.proofs.ReadyEnds.{kept_as}
+use Rattle.tora_sim.proofs.UnreadyEnds.{node_kept, same_place}
 use Rattle.tora_sim.proofs.sim.Sim.deliver.Goals as goal
 
 pub place-requires-2-clause-keys : goal.place-requires-2-clause-keys
@@ -42,6 +43,7 @@ invariant_of-self c =
       c.self.invariant.3,
       c.self.invariant.4,
       c.self.invariant.5,
+      node_kept s.unready.items s.nodes.items s.ready.items c.in-Some-node_place.home c.index_mut.result.now c.arm_receive.new.self (first c).within c.index_mut.ensures.value (same_place c.index_mut.result.now c.arm_receive.new.self _ c.arm_receive.ensures (refl, refl)) c.self.invariant.6,
     )
 
 pub returns-then-receive : goal.returns-then-receive
@@ -71,6 +73,7 @@ invariant_of-self-2 c =
       looked_plain s.clock s.plains c.forget_busy.new.plains s.links.items c.in-Some-place.at c.index_mut-2.result.now c.receive_and_look-busy.new.self c.receive_and_look-busy.result c.in-Some-place.ensures.first.within c.index_mut-2.ensures.value
           (λ e _. c.receive_and_look-busy.ensures.plain e) c.forget_busy.ensures.same c.forget_busy.ensures.forgotten c.self.invariant.4,
       kept_as s.ready.items s.links.items c.in-Some-place.at c.index_mut-2.result.now c.receive_and_look-busy.new.self _ c.in-Some-place.ensures.first.within c.index_mut-2.ensures.value c.receive_and_look-busy.ensures.state (λ h. h) c.self.invariant.5,
+      c.self.invariant.6,
     )
 
 pub returns : goal.returns

@@ -9,6 +9,7 @@ use Rattle.tora_sim.specs.Store.{SimState, state_of, world_of}
 use Rattle.tora_sim.specs.Steps.{IsRefused, Does}
 use Rattle.tora_sim.proofs.Opens.{same_read}
 use Rattle.tora_sim.proofs.Needs.{need_refused, put_store, need_does, last_seat, IsPut}
+use Rattle.tora_sim.proofs.UnreadyEnds.{node_kept, put_place}
 use Rattle.tora_sim.proofs.sim.Sim.need.Goals as goal
 
 pub returns-then-waiting-ge-MOST_ITEMS : goal.returns-then-waiting-ge-MOST_ITEMS
@@ -60,6 +61,7 @@ invariant_of-self c =
       c.self.invariant.3,
       c.self.invariant.4,
       c.self.invariant.5,
+      node_kept s.unready.items s.nodes.items s.ready.items c.in-Some.home (x c) c.put_item.new.self c.in-Some.ensures.first.within c.index_mut.ensures.value (put_place (x c) c.put_item.new.self (x c).count s.clock (Tells.Need c.args.d) c.put_item.result (is_put c)) c.self.invariant.6,
     )
 
 pub returns : goal.returns

@@ -37,6 +37,7 @@ invariant_of-self c =
           (λ h. both_ways (is_closed c.index_mut.result.now.state) h.opened (ap (λ (x : LinkView). is_closed x.state) (same_read s.links.items c.in-Some.at c.index_mut.result.now c.index.result.now c.in-Some.ensures.first.within c.index_mut.ensures.value c.index.ensures)
           ∙ sym c.is_closed.ensures ∙ c.if-not-is_closed.false)) c.self.invariant.4,
       kept_as s.ready.items s.links.items c.in-Some.at c.index_mut.result.now c.open.new.self _ c.in-Some.ensures.first.within c.index_mut.ensures.value c.open.ensures (λ h. h) c.self.invariant.5,
+      c.self.invariant.6,
     )
 
 pub returns : goal.returns

@@ -1,4 +1,4 @@
-use Rattle.std.proofs.Common.{◌≡◌, ◌<◌, ◌≤◌, length, nat_lt, true, is_some, ap, ap₂, sym, ◌∙◌, subst, arith, List, ℕ}
+use Rattle.std.proofs.Common.{◌≡◌, ◌<◌, ◌≤◌, length, nat_lt, true, is_some, refl, ap, ap₂, sym, ◌∙◌, subst, arith, List, ℕ}
 use Rattle.std.specs.Prelude.{slice_set, slice_index_or}
 use Rattle.std.proofs.lemmas.Bool.{both_ways, lt-ltb, le-ltb}
 use Rattle.tora_arq.specs.LinkEnd.{first_event, after_poll_event}
@@ -16,6 +16,7 @@ use Rattle.tora_sim.proofs.Pumps.{pump_without, pump_full, pump_starved, pump_do
 use Rattle.tora_sim.proofs.StillEnds.{possible_still}
 use Rattle.tora_sim.proofs.PlainEnds.{possible_plain}
 use Rattle.tora_sim.proofs.ReadyEnds.{kept_as}
+use Rattle.tora_sim.proofs.UnreadyEnds.{node_kept, same_place}
 use Rattle.tora_sim.proofs.sim.Sim.pump.Goals as goal
 
 pub place-requires-clause-keys : goal.place-requires-clause-keys
@@ -87,6 +88,7 @@ invariant_of-self c =
       possible_plain s.clock s.plains s.links.items c.in-Some.at c.index.result.now c.take_event.new.self c.in-Some.ensures.first.within c.index.ensures
           (λ h. both_ways (is_some (first_event c.index.result.now.state)) h.events (ap is_some (sym c.next_event.ensures ∙ c.in-Some-next_event.is))) c.self.invariant.4,
       kept_as s.ready.items s.links.items c.in-Some.at c.index.result.now c.take_event.new.self _ c.in-Some.ensures.first.within c.index.ensures (link_is c) (λ h. h) c.self.invariant.5,
+      node_kept s.unready.items s.nodes.items s.ready.items c.in-Some-node_place.home c.index_mut.result.now c.put_item.new.self c.in-Some-node_place.ensures.first.within c.index_mut.ensures.value (same_place c.index_mut.result.now c.put_item.new.self _ (node_is c) (refl, refl)) c.self.invariant.6,
     )
 
 pub returns-in-Ok : goal.returns-in-Ok

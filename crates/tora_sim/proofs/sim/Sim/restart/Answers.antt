@@ -1,4 +1,4 @@
-use Rattle.std.proofs.Common.{◌≡◌, ℕ, length, ap, ◌∙◌, subst, arith}
+use Rattle.std.proofs.Common.{◌≡◌, ℕ, length, refl, ap, ◌∙◌, subst, arith}
 use Rattle.std.specs.Prelude.{slice_set}
 use Rattle.tora_core.specs.Kept.{IsCore}
 use Rattle.tora_seat.specs.Rows.{first_seat}
@@ -15,6 +15,7 @@ use Rattle.tora_sim.proofs.Restarting.{restart_starved, restart_done, restart_st
 use Rattle.tora_sim.proofs.StillEnds.{forgotten_still, changed_still}
 use Rattle.tora_sim.proofs.PlainEnds.{forgotten_plain, changed_plain}
 use Rattle.tora_sim.proofs.ReadyEnds.{changed_ready, restarted_ready}
+use Rattle.tora_sim.proofs.UnreadyEnds.{node_kept, same_place}
 use Rattle.tora_sim.proofs.sim.Sim.restart.Goals as goal
 
 pub returns-in_default-new_seat : goal.returns-in_default-new_seat
@@ -94,6 +95,7 @@ invariant_of-self c =
           (λ place lt. let many = c.in-Ok-new_ends.ensures.as_many in c.forget-2.ensures.here place (omega (arith, lt, many))) c.restart_ends.ensures
           (forgotten_plain s.clock s.plains c.forget-2.new.stills s.links.items c.first-first.result c.count-count.result c.forget-2.ensures c.self.invariant.4),
       changed_ready s.ready.items s.links.items c.restart_ends.new.links.items (restarted c.args.torn) c.first-first.result (length c.in-Ok-new_ends.ends.items) (restarted_ready c.args.torn) c.restart_ends.ensures c.self.invariant.5,
+      node_kept s.unready.items s.nodes.items s.ready.items c.in-Some.home (x c) c.restart.new.self c.in-Some.ensures.first.within c.index_mut.ensures.value (same_place (x c) c.restart.new.self _ c.restart.ensures (refl, refl)) c.self.invariant.6,
     )
 
 pub returns : goal.returns

@@ -10,4 +10,4 @@ pub quiet_until-until-requires : goal.quiet_until-until-requires
 quiet_until-until-requires c = c.settle_ends.ensures
 
 pub invariant_of-self : goal.invariant_of-self
-invariant_of-self c = (c.self.invariant.0, c.quiet_until-until.ensures, c.settle_ends.ensures, c.self.invariant.3, c.mark_ends.ensures, c.self.invariant.5)
+invariant_of-self c = (c.self.invariant.0, c.quiet_until-until.ensures, c.settle_ends.ensures, c.self.invariant.3, c.mark_ends.ensures, c.self.invariant.5, c.self.invariant.6)

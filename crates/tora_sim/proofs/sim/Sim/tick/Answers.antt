@@ -29,6 +29,7 @@ invariant_of-self c =
       c.self.invariant.3,
       later_plain s.clock c.in-Some.now s.plains s.links.items (on c.in-Some.now s.clock c.in-Some.ensures.1) c.self.invariant.4,
       c.self.invariant.5,
+      c.self.invariant.6,
     )
 
 pub returns-then-now-self : goal.returns-then-now-self
@@ -47,6 +48,7 @@ invariant_of-self-2 c =
       c.self.invariant.3,
       c.tick.ensures.plains,
       mapped_ready s.ready.items s.links.items c.tick.new.links.items (ticked c.in-Some.now) c.tick.ensures.links (λ x h. h) c.self.invariant.5,
+      c.self.invariant.6,
     )
 
 pub returns : goal.returns

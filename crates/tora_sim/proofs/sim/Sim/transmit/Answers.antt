@@ -20,6 +20,7 @@ use Rattle.tora_sim.proofs.Sends.{transmit_refused, transmit_starved, transmit_d
 use Rattle.tora_sim.proofs.StillEnds.{possible_still}
 use Rattle.tora_sim.proofs.PlainEnds.{same_plain, transmit_plain}
 use Rattle.tora_sim.proofs.ReadyEnds.{kept_as}
+use Rattle.tora_sim.proofs.UnreadyEnds.{node_kept, same_place}
 use Rattle.tora_sim.proofs.sim.Sim.transmit.Goals as goal
 
 pub place-requires-clause-keys : goal.place-requires-clause-keys
@@ -69,6 +70,7 @@ invariant_of-self c =
       c.self.invariant.3,
       c.self.invariant.4,
       c.self.invariant.5,
+      c.self.invariant.6,
     )
 
 -- no frame was due
@@ -91,6 +93,7 @@ invariant_of-self-in_default-send c =
       c.self.invariant.3,
       subst (λ (xs : List LinkView). ArePlainEach s.clock s.plains xs) (sym (same c)) c.self.invariant.4,
       subst (λ (xs : List LinkView). AreReadyEach s.ready.items xs) (sym (same c)) c.self.invariant.5,
+      c.self.invariant.6,
     )
 
 pub returns-in_default-send : goal.returns-in_default-send
@@ -124,6 +127,7 @@ invariant_of-self-2 c =
       same_plain s.clock s.plains s.links.items c.in-Some.at c.index_mut.result.now c.send.new.self (slice_get_read s.links.items (length s.links.items) c.in-Some.at c.index_mut.result.now refl c.in-Some.ensures.first.within c.index_mut.ensures.value)
           (λ h. subst (λ (x : LinkView). IsPlain x) (sym c.in-Some-send.ensures.state) (transmit_plain c.index_mut.result.now.settings c.index_mut.result.now.state s.clock (has_cargo c.index_mut.result.now) h)) c.self.invariant.4,
       kept_as s.ready.items s.links.items c.in-Some.at c.index_mut.result.now c.send.new.self _ c.in-Some.ensures.first.within c.index_mut.ensures.value c.in-Some-send.ensures.state (λ h. h) c.self.invariant.5,
+      node_kept s.unready.items s.nodes.items s.ready.items c.in-Some-node_place.home c.index_mut-2.result.now c.note_sent.new.node c.in-Some-node_place.ensures.first.within c.index_mut-2.ensures.value (same_place c.index_mut-2.result.now c.note_sent.new.node _ c.note_sent.ensures.node (refl, refl)) c.self.invariant.6,
     )
 
 pub returns : goal.returns

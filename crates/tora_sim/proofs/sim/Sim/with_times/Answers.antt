@@ -1,4 +1,4 @@
-use Rattle.std.proofs.Common.{◌≡◌, ◌<◌, ℕ, List, map, take, length, get_or, sym, ap, ◌∙◌, subst, arith}
+use Rattle.std.proofs.Common.{◌≡◌, ◌<◌, ℕ, List, [], map, take, length, get_or, sym, ap, ◌∙◌, subst, arith}
 use Rattle.std.proofs.lemmas.List.{take_more, take_all}
 use Rattle.tora_frame.specs.FrameParts.{FrameParts}
 use Rattle.tora_world.specs.Topology.{Topology, nodes_in}
@@ -11,6 +11,7 @@ use Rattle.tora_sim.proofs.FirstStore.{is-store, is-first}
 use Rattle.tora_sim.proofs.StillEnds.{none_known}
 use Rattle.tora_sim.proofs.PlainEnds.{none_plain}
 use Rattle.tora_sim.proofs.ReadyEnds.{none_known_ready}
+use Rattle.tora_sim.proofs.UnreadyEnds.{none_marked, few_ends}
 use Rattle.tora_sim.proofs.sim.Sim.with_times.Goals as goal
 
 pub add_node-requires-clause-me : goal.add_node-requires-clause-me
@@ -47,6 +48,8 @@ invariant_of-result c =
       c.in_ok-keys.ensures ∙ ap (map key_of) c.deref.ensures.value ∙ store.keys,
       none_plain 0 c.len-count.result c.in_ok-plains.plains c.loop-n.links.items c.in_ok-plains.ensures many,
       none_known_ready c.len-count.result c.in_ok-ready.ready.items c.loop-n.links.items c.in_ok-ready.ensures many,
+      none_marked c.len.result c.len-count.result c.in_ok-unready.unready.items c.loop-n.nodes.items c.in_ok-ready.ready.items c.in_ok-unready.ensures (omega (arith, c.len.ensures))
+          (λ home node at. let few = few_ends c.in-Ok.own c.args.times 0 c.loop-n.nodes.items c.loop-n.links.items [] store home node at in omega (arith, few, many)),
     )
 
 pub returns-clause-made : goal.returns-clause-made

@@ -1,0 +1,336 @@
+-- Of each node the ends outside which each is known to be ready, as ends and nodes change.
+use Rattle.std.proofs.Common.{◌≡◌, ℕ, zero, suc, ◌+◌, ◌-◌, ◌<◌, ◌≤◌, ◌⊎◌, inl, inr, Bool, true, false, true≢false, nat_lt, List, [], ◌∷◌, ◌++◌, length, set, slice_get, get_or, Option, Some, None, Result, Ok, Err, MatchOption, MatchResult, OnOk, is_err, refl, sym, ap, ◌∙◌, subst, arith}
+use Rattle.std.specs.Prelude.{⊤, replicate, slice_index, slice_index_or}
+use Rattle.std.proofs.lemmas.Bool.{cases_eq}
+use Rattle.std.proofs.lemmas.List.{length-replicate, length-set}
+use Rattle.std.proofs.lemmas.Option.{same_Some, none-some, get_or_from_slice_get, slice_get_read, slice_get_within}
+use Rattle.tora_frame.specs.FrameParts.{FrameParts}
+use Rattle.tora_arq.specs.declared.times.Times.{Times}
+use Rattle.tora_seat.specs.declared.item.Item.{Item}
+use Rattle.tora_seat.specs.declared.stepped.Stepped.{Stepped}
+use Rattle.tora_seat.specs.declared.what.What.{What}
+use Rattle.tora_seat.specs.Offers.{AreOffered, place_of}
+use Rattle.tora_seat.specs.Serving.{Offer}
+use Rattle.tora_world.specs.Topology.{Topology, neighbours_of}
+use Rattle.tora_world.specs.declared.sim_error.SimError.{SimError}
+use Rattle.tora_world.specs.declared.sim_error.SimError.TheVariants as Refused
+use Rattle.tora_sim.specs.declared.unready.Unready.{Unready}
+use Rattle.tora_sim.specs.Lanes.{LanesView, lanes_of, DidOffer, HasRoom, HaveRoom, IsReady, AreReadyEach, AreReadyOutside, AreReady, AreOthersKept, after_offer_at}
+use Rattle.tora_sim.specs.Links.{LinkView}
+use Rattle.tora_sim.specs.Nodes.{NodeView, after_item, ComesBefore}
+use Rattle.tora_sim.specs.Possible.{has_cargo}
+use Rattle.tora_sim.specs.Quiet.{AreForgottenWhere}
+use Rattle.tora_sim.specs.Store.{IsStore, state_of}
+use Rattle.tora_sim.specs.Turns.{IsServed, IsNoted, Turns}
+use Rattle.tora_sim.specs.Unready.{ends_below, IsOutside, AreMarkedOutside, IsMarkedOutside, AreMarksKept, AreUnmarked}
+use Rattle.tora_sim.proofs.FreshEnds.{item_at, below_next, set_same, set_other}
+use Rattle.tora_sim.proofs.ReadyEnds.{room_of, mark_there}
+use Rattle.tora_sim.proofs.Served.{lanes_stay}
+use Rattle.tora_sim.proofs.StillBlocks.{before_or_not}
+use Rattle.tora_sim.proofs.Stores.{set_read}
+
+-- ---- at the start
+
+all_there : (n at : ℕ) (all range : Unready) → slice_get (replicate n all) at ≡ Some range → all ≡ range
+all_there zero at all range e = absurd (none-some range e)
+all_there (suc n) zero all range e = same_Some all range e
+all_there (suc n) (suc at) all range e = all_there n at all range e
+
+pub none_marked : (n most : ℕ) (ranges : List Unready) (nodes : List NodeView) (marks : List Bool) → ranges ≡ replicate n (ends_below most) → n ≡ length nodes → ((home : ℕ) (node : NodeView) → slice_get nodes home ≡ Some node → node.count ≤ most)
+    → AreMarkedOutside ranges nodes marks
+none_marked n most ranges nodes marks e many few = record {
+  as_many = ap length e ∙ length-replicate {A = Unready} n (ends_below most) ∙ many;
+  marked = λ home place node range at there lt out.
+      let all : ends_below most ≡ range = all_there n home (ends_below most) range (subst (λ (rs : List Unready). slice_get rs home ≡ Some range) e there) in
+      let le = few home node at in
+      absurd (subst (λ (r : Unready). IsOutside r place) (sym all) out (omega arith) (omega (arith, lt, le)));
+}
+
+-- ---- marks
+
+pub all_kept : (marks : List Bool) → AreMarksKept marks marks
+all_kept marks = record { as_many = refl; kept = λ at e. e }
+
+pub kept_on : (before marks after : List Bool) → AreMarksKept before marks → AreMarksKept marks after → AreMarksKept before after
+kept_on before marks after h k = record { as_many = k.as_many ∙ h.as_many; kept = λ at e. k.kept at (h.kept at e) }
+
+pub set_kept : (marks after : List Bool) (at : ℕ) (mark known : Bool) → at < length marks → mark ≡ slice_index_or marks at mark → mark ≡ false → after ≡ set marks at known → AreMarksKept marks after
+set_kept marks after at mark known within read off e = record {
+  as_many = ap length e ∙ length-set marks at known;
+  kept = λ j on. ap (λ (xs : List Bool). slice_get xs j) e ∙ go j on (cases_eq j at);
+}
+  where
+    go : (j : ℕ) → slice_get marks j ≡ Some true → (j ≡ at) ⊎ (j ≡ at → ⊥) → slice_get (set marks at known) j ≡ Some true
+    go j on (inl q) = absurd (true≢false (same_Some true false (sym on ∙ ap (slice_get marks) q ∙ mark_there marks at mark within read ∙ ap Some off)))
+    go j on (inr away) = set_other marks at j known away ∙ on
+
+pub none_unmarked : (marks : List Bool) (first : ℕ) → AreUnmarked marks marks first 0
+none_unmarked marks first = record { as_many = refl; here = λ place lt. absurd (omega (arith, lt)); others = λ at away. refl }
+
+pub one_more_unmarked : (before marks after : List Bool) (first place : ℕ) → first + place < length marks → after ≡ set marks (first + place) false → AreUnmarked before marks first place → AreUnmarked before after first (place + 1)
+one_more_unmarked before marks after first place within e u = record {
+  as_many = ap length e ∙ length-set marks (first + place) false ∙ u.as_many;
+  here = λ p lt. ap (λ (xs : List Bool). slice_get xs (first + p)) e ∙ unmarked_at p (below_next p place lt) (cases_eq (first + p) (first + place));
+  others = λ at away.
+      ap (λ (xs : List Bool). slice_get xs at) e ∙ set_other marks (first + place) at false (λ q. away place (omega arith) q)
+      ∙ u.others at (λ p lt q. away p (omega (arith, lt)) q);
+}
+  where
+    unmarked_at : (p : ℕ) → (p < place) ⊎ (p ≡ place) → (first + p ≡ first + place) ⊎ (first + p ≡ first + place → ⊥) → slice_get (set marks (first + place) false) (first + p) ≡ Some false
+    unmarked_at p r (inl q) = ap (slice_get (set marks (first + place) false)) q ∙ set_same marks (first + place) false within
+    unmarked_at p (inl less) (inr off) = set_other marks (first + place) (first + p) false off ∙ u.here p less
+    unmarked_at p (inr same) (inr off) = absurd (off (ap (λ (m : ℕ). first + m) same))
+
+-- an end more is looked at
+pub one_more_left : (marks : List Bool) (first from at : ℕ) (before after : Unready) → ((place : ℕ) → from ≤ place → place < at → IsOutside before place → slice_get marks (first + place) ≡ Some true)
+    → ((other : ℕ) → IsOutside after other → IsOutside before other) → (IsOutside after at → slice_get marks (first + at) ≡ Some true)
+    → (place : ℕ) → from ≤ place → place < at + 1 → IsOutside after place → slice_get marks (first + place) ≡ Some true
+one_more_left marks first from at before after h wider here place le lt out = go (below_next place at lt)
+  where
+    go : (place < at) ⊎ (place ≡ at) → slice_get marks (first + place) ≡ Some true
+    go (inl less) = h place le less (wider place out)
+    go (inr same) = subst (λ (m : ℕ). slice_get marks (first + m) ≡ Some true) (sym same) (here (subst (λ (m : ℕ). IsOutside after m) same out))
+
+-- ---- nodes that change
+
+-- a node keeps the place of its ends
+pub node_kept : (ranges : List Unready) (nodes : List NodeView) (marks : List Bool) (home : ℕ) (x y : NodeView) → home < length nodes → x ≡ slice_index_or nodes home x → (y.first ≡ x.first) × (y.count ≡ x.count) → AreMarkedOutside ranges nodes marks
+    → AreMarkedOutside ranges (set nodes home y) marks
+node_kept ranges nodes marks home x y within read same h = record {
+  as_many = h.as_many ∙ sym (length-set nodes home y);
+  marked = λ i place node range at there lt out. go i place node range (set_read nodes home y i node at) there lt out;
+}
+  where
+    go : (i place : ℕ) (node : NodeView) (range : Unready) → ((i ≡ home) × (y ≡ node)) ⊎ (slice_get nodes i ≡ Some node) → slice_get ranges i ≡ Some range → place < node.count → IsOutside range place → slice_get marks (node.first + place) ≡ Some true
+    go i place node range (inl p) there lt out =
+        let first : node.first ≡ x.first = ap (λ (z : NodeView). z.first) (sym p.1) ∙ same.0 in
+        let count : node.count ≡ x.count = ap (λ (z : NodeView). z.count) (sym p.1) ∙ same.1 in
+        ap (λ (m : ℕ). slice_get marks (m + place)) first ∙ h.marked i place x range (ap (slice_get nodes) p.0 ∙ slice_get_read nodes (length nodes) home x refl within read) there (omega (arith, lt, count)) out
+    go i place node range (inr old) there lt out = h.marked i place node range old there lt out
+
+pub same_place : (x y after : NodeView) → y ≡ after → (after.first ≡ x.first) × (after.count ≡ x.count) → (y.first ≡ x.first) × (y.count ≡ x.count)
+same_place x y after e same = (ap (λ (z : NodeView). z.first) e ∙ same.0, ap (λ (z : NodeView). z.count) e ∙ same.1)
+
+pub put_place : (x y : NodeView) (seat clock : ℕ) (what : What) (r : Result (Unit {0}) SimError) → MatchResult r (λ _. y ≡ after_item x seat clock what) (λ e. (e ≡ Refused.Memory) × (y ≡ x)) → (y.first ≡ x.first) × (y.count ≡ x.count)
+put_place x y seat clock what (Ok u) e = same_place x y (after_item x seat clock what) e (refl, refl)
+put_place x y seat clock what (Err r) e = same_place x y x e.1 (refl, refl)
+
+pub turned_place : (x y : NodeView) (links after : List LinkView) (r : Result (Unit {0}) SimError) → Turns x links r y after → (y.first ≡ x.first) × (y.count ≡ x.count)
+turned_place x y links after (Ok u) d = (ap (λ (z : NodeView). z.first) d.served.node, ap (λ (z : NodeView). z.count) d.served.node)
+turned_place x y links after (Err e) d = same_place x y x d.1 (refl, refl)
+
+-- ---- ends of a node, before its turn
+
+-- the ends outside the range of the node at a place are marked, and still are
+pub own_marked : (ranges : List Unready) (nodes : List NodeView) (before marks : List Bool) (home : ℕ) (x : NodeView) (range : Unready) → home < length nodes → x ≡ slice_index_or nodes home x → range ≡ slice_index_or ranges home range
+    → AreMarksKept before marks → AreMarkedOutside ranges nodes before → IsMarkedOutside range x.first x.count marks
+own_marked ranges nodes before marks home x range within read is kept h place lt out =
+    let many = h.as_many in
+    kept.kept (x.first + place) (h.marked home place x range (slice_get_read nodes (length nodes) home x refl within read) (slice_get_read ranges (length ranges) home range refl (omega (arith, within, many)) is) lt out)
+
+pub marks_kept : (ranges : List Unready) (nodes : List NodeView) (before marks : List Bool) → AreMarksKept before marks → AreMarkedOutside ranges nodes before → AreMarkedOutside ranges nodes marks
+marks_kept ranges nodes before marks kept h = record { as_many = h.as_many; marked = λ home place node range at there lt out. kept.kept (node.first + place) (h.marked home place node range at there lt out) }
+
+-- the ends outside those that are still not ready
+pub narrowed : (old range left : Unready) (first count : ℕ) (marks : List Bool) → ((place : ℕ) → place < count → IsOutside range place → IsOutside old place)
+    → ((place : ℕ) → range.from ≤ place → place < range.behind → IsOutside left place → slice_get marks (first + place) ≡ Some true) → IsMarkedOutside old first count marks → IsMarkedOutside left first count marks
+narrowed old range left first count marks wider here h place lt out = go (before_or_not place range.from) (before_or_not place range.behind)
+  where
+    go : (place < range.from) ⊎ (range.from ≤ place) → (place < range.behind) ⊎ (range.behind ≤ place) → slice_get marks (first + place) ≡ Some true
+    go (inl less) r = h place lt (wider place lt (λ le less'. omega (arith, less, le)))
+    go (inr more) (inr behind) = h place lt (wider place lt (λ le less'. omega (arith, behind, less')))
+    go (inr more) (inl less) = here place more less out
+
+-- the ends that are marked are ready, so that there is room at all ends, where there is at the others
+pub ready_before : (links : List LinkView) (first count : ℕ) (old range left : Unready) (marks : List Bool) → first + count ≤ length links → ((place : ℕ) → place < count → IsOutside range place → IsOutside old place)
+    → ((place : ℕ) → range.from ≤ place → place < range.behind → IsOutside left place → slice_get marks (first + place) ≡ Some true) → IsMarkedOutside old first count marks → AreReadyEach marks links
+    → HaveRoom links (first + range.from) (range.behind - range.from) → AreReady (lanes_of links first count) left
+ready_before links first count old range left marks within wider here h each room = record {
+  within = within;
+  room = λ place link lt there. go place link lt there (before_or_not place range.from) (before_or_not place range.behind);
+  ready = λ place link lt out there. each.ready (first + place) link (narrowed old range left first count marks wider here h place lt out) there;
+}
+  where
+    off : (place : ℕ) (link : LinkView) → place < count → slice_get links (first + place) ≡ Some link → IsOutside range place → HasRoom link
+    off place link lt there out = room_of link (each.ready (first + place) link (h place lt (wider place lt out)) there)
+
+    go : (place : ℕ) (link : LinkView) → place < count → slice_get links (first + place) ≡ Some link → (place < range.from) ⊎ (range.from ≤ place) → (place < range.behind) ⊎ (range.behind ≤ place) → HasRoom link
+    go place link lt there (inl less) r = off place link lt there (λ le less'. omega (arith, less, le))
+    go place link lt there (inr more) (inr behind) = off place link lt there (λ le less'. omega (arith, behind, less'))
+    go place link lt there (inr more) (inl less) =
+        let same : first + range.from + (place - range.from) ≡ first + place = omega (arith, more) in
+        room (place - range.from) link (omega (arith, more, less)) (ap (slice_get links) same ∙ there)
+
+pub ok_room : {P : Type 0} → (r : Result (Unit {0}) SimError) → is_err r ≡ false → OnOk r P → P
+ok_room (Ok u) e h = h
+ok_room (Err r) e h = absurd (true≢false e)
+
+-- both, where the place of the node's ends was read
+pub before_turn : (ranges : List Unready) (nodes : List NodeView) (before marks : List Bool) (links : List LinkView) (home : ℕ) (x : NodeView) (old range left : Unready) (first count : ℕ) → home < length nodes → x ≡ slice_index_or nodes home x → old ≡ slice_index_or ranges home old
+    → first ≡ x.first → count ≡ x.count → x.first + x.count ≤ length links → AreMarksKept before marks → AreMarkedOutside ranges nodes before → ((place : ℕ) → place < count → IsOutside range place → IsOutside old place)
+    → ((place : ℕ) → range.from ≤ place → place < range.behind → IsOutside left place → slice_get marks (first + place) ≡ Some true) → AreReadyEach marks links → HaveRoom links (first + range.from) (range.behind - range.from)
+    → IsMarkedOutside left x.first x.count marks × AreReady (lanes_of links x.first x.count) left
+before_turn ranges nodes before marks links home x old range left first count within read is f n all kept h wider here each room =
+    let own = own_marked ranges nodes before marks home x old within read is kept h in
+    let wider' = subst (λ (m : ℕ). (place : ℕ) → place < m → IsOutside range place → IsOutside old place) n wider in
+    let here' = subst (λ (m : ℕ). (place : ℕ) → range.from ≤ place → place < range.behind → IsOutside left place → slice_get marks (m + place) ≡ Some true) f here in
+    let room' = subst (λ (m : ℕ). HaveRoom links (m + range.from) (range.behind - range.from)) f room in
+    (narrowed old range left x.first x.count marks wider' here' own, ready_before links x.first x.count old range left marks all wider' here' own each room')
+
+-- ---- an end that changes in a turn
+
+pub ready_but : (links : List LinkView) (first count place : ℕ) (range after : Unready) (new : LinkView) → ((other : ℕ) → IsOutside after other → IsOutside range other) → (IsOutside after place → ⊥) → AreReadyOutside links first count range
+    → AreReadyOutside (set links (first + place) new) first count after
+ready_but links first count place range after new wider here h j link lt out there = go (set_read links (first + place) new (first + j) link there)
+  where
+    go : ((first + j ≡ first + place) × (new ≡ link)) ⊎ (slice_get links (first + j) ≡ Some link) → IsReady link
+    go (inl p) =
+        let e : first + j ≡ first + place = p.0 in
+        let same : j ≡ place = omega (arith, e) in
+        absurd (here (subst (λ (m : ℕ). IsOutside after m) same out))
+    go (inr old) = h j link lt (wider j out) old
+
+pub ready_noted : (lanes : LanesView) (place : ℕ) (stepped : Stepped) (links : List LinkView) (range after : Unready) → IsNoted lanes place (Some stepped) links → ((other : ℕ) → IsOutside after other → IsOutside range other) → (IsOutside after place → ⊥)
+    → AreReadyOutside lanes.links lanes.first lanes.count range → AreReadyOutside links lanes.first lanes.count after
+ready_noted lanes place stepped links range after (link, there, is) wider here h =
+    subst (λ (xs : List LinkView). AreReadyOutside xs lanes.first lanes.count after) (sym is)
+    (ready_but lanes.links lanes.first lanes.count place range after (record link { steps = link.steps ++ record { life = stepped.life; packet = stepped.packet } ∷ [] }) wider here h)
+
+-- the lanes stay in their place, so that what is said of the ends is said of the node's
+pub ready_turned : (before after : NodeView) (v lanes : LanesView) (item : Item) (links : List LinkView) (first count : ℕ) (range : Unready) → v.first ≡ first → v.count ≡ count → IsServed before v item after lanes → AreReadyOutside links lanes.first lanes.count range
+    → AreReadyOutside links first count range
+ready_turned before after v lanes item links first count range f n s h =
+    let stay = lanes_stay before.seat.core.neighbours s.offers v lanes s.offered in
+    subst (λ (m : ℕ). AreReadyOutside links m count range) (stay.0 ∙ f) (subst (λ (m : ℕ). AreReadyOutside links lanes.first m range) (stay.1 ∙ n) h)
+
+pub ready_same : (v lanes : LanesView) (links : List LinkView) (first count : ℕ) (range : Unready) → v.first ≡ first → v.count ≡ count → lanes ≡ v → AreReadyOutside links lanes.first lanes.count range → AreReadyOutside links first count range
+ready_same v lanes links first count range f n e h =
+    subst (λ (m : ℕ). AreReadyOutside links m count range) (ap (λ (z : LanesView). z.first) e ∙ f) (subst (λ (m : ℕ). AreReadyOutside links lanes.first m range) (ap (λ (z : LanesView). z.count) e ∙ n) h)
+
+-- ---- a turn leaves all ends of other nodes as they are
+
+offers_leave : (ks : List ℕ) (first count : ℕ) (offers : List Offer) (lanes after : LanesView) → lanes.first ≡ first → lanes.count ≡ count → AreOffered DidOffer ks lanes offers after → AreOthersKept lanes.links after.links first count
+offers_leave ks first count [] lanes after f n e at away = ap (λ (v : LanesView). slice_get v.links at) e
+offers_leave ks first count (o ∷ offers) lanes after f n (between, did, rest) at away =
+    let here : lanes.first + place_of o.to ks ≡ first + place_of o.to ks = ap (λ (m : ℕ). m + place_of o.to ks) f in
+    let within : place_of o.to ks < count = subst (λ (m : ℕ). place_of o.to ks < m) n did.within in
+    offers_leave ks first count offers between after (ap (λ (v : LanesView). v.first) did.lanes ∙ f) (ap (λ (v : LanesView). v.count) did.lanes ∙ n) rest at away
+    ∙ ap (λ (v : LanesView). slice_get v.links at) did.lanes
+    ∙ set_other lanes.links (lanes.first + place_of o.to ks) at (after_offer_at did.link o.cargo o.put) (λ q. away (place_of o.to ks) within (q ∙ here))
+
+noted_leaves : (first count : ℕ) (lanes : LanesView) (seat : ℕ) (stepped : Option Stepped) (links : List LinkView) → lanes.first ≡ first → lanes.count ≡ count → MatchOption stepped ⊤ (λ _. seat < lanes.count) → IsNoted lanes seat stepped links
+    → AreOthersKept lanes.links links first count
+noted_leaves first count lanes seat None links f n w e at away = ap (λ (xs : List LinkView). slice_get xs at) e
+noted_leaves first count lanes seat (Some p) links f n lt (link, there, is) at away =
+    ap (λ (xs : List LinkView). slice_get xs at) is
+    ∙ set_other lanes.links (lanes.first + seat) at (record link { steps = link.steps ++ record { life = p.life; packet = p.packet } ∷ [] }) (λ q. away seat (subst (λ (m : ℕ). seat < m) n lt) (q ∙ ap (λ (m : ℕ). m + seat) f))
+
+pub served_leaves : (x y : NodeView) (v lanes : LanesView) (item : Item) (stepped : Option Stepped) (links : List LinkView) (first count : ℕ) → v.first ≡ first → v.count ≡ count → IsServed x v item y lanes → MatchOption stepped ⊤ (λ _. item.seat < lanes.count) → IsNoted lanes item.seat stepped links
+    → AreOthersKept v.links links first count
+served_leaves x y v lanes item stepped links first count f n s w e at away =
+    let stay = lanes_stay x.seat.core.neighbours s.offers v lanes s.offered in
+    noted_leaves first count lanes item.seat stepped links (stay.0 ∙ f) (stay.1 ∙ n) w e at away
+    ∙ offers_leave x.seat.core.neighbours first count s.offers v lanes f n s.offered at away
+
+-- ---- what is known after a turn
+
+-- a cargo waits at no end of the node outside the range
+pub forgotten_of_node : (links : List LinkView) (before stills : List ℕ) (first count : ℕ) (range : Unready) → AreReadyOutside links first count range → AreForgottenWhere links before stills (first + range.from) (range.behind - range.from)
+    → AreForgottenWhere links before stills first count
+forgotten_of_node links before stills first count range h f = record {
+  as_many = f.as_many;
+  here = λ place link lt there waits. go place link lt there waits (before_or_not place range.from) (before_or_not place range.behind);
+  others = f.others;
+}
+  where
+    off : (place : ℕ) (link : LinkView) → place < count → slice_get links (first + place) ≡ Some link → has_cargo link ≡ true → IsOutside range place → slice_index stills (first + place) ≡ 0
+    off place link lt there waits out = absurd (true≢false (sym waits ∙ (h place link lt out there).lane))
+
+    go : (place : ℕ) (link : LinkView) → place < count → slice_get links (first + place) ≡ Some link → has_cargo link ≡ true → (place < range.from) ⊎ (range.from ≤ place) → (place < range.behind) ⊎ (range.behind ≤ place) → slice_index stills (first + place) ≡ 0
+    go place link lt there waits (inl less) r = off place link lt there waits (λ le less'. omega (arith, less, le))
+    go place link lt there waits (inr more) (inr behind) = off place link lt there waits (λ le less'. omega (arith, behind, less'))
+    go place link lt there waits (inr more) (inl less) =
+        let same : first + range.from + (place - range.from) ≡ first + place = omega (arith, more) in
+        ap (slice_index stills) (sym same) ∙ f.here (place - range.from) link (omega (arith, more, less)) (ap (slice_get links) same ∙ there) waits
+
+-- the ends that are marked are ready: those of the node outside the range, and those of other nodes that were
+pub ready_after : (before links : List LinkView) (was marks : List Bool) (first count : ℕ) (range : Unready) → range.behind ≤ count → length links ≡ length before → AreOthersKept before links first count → AreReadyOutside links first count range
+    → AreUnmarked was marks (first + range.from) (range.behind - range.from) → AreReadyEach was before → AreReadyEach marks links
+ready_after before links was marks first count range small many others out_ready u each = record {
+  as_many = u.as_many ∙ each.as_many ∙ sym many;
+  ready = λ at link on there. from at link on there (before_or_not at first) (before_or_not (at - first) count);
+}
+  where
+    away : (at : ℕ) (link : LinkView) → slice_get marks at ≡ Some true → slice_get links at ≡ Some link → ((place : ℕ) → place < count → at ≡ first + place → ⊥) → IsReady link
+    away at link on there off =
+        each.ready at link (sym (u.others at (λ p lt q. off (range.from + p) (omega (arith, lt, small)) (omega (arith, q)))) ∙ on) (sym (others at off) ∙ there)
+
+    own : (place : ℕ) (link : LinkView) → place < count → slice_get marks (first + place) ≡ Some true → slice_get links (first + place) ≡ Some link → (place < range.from) ⊎ (range.from ≤ place) → (place < range.behind) ⊎ (range.behind ≤ place) → IsReady link
+    own place link lt on there (inl less) r = out_ready place link lt (λ le less'. omega (arith, less, le)) there
+    own place link lt on there (inr more) (inr behind) = out_ready place link lt (λ le less'. omega (arith, behind, less')) there
+    own place link lt on there (inr more) (inl less) =
+        let same : first + range.from + (place - range.from) ≡ first + place = omega (arith, more) in
+        absurd (true≢false (same_Some true false (sym on ∙ ap (slice_get marks) (sym same) ∙ u.here (place - range.from) (omega (arith, more, less)))))
+
+    from : (at : ℕ) (link : LinkView) → slice_get marks at ≡ Some true → slice_get links at ≡ Some link → (at < first) ⊎ (first ≤ at) → (at - first < count) ⊎ (count ≤ at - first) → IsReady link
+    from at link on there (inl less) r = away at link on there (λ place lt q. omega (arith, less, q))
+    from at link on there (inr more) (inr behind) = away at link on there (λ place lt q. omega (arith, more, behind, lt, q))
+    from at link on there (inr more) (inl lt) =
+        let here : at ≡ first + (at - first) = omega (arith, more) in
+        own (at - first) link lt (ap (slice_get marks) (sym here) ∙ on) (ap (slice_get links) (sym here) ∙ there) (before_or_not (at - first) range.from) (before_or_not (at - first) range.behind)
+
+module _ (t : Topology) (times : Times) (clock : ℕ) (nodes : List NodeView) (links : List LinkView) (ds : List FrameParts) (h : IsStore (state_of t times clock nodes links ds)) where
+  -- an end of a node is of that node
+  home_of : (i : ℕ) (x : NodeView) → slice_get nodes i ≡ Some x → (place : ℕ) (link : LinkView) → place < x.count → slice_get links (x.first + place) ≡ Some link → link.node ≡ x.node
+  home_of i x e place link lt there =
+      let k = item_at (neighbours_of t x.node) place (let c = (h.each_node i x e).count in omega (arith, lt, c)) in
+      ((h.each_ends i x e).at place k.0 link k.1 there).0
+
+  before_it : (i j : ℕ) (x y : NodeView) → slice_get nodes i ≡ Some x → slice_get nodes j ≡ Some y → i < j → x.node < y.node
+  before_it i j x y a b lt =
+      subst (λ (z : NodeView). z.node < y.node) (get_or_from_slice_get nodes i x x a) (subst (λ (z : NodeView). (get_or nodes i x).node < z.node) (get_or_from_slice_get nodes j y x b) (h.rising_nodes i j x lt (slice_get_within nodes j y b)))
+
+  -- no end is of two nodes
+  pub apart_nodes : (i j : ℕ) (x y : NodeView) → slice_get nodes i ≡ Some x → slice_get nodes j ≡ Some y → (i ≡ j → ⊥) → (p q : ℕ) → p < x.count → q < y.count → x.first + p ≡ y.first + q → ⊥
+  apart_nodes i j x y a b off p q lt less e = go (before_or_not i j) (before_or_not j i)
+    where
+      link : (z : LinkView) × (slice_get links (x.first + p) ≡ Some z)
+      link = item_at links (x.first + p) (let w = (h.each_ends i x a).within in omega (arith, w, lt))
+
+      same : x.node ≡ y.node
+      same = sym (home_of i x a p link.0 lt link.1) ∙ home_of j y b q link.0 less (ap (slice_get links) (sym e) ∙ link.1)
+
+      go : (i < j) ⊎ (j ≤ i) → (j < i) ⊎ (i ≤ j) → ⊥
+      go (inl l) r = let c = before_it i j x y a b l in let s = same in omega (arith, c, s)
+      go (inr m) (inl l) = let c = before_it j i y x b a l in let s = same in omega (arith, c, s)
+      go (inr m) (inr n) = off (omega (arith, m, n))
+
+  pub few_ends : (i : ℕ) (x : NodeView) → slice_get nodes i ≡ Some x → x.count ≤ length links
+  few_ends i x e = let w = (h.each_ends i x e).within in omega (arith, w)
+
+  -- the range of a node whose core took its turn
+  pub marked_after : (ranges : List Unready) (was marks : List Bool) (home : ℕ) (x y : NodeView) (range : Unready) → home < length nodes → x ≡ slice_index_or nodes home x → (y.first ≡ x.first) × (y.count ≡ x.count) → range.behind ≤ x.count
+      → IsMarkedOutside range x.first x.count was → AreUnmarked was marks (x.first + range.from) (range.behind - range.from) → AreMarkedOutside ranges nodes was → AreMarkedOutside (set ranges home range) (set nodes home y) marks
+  marked_after ranges was marks home x y range within read place_kept small own u each = record {
+    as_many = length-set ranges home range ∙ each.as_many ∙ sym (length-set nodes home y);
+    marked = λ i place node r at there lt out. go i place node r (cases_eq i home) at there lt out;
+  }
+    where
+      here : slice_get nodes home ≡ Some x
+      here = slice_get_read nodes (length nodes) home x refl within read
+
+      own_at : (place : ℕ) → place < x.count → IsOutside range place → slice_get marks (x.first + place) ≡ Some true
+      own_at place lt out =
+          u.others (x.first + place) (λ p less q. out (omega (arith, q)) (omega (arith, q, less))) ∙ own place lt out
+
+      go : (i place : ℕ) (node : NodeView) (r : Unready) → (i ≡ home) ⊎ (i ≡ home → ⊥) → slice_get (set nodes home y) i ≡ Some node → slice_get (set ranges home range) i ≡ Some r → place < node.count → IsOutside r place → slice_get marks (node.first + place) ≡ Some true
+      go i place node r (inl q) at there lt out =
+          let node_is : y ≡ node = same_Some y node (sym (set_same nodes home y within) ∙ ap (slice_get (set nodes home y)) (sym q) ∙ at) in
+          let range_is : range ≡ r = same_Some range r (sym (set_same ranges home range (let many = each.as_many in omega (arith, within, many))) ∙ ap (slice_get (set ranges home range)) (sym q) ∙ there) in
+          let first : node.first ≡ x.first = ap (λ (z : NodeView). z.first) (sym node_is) ∙ place_kept.0 in
+          let count : node.count ≡ x.count = ap (λ (z : NodeView). z.count) (sym node_is) ∙ place_kept.1 in
+          ap (λ (m : ℕ). slice_get marks (m + place)) first ∙ own_at place (omega (arith, lt, count)) (subst (λ (z : Unready). IsOutside z place) (sym range_is) out)
+      go i place node r (inr off) at there lt out =
+          let old = sym (set_other nodes home i y off) ∙ at in
+          u.others (node.first + place) (λ p less q. apart_nodes i home node x old here off place (range.from + p) lt (omega (arith, less, small)) (omega (arith, q)))
+          ∙ each.marked i place node r old (sym (set_other ranges home i range off) ∙ there) lt out
