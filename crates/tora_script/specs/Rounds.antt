@@ -1,10 +1,12 @@
 -- What a round of a simulation is: a list of events, and what it leaves in the air.
 pub use Rattle.tora_script.specs.Parted.{is_same_pair, is_parted}
-use Rattle.std.specs.Prelude.{◌≡◌, ℕ, zero, suc, ◌+◌, ◌-◌, Bool, true, not, nat_lt, is_some, if◌then◌else◌, List, [], ◌∷◌, ◌++◌, length, Option, Some, None}
+unfoldable pub use Rattle.tora_sim.specs.Steps.{repeats}
+pub use Rattle.tora_sim.specs.Steps.{Happened}
+use Rattle.std.specs.Prelude.{◌≡◌, ℕ, zero, suc, ◌+◌, ◌-◌, Bool, true, nat_lt, if◌then◌else◌, List, [], ◌∷◌, ◌++◌, length, Option, Some, None}
 use Rattle.tora_frame.specs.FrameParts.{FrameParts}
 use Rattle.tora_world.specs.declared.event.Event.{Event}
 use Rattle.tora_world.specs.declared.event.Event.TheVariants.{Tick, Open, Pull, Transmit, Deliver, Pump, CoreTurn}
-use Rattle.tora_world.specs.World.{World, datagram, is_empty, refusal_of, world_after, world_after_all}
+use Rattle.tora_world.specs.World.{World, datagram, is_empty, world_after_all}
 use Rattle.tora_channel.specs.Table.{Channels}
 use Rattle.tora_sim.specs.Readers.{ends_in}
 use Rattle.tora_script.specs.Air.{MomentView, AirView, air_view, copies_in, at_once, after_air}
@@ -12,15 +14,10 @@ use Rattle.tora_script.specs.declared.air.Air.{Air}
 use Rattle.tora_script.specs.declared.rounds.EndTurn.{EndTurn}
 use Rattle.tora_script.specs.declared.rounds.EndTurn.TheVariants as turn
 
--- ---- plans: which events happen next
+-- ---- plans: which events happen next (`repeats` is one: an event again and again until it is refused, and so many times at most)
 
 abbrev pub Plan : Type 0
 Plan = World → List Event
-
--- an event again and again until it is refused, and so many times at most
-unfoldable pub repeats : ℕ → Event → Plan
-repeats zero event w = []
-repeats (suc k) event w = if is_some (refusal_of w event) then [] else event ∷ repeats k event (world_after w event)
 
 -- an event, unless it is refused
 abbrev pub once : Event → Plan
@@ -137,8 +134,3 @@ rounds (suc r) nodes ends parted channel s = rounds r nodes ends parted channel 
 -- these are the link ends of the world, in their order, where that is known
 abbrev pub AreKnown : Bool → List (ℕ × ℕ) → World → Type 0
 AreKnown known ends w = known ≡ true → ends ≡ ends_in w.topology
-
--- the events of a plan happened, and some did or none
-pub record Happened (before : World) (events : List Event) (after : World) (some : Bool) : Type 0 where
-  pub after_is : after ≡ world_after_all before events
-  pub some_is : some ≡ not (is_empty events)

@@ -118,9 +118,9 @@ pub fn turn_cores<S: Simulator>(sim: &mut S, nodes: &[Id]) -> Result<bool, Alloc
     Ok(some)
 }
 
-/// Gives a link end its turn, so many times at most.
+/// Gives a link end its turn, so many times at most, one event at a time.
 #[inline(always)]
-pub fn turn_end<S: Simulator>(
+fn repeat_turn<S: Simulator>(
     sim: &mut S,
     kind: EndTurn,
     place: usize,
@@ -133,6 +133,25 @@ pub fn turn_end<S: Simulator>(
         return Ok(false);
     }
     repeat(sim, place, &kind.event(end), most)
+}
+
+/// Gives a link end its turn, so many times at most. In most rounds frames are what most ends have to give: so the simulator sends them on end.
+#[inline(always)]
+pub fn turn_end<S: Simulator>(
+    sim: &mut S,
+    kind: EndTurn,
+    place: usize,
+    end: (Id, Id),
+    most: u64,
+) -> Result<bool, AllocError>
+    ensures { IfOk result (λ some. Happened (S.world sim.old) (repeats most (end_event kind end) (S.world sim.old)) (S.world sim.new) some) }
+{
+    match kind {
+        EndTurn::Open => repeat_turn(sim, kind, place, end, most),
+        EndTurn::Pull => repeat_turn(sim, kind, place, end, most),
+        EndTurn::Transmit => sim.transmit(place, end, most),
+        EndTurn::Pump => repeat_turn(sim, kind, place, end, most),
+    }
 }
 
 /// The first place from `place` on at which a link end of the simulator may have such a turn. In most rounds frames are due at many ends, and

@@ -85,6 +85,12 @@ impl Simulator for Sim {
         }
     }
 
+    #[inline(always)]
+    fn transmit(&mut self, place: usize, end: (Id, Id), most: u64) -> Result<bool, AllocError> {
+        let (n, k) = end;
+        self.transmit_all(place, n, k, most)
+    }
+
     fn cut(&mut self, n: Id, k: Id) {
         self.cut_bound(n, k);
     }

@@ -6,6 +6,7 @@ pub mod Opens
 pub mod Needs
 pub mod AtNode
 pub mod Sends
+pub mod Sendings
 pub mod Receives
 pub mod Pumps
 pub mod Runs

@@ -1,9 +1,10 @@
 -- Events that are done or refused.
-use Rattle.std.specs.Prelude.{◌≡◌, ◌⊎◌, List, [], ◌∷◌, Result, MatchResult, Some, None}
+use Rattle.std.specs.Prelude.{◌≡◌, ◌⊎◌, ℕ, zero, suc, Bool, not, is_some, if◌then◌else◌, List, [], ◌∷◌, Result, MatchResult, Some, None}
+use Rattle.std.specs.declared.alloc.AllocError.{AllocError}
 use Rattle.tora_world.specs.declared.event.Event.{Event}
 use Rattle.tora_world.specs.declared.sim_error.SimError.{SimError}
 use Rattle.tora_world.specs.declared.sim_error.SimError.TheVariants as Refused
-use Rattle.tora_world.specs.World.{World, refusal_of, world_after}
+use Rattle.tora_world.specs.World.{World, is_empty, refusal_of, world_after, world_after_all}
 use Rattle.tora_sim.specs.Store.{SimState, world_of}
 
 -- the event is not refused, and leaves this world
@@ -31,3 +32,18 @@ StopsWith w (event ∷ events) error after = IsRefused w event error after ⊎ (
 
 abbrev pub Runs : SimState → List Event → Result (Unit {0}) SimError → SimState → Type 0
 Runs before events result after = MatchResult result (λ _. AllAreDone (world_of before) events (world_of after)) (λ error. StopsWith (world_of before) events error (world_of after))
+
+-- an event again and again until it is refused, and so many times at most
+unfoldable pub repeats : ℕ → Event → World → List Event
+repeats zero event w = []
+repeats (suc k) event w = if is_some (refusal_of w event) then [] else event ∷ repeats k event (world_after w event)
+
+-- the events of a plan happened, and some did or none
+pub record Happened (before : World) (events : List Event) (after : World) (some : Bool) : Type 0 where
+  pub after_is : after ≡ world_after_all before events
+  pub some_is : some ≡ not (is_empty events)
+
+-- an event happened until it was refused, or until there was no memory for it
+abbrev pub Repeats : SimState → ℕ → Event → Result Bool AllocError → SimState → Type 0
+Repeats before most event result after = MatchResult result (λ some. Happened (world_of before) (repeats most event (world_of before)) (world_of after) some)
+    (λ error. StopsWith (world_of before) (repeats most event (world_of before)) Refused.Memory (world_of after))

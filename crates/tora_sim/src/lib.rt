@@ -42,6 +42,7 @@ mod rest;
 mod restarts;
 mod same_frames;
 mod same_packets;
+mod sending;
 mod sim;
 mod split_number;
 mod stills;

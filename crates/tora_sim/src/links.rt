@@ -333,6 +333,39 @@ pub fn place(
     }
 }
 
+/// The place of the end of node `n` towards `k`, which is looked for at this place first.
+#[inline(always)]
+pub fn place_near(
+    links: &Vec<LinkSlot>,
+    keys: &Vec<(Id, Id)>,
+    hints: &Hints,
+    at: usize,
+    n: Id,
+    k: Id,
+) -> Option<usize>
+    requires rising { AreRising links.now.items }
+    requires keys { keys.now.items ≡ map key_of links.now.items }
+    ensures first { IfSome result (λ i. IsFirst (is_at n k) links.now.items i) }
+    ensures none { IfNone result (find (is_at n k) links.now.items ≡ None) }
+{
+    match stands_at(links, at, n, k) {
+        Some(at) => Some(at),
+        None => place(links, keys, hints, n, k),
+    }
+}
+
+/// The place, where the end of node `n` towards `k` stands there.
+#[inline(always)]
+fn stands_at(links: &[LinkSlot], at: usize, n: Id, k: Id) -> Option<usize>
+    requires { AreRising links.now }
+    ensures { IfSome result (λ i. IsFirst (is_at n k) links.now i) }
+{
+    match links.get(at) {
+        Some(link) => { if link.is_end(n, k) { Some(at) } else { None } }
+        None => None,
+    }
+}
+
 /// The place of the end, where it is among the first ends of its node, which stand from the place `first` on.
 #[inline(always)]
 fn near(keys: &[(Id, Id)], first: usize, n: Id, k: Id) -> Option<usize>

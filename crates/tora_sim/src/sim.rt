@@ -2,6 +2,7 @@
 ghost use Rattle.std.specs.Prelude.{◌≡◌, ◌<◌, true};
 ghost use Rattle.tora_world.specs.declared.event.Event.TheVariants.{Tick, Open, Pull, Need, Transmit, Deliver, Pump, CoreTurn, Arm, Restart};
 ghost use Rattle.tora_world.specs.World.{with_datagram};
+ghost use Rattle.tora_sim.specs.Links.{is_at};
 ghost use Rattle.tora_sim.specs.Nodes.{is_of, sending_of};
 ghost use Rattle.tora_sim.specs.Store.{numbered, call_of};
 ghost use Rattle.tora_sim.specs.Keyed.{IsFirst};
@@ -150,6 +151,24 @@ impl Sim {
         let Some(home) = node_place(&self.nodes, &self.hints, n) else {
             return Err(SimError::NoNode);
         };
+        self.transmit_at(n, k, at, home)
+    }
+
+    /// The first frame due of an end goes out: the end of node `_n` towards `_k` stands at the place `at`, and the node at the place `home`.
+    #[inline(always)]
+    pub(crate) fn transmit_at(
+        &mut self,
+        _n: Id,
+        _k: Id,
+        at: usize,
+        home: usize,
+    ) -> Result<(), SimError>
+        requires end { IsFirst (is_at _n _k) self.old.links at }
+        requires node { IsFirst (is_of _n) self.old.nodes home }
+        ensures done { Does self.old (Transmit _n _k) result self.new }
+        ensures end { IsFirst (is_at _n _k) self.new.links at }
+        ensures node { IsFirst (is_of _n) self.new.nodes home }
+    {
         if self.datagrams.reserve(at).is_err() {
             if !self.links[at].has_frame_due(self.clock) {
                 return Err(SimError::NotPossible);

@@ -1,6 +1,7 @@
 //! A simulator whose events are traced.
 ghost use Rattle.std.specs.Prelude.{◌≡◌, drop, IfOk, OnOk};
 ghost use Rattle.tora_world.specs.World.{refusal_of, world_after};
+ghost use Rattle.tora_sim.specs.Steps.{repeats, Happened};
 ghost use Rattle.tora_traced.specs.Tracing.{life_of_what, life_told, before_of, HasRecords, Records, with_sent, after_sent};
 
 use crate::watched::Watched;
@@ -150,6 +151,25 @@ impl<S: Watched> Traced<S> {
             Some(error) => Ok(Some(error)),
         }
     }
+
+    /// Makes an event happen until it is refused, and so many times at most, tells each time what it did, and says whether it ever happened. The
+    /// place is that of its node or link end.
+    fn step_on(&mut self, place: usize, event: &Event, most: u64) -> Result<bool, AllocError>
+        ensures { IfOk result (λ some. Happened (S.world self.old.sim) (repeats most event.now (S.world self.old.sim)) (S.world self.new.sim) some) }
+    {
+        let mut some = false;
+        for _ in 0..most {
+            if !self.sim.may_happen(place, event) {
+                return Ok(some);
+            }
+            let refused = self.step(event)?;
+            match refused {
+                None => some = true,
+                Some(_) => return Ok(some),
+            }
+        }
+        Ok(some)
+    }
 }
 
 impl<S: Watched> Simulator for Traced<S> {
@@ -211,6 +231,11 @@ impl<S: Watched> Simulator for Traced<S> {
 
     fn happen(&mut self, event: &Event) -> Result<Option<SimError>, AllocError> {
         self.step(event)
+    }
+
+    fn transmit(&mut self, place: usize, end: (Id, Id), most: u64) -> Result<bool, AllocError> {
+        let (n, k) = end;
+        self.step_on(place, &Event::Transmit(n, k), most)
     }
 
     fn cut(&mut self, n: Id, k: Id) {

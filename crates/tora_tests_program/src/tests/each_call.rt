@@ -17,6 +17,14 @@ struct Recorder {
     events: Vec<Event>,
 }
 
+/// Keeps an event so often. Each event of a link end that sends a frame makes a datagram, where no send is armed.
+fn keep_often(events: &mut Vec<Event>, event: Event, often: u64) -> Result<(), AllocError> {
+    for _ in 0..often {
+        events.push(event)?;
+    }
+    Ok(())
+}
+
 impl Simulator for Recorder {
     ghost use Rattle.tora_sim.specs.Store.{world_of};
 
@@ -67,6 +75,14 @@ impl Simulator for Recorder {
             self.events.push(*event)?;
         }
         Ok(refused)
+    }
+
+    fn transmit(&mut self, place: usize, end: (Id, Id), most: u64) -> Result<bool, AllocError> {
+        let before = <Sim as Simulator>::datagrams(&self.sim);
+        let some = <Sim as Simulator>::transmit(&mut self.sim, place, end, most)?;
+        let sent = <Sim as Simulator>::datagrams(&self.sim).saturating_sub(before);
+        keep_often(&mut self.events, Event::Transmit(end.0, end.1), sent)?;
+        Ok(some)
     }
 
     fn cut(&mut self, n: Id, k: Id) {

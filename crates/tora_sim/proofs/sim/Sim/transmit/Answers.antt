@@ -1,40 +1,10 @@
-use Rattle.std.proofs.Common.{◌≡◌, ℕ, zero, suc, ◌<◌, List, [], ◌∷◌, Some, None, length, set, is_some, refl, ap, sym, ◌∙◌, subst, arith}
-use Rattle.std.specs.Prelude.{slice_set, slice_index_or}
-use Rattle.std.proofs.lemmas.Bool.{both_ways}
-use Rattle.std.proofs.lemmas.Option.{slice_get_read}
-use Rattle.tora_frame.specs.FrameParts.{FrameParts}
-use Rattle.tora_arq.specs.LinkEnd.{frame_due, after_transmit}
-use Rattle.tora_world.specs.declared.event.Event.TheVariants.{Transmit}
-use Rattle.tora_world.specs.declared.sim_error.SimError.TheVariants as Refused
-use Rattle.tora_world.specs.World.{with_datagram}
-use Rattle.tora_sim.specs.Lanes.{AreReadyEach}
-use Rattle.tora_sim.specs.Links.{LinkView, with_state}
-use Rattle.tora_sim.specs.Nodes.{sending_of}
-use Rattle.tora_sim.specs.Plains.{IsPlain, ArePlainEach}
-use Rattle.tora_sim.specs.Possible.{has_cargo}
-use Rattle.tora_sim.specs.Quiet.{AreStill, AreStillEach}
-use Rattle.tora_sim.specs.Store.{SimState, IsStore, state_of, world_of}
-use Rattle.tora_sim.specs.Steps.{IsDone, IsRefused}
-use Rattle.tora_sim.proofs.Quiets.{set_same}
-use Rattle.tora_sim.proofs.Sends.{transmit_refused, transmit_starved, transmit_done, transmit_store, at_home}
-use Rattle.tora_sim.proofs.StillEnds.{possible_still}
-use Rattle.tora_sim.proofs.PlainEnds.{same_plain, transmit_plain}
-use Rattle.tora_sim.proofs.ReadyEnds.{kept_as}
-use Rattle.tora_sim.proofs.UnreadyEnds.{node_kept, same_place}
+use Rattle.std.proofs.Common.{◌∙◌, sym}
+use Rattle.tora_sim.proofs.Sends.{at_home}
+use Rattle.tora_sim.proofs.Sendings.{read_there}
 use Rattle.tora_sim.proofs.sim.Sim.transmit.Goals as goal
 
 pub place-requires-clause-keys : goal.place-requires-clause-keys
 place-requires-clause-keys c = c.self.invariant.3 ∙ sym c.self.invariant.0.keys
-
--- an end stands at each place within
-read_there : (links : List LinkView) (i : ℕ) → i < length links → (x : LinkView) × (x ≡ slice_index_or links i x)
-read_there [] i lt = absurd (omega (arith, lt))
-read_there (x ∷ links) zero lt = (x, refl)
-read_there (x ∷ links) (suc i) lt = read_there links i (omega (arith, lt))
-
--- an end of which no frame is due stays as it is
-nothing_sent : (links : List LinkView) (i clock : ℕ) (x link : LinkView) → i < length links → x ≡ slice_index_or links i x → after_transmit x.settings x.state clock ≡ x.state → link ≡ with_state x (after_transmit x.settings x.state clock) → set links i link ≡ links
-nothing_sent links i clock x link within read stays e = set_same links i x link within read (e ∙ ap (with_state x) stays)
 
 pub returns-in_default-node_place : goal.returns-in_default-node_place
 returns-in_default-node_place c =
@@ -42,98 +12,3 @@ returns-in_default-node_place c =
     let there = read_there s.links.items c.in-Some.at c.in-Some.ensures.first.within in
     absurd (at_home s.topology s.times s.clock s.nodes.items s.links.items s.datagrams.items c.self.invariant.0 c.args.n c.args.k c.in-Some.at there.0 c.in-Some.ensures.first there.1
     c.in_default-node_place.ensures.none)
-
-pub returns-then-not-has_frame_due : goal.returns-then-not-has_frame_due
-returns-then-not-has_frame_due c =
-    let s = c.self.inside in
-    subst (λ (w : SimState). IsRefused (world_of w) (Transmit c.args.n c.args.k) Refused.NotPossible (world_of (state_of s.topology s.times s.clock s.nodes.items s.links.items c.reserve.new.self.items))) c.self.view_is
-    (subst (λ (ds : List FrameParts). IsRefused (world_of (state_of s.topology s.times s.clock s.nodes.items s.links.items s.datagrams.items)) (Transmit c.args.n c.args.k) Refused.NotPossible (world_of (state_of s.topology s.times s.clock s.nodes.items s.links.items ds)))
-    (sym c.reserve.ensures.items)
-    (transmit_refused s.topology s.times s.clock s.nodes.items s.links.items s.datagrams.items c.self.invariant.0 c.args.n c.args.k c.in-Some.at c.index.result.now c.in-Some.ensures.first c.index.ensures
-    (sym c.has_frame_due.ensures ∙ c.if-not-has_frame_due.true)))
-
-pub returns-then-is_err : goal.returns-then-is_err
-returns-then-is_err c =
-    let s = c.self.inside in
-    subst (λ (w : SimState). IsRefused (world_of w) (Transmit c.args.n c.args.k) Refused.Memory (world_of (state_of s.topology s.times s.clock s.nodes.items s.links.items c.reserve.new.self.items))) c.self.view_is
-    (subst (λ (ds : List FrameParts). IsRefused (world_of (state_of s.topology s.times s.clock s.nodes.items s.links.items s.datagrams.items)) (Transmit c.args.n c.args.k) Refused.Memory (world_of (state_of s.topology s.times s.clock s.nodes.items s.links.items ds)))
-    (sym c.reserve.ensures.items)
-    (transmit_starved s.topology s.times s.clock s.nodes.items s.links.items s.datagrams.items c.self.invariant.0 c.args.n c.args.k c.in-Some.at c.index.result.now c.in-Some.ensures.first c.index.ensures
-    (sym c.has_frame_due.ensures ∙ c.if-not-has_frame_due.false)))
-
-pub invariant_of-self : goal.invariant_of-self
-invariant_of-self c =
-    let s = c.self.inside in (
-      subst (λ (ds : List FrameParts). IsStore (state_of s.topology s.times s.clock s.nodes.items s.links.items ds)) (sym c.reserve.ensures.items) c.self.invariant.0,
-      c.self.invariant.1,
-      c.self.invariant.2,
-      c.self.invariant.3,
-      c.self.invariant.4,
-      c.self.invariant.5,
-      c.self.invariant.6,
-    )
-
--- no frame was due
-module _ (c : goal.After-self-in_default-send-1) where
-  none : frame_due c.index_mut.result.now.settings c.index_mut.result.now.state c.self.inside.clock ≡ None
-  none = sym c.in_default-send.ensures.frame
-
-  same : slice_set c.self.inside.links.items c.in-Some.at c.send.new.self ≡ c.self.inside.links.items
-  same =
-      nothing_sent c.self.inside.links.items c.in-Some.at c.self.inside.clock c.index_mut.result.now c.send.new.self c.in-Some.ensures.first.within c.index_mut.ensures.value
-      (c.calls_keep_an_end.ensures.none_due c.index_mut.result.now.settings c.index_mut.result.now.state c.self.inside.clock none) c.in_default-send.ensures.state
-
-pub invariant_of-self-in_default-send : goal.invariant_of-self-in_default-send
-invariant_of-self-in_default-send c =
-    let s = c.self.inside in (
-      subst (λ (ds : List FrameParts). IsStore (state_of s.topology s.times s.clock s.nodes.items (slice_set s.links.items c.in-Some.at c.send.new.self) ds)) (sym c.reserve.ensures.items)
-          (subst (λ (xs : List LinkView). IsStore (state_of s.topology s.times s.clock s.nodes.items xs s.datagrams.items)) (sym (same c)) c.self.invariant.0),
-      subst (λ (xs : List LinkView). AreStill s.quiet s.nodes.items xs) (sym (same c)) c.self.invariant.1,
-      subst (λ (xs : List LinkView). AreStillEach s.clock s.stills xs) (sym (same c)) c.self.invariant.2,
-      c.self.invariant.3,
-      subst (λ (xs : List LinkView). ArePlainEach s.clock s.plains xs) (sym (same c)) c.self.invariant.4,
-      subst (λ (xs : List LinkView). AreReadyEach s.ready.items xs) (sym (same c)) c.self.invariant.5,
-      c.self.invariant.6,
-    )
-
-pub returns-in_default-send : goal.returns-in_default-send
-returns-in_default-send c =
-    let s = c.self.inside in
-    subst (λ (w : SimState). IsRefused (world_of w) (Transmit c.args.n c.args.k) Refused.NotPossible (world_of (state_of s.topology s.times s.clock s.nodes.items (slice_set s.links.items c.in-Some.at c.send.new.self) c.reserve.new.self.items))) c.self.view_is
-    (subst (λ (ds : List FrameParts). IsRefused (world_of (state_of s.topology s.times s.clock s.nodes.items s.links.items s.datagrams.items)) (Transmit c.args.n c.args.k) Refused.NotPossible (world_of (state_of s.topology s.times s.clock s.nodes.items (slice_set s.links.items c.in-Some.at c.send.new.self) ds)))
-    (sym c.reserve.ensures.items)
-    (subst (λ (xs : List LinkView). IsRefused (world_of (state_of s.topology s.times s.clock s.nodes.items s.links.items s.datagrams.items)) (Transmit c.args.n c.args.k) Refused.NotPossible (world_of (state_of s.topology s.times s.clock s.nodes.items xs s.datagrams.items)))
-    (sym (same c))
-    (transmit_refused s.topology s.times s.clock s.nodes.items s.links.items s.datagrams.items c.self.invariant.0 c.args.n c.args.k c.in-Some.at c.index_mut.result.now c.in-Some.ensures.first c.index_mut.ensures.value
-    (ap is_some (none c)))))
-
-module _ (c : goal.After-self-3-1) where
-  due : frame_due c.index_mut.result.now.settings c.index_mut.result.now.state c.self.inside.clock ≡ Some c.in-Some-send.frame
-  due = sym c.in-Some-send.ensures.frame
-
-  all : c.note_sent.new.datagrams.items ≡ with_datagram (sending_of c.index_mut-2.result.now.sending) c.self.inside.datagrams.items c.in-Some-send.frame
-  all = c.note_sent.ensures.datagrams ∙ ap (λ ds. with_datagram (sending_of c.index_mut-2.result.now.sending) ds c.in-Some-send.frame) c.reserve.ensures.items
-
-pub invariant_of-self-2 : goal.invariant_of-self-2
-invariant_of-self-2 c =
-    let s = c.self.inside in (
-      transmit_store s.topology s.times s.clock s.nodes.items s.links.items s.datagrams.items c.self.invariant.0 c.args.n c.args.k c.in-Some.at c.index_mut.result.now c.in-Some.ensures.first c.index_mut.ensures.value
-          c.in-Some-node_place.home c.index_mut-2.result.now c.in-Some-node_place.ensures.first c.index_mut-2.ensures.value c.in-Some-send.frame (due c)
-          c.data_frames_are_what_was_submitted.ensures.frame c.send.new.self c.note_sent.new.node c.note_sent.new.datagrams.items c.in-Some-send.ensures.state c.note_sent.ensures.node (all c),
-      λ none. absurd (omega (arith, none)),
-      possible_still s.clock s.stills s.links.items c.in-Some.at c.index_mut.result.now c.send.new.self c.in-Some.ensures.first.within c.index_mut.ensures.value
-          (λ until lt h. both_ways (is_some (frame_due c.index_mut.result.now.settings c.index_mut.result.now.state s.clock)) (h.frames s.clock lt) (ap is_some (due c))) c.self.invariant.2,
-      c.self.invariant.3,
-      same_plain s.clock s.plains s.links.items c.in-Some.at c.index_mut.result.now c.send.new.self (slice_get_read s.links.items (length s.links.items) c.in-Some.at c.index_mut.result.now refl c.in-Some.ensures.first.within c.index_mut.ensures.value)
-          (λ h. subst (λ (x : LinkView). IsPlain x) (sym c.in-Some-send.ensures.state) (transmit_plain c.index_mut.result.now.settings c.index_mut.result.now.state s.clock (has_cargo c.index_mut.result.now) h)) c.self.invariant.4,
-      kept_as s.ready.items s.links.items c.in-Some.at c.index_mut.result.now c.send.new.self _ c.in-Some.ensures.first.within c.index_mut.ensures.value c.in-Some-send.ensures.state (λ h. h) c.self.invariant.5,
-      node_kept s.unready.items s.nodes.items s.ready.items c.in-Some-node_place.home c.index_mut-2.result.now c.note_sent.new.node c.in-Some-node_place.ensures.first.within c.index_mut-2.ensures.value (same_place c.index_mut-2.result.now c.note_sent.new.node _ c.note_sent.ensures.node (refl, refl)) c.self.invariant.6,
-    )
-
-pub returns : goal.returns
-returns c =
-    let s = c.self.inside in
-    subst (λ (before : SimState). IsDone (world_of before) (Transmit c.args.n c.args.k) (world_of (state_of s.topology s.times s.clock (slice_set s.nodes.items c.in-Some-node_place.home c.note_sent.new.node) (slice_set s.links.items c.in-Some.at c.send.new.self) c.note_sent.new.datagrams.items))) c.self.view_is
-    (transmit_done s.topology s.times s.clock s.nodes.items s.links.items s.datagrams.items c.self.invariant.0 c.args.n c.args.k c.in-Some.at c.index_mut.result.now c.in-Some.ensures.first c.index_mut.ensures.value
-    c.in-Some-node_place.home c.index_mut-2.result.now c.in-Some-node_place.ensures.first c.index_mut-2.ensures.value c.in-Some-send.frame (due c)
-    c.send.new.self c.note_sent.new.node c.note_sent.new.datagrams.items c.in-Some-send.ensures.state c.note_sent.ensures.node (all c))

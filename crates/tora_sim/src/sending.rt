@@ -1,0 +1,76 @@
+//! The frames of a link end go out, one after another.
+ghost use Rattle.std.specs.Prelude.{MatchResult};
+ghost use Rattle.tora_sim.specs.Keyed.{IsFirst};
+ghost use Rattle.tora_sim.specs.Links.{is_at};
+ghost use Rattle.tora_sim.specs.Nodes.{is_of};
+ghost use Rattle.tora_sim.specs.Store.{world_of};
+ghost use Rattle.tora_sim.specs.Steps.{Repeats};
+ghost use Rattle.tora_world.specs.declared.event.Event.TheVariants.{Transmit};
+
+use crate::SimError;
+use crate::links::place_near;
+use crate::nodes::place as node_place;
+use crate::sim::Sim;
+use std::alloc::AllocError;
+use tora_height::Id;
+
+impl Sim {
+    /// Lets `Transmit` happen at the end of node `n` towards `k` until it is refused, and so many times at most, and answers whether it ever
+    /// did: all frames go out that are due. The end and its node are found once.
+    ///
+    /// The place is that of the link end among `ends`, from 0 on; where another end stands there, it is searched.
+    ///
+    /// # Errors
+    /// Where there is no memory for a frame that is due. The world is then as after the frames before it.
+    pub fn transmit_all(
+        &mut self,
+        place: usize,
+        n: Id,
+        k: Id,
+        most: u64,
+    ) -> Result<bool, AllocError>
+        ensures { Repeats self.old most (Transmit n k) result self.new }
+    {
+        let Some(at) = place_near(&self.links, &self.keys, &self.hints, place, n, k) else {
+            return Ok(false);
+        };
+        if !self.links[at].has_frame_due(self.clock) {
+            return Ok(false);
+        }
+        let Some(home) = node_place(&self.nodes, &self.hints, n) else {
+            return Ok(false);
+        };
+        self.transmit_from(n, k, at, home, most)
+    }
+
+    /// Lets the frames of an end go out that are due, and so many at most: the end stands at the place `at`, and its node at the place `home`.
+    /// Whether a frame is due is asked each time but the first: before that the caller asks.
+    #[inline(always)]
+    fn transmit_from(
+        &mut self,
+        n: Id,
+        k: Id,
+        at: usize,
+        home: usize,
+        most: u64,
+    ) -> Result<bool, AllocError>
+        requires end { IsFirst (is_at n k) self.old.links at }
+        requires node { IsFirst (is_of n) self.old.nodes home }
+        ensures { Repeats self.old most (Transmit n k) result self.new }
+    {
+        let mut some = false;
+        for _ in 0..most {
+            if some && !self.links[at].has_frame_due(self.clock) {
+                return Ok(true);
+            }
+            match self.transmit_at(n, k, at, home) {
+                Ok(()) => some = true,
+                Err(SimError::Memory) => return Err(AllocError),
+                Err(SimError::NoNode) => return Ok(some),
+                Err(SimError::NoDatagram) => return Ok(some),
+                Err(SimError::NotPossible) => return Ok(some),
+            }
+        }
+        Ok(some)
+    }
+}
