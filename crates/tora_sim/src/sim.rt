@@ -273,6 +273,7 @@ impl Sim {
         let before = still_unready(&self.ready, first, range);
         let mut unready = before;
         let turned = turn(&mut self.nodes[home], &mut self.links, &mut unready);
+        // what the turn changed, and what it left as it was
         let after = unready.joined(before).within(count);
         let start = first + after.from;
         forget_waiting(

@@ -30,6 +30,25 @@ fn pairs_of_nodes(rt: HostRuntime) {
     sees(&rt, parted.is_parted(7, 7), "a pair that stays");
 }
 
+/// Node 1,023 is the last that has a bit for each pair; pairs with nodes behind it are kept and mended all the same.
+#[test]
+fn pairs_behind_the_bits(rt: HostRuntime) {
+    let mut parted = Parted::of(rt.alloc(), &[]).expect(&rt, "no pairs");
+    sees(
+        &rt,
+        parted.part(1_024, 1_023).is_ok(),
+        "a pair without a bit",
+    );
+    sees(&rt, parted.part(1_023, 0).is_ok(), "a pair with one");
+    sees(&rt, parted.is_parted(1_023, 1_024), "the first, turned");
+    sees(&rt, parted.is_parted(0, 1_023), "the second, turned");
+    sees(&rt, !parted.is_parted(0, 1_024), "no such pair");
+    sees(&rt, !parted.is_parted(1_023, 1_023), "nor this one");
+    parted.mend(1_023, 1_024);
+    sees(&rt, !parted.is_parted(1_024, 1_023), "the first, mended");
+    sees(&rt, parted.is_parted(1_023, 0), "the second stays");
+}
+
 /// A simulator of a line of three nodes behind a need of node 1.
 fn needing(rt: &impl Abort, alloc: Global) -> Sim {
     let topology = Topology::new(alloc, &[(1, 2), (2, 3)], &[3]).expect(rt, "a topology");
