@@ -1,7 +1,8 @@
 -- What a channel makes of the datagrams of rounds: which come at once, and which in later rounds.
-use Rattle.std.specs.Prelude.{ℕ, zero, suc, ◌+◌, ◌-◌, ◌%◌, ◌^◌, ◌==◌, ◌&&◌, nat_lt, if◌then◌else◌, List, [], ◌∷◌, ◌++◌, length, map, filter, Option, Some, None}
+use Rattle.std.specs.Prelude.{◌≡◌, ℕ, zero, suc, ◌+◌, ◌-◌, ◌%◌, ◌^◌, ◌==◌, ◌&&◌, nat_lt, if◌then◌else◌, List, [], ◌∷◌, ◌++◌, length, map, filter, Option, Some, None}
 use Rattle.tora_frame.specs.FrameParts.{FrameParts}
 use Rattle.tora_channel.specs.declared.channel.Copies.{Copies}
+use Rattle.tora_channel.specs.declared.channel.Place.{Place}
 use Rattle.tora_channel.specs.declared.table.ChannelTable.{ChannelTable}
 use Rattle.tora_channel.specs.Table.{Channels, over, copies_on}
 use Rattle.tora_world.specs.World.{World, datagram}
@@ -43,6 +44,10 @@ gone w way first (suc count) = gone w way first count + goes way (datagram w (fi
 -- what becomes of datagram i, which goes this way: its round is that of the moment, and those before it went since the round began
 abbrev pub copies_in : MomentView → ℕ → ℕ × ℕ → World → Copies
 copies_in m i way w = copies_on m.channel (record { round = m.round; sender = way.0; receiver = way.1; before = gone w way m.start (i - 1 - m.start) })
+
+-- nothing is lost, late or repeated in the round
+abbrev pub IsClear : MomentView → Type 0
+IsClear m = (place : Place) → copies_on m.channel place ≡ record { first = Some 0; second = None }
 
 -- ---- at once
 

@@ -1,18 +1,17 @@
 //! The datagrams of a pass are delivered.
 ghost use Rattle.std.specs.Prelude.{◌≡◌, ◌<◌, ◌≤◌, ◌-◌, true, IfOk, OnOk};
 ghost use Rattle.tora_world.specs.World.{datagram};
-ghost use Rattle.tora_script.specs.Air.{moment_on};
+ghost use Rattle.tora_script.specs.Air.{moment_on, IsClear};
 ghost use Rattle.tora_script.specs.Rounds.{Happened, delivery, new_deliveries};
 ghost use Rattle.tora_script.specs.Ways.{AreCounted};
 
 use crate::air::{Moment, at_once, copies, counted_copies};
 use crate::parted::Parted;
-use crate::rounds::{either, repeat};
+use crate::rounds::either;
 use crate::simulator::Simulator;
 use crate::ways::Ways;
 use std::alloc::{AllocError, Global};
 use tora_channel::ChannelTable;
-use tora_world::Event;
 
 /// Delivers the datagrams behind the first ones.
 ///
@@ -26,7 +25,10 @@ pub fn deliver_new<S: Simulator>(
 ) -> Result<bool, AllocError>
     ensures { IfOk result (λ some. Happened (S.world sim.old) (new_deliveries parted.now (moment_on table.now moment) first (S.world sim.old)) (S.world sim.new) some) }
 {
-    if is_to_count(sim, table, moment, first) {
+    if table.is_clear(moment.channel) {
+        return deliver_clear(sim, parted, table, moment, first);
+    }
+    if is_to_count(sim, moment, first) {
         deliver_counted(sim, parted, table, moment, first)
     } else {
         deliver_each(sim, parted, table, moment, first)
@@ -34,13 +36,54 @@ pub fn deliver_new<S: Simulator>(
 }
 
 /// Whether there are datagrams behind the first ones, of which each comes as often as those before it say.
-fn is_to_count<S: Simulator>(sim: &S, table: &ChannelTable, moment: Moment, first: u64) -> bool
+fn is_to_count<S: Simulator>(sim: &S, moment: Moment, first: u64) -> bool
     ensures { result ≡ true → moment.start ≤ first }
 {
     if first < moment.start {
         return false;
     }
-    first < sim.datagrams() && !table.is_clear(moment.channel)
+    first < sim.datagrams()
+}
+
+/// Delivers a datagram over a clear channel, unless its nodes are parted: it comes at once, and once.
+#[inline(always)]
+fn deliver_once<S: Simulator>(
+    sim: &mut S,
+    parted: &Parted,
+    _table: &ChannelTable,
+    _moment: Moment,
+    i: u64,
+) -> Result<bool, AllocError>
+    requires { IsClear (moment_on _table.now _moment) }
+    ensures { IfOk result (λ some. Happened (S.world sim.old) (delivery parted.now (moment_on _table.now _moment) i (S.world sim.old)) (S.world sim.new) some) }
+{
+    let Some(way) = sim.datagram(i) else {
+        return Ok(false);
+    };
+    if parted.is_parted(way.0, way.1) {
+        return Ok(false);
+    }
+    let some = sim.deliver(i, 1)?;
+    Ok(some)
+}
+
+/// Delivers the datagrams behind the first ones over a clear channel.
+fn deliver_clear<S: Simulator>(
+    sim: &mut S,
+    parted: &Parted,
+    table: &ChannelTable,
+    moment: Moment,
+    first: u64,
+) -> Result<bool, AllocError>
+    requires { IsClear (moment_on table.now moment) }
+    ensures { IfOk result (λ some. Happened (S.world sim.old) (new_deliveries parted.now (moment_on table.now moment) first (S.world sim.old)) (S.world sim.new) some) }
+{
+    let mut some = false;
+    for i in first..sim.datagrams() {
+        let any = deliver_once(sim, parted, table, moment, i + 1)?;
+        some = either(some, any);
+    }
+    Ok(some)
 }
 
 /// Delivers a datagram as often as the channel says, unless its nodes are parted.
@@ -60,7 +103,7 @@ fn deliver<S: Simulator>(
         return Ok(false);
     }
     let copies = copies(sim, table, moment, i, (sender, receiver));
-    repeat(sim, 0, &Event::Deliver(i), at_once(copies))
+    sim.deliver(i, at_once(copies))
 }
 
 /// Delivers the datagrams behind the first ones, of which none is counted.
@@ -102,7 +145,7 @@ fn deliver_next<S: Simulator>(
     if parted.is_parted(way.0, way.1) {
         return Ok(false);
     }
-    let some = repeat(sim, 0, &Event::Deliver(i), at_once(copies))?;
+    let some = sim.deliver(i, at_once(copies))?;
     Ok(some)
 }
 

@@ -234,7 +234,7 @@ fn arrive<S: Simulator>(sim: &mut S, parted: &Parted, i: u64) -> Result<bool, Al
     if parted.is_parted(sender, receiver) {
         return Ok(false);
     }
-    repeat(sim, 0, &Event::Deliver(i), 1)
+    sim.deliver(i, 1)
 }
 
 /// Delivers a datagram, unless it comes in a later round.

@@ -1,7 +1,7 @@
 //! What the engine asks of a simulator.
 ghost use Rattle.std.specs.Prelude.{◌≡◌, ◌<◌, ◌≤◌, ℕ, true, false, Some, is_some, length, option_map, slice_get, IfOk};
 ghost use Rattle.tora_world.specs.World.{World, refusal_of, world_after, datagram, sent_packets, taken_packets};
-ghost use Rattle.tora_world.specs.declared.event.Event.TheVariants.{Transmit};
+ghost use Rattle.tora_world.specs.declared.event.Event.TheVariants.{Transmit, Deliver};
 ghost use Rattle.tora_arq.specs.Settings.{IsTimes};
 ghost use Rattle.tora_script.specs.Simulator.{ArePairs, AreIds, Starts, nodes_of};
 ghost use Rattle.tora_sim.specs.Cuts.{after_cut_at};
@@ -90,6 +90,11 @@ pub trait Simulator: Drop {
     /// It costs less than to ask `may_happen` and `happen` by turns. Where memory is refused, the frames before are sent.
     fn transmit(&mut self, place: usize, end: (Id, Id), most: u64) -> Result<bool, AllocError>
         ensures { IfOk result (λ some. Happened (world self.old) (repeats most (Transmit end.0 end.1) (world self.old)) (world self.new) some) };
+
+    /// Makes a datagram come until that is refused, and so many times at most, and says whether it ever came: it is a `Deliver` as often as
+    /// `happen` takes it.
+    fn deliver(&mut self, i: u64, most: u64) -> Result<bool, AllocError>
+        ensures { IfOk result (λ some. Happened (world self.old) (repeats most (Deliver i) (world self.old)) (world self.new) some) };
 
     /// Cuts the life that a link end is bound to, if it is bound, as a link layer has it that tells of a broken link; nothing
     /// where there is no such link.

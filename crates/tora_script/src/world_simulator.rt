@@ -91,6 +91,11 @@ impl Simulator for Sim {
         self.transmit_all(place, n, k, most)
     }
 
+    #[inline(always)]
+    fn deliver(&mut self, i: u64, most: u64) -> Result<bool, AllocError> {
+        self.deliver_all(i, most)
+    }
+
     fn cut(&mut self, n: Id, k: Id) {
         self.cut_bound(n, k);
     }

@@ -6,11 +6,11 @@ use Rattle.tora_frame.specs.FrameParts.{FrameParts}
 use Rattle.tora_arq.specs.declared.times.Times.{Times}
 use Rattle.tora_arq.specs.LinkEnd.{EndState, frame_due}
 use Rattle.tora_world.specs.declared.event.Event.{Event}
-use Rattle.tora_world.specs.declared.event.Event.TheVariants.{Transmit}
+use Rattle.tora_world.specs.declared.event.Event.TheVariants.{Transmit, Deliver}
 use Rattle.tora_world.specs.declared.sim_error.SimError.{SimError}
 use Rattle.tora_world.specs.declared.sim_error.SimError.TheVariants as Refused
 use Rattle.tora_world.specs.Topology.{Topology, is_link}
-use Rattle.tora_world.specs.World.{World, is_empty, settings, unless_possible, refusal_of, world_after, world_after_all}
+use Rattle.tora_world.specs.World.{World, is_empty, datagram, settings, unless_possible, refusal_of, world_after, world_after_all}
 use Rattle.tora_sim.specs.Keyed.{IsFirst}
 use Rattle.tora_sim.specs.declared.nodes.Sending.TheVariants as Sends
 use Rattle.tora_sim.specs.Links.{LinkView, is_at, with_state}
@@ -56,6 +56,13 @@ no_memory w n k after r = elim r.cause [ inl e ↦ e.1 | inr e ↦ absurd (go (i
     go true false e = let z : Some Refused.NotPossible ≡ Some Refused.Memory = e in cc
     go false b e = let z : Some Refused.NoNode ≡ Some Refused.Memory = e in cc
 
+pub no_memory_then : (w : World) (i : ℕ) (after : World) → IsRefused w (Deliver i) Refused.Memory after → refusal_of w (Deliver i) ≡ None
+no_memory_then w i after r = elim r.cause [ inl e ↦ e.1 | inr e ↦ absurd (go (is_some (datagram w i)) e) ]
+  where
+    go : (b : Bool) → (if b then None else Some Refused.NoDatagram) ≡ Some Refused.Memory → ⊥
+    go true e = cc
+    go false e = let z : Some Refused.NoDatagram ≡ Some Refused.Memory = e in cc
+
 -- it is refused for another cause
 pub other_cause : (w : World) (event : Event) (error : SimError) (after : World) → (error ≡ Refused.Memory → ⊥) → IsRefused w event error after → is_some (refusal_of w event) ≡ true
 other_cause w event error after other r = elim r.cause [ inl e ↦ absurd (other e.0) | inr e ↦ ap is_some e ]
@@ -76,6 +83,10 @@ pub record Onward (start : World) (events : List Event) (w : World) (some : Bool
 
 pub begins : (w : World) (events : List Event) → Onward w events w false events
 begins w events = record { goes = refl; any = refl; stops = λ error after h. h }
+
+-- what is left of a world is left of one that is the same
+pub still_onward : {a b : SimState} (start : World) (events : List Event) (some : Bool) (j : ℕ) (event : Event) → a ≡ b → Onward start events (world_of b) some (repeats j event (world_of b)) → Onward start events (world_of a) some (repeats j event (world_of a))
+still_onward start events some j event same o = subst (λ (s : SimState). Onward start events (world_of s) some (repeats j event (world_of s))) (sym same) o
 
 or_true : (a : Bool) → (a || true) ≡ true
 or_true true = refl
@@ -105,12 +116,15 @@ refused start events w some j event o stop =
     ended start events w some (subst (λ (l : List Event). Onward start events w some l) left o)
 
 -- there is no memory for it
-pub starved : (start : World) (events : List Event) (w next : World) (some : Bool) (j n k : ℕ) → Onward start events w some (repeats (suc j) (Transmit n k) w) → IsRefused w (Transmit n k) Refused.Memory next → StopsWith start events Refused.Memory next
+pub starved_of : (start : World) (events : List Event) (w next : World) (some : Bool) (j : ℕ) (event : Event) → Onward start events w some (repeats (suc j) event w) → refusal_of w event ≡ None → IsRefused w event Refused.Memory next → StopsWith start events Refused.Memory next
 unfolding repeats
-starved start events w next some j n k o r =
-    let left : repeats (suc j) (Transmit n k) w ≡ Transmit n k ∷ repeats j (Transmit n k) (world_after w (Transmit n k)) =
-    ap (λ (r : Option SimError). if is_some r then [] else Transmit n k ∷ repeats j (Transmit n k) (world_after w (Transmit n k))) (no_memory w n k next r) in
+starved_of start events w next some j event o free r =
+    let left : repeats (suc j) event w ≡ event ∷ repeats j event (world_after w event) =
+    ap (λ (r : Option SimError). if is_some r then [] else event ∷ repeats j event (world_after w event)) free in
     o.stops Refused.Memory next (subst (λ (l : List Event). StopsWith w l Refused.Memory next) (sym left) (inl r))
+
+pub starved : (start : World) (events : List Event) (w next : World) (some : Bool) (j n k : ℕ) → Onward start events w some (repeats (suc j) (Transmit n k) w) → IsRefused w (Transmit n k) Refused.Memory next → StopsWith start events Refused.Memory next
+starved start events w next some j n k o r = starved_of start events w next some j (Transmit n k) o (no_memory w n k next r) r
 
 pub no_more : (start : World) (events : List Event) (w : World) (some : Bool) (event : Event) → Onward start events w some (repeats zero event w) → Happened start events w some
 unfolding repeats

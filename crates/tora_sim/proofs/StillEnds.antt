@@ -101,6 +101,33 @@ unknown_still clock stills links at new nothing h = record { as_many = h.as_many
     go j y lt (inl p) = let zero_there : slice_index stills j ≡ 0 = ap (slice_index stills) p.0 ∙ nothing in absurd (omega (arith, lt, zero_there))
     go j y lt (inr old) = h.still j y lt old
 
+-- an end that changed, of which it is found until which tick nothing is to be done at it
+pub found_still : (clock : ℕ) (stills after : List ℕ) (links : List LinkView) (at until : ℕ) (new : LinkView) → at < length links → after ≡ set stills at until → IsStillIf until new → AreStillEach clock stills links → AreStillEach clock after (set links at new)
+found_still clock stills after links at until new within e s h = record {
+  as_many = ap length e ∙ length-set stills at until ∙ h.as_many ∙ sym (length-set links at new);
+  still = λ j y lt there. go j y (subst (λ (ys : List ℕ). clock < slice_index ys j) e lt) there (cases_eq j at);
+}
+  where
+    value : slice_index (set stills at until) at ≡ until
+    value = let many = h.as_many in get_or-set_same stills at until 0 (omega (arith, within, many))
+
+    here : slice_get (set links at new) at ≡ Some new
+    here = slice_get_read (set links at new) (length (set links at new)) at new refl (subst (λ (n : ℕ). at < n) (sym (length-set links at new)) within) (sym (get_or-set_same links at new new within))
+
+    old_end : (j : ℕ) (y : LinkView) → clock < slice_index stills j → (j ≡ at → ⊥) → ((j ≡ at) × (new ≡ y)) ⊎ (slice_get links j ≡ Some y) → IsStill (slice_index stills j) y
+    old_end j y lt off (inl p) = absurd (off p.0)
+    old_end j y lt off (inr old) = h.still j y lt old
+
+    go : (j : ℕ) (y : LinkView) → clock < slice_index (set stills at until) j → slice_get (set links at new) j ≡ Some y → (j ≡ at) ⊎ (j ≡ at → ⊥) → IsStill (slice_index after j) y
+    go j y lt there (inl q) =
+        let link_is : new ≡ y = same_Some new y (sym here ∙ ap (slice_get (set links at new)) (sym q) ∙ there) in
+        let until_is : slice_index (set stills at until) j ≡ until = ap (slice_index (set stills at until)) q ∙ value in
+        let some : 0 < until = omega (arith, lt, until_is) in
+        subst (λ (z : LinkView). IsStill (slice_index after j) z) link_is (subst (λ (n : ℕ). IsStill n new) (sym (ap (λ (ys : List ℕ). slice_index ys j) e ∙ until_is)) (s some))
+    go j y lt there (inr off) =
+        let same : slice_index (set stills at until) j ≡ slice_index stills j = get_or-set_other stills at j until 0 off in
+        subst (λ (n : ℕ). IsStill n y) (sym (ap (λ (ys : List ℕ). slice_index ys j) e ∙ same)) (old_end j y (subst (λ (n : ℕ). clock < n) same lt) off (set_read links at new j y there))
+
 -- ends that are each as still as they were
 pub mapped_still : (clock : ℕ) (stills : List ℕ) (links after : List LinkView) (f : LinkView → LinkView) → after ≡ map f links → ((until : ℕ) (x : LinkView) → IsStill until x → IsStill until (f x)) → AreStillEach clock stills links → AreStillEach clock stills after
 mapped_still clock stills links after f e keeps h = record {

@@ -13,6 +13,7 @@ pub mod LinksByBits
 pub mod Topologies
 pub mod Store
 pub mod Steps
+pub mod Sending
 pub mod Readers
 pub mod Possible
 pub mod Firsts

@@ -16,6 +16,7 @@
 
 mod cuts;
 mod datagrams;
+mod delivering;
 mod due;
 mod duplicates;
 mod files;

@@ -28,6 +28,9 @@ use tora_seat::{Cargo, hand_in};
 /// How many ends of a node are looked at one by one, before all are searched by halves.
 const MOST_TRIED: usize = 32;
 
+/// Of so few ends of a node each is looked at; more are halved.
+const FEW: usize = 8;
+
 /// The end of a link at one node, with its life file and the lane from the node's core to it.
 #[derive(Drop)]
 pub struct LinkSlot {
@@ -354,6 +357,28 @@ pub fn place_near(
     }
 }
 
+/// The place of the end of node `n` towards `k`, which is looked for among the `count` ends from the place `first` on first.
+#[inline(always)]
+pub fn place_among(
+    _links: &Vec<LinkSlot>,
+    keys: &Vec<(Id, Id)>,
+    first: usize,
+    count: usize,
+    n: Id,
+    k: Id,
+) -> Option<usize>
+    requires rising { AreRising _links.now.items }
+    requires keys { keys.now.items ≡ map key_of _links.now.items }
+    ensures first { IfSome result (λ i. IsFirst (is_at n k) _links.now.items i) }
+    ensures none { IfNone result (find (is_at n k) _links.now.items ≡ None) }
+{
+    let ends = keys.as_slice();
+    match among(ends, first, count, n, k) {
+        Some(at) => Some(at),
+        None => search(ends, n, k),
+    }
+}
+
 /// The place, where the end of node `n` towards `k` stands there.
 #[inline(always)]
 fn stands_at(links: &[LinkSlot], at: usize, n: Id, k: Id) -> Option<usize>
@@ -366,18 +391,71 @@ fn stands_at(links: &[LinkSlot], at: usize, n: Id, k: Id) -> Option<usize>
     }
 }
 
-/// The place of the end, where it is among the first ends of its node, which stand from the place `first` on.
+/// The place of the end, where it is found among the `count` ends from the place `first` on: few are looked at one by one, and many are halved.
 #[inline(always)]
-fn near(keys: &[(Id, Id)], first: usize, n: Id, k: Id) -> Option<usize>
+fn among(keys: &[(Id, Id)], first: usize, count: usize, n: Id, k: Id) -> Option<usize>
     ensures { IfSome result (λ i. slice_get keys.now i ≡ Some (n, k)) }
 {
-    let behind = keys.len().min(first.saturating_add(MOST_TRIED));
+    if count > FEW {
+        halved(keys, first, count, n, k)
+    } else {
+        tried(keys, first, count, n, k)
+    }
+}
+
+/// The place, where the end stands behind the place `first` and among so many; each is looked at.
+#[inline(always)]
+fn tried(keys: &[(Id, Id)], first: usize, count: usize, n: Id, k: Id) -> Option<usize>
+    ensures { IfSome result (λ i. slice_get keys.now i ≡ Some (n, k)) }
+{
+    let behind = keys.len().min(first.saturating_add(count));
     for at in first..behind {
         if is_key(keys[at], n, k) {
             return Some(at);
         }
     }
     None
+}
+
+/// The place, where the end is found among the ends of node `n`, which rise by their peers and stand from the place `first` on: in each
+/// turn the half of them is left in which it may stand. What stands at the last place is looked at.
+#[inline(never)]
+fn halved(keys: &[(Id, Id)], first: usize, count: usize, n: Id, k: Id) -> Option<usize>
+    ensures { IfSome result (λ i. slice_get keys.now i ≡ Some (n, k)) }
+{
+    let mut at = first;
+    let mut left = count;
+    while left > 1 {
+        let half = left / 2;
+        let middle = at.saturating_add(half);
+        if is_within(keys, middle, k) {
+            at = middle;
+            left -= half;
+        } else {
+            left = half;
+        }
+    }
+    match keys.get(at) {
+        Some(key) => { if is_key(*key, n, k) { Some(at) } else { None } }
+        None => None,
+    }
+}
+
+/// Whether the peer of the end at a place is at most this one.
+#[inline(always)]
+fn is_within(keys: &[(Id, Id)], at: usize, k: Id) -> bool {
+    match keys.get(at) {
+        Some(key) => key.1 <= k,
+        None => false,
+    }
+}
+
+/// The place of the end, where it is among the first ends of its node, which stand from the place `first` on.
+#[inline(always)]
+fn near(keys: &[(Id, Id)], first: usize, n: Id, k: Id) -> Option<usize>
+    ensures { IfSome result (λ i. slice_get keys.now i ≡ Some (n, k)) }
+{
+    tried(keys, first, MOST_TRIED, n, k)
 }
 
 fn search(keys: &[(Id, Id)], n: Id, k: Id) -> Option<usize>

@@ -3,6 +3,7 @@ ghost use Rattle.std.specs.Prelude.{◌≡◌, ◌*◌, ◌<◌, true, false, le
 ghost use Rattle.tora_arq.specs.LinkEnd.{is_closed, after_frame, after_tick};
 ghost use Rattle.tora_sim.specs.Links.{with_state};
 ghost use Rattle.tora_sim.specs.Plains.{IsPlain, ArePlainEach};
+ghost use Rattle.tora_sim.specs.Quiet.{IsStillIf};
 
 use crate::links::LinkSlot;
 use crate::stills::{
@@ -90,13 +91,29 @@ impl LinkSlot {
         self.is_closed()
     }
 
-    /// Takes a frame in, and tells whether the end is busy then.
+    /// Takes a frame in, and tells whether the end is busy then, and before which tick nothing is to be done at it; 0 where something is to be
+    /// done at once.
     #[inline(always)]
-    pub fn receive_and_look(&mut self, frame: &BorrowedFrame<'_>, now: u64) -> bool
+    pub fn receive_and_look(&mut self, frame: &BorrowedFrame<'_>, now: u64) -> (bool, u64)
         ensures state { self.new ≡ with_state self.old (after_frame self.old.settings self.old.state frame.now now) }
-        ensures plain { result ≡ false → IsPlain self.new }
+        ensures plain { result.0 ≡ false → IsPlain self.new }
+        ensures still { IsStillIf result.1 self.new }
     {
         self.receive(frame, now);
-        self.is_busy()
+        let busy = self.is_busy();
+        let until = self.still_unless(busy);
+        (busy, until)
+    }
+
+    /// Before which tick nothing is to be done here, where it is known whether the end is busy; 0 where something is to be done at once.
+    #[inline(always)]
+    pub fn still_unless(&self, busy: bool) -> u64
+        requires { busy ≡ false → IsPlain self.now }
+        ensures { IsStillIf result self.now }
+    {
+        if busy {
+            return 0;
+        }
+        self.quiet_end_until()
     }
 }

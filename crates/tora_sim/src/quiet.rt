@@ -39,15 +39,19 @@ impl Sim {
     }
 }
 
-/// Before which tick nothing is to be done; 0 where something is to be done at once.
+/// Before which tick nothing is to be done; 0 where something is to be done at once. The nodes are looked at last: they lie far apart.
 fn quiet_until(nodes: &Vec<NodeSlot>, _links: &Vec<LinkSlot>, stills: &Stills, now: u64) -> u64
     requires { AreStillEach now stills.now _links.now.items }
     ensures { AreStill result nodes.now.items _links.now.items }
 {
+    let until = still_until(stills, now);
+    if until == 0 {
+        return 0;
+    }
     if !are_idle(nodes) {
         return 0;
     }
-    still_until(stills, now)
+    until
 }
 
 /// Looks at each link end of which no tick is known that is still to come, for the tick before which nothing is to be done at it.
@@ -106,12 +110,10 @@ impl NodeSlot {
 
 impl LinkSlot {
     /// Before which tick nothing is to be done here; 0 where something is to be done at once.
-    fn still_until(&self) -> u64
+    #[inline(always)]
+    pub fn still_until(&self) -> u64
         ensures { IsStillIf result self.now }
     {
-        if self.is_busy() {
-            return 0;
-        }
-        self.quiet_end_until()
+        self.still_unless(self.is_busy())
     }
 }

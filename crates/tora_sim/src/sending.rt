@@ -1,9 +1,10 @@
 //! The frames of a link end go out, one after another.
-ghost use Rattle.std.specs.Prelude.{MatchResult};
+ghost use Rattle.std.specs.Prelude.{◌≡◌, ◌<◌, true, MatchResult, length};
 ghost use Rattle.tora_sim.specs.Keyed.{IsFirst};
 ghost use Rattle.tora_sim.specs.Links.{is_at};
 ghost use Rattle.tora_sim.specs.Nodes.{is_of};
 ghost use Rattle.tora_sim.specs.Store.{world_of};
+ghost use Rattle.tora_sim.specs.Sending.{IsOver};
 ghost use Rattle.tora_sim.specs.Steps.{Repeats};
 ghost use Rattle.tora_world.specs.declared.event.Event.TheVariants.{Transmit};
 
@@ -11,6 +12,7 @@ use crate::SimError;
 use crate::links::place_near;
 use crate::nodes::place as node_place;
 use crate::sim::Sim;
+use crate::stills::keep_still;
 use std::alloc::AllocError;
 use tora_height::Id;
 
@@ -43,6 +45,25 @@ impl Sim {
         self.transmit_from(n, k, at, home, most)
     }
 
+    /// Whether it is seen that no frame is due at the end that stands at the place `at`. It is looked at only where a frame was sent; until when
+    /// nothing is to be done there is then kept, if that is known.
+    #[inline(always)]
+    fn is_over(&mut self, at: usize, sent: bool) -> bool
+        requires { at < length self.old.links }
+        ensures same { self.new ≡ self.old }
+        ensures over { result ≡ true → IsOver self.old at }
+    {
+        if !sent {
+            return false;
+        }
+        let until = self.links[at].still_until();
+        if self.clock < until {
+            keep_still(&mut self.stills, at, until);
+            return true;
+        }
+        !self.links[at].has_frame_due(self.clock)
+    }
+
     /// Lets the frames of an end go out that are due, and so many at most: the end stands at the place `at`, and its node at the place `home`.
     /// Whether a frame is due is asked each time but the first: before that the caller asks.
     #[inline(always)]
@@ -60,8 +81,8 @@ impl Sim {
     {
         let mut some = false;
         for _ in 0..most {
-            if some && !self.links[at].has_frame_due(self.clock) {
-                return Ok(true);
+            if self.is_over(at, some) {
+                return Ok(some);
             }
             match self.transmit_at(n, k, at, home) {
                 Ok(()) => some = true,

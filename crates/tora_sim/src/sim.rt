@@ -12,11 +12,11 @@ ghost use Rattle.tora_sim.specs.Steps.{Does, Runs};
 use crate::datagrams::Datagrams;
 use crate::hints::Hints;
 use crate::lanes::make_room;
-use crate::links::{LinkSlot, arm, place};
+use crate::links::{LinkSlot, arm, place, place_among};
 use crate::nodes::{NodeSlot, Sending, place as node_place};
 use crate::plains::forget_busy;
 use crate::restarts::{new_ends, restart_ends};
-use crate::stills::{Stills, forget};
+use crate::stills::{Stills, forget, keep_still};
 use crate::ticking::tick;
 use crate::topology::Topology;
 use crate::turns::{forget_waiting, turn};
@@ -212,7 +212,9 @@ impl Sim {
         }
     }
 
-    /// A datagram is handed to its receiver, unless the receive is armed to fail.
+    /// A datagram is handed to its receiver, unless the receive is armed to fail. Until when nothing is to be done at the end that takes it in
+    /// is asked at once, while the end is at hand.
+    #[inline(always)]
     pub(crate) fn deliver(&mut self, i: u64) -> Result<(), SimError>
         ensures { Does self.old (Deliver i) result self.new }
     {
@@ -228,18 +230,21 @@ impl Sim {
             self.nodes[home].arm_receive(false);
             return Ok(());
         }
-        let Some(at) = place(
+        let first = self.nodes[home].first();
+        let count = self.nodes[home].count();
+        let Some(at) = place_among(
             &self.links,
             &self.keys,
-            &self.hints,
+            first,
+            count,
             header.receiver,
             header.sender,
         ) else {
             return Err(SimError::NoDatagram);
         };
         self.quiet = 0;
-        forget(&mut self.stills, at, 1);
-        let busy = self.links[at].receive_and_look(&frame, self.clock);
+        let (busy, until) = self.links[at].receive_and_look(&frame, self.clock);
+        keep_still(&mut self.stills, at, until);
         forget_busy(&mut self.plains, at, busy);
         Ok(())
     }

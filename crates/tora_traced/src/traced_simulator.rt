@@ -238,6 +238,10 @@ impl<S: Watched> Simulator for Traced<S> {
         self.step_on(place, &Event::Transmit(n, k), most)
     }
 
+    fn deliver(&mut self, i: u64, most: u64) -> Result<bool, AllocError> {
+        self.step_on(0, &Event::Deliver(i), most)
+    }
+
     fn cut(&mut self, n: Id, k: Id) {
         self.sim.cut(n, k);
     }

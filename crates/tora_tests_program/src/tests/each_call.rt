@@ -85,6 +85,15 @@ impl Simulator for Recorder {
         Ok(some)
     }
 
+    fn deliver(&mut self, i: u64, most: u64) -> Result<bool, AllocError> {
+        let some = <Sim as Simulator>::deliver(&mut self.sim, i, most)?;
+        // a datagram that comes once comes as often as it is asked for
+        if some {
+            keep_often(&mut self.events, Event::Deliver(i), most)?;
+        }
+        Ok(some)
+    }
+
     fn cut(&mut self, n: Id, k: Id) {
         self.sim.cut(n, k);
     }

@@ -37,5 +37,5 @@ returns-clause-counted g c = c.in_ok-copies.ensures.counted
 pub returns-clause-happened : goal.returns-clause-happened
 returns-clause-happened g c =
     let w = g.S.Simulator.world c.args.sim.now in
-    whole_delivery c.args.parted.now (moment_on c.args.table.now c.args.moment) c.args.i w (g.S.Simulator.world c.repeat.new.sim) c.in_ok-some.some (datagram w c.args.i) c.in-Some.way c.in_ok-copies.copies (sym c.datagram.ensures ∙ c.in-Some.is)
+    whole_delivery c.args.parted.now (moment_on c.args.table.now c.args.moment) c.args.i w (g.S.Simulator.world c.deliver.new.self) c.in_ok-some.some (datagram w c.args.i) c.in-Some.way c.in_ok-copies.copies (sym c.datagram.ensures ∙ c.in-Some.is)
     (sym c.is_parted.ensures ∙ c.if-is_parted.false) c.in_ok-copies.ensures.copies (rw c.at_once.ensures at c.in_ok-some.ensures)

@@ -8,5 +8,5 @@ returns-then-not-are_idle c none = absurd (omega (arith, none))
 pub returns : goal.returns
 returns c some = (
   sym c.are_idle.ensures ∙ c.if-not-are_idle.false,
-  all_still c.args.now c.still_until.result c.args.stills.now c.args._links.now.items c.requires (c.still_until.ensures some),
+  all_still c.args.now c.still_until-until.result c.args.stills.now c.args._links.now.items c.requires (c.still_until-until.ensures some),
 )

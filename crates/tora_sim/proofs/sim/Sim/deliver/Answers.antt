@@ -9,14 +9,14 @@ use Rattle.tora_sim.specs.Store.{SimState, state_of, world_of}
 use Rattle.tora_sim.specs.Steps.{IsDone}
 use Rattle.tora_sim.proofs.Opens.{same_read}
 use Rattle.tora_sim.proofs.Receives.{home_is_there, failed_done, failed_store, received_done, received_store}
-use Rattle.tora_sim.proofs.StillEnds.{unknown_still, one_forgotten, forgotten_still}
+use Rattle.tora_sim.proofs.StillEnds.{found_still}
 use Rattle.tora_sim.proofs.PlainEnds.{looked_plain}
 use Rattle.tora_sim.proofs.ReadyEnds.{kept_as}
 use Rattle.tora_sim.proofs.UnreadyEnds.{node_kept, same_place}
 use Rattle.tora_sim.proofs.sim.Sim.deliver.Goals as goal
 
-pub place-requires-2-clause-keys : goal.place-requires-2-clause-keys
-place-requires-2-clause-keys c = c.self.invariant.3 ∙ sym c.self.invariant.0.keys
+pub place_among-requires-clause-keys : goal.place_among-requires-clause-keys
+place_among-requires-clause-keys c = c.self.invariant.3 ∙ sym c.self.invariant.0.keys
 
 pub returns-in_default-node_place : goal.returns-in_default-node_place
 returns-in_default-node_place c =
@@ -53,26 +53,25 @@ returns-then-receive c =
     (failed_done s.topology s.times s.clock s.nodes.items s.links.items s.datagrams.items c.self.invariant.0 c.args.i c.in-Some.frame (sym c.in-Some.ensures)
     c.in-Some-node_place.home c.index_mut.result.now (first c) c.index_mut.ensures.value c.arm_receive.new.self (armed c) c.arm_receive.ensures)
 
-pub forget-requires : goal.forget-requires
-forget-requires c = omega (arith, c.in-Some-place.ensures.first.within, c.self.invariant.2.as_many)
+pub keep_still-requires : goal.keep_still-requires
+keep_still-requires c = omega (arith, c.in-Some-place_among.ensures.first.within, c.self.invariant.2.as_many)
 
 pub forget_busy-requires : goal.forget_busy-requires
-forget_busy-requires c = omega (arith, c.in-Some-place.ensures.first.within, c.self.invariant.4.as_many)
+forget_busy-requires c = omega (arith, c.in-Some-place_among.ensures.first.within, c.self.invariant.4.as_many)
 
 pub invariant_of-self-2 : goal.invariant_of-self-2
 invariant_of-self-2 c =
     let s = c.self.inside in
     let home_first : IsFirst (is_of c.in-Some.frame.header.receiver) s.nodes.items c.in-Some-node_place.home = subst (λ (hd : Header). IsFirst (is_of hd.receiver) s.nodes.items c.in-Some-node_place.home) c.header-header.ensures.value c.in-Some-node_place.ensures.first in
-    let end_first : IsFirst (is_at c.in-Some.frame.header.receiver c.in-Some.frame.header.sender) s.links.items c.in-Some-place.at = subst (λ (hd : Header). IsFirst (is_at hd.receiver hd.sender) s.links.items c.in-Some-place.at) c.header-header.ensures.value c.in-Some-place.ensures.first in (
+    let end_first : IsFirst (is_at c.in-Some.frame.header.receiver c.in-Some.frame.header.sender) s.links.items c.in-Some-place_among.at = subst (λ (hd : Header). IsFirst (is_at hd.receiver hd.sender) s.links.items c.in-Some-place_among.at) c.header-header.ensures.value c.in-Some-place_among.ensures.first in (
       received_store s.topology s.times s.clock s.nodes.items s.links.items s.datagrams.items c.self.invariant.0 c.args.i c.in-Some.frame (sym c.in-Some.ensures)
-          c.in-Some-node_place.home c.index.result.now home_first c.index.ensures c.in-Some-place.at c.index_mut-2.result.now end_first c.index_mut-2.ensures.value c.receive_and_look-busy.new.self c.receive_and_look-busy.ensures.state,
+          c.in-Some-node_place.home c.index.result.now home_first c.index.ensures c.in-Some-place_among.at c.index_mut-2.result.now end_first c.index_mut-2.ensures.value c.receive_and_look-busy.new.self c.receive_and_look-busy.ensures.state,
       λ none. absurd (omega (arith, none)),
-      unknown_still s.clock c.forget.new.stills s.links.items c.in-Some-place.at c.receive_and_look-busy.new.self (one_forgotten s.stills c.forget.new.stills c.in-Some-place.at c.forget.ensures)
-          (forgotten_still s.clock s.stills c.forget.new.stills s.links.items c.in-Some-place.at 1 c.forget.ensures c.self.invariant.2),
+      found_still s.clock s.stills c.keep_still.new.stills s.links.items c.in-Some-place_among.at c.receive_and_look-busy.result.1 c.receive_and_look-busy.new.self c.in-Some-place_among.ensures.first.within c.keep_still.ensures c.receive_and_look-busy.ensures.still c.self.invariant.2,
       c.self.invariant.3,
-      looked_plain s.clock s.plains c.forget_busy.new.plains s.links.items c.in-Some-place.at c.index_mut-2.result.now c.receive_and_look-busy.new.self c.receive_and_look-busy.result c.in-Some-place.ensures.first.within c.index_mut-2.ensures.value
+      looked_plain s.clock s.plains c.forget_busy.new.plains s.links.items c.in-Some-place_among.at c.index_mut-2.result.now c.receive_and_look-busy.new.self c.receive_and_look-busy.result.0 c.in-Some-place_among.ensures.first.within c.index_mut-2.ensures.value
           (λ e _. c.receive_and_look-busy.ensures.plain e) c.forget_busy.ensures.same c.forget_busy.ensures.forgotten c.self.invariant.4,
-      kept_as s.ready.items s.links.items c.in-Some-place.at c.index_mut-2.result.now c.receive_and_look-busy.new.self _ c.in-Some-place.ensures.first.within c.index_mut-2.ensures.value c.receive_and_look-busy.ensures.state (λ h. h) c.self.invariant.5,
+      kept_as s.ready.items s.links.items c.in-Some-place_among.at c.index_mut-2.result.now c.receive_and_look-busy.new.self _ c.in-Some-place_among.ensures.first.within c.index_mut-2.ensures.value c.receive_and_look-busy.ensures.state (λ h. h) c.self.invariant.5,
       c.self.invariant.6,
     )
 
@@ -80,8 +79,8 @@ pub returns : goal.returns
 returns c =
     let s = c.self.inside in
     let home_first : IsFirst (is_of c.in-Some.frame.header.receiver) s.nodes.items c.in-Some-node_place.home = subst (λ (hd : Header). IsFirst (is_of hd.receiver) s.nodes.items c.in-Some-node_place.home) c.header-header.ensures.value c.in-Some-node_place.ensures.first in
-    let end_first : IsFirst (is_at c.in-Some.frame.header.receiver c.in-Some.frame.header.sender) s.links.items c.in-Some-place.at = subst (λ (hd : Header). IsFirst (is_at hd.receiver hd.sender) s.links.items c.in-Some-place.at) c.header-header.ensures.value c.in-Some-place.ensures.first in
-    subst (λ (before : SimState). IsDone (world_of before) (Deliver c.args.i) (world_of (state_of s.topology s.times s.clock s.nodes.items (slice_set s.links.items c.in-Some-place.at c.receive_and_look-busy.new.self) s.datagrams.items))) c.self.view_is
+    let end_first : IsFirst (is_at c.in-Some.frame.header.receiver c.in-Some.frame.header.sender) s.links.items c.in-Some-place_among.at = subst (λ (hd : Header). IsFirst (is_at hd.receiver hd.sender) s.links.items c.in-Some-place_among.at) c.header-header.ensures.value c.in-Some-place_among.ensures.first in
+    subst (λ (before : SimState). IsDone (world_of before) (Deliver c.args.i) (world_of (state_of s.topology s.times s.clock s.nodes.items (slice_set s.links.items c.in-Some-place_among.at c.receive_and_look-busy.new.self) s.datagrams.items))) c.self.view_is
     (received_done s.topology s.times s.clock s.nodes.items s.links.items s.datagrams.items c.self.invariant.0 c.args.i c.in-Some.frame (sym c.in-Some.ensures)
-    c.in-Some-node_place.home c.index.result.now home_first c.index.ensures c.in-Some-place.at c.index_mut-2.result.now end_first c.index_mut-2.ensures.value c.receive_and_look-busy.new.self
+    c.in-Some-node_place.home c.index.result.now home_first c.index.ensures c.in-Some-place_among.at c.index_mut-2.result.now end_first c.index_mut-2.ensures.value c.receive_and_look-busy.new.self
     (sym c.receive.ensures ∙ c.if-receive.false) c.receive_and_look-busy.ensures.state)

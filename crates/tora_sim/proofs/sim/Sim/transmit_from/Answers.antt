@@ -1,57 +1,59 @@
-use Rattle.std.proofs.Common.{◌≡◌, ◌∙◌, suc, ◌+◌, ◌-◌, true, is_some, sym, subst, arith}
+use Rattle.std.proofs.Common.{◌≡◌, ◌∙◌, suc, ◌+◌, ◌-◌, sym, subst, arith}
 use Rattle.tora_world.specs.declared.event.Event.TheVariants.{Transmit}
 use Rattle.tora_world.specs.declared.sim_error.SimError.{SimError}
 use Rattle.tora_world.specs.declared.sim_error.SimError.TheVariants as Refused
-use Rattle.tora_world.specs.World.{World, refusal_of}
+use Rattle.tora_world.specs.World.{World}
 use Rattle.tora_sim.specs.Store.{SimState, world_of}
 use Rattle.tora_sim.specs.Steps.{IsRefused, repeats, Happened}
-use Rattle.tora_sim.proofs.Possibles.{is_impossible}
-use Rattle.tora_sim.proofs.Sends.{transmit_refused}
-use Rattle.tora_sim.proofs.Sendings.{end_of, other_cause, again, refused, starved, no_more}
+use Rattle.tora_sim.proofs.Sendings.{still_onward, end_of, node_of, other_cause, again, refused, starved, no_more}
 use Rattle.tora_sim.proofs.sim.Sim.transmit_from.Goals as goal
 
-pub returns-then-not-has_frame_due : goal.returns-then-not-has_frame_due
-returns-then-not-has_frame_due c =
-    let s = c.self.inside in
+pub is_over-requires : goal.is_over-requires
+is_over-requires c = c.loop.invariant.end.within
+
+pub returns-then-is_over : goal.returns-then-is_over
+returns-then-is_over c =
     let w = world_of c.args.self.now in
     let left : c.args.most - c.loop.counter ≡ suc (c.args.most - (c.loop.counter + 1)) = omega (arith, c.loop-test.true) in
-    let stop =
-    subst (λ (v : SimState). is_some (refusal_of (world_of v) (Transmit c.args.n c.args.k)) ≡ true) c.self.view_is
-    (is_impossible _ (Transmit c.args.n c.args.k)
-    (transmit_refused s.topology s.times s.clock s.nodes.items s.links.items s.datagrams.items c.self.invariant.0 c.args.n c.args.k c.args.at c.index.result.now (end_of c.args.n c.args.k c.args.at c.self.view_is c.loop.invariant.end) c.index.ensures
-    (sym c.has_frame_due.ensures ∙ c.if-not-has_frame_due.true))) in
-    rw c.if-some.true at
-    (refused w (repeats c.args.most (Transmit c.args.n c.args.k) w) (world_of c.loop.self) c.loop.some (c.args.most - (c.loop.counter + 1)) (Transmit c.args.n c.args.k) (rw left at c.loop.invariant.sent) stop)
+    subst (λ (s : SimState). Happened w (repeats c.args.most (Transmit c.args.n c.args.k) w) (world_of s) c.loop.some) (sym c.is_over.ensures.same)
+    (refused w (repeats c.args.most (Transmit c.args.n c.args.k) w) (world_of c.loop.self) c.loop.some (c.args.most - (c.loop.counter + 1)) (Transmit c.args.n c.args.k) (rw left at c.loop.invariant.sent)
+    (c.is_over.ensures.over c.if-is_over.true c.args.n c.args.k c.loop.invariant.end))
+
+pub transmit_at-requires-clause-end : goal.transmit_at-requires-clause-end
+transmit_at-requires-clause-end c = end_of c.args.n c.args.k c.args.at c.is_over.ensures.same c.loop.invariant.end
+
+pub transmit_at-requires-clause-node : goal.transmit_at-requires-clause-node
+transmit_at-requires-clause-node c = node_of c.args.n c.args.home c.is_over.ensures.same c.loop.invariant.node
 
 pub returns-in-Err-Memory : goal.returns-in-Err-Memory
 returns-in-Err-Memory c =
     let w = world_of c.args.self.now in
     let left : c.args.most - c.loop.counter ≡ suc (c.args.most - (c.loop.counter + 1)) = omega (arith, c.loop-test.true) in
-    starved w (repeats c.args.most (Transmit c.args.n c.args.k) w) (world_of c.loop.self) (world_of c.transmit_at.new.self) c.loop.some (c.args.most - (c.loop.counter + 1)) c.args.n c.args.k (rw left at c.loop.invariant.sent)
-    (subst (λ (error : SimError). IsRefused (world_of c.loop.self) (Transmit c.args.n c.args.k) error (world_of c.transmit_at.new.self)) c.in-Err-Memory.field-0-is c.in-Err-Memory.ensures.done)
+    starved w (repeats c.args.most (Transmit c.args.n c.args.k) w) (world_of c.is_over.new.self) (world_of c.transmit_at.new.self) c.loop.some (c.args.most - (c.loop.counter + 1)) c.args.n c.args.k (still_onward w (repeats c.args.most (Transmit c.args.n c.args.k) w) c.loop.some (suc (c.args.most - (c.loop.counter + 1))) (Transmit c.args.n c.args.k) c.is_over.ensures.same (rw left at c.loop.invariant.sent))
+    (subst (λ (error : SimError). IsRefused (world_of c.is_over.new.self) (Transmit c.args.n c.args.k) error (world_of c.transmit_at.new.self)) c.in-Err-Memory.field-0-is c.in-Err-Memory.ensures.done)
 
 pub returns-in-Err-NoNode : goal.returns-in-Err-NoNode
 returns-in-Err-NoNode c =
     let w = world_of c.args.self.now in
     let left : c.args.most - c.loop.counter ≡ suc (c.args.most - (c.loop.counter + 1)) = omega (arith, c.loop-test.true) in
     subst (λ (v : World). Happened w (repeats c.args.most (Transmit c.args.n c.args.k) w) v c.loop.some) (sym c.in-Err-NoNode.ensures.done.world)
-    (refused w (repeats c.args.most (Transmit c.args.n c.args.k) w) (world_of c.loop.self) c.loop.some (c.args.most - (c.loop.counter + 1)) (Transmit c.args.n c.args.k) (rw left at c.loop.invariant.sent)
-    (other_cause (world_of c.loop.self) (Transmit c.args.n c.args.k) c.in-Err-NoNode.field-0 (world_of c.transmit_at.new.self) (λ e. let z : Refused.NoNode ≡ Refused.Memory = sym c.in-Err-NoNode.field-0-is ∙ e in cc) c.in-Err-NoNode.ensures.done))
+    (refused w (repeats c.args.most (Transmit c.args.n c.args.k) w) (world_of c.is_over.new.self) c.loop.some (c.args.most - (c.loop.counter + 1)) (Transmit c.args.n c.args.k) (still_onward w (repeats c.args.most (Transmit c.args.n c.args.k) w) c.loop.some (suc (c.args.most - (c.loop.counter + 1))) (Transmit c.args.n c.args.k) c.is_over.ensures.same (rw left at c.loop.invariant.sent))
+    (other_cause (world_of c.is_over.new.self) (Transmit c.args.n c.args.k) c.in-Err-NoNode.field-0 (world_of c.transmit_at.new.self) (λ e. let z : Refused.NoNode ≡ Refused.Memory = sym c.in-Err-NoNode.field-0-is ∙ e in cc) c.in-Err-NoNode.ensures.done))
 
 pub returns-in-Err-NotPossible : goal.returns-in-Err-NotPossible
 returns-in-Err-NotPossible c =
     let w = world_of c.args.self.now in
     let left : c.args.most - c.loop.counter ≡ suc (c.args.most - (c.loop.counter + 1)) = omega (arith, c.loop-test.true) in
     subst (λ (v : World). Happened w (repeats c.args.most (Transmit c.args.n c.args.k) w) v c.loop.some) (sym c.in-Err-NotPossible.ensures.done.world)
-    (refused w (repeats c.args.most (Transmit c.args.n c.args.k) w) (world_of c.loop.self) c.loop.some (c.args.most - (c.loop.counter + 1)) (Transmit c.args.n c.args.k) (rw left at c.loop.invariant.sent)
-    (other_cause (world_of c.loop.self) (Transmit c.args.n c.args.k) c.in-Err-NotPossible.field-0 (world_of c.transmit_at.new.self) (λ e. let z : Refused.NotPossible ≡ Refused.Memory = sym c.in-Err-NotPossible.field-0-is ∙ e in cc) c.in-Err-NotPossible.ensures.done))
+    (refused w (repeats c.args.most (Transmit c.args.n c.args.k) w) (world_of c.is_over.new.self) c.loop.some (c.args.most - (c.loop.counter + 1)) (Transmit c.args.n c.args.k) (still_onward w (repeats c.args.most (Transmit c.args.n c.args.k) w) c.loop.some (suc (c.args.most - (c.loop.counter + 1))) (Transmit c.args.n c.args.k) c.is_over.ensures.same (rw left at c.loop.invariant.sent))
+    (other_cause (world_of c.is_over.new.self) (Transmit c.args.n c.args.k) c.in-Err-NotPossible.field-0 (world_of c.transmit_at.new.self) (λ e. let z : Refused.NotPossible ≡ Refused.Memory = sym c.in-Err-NotPossible.field-0-is ∙ e in cc) c.in-Err-NotPossible.ensures.done))
 
 pub loop-preserved : goal.loop-preserved
 loop-preserved c =
     let w = world_of c.args.self.now in
     let left : c.args.most - c.loop.counter ≡ suc (c.args.most - (c.loop.counter + 1)) = omega (arith, c.loop-test.true) in
     record {
-      sent = again w (repeats c.args.most (Transmit c.args.n c.args.k) w) (world_of c.loop.self) (world_of c.transmit_at.new.self) c.loop.some (c.args.most - (c.loop.counter + 1)) (Transmit c.args.n c.args.k) (rw left at c.loop.invariant.sent) c.in-Ok.ensures.done;
+      sent = again w (repeats c.args.most (Transmit c.args.n c.args.k) w) (world_of c.is_over.new.self) (world_of c.transmit_at.new.self) c.loop.some (c.args.most - (c.loop.counter + 1)) (Transmit c.args.n c.args.k) (still_onward w (repeats c.args.most (Transmit c.args.n c.args.k) w) c.loop.some (suc (c.args.most - (c.loop.counter + 1))) (Transmit c.args.n c.args.k) c.is_over.ensures.same (rw left at c.loop.invariant.sent)) c.in-Ok.ensures.done;
       end = c.in-Ok.ensures.end;
       node = c.in-Ok.ensures.node;
     }

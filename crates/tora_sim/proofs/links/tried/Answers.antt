@@ -1,7 +1,7 @@
 use Rattle.std.proofs.Common.{ℕ, Some, ◌∙◌, ap, sym, arith, get_or}
 use Rattle.std.proofs.lemmas.Option.{slice_get-get_or}
 use Rattle.tora_sim.proofs.Keys.{key_is}
-use Rattle.tora_sim.proofs.links.near.Goals as goal
+use Rattle.tora_sim.proofs.links.tried.Goals as goal
 
 pub returns-then-is_key : goal.returns-then-is_key
 returns-then-is_key c =

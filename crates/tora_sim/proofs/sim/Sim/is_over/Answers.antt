@@ -1,0 +1,47 @@
+use Rattle.std.proofs.Common.{◌≡◌, ◌∙◌, ◌<◌, Bool, true, false, not, refl, length, is_some, sym, subst, arith}
+use Rattle.std.proofs.lemmas.Option.{slice_get_read}
+use Rattle.tora_world.specs.declared.event.Event.TheVariants.{Transmit}
+use Rattle.tora_world.specs.World.{refusal_of}
+use Rattle.tora_sim.specs.Store.{SimState, world_of}
+use Rattle.tora_sim.proofs.Possibles.{is_impossible}
+use Rattle.tora_sim.proofs.Sends.{transmit_refused}
+use Rattle.tora_sim.proofs.Sendings.{end_of}
+use Rattle.tora_sim.proofs.StillEnds.{known_here}
+use Rattle.tora_sim.proofs.sim.Sim.is_over.Goals as goal
+
+not_true : (b : Bool) → not b ≡ true → b ≡ false
+not_true true e = let z : false ≡ true = e in cc
+not_true false e = refl
+
+pub keep_still-requires : goal.keep_still-requires
+keep_still-requires c = omega (arith, c.self.invariant.2.as_many, subst (λ (s : SimState). c.args.at < length s.links) (sym c.self.view_is) c.requires)
+
+pub invariant_of-self : goal.invariant_of-self
+invariant_of-self c =
+    let s = c.self.inside in
+    let within : c.args.at < length s.links.items = subst (λ (v : SimState). c.args.at < length v.links) (sym c.self.view_is) c.requires in (
+      c.self.invariant.0,
+      c.self.invariant.1,
+      known_here s.clock s.stills c.keep_still.new.stills s.links.items c.args.at c.still_until-until.result c.index.result.now c.keep_still.ensures (omega (arith, within, c.self.invariant.2.as_many))
+          (slice_get_read s.links.items (length s.links.items) c.args.at c.index.result.now refl within c.index.ensures) c.still_until-until.ensures c.self.invariant.2,
+      c.self.invariant.3,
+      c.self.invariant.4,
+      c.self.invariant.5,
+      c.self.invariant.6,
+    )
+
+pub returns-then-self-until-clause-over : goal.returns-then-self-until-clause-over
+returns-then-self-until-clause-over c told n k first =
+    let s = c.self.inside in
+    subst (λ (v : SimState). is_some (refusal_of (world_of v) (Transmit n k)) ≡ true) c.self.view_is
+    (is_impossible _ (Transmit n k)
+    (transmit_refused s.topology s.times s.clock s.nodes.items s.links.items s.datagrams.items c.self.invariant.0 n k c.args.at c.index.result.now (end_of n k c.args.at c.self.view_is first) c.index.ensures
+    ((c.still_until-until.ensures (omega (arith, c.if-self-until.true))).frames s.clock c.if-self-until.true)))
+
+pub returns-clause-over : goal.returns-clause-over
+returns-clause-over c told n k first =
+    let s = c.self.inside in
+    subst (λ (v : SimState). is_some (refusal_of (world_of v) (Transmit n k)) ≡ true) c.self.view_is
+    (is_impossible _ (Transmit n k)
+    (transmit_refused s.topology s.times s.clock s.nodes.items s.links.items s.datagrams.items c.self.invariant.0 n k c.args.at c.index-2.result.now (end_of n k c.args.at c.self.view_is first) c.index-2.ensures
+    (sym c.has_frame_due.ensures ∙ not_true c.has_frame_due.result told)))
