@@ -24,6 +24,7 @@
 mod arq_error;
 mod events;
 mod facts;
+mod fifo;
 mod held;
 mod life;
 mod link_end;

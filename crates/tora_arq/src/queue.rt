@@ -1,15 +1,14 @@
 //! The send queue of a link end.
-ghost use Rattle.std.specs.Prelude.{◌≡◌, ◌<◌, ◌≤◌, ◌+◌, ◌^◌, ℕ, [], ◌∷◌, ◌++◌, ◌-◌, length, take, drop, min, slice_get, Some, IfOk, IfNone, IfSome, IsTrue, MatchOption, is_some, option_map, ◌||◌};
+ghost use Rattle.std.specs.Prelude.{◌≡◌, ◌<◌, ◌≤◌, ◌+◌, ◌^◌, ℕ, [], ◌∷◌, ◌++◌, ◌-◌, length, take, drop, min, slice_get, slice_set, Some, IfOk, IfNone, IfSome, IsTrue, MatchOption, is_some, option_map, ◌||◌};
 ghost use Rattle.tora_arq.specs.Settings.{ticks_passed};
 ghost use Rattle.tora_arq.specs.SendQueue.{untried, retried, is_retry_time, is_ready, is_given_up, has_given_up, ready_run, first_due, AreLate, IsFirstReady};
 ghost use Rattle.tora_arq.specs.EndRange.{AreUntried};
 ghost use Rattle.tora_arq.specs.NextDue.{has_begun, is_packet_due};
 
+use crate::fifo::{make_place, take_first};
 use crate::queued_packet::QueuedPacket;
-use crate::rings::{push, set};
 use crate::settings::{earlier, tick_behind, ticks_passed};
 use crate::{QUEUE_PLACES, Times, WINDOW};
-use circular_buffer::HeapCircularBuffer;
 use std::alloc::{AllocError, Global};
 use std::marker::Model;
 use tora_frame::{MOST_PACKETS, Packets};
@@ -18,19 +17,22 @@ use tora_packet::Packet;
 /// The packets that were submitted and are not acknowledged, in order, `QUEUE_PLACES` at most.
 #[derive(Debug, Drop)]
 pub struct SendQueue {
-    ring: HeapCircularBuffer<QueuedPacket>,
+    /// The packets, behind those that left.
+    packets: Vec<QueuedPacket>,
+    /// How many of them left.
+    left: usize,
 }
 
 impl Model for SendQueue {
-    ghost use Rattle.std.specs.Prelude.{◌≡◌, List};
+    ghost use Rattle.std.specs.Prelude.{◌≤◌, List, drop, length, vec_capacity};
     ghost use Rattle.tora_arq.specs.declared.queued_packet.QueuedPacket.{QueuedPacket};
     ghost use Rattle.tora_arq.specs.declared.TheConstants.{QUEUE_PLACES};
 
     ghost Value = { List QueuedPacket };
 
-    ghost view = { λ q. q.ring.items };
+    ghost view = { λ q. drop q.left q.packets.items };
 
-    ghost invariant = { λ q. q.ring.capacity ≡ QUEUE_PLACES };
+    ghost invariant = { λ q. (q.left ≤ length q.packets.items) × (length q.packets.items ≤ QUEUE_PLACES) × (QUEUE_PLACES ≤ vec_capacity q.packets) };
 }
 
 impl SendQueue {
@@ -38,15 +40,15 @@ impl SendQueue {
     pub fn new(alloc: Global) -> Result<SendQueue, AllocError>
         ensures { IfOk result (λ q. q ≡ []) }
     {
-        let ring = HeapCircularBuffer::with_capacity(alloc, QUEUE_PLACES)?;
-        Ok(SendQueue { ring })
+        let packets = Vec::with_capacity(alloc, QUEUE_PLACES)?;
+        Ok(SendQueue { packets, left: 0 })
     }
 
     pub fn len(&self) -> usize
         ensures len { result ≡ length self.now }
         ensures within { result ≤ QUEUE_PLACES }
     {
-        self.ring.len()
+        self.packets.len() - self.left
     }
 
     /// Appends a packet that was never transmitted.
@@ -54,29 +56,31 @@ impl SendQueue {
         requires { length self.old < QUEUE_PLACES }
         ensures { self.new ≡ self.old ++ untried packet ∷ [] }
     {
-        push(&mut self.ring, QueuedPacket::untried(packet));
+        make_place(&mut self.packets, &mut self.left, QUEUE_PLACES);
+        self.packets.push_reserved(QueuedPacket::untried(packet));
     }
 
     /// Removes the first packets, as many as there are.
     pub fn remove_first(&mut self, count: u64)
         ensures { self.new ≡ drop count self.old }
     {
-        let len = self.ring.len();
-        let count = usize::try_from(count).unwrap_or(len);
-        self.ring.truncate_front(len.saturating_sub(count));
+        let len = self.len();
+        let count = usize::try_from(count).unwrap_or(len).min(len);
+        take_first(&mut self.packets, &mut self.left, count);
     }
 
     pub fn clear(&mut self)
         ensures { self.new ≡ [] }
     {
-        self.ring.clear();
+        self.packets.clear();
+        self.left = 0;
     }
 
     /// How many packets may be under way: those behind them were never transmitted.
     fn within_window(&self) -> usize
         ensures { result ≡ min WINDOW (length self.now) }
     {
-        self.ring.len().min(WINDOW as usize)
+        self.len().min(WINDOW as usize)
     }
 
     /// The packet that stands behind so many others.
@@ -84,10 +88,16 @@ impl SendQueue {
         requires { place < length self.now }
         ensures { slice_get self.now place ≡ Some result }
     {
-        let Some(packet) = self.ring.get(place) else {
-            unreachable!()
-        };
-        *packet
+        self.packets[self.left + place]
+    }
+
+    /// Puts a packet in the place of that which stands behind so many others.
+    fn set(&mut self, place: usize, packet: QueuedPacket)
+        requires { place < length self.old }
+        ensures { self.new ≡ slice_set self.old place packet }
+    {
+        let at = self.left + place;
+        self.packets[at] = packet;
     }
 
     /// Whether a packet was transmitted as often as it may be, and long enough ago. It looks at no more than the window.
@@ -157,7 +167,7 @@ impl SendQueue {
                 return;
             }
             packets.push(packet.packet);
-            set(&mut self.ring, at, packet.retried(now));
+            self.set(at, packet.retried(now));
         }
     }
 

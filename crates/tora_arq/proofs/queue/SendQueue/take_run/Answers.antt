@@ -1,6 +1,4 @@
 use Rattle.std.proofs.Common.{◌≡◌, ◌+◌, ◌-◌, List, ◌++◌, take, drop, length, slice_set, refl, sym, ap, subst, ◌∙◌, arith, length-set}
-use Rattle.circular_buffer.specs.Buffer.{Buffer}
-use Rattle.tora_arq.specs.declared.queued_packet.QueuedPacket.{QueuedPacket}
 use Rattle.tora_arq.specs.SendQueue.{retried, ready_run}
 use Rattle.tora_arq.proofs.QueueLemmas.{Taking, taking_on, taking_stops, taking_ends}
 use Rattle.tora_arq.proofs.queue.SendQueue.take_run.Goals as goal
@@ -21,14 +19,11 @@ returns-then-not-is_ready-clause-queue c =
 pub loop-at-preserved : goal.loop-at-preserved
 loop-at-preserved c =
     let run = ready_run c.args.times.now c.args.now (c.args.end - c.args.place) (drop c.args.place c.args.self.now) in
-    let queue : c.set.new.ring.items ≡ slice_set c.loop-at.self c.loop-at.at (retried c.packet_at-packet.result c.args.now) =
-    ap (λ (b : Buffer QueuedPacket). b.items) c.set.ensures
-    ∙ ap (λ (xs : List QueuedPacket). slice_set xs c.loop-at.at c.retried.result) c.self.view_is
-    ∙ ap (slice_set c.loop-at.self c.loop-at.at) c.retried.ensures in
+    let queue : c.set.new.self ≡ slice_set c.loop-at.self c.loop-at.at (retried c.packet_at-packet.result c.args.now) = c.set.ensures ∙ ap (slice_set c.loop-at.self c.loop-at.at) c.retried.ensures in
     let left : c.args.end - c.loop-at.at - 1 ≡ c.args.end - (c.loop-at.at + 1) = omega arith in
-    let on = taking_on c.args.times.now c.args.now (c.args.end - c.loop-at.at) c.loop-at.at c.loop-at.packets.items c.push.new.self.items c.loop-at.self c.set.new.ring.items _ _ c.packet_at-packet.result
+    let on = taking_on c.args.times.now c.args.now (c.args.end - c.loop-at.at) c.loop-at.at c.loop-at.packets.items c.push.new.self.items c.loop-at.self c.set.new.self _ _ c.packet_at-packet.result
     (omega (arith, c.loop-at-test.true)) c.packet_at-packet.ensures (sym c.is_ready.ensures.ready ∙ c.if-not-is_ready.false) c.push.ensures.items queue c.loop-at.invariant.taking in record {
-      taking = subst (λ n. Taking c.args.times.now c.args.now n (c.loop-at.at + 1) c.push.new.self.items c.set.new.ring.items run.packets (take c.args.place c.args.self.now ++ run.queue)) left on;
+      taking = subst (λ n. Taking c.args.times.now c.args.now n (c.loop-at.at + 1) c.push.new.self.items c.set.new.self run.packets (take c.args.place c.args.self.now ++ run.queue)) left on;
       taken = omega (arith, c.push.ensures.len, c.loop-at.invariant.taken);
       len = ap length queue ∙ length-set c.loop-at.self c.loop-at.at (retried c.packet_at-packet.result c.args.now) ∙ c.loop-at.invariant.len;
     }
