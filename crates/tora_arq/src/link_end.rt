@@ -1,10 +1,12 @@
 //! A link end, as its node sees it.
-ghost use Rattle.std.specs.Prelude.{◌≡◌, ◌≢◌, ◌<◌, ◌≤◌, ◌^◌, ℕ, IfOk, IfNone, IsTrue, OnSome, false, is_some, length};
+ghost use Rattle.std.specs.Prelude.{◌≡◌, ◌≢◌, ◌<◌, ◌≤◌, ◌^◌, ℕ, IfOk, IfNone, IfSome, IsTrue, OnSome, Some, false, is_some, length};
 ghost use Rattle.tora_arq.specs.Settings.{IsTimes, settings_of};
 ghost use Rattle.tora_arq.specs.LinkEnd.{first_end, is_closed, bound_life, after_open, verdict_of, after_frame, after_tick, submit_answer, after_submit, after_cut, first_event, after_poll_event, frame_due, after_transmit};
 ghost use Rattle.tora_arq.specs.EndRange.{IsEndState, link_end_of};
 ghost use Rattle.tora_arq.specs.NextDue.{IsNextDue};
 ghost use Rattle.tora_arq.specs.Still.{still_until};
+ghost use Rattle.tora_frame.specs.FrameParts.{IsHeader, frame_of};
+ghost use Rattle.tora_frame.specs.declared.parts.Body.{Body};
 ghost use Rattle.tora_frame.specs.declared.parts.Version.TheVariants.{One, Two};
 
 use crate::phase::Phase;
@@ -13,7 +15,7 @@ use crate::state::State;
 use crate::{ArqError, EVENT_PLACES, Life, LinkEvent, QUEUE_PLACES, SubmitError, Times, Verdict};
 use std::alloc::Global;
 use std::marker::Model;
-use tora_frame::{BorrowedFrame, Frame, Packets, Version};
+use tora_frame::{BorrowedFrame, Frame, Header, Packets, Version};
 use tora_height::Id;
 use tora_packet::Packet;
 
@@ -225,6 +227,15 @@ impl LinkEnd {
         self.state.on_frame(&self.settings, frame, now)
     }
 
+    /// As `on_frame`, for a HELLO, which is told by its header.
+    pub fn on_hello(&mut self, header: &Header, now: u64) -> Verdict
+        requires { IsHeader header.now }
+        ensures verdict { result ≡ verdict_of self.old.settings self.old.state (frame_of header.now Body.Hello) now }
+        ensures state { self.new ≡ record self.old { state = after_frame self.old.settings self.old.state (frame_of header.now Body.Hello) now } }
+    {
+        self.state.on_hello(&self.settings, header, now)
+    }
+
     /// Ends the bound life (`Silent`) where the peer was not heard for `silent` ticks, or did not acknowledge a packet
     /// `retry` ticks after the last of its `tries` tries.
     pub fn on_tick(&mut self, now: u64)
@@ -316,6 +327,17 @@ impl LinkEnd {
         ensures none { IfNone result (self.new ≡ self.old) }
     {
         self.state.poll_transmit(&self.settings, now, packets)
+    }
+
+    /// As `poll_transmit`, where the first frame due is a HELLO, which is told by its header. `None` where it is another, or none is due; then
+    /// nothing is changed.
+    pub fn poll_hello(&mut self, now: u64) -> Option<Header>
+        ensures frame { IfSome result (λ header. frame_due self.old.settings self.old.state now ≡ Some (frame_of header Body.Hello)) }
+        ensures state { IfSome result (λ _. self.new ≡ record self.old { state = after_transmit self.old.settings self.old.state now }) }
+        ensures valid { IfSome result (λ header. IsHeader header) }
+        ensures none { IfNone result (self.new ≡ self.old) }
+    {
+        self.state.poll_first_hello(&self.settings, now)
     }
 
     /// Ends a life where it is the bound one, and otherwise changes nothing.

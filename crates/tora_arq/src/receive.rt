@@ -1,6 +1,7 @@
 //! What a link end makes of a frame.
 ghost use Rattle.std.specs.Prelude.{◌≡◌, ◌<◌, ◌≤◌, ◌+◌, ◌^◌, length};
-ghost use Rattle.tora_frame.specs.FrameParts.{IsFrame, batch};
+ghost use Rattle.tora_frame.specs.FrameParts.{IsFrame, batch, frame_of};
+ghost use Rattle.tora_frame.specs.declared.parts.Body.{Body};
 ghost use Rattle.tora_frame.specs.BorrowedFrames.{body_of};
 ghost use Rattle.tora_arq.specs.Held.{hold_at};
 ghost use Rattle.tora_arq.specs.LinkEnd.{count_of, passed, on_life_told, after_release, after_packet, after_packets, on_data, on_matched, on_frame_in, on_frame};
@@ -12,7 +13,7 @@ use crate::settings::Settings;
 use crate::state::State;
 use crate::transmit::is_two;
 use crate::{EVENT_PLACES, Life, PLACES_OF_A_FRAME, Reason, Verdict, WINDOW};
-use tora_frame::{BorrowedBody, BorrowedFrame, Version};
+use tora_frame::{BorrowedBody, BorrowedFrame, Header, Version};
 use tora_packet::Packet;
 
 /// The count that a frame acknowledges.
@@ -205,6 +206,67 @@ impl State {
         }
         self.pass(header.version);
         self.on_matched(life, false, now, body)
+    }
+
+    /// A HELLO at an end that is not bound, by its header.
+    #[tactic(auto, unfolding(crate::specs::LinkEnd::on_frame_in, crate::specs::LinkEnd::on_matched))]
+    fn on_unbound_hello(&mut self, own: u64, header: &Header, now: u64) -> Verdict
+        requires room { length self.old.events + PLACES_OF_A_FRAME ≤ EVENT_PLACES }
+        ensures verdict { result ≡ (on_frame_in WINDOW (state_in self.old) (frame_of header.now Body.Hello) now (Phase.Unbound own)).0 }
+        ensures state { state_in self.new ≡ (on_frame_in WINDOW (state_in self.old) (frame_of header.now Body.Hello) now (Phase.Unbound own)).1 }
+    {
+        if own != header.heard {
+            return self.on_life_told(header.version, header.life, BorrowedBody::Hello);
+        }
+        if self.heard > header.life {
+            return Verdict::Stale;
+        }
+        let life = Life {
+            own,
+            peer: header.life,
+        };
+        self.bind(life);
+        self.pass(header.version);
+        self.last_hearing = now;
+        Verdict::Accepted
+    }
+
+    /// A HELLO at a bound end, by its header.
+    #[tactic(auto, unfolding(crate::specs::LinkEnd::on_frame_in, crate::specs::LinkEnd::on_matched))]
+    fn on_bound_hello(&mut self, life: Life, header: &Header, now: u64) -> Verdict
+        requires room { length self.old.events + PLACES_OF_A_FRAME ≤ EVENT_PLACES }
+        ensures verdict { result ≡ (on_frame_in WINDOW (state_in self.old) (frame_of header.now Body.Hello) now (Phase.Bound life)).0 }
+        ensures state { state_in self.new ≡ (on_frame_in WINDOW (state_in self.old) (frame_of header.now Body.Hello) now (Phase.Bound life)).1 }
+    {
+        if life.peer < header.life {
+            self.end(life, Reason::NewPeer);
+            return Verdict::Accepted;
+        }
+        if header.heard != life.own || header.life < life.peer {
+            return Verdict::Stale;
+        }
+        self.pass(header.version);
+        self.last_hearing = now;
+        Verdict::Accepted
+    }
+
+    /// A HELLO that came, by its header: most frames are HELLOs.
+    #[tactic(auto, unfolding(crate::specs::LinkEnd::on_frame, crate::specs::LinkEnd::on_frame_in))]
+    pub fn on_hello(&mut self, settings: &Settings, header: &Header, now: u64) -> Verdict
+        ensures verdict { result ≡ (on_frame (settings_in settings.now) (state_in self.old) (frame_of header.now Body.Hello) now).0 }
+        ensures state { state_in self.new ≡ (on_frame (settings_in settings.now) (state_in self.old) (frame_of header.now Body.Hello) now).1 }
+    {
+        if settings.is_foreign_hello(header) {
+            return Verdict::Foreign;
+        }
+        if self.events.is_busy() {
+            return Verdict::Busy;
+        }
+        match self.phase {
+            Phase::Closed => Verdict::Stale,
+            Phase::Unbound(own) => self.on_unbound_hello(own, header, now),
+            Phase::Bound(life) => self.on_bound_hello(life, header, now),
+        }
     }
 
     /// A frame that came.

@@ -1,7 +1,8 @@
 //! What a link end is made with, and its clock.
 ghost use Rattle.std.specs.Prelude.{◌≡◌, ℕ, ◌^◌, ◌<◌, ◌||◌, nat_le};
 ghost use Rattle.std.specs.List.{list_any};
-ghost use Rattle.tora_frame.specs.FrameParts.{IsFrame};
+ghost use Rattle.tora_frame.specs.FrameParts.{IsFrame, frame_of};
+ghost use Rattle.tora_frame.specs.declared.parts.Body.{Body};
 ghost use Rattle.tora_frame.specs.BorrowedFrames.{body_of};
 ghost use Rattle.tora_arq.specs.Settings.{ticks_passed};
 ghost use Rattle.tora_arq.specs.LinkEnd.{is_foreign, is_unknown, is_update_of_another, has_update_of_another};
@@ -9,7 +10,7 @@ ghost use Rattle.tora_arq.specs.NextDue.{has_begun};
 ghost use Rattle.tora_arq.specs.StateView.{settings_in};
 
 use crate::Times;
-use tora_frame::{BorrowedBody, BorrowedFrame, Version};
+use tora_frame::{BorrowedBody, BorrowedFrame, Header, Version};
 use tora_height::Id;
 use tora_packet::Packet;
 
@@ -94,6 +95,15 @@ fn is_unknown(newest: Version, version: Version) -> bool
 }
 
 impl Settings {
+    /// Whether a HELLO of this header is not one that the peer sends to this node.
+    pub fn is_foreign_hello(&self, header: &Header) -> bool
+        ensures { result ≡ is_foreign (settings_in self.now) (frame_of header.now Body.Hello) }
+    {
+        header.sender != self.peer
+            || header.receiver != self.me
+            || is_unknown(self.version, header.version)
+    }
+
     /// Whether the frame is not one that the peer sends to this node.
     pub fn is_foreign(&self, frame: &BorrowedFrame<'_>) -> bool
         ensures value { result ≡ is_foreign (settings_in self.now) frame.now }

@@ -1,9 +1,9 @@
 //! The frames that a link end has to send.
-ghost use Rattle.std.specs.Prelude.{◌≡◌, ℕ, ◌<◌, ◌≤◌, ◌+◌, ◌^◌, ◌||◌, false, None, IfNone, is_some, length};
-ghost use Rattle.tora_frame.specs.FrameParts.{IsHeader, IsLifeNumber};
+ghost use Rattle.std.specs.Prelude.{◌≡◌, ℕ, ◌<◌, ◌≤◌, ◌+◌, ◌^◌, ◌||◌, false, Option, Some, IfNone, IfSome, is_some, length};
+ghost use Rattle.tora_frame.specs.FrameParts.{FrameParts, frame_of, IsHeader, IsLifeNumber};
 ghost use Rattle.tora_frame.specs.declared.parts.Body.{Body};
 ghost use Rattle.tora_arq.specs.Settings.{IsLink};
-ghost use Rattle.tora_arq.specs.LinkEnd.{is_two, data_version, most_packets, is_hello_due, is_old_hello_due, frame_sent, after_hello, after_old_hello, on_hello, due_of, on_transmit_due, on_transmit};
+ghost use Rattle.tora_arq.specs.LinkEnd.{EndState, is_two, data_version, most_packets, is_hello_due, is_old_hello_due, frame_sent, after_hello, after_old_hello, on_hello, due_of, on_transmit_due, on_transmit};
 ghost use Rattle.tora_arq.specs.EndRange.{IsEndState};
 ghost use Rattle.tora_arq.specs.NextDue.{is_any_due, is_due_in, IsNextDue, has_begun};
 ghost use Rattle.tora_arq.specs.StateView.{settings_in, state_in};
@@ -62,41 +62,32 @@ impl State {
         }
     }
 
-    /// Sends a HELLO of the newest version.
-    fn take_hello<'a>(
-        &mut self,
-        settings: &Settings,
-        life: u64,
-        heard: u64,
-        now: u64,
-    ) -> BorrowedFrame<'a>
+    /// Sends a HELLO of the newest version, which is told by its header.
+    fn take_hello(&mut self, settings: &Settings, life: u64, heard: u64, now: u64) -> Header
         requires link { IsLink settings.now.me settings.now.peer }
         requires life { IsLifeNumber life }
         requires heard { heard ≤ 2 ^ 62 }
-        ensures frame { result ≡ frame_sent (settings_in settings.now) settings.now.version life heard Body.Hello }
+        ensures frame { frame_of result Body.Hello ≡ frame_sent (settings_in settings.now) settings.now.version life heard Body.Hello }
+        ensures valid { IsHeader result }
         ensures state { state_in self.new ≡ after_hello (settings_in settings.now) (state_in self.old) now }
     {
         self.owes_hello = false;
         self.owes_old_hello = is_two(settings.version);
         self.last_hello = Some(now);
-        BorrowedFrame::hello(settings.header(settings.version, life, heard))
+        settings.header(settings.version, life, heard)
     }
 
-    /// Sends a HELLO of version 1 behind one of version 2.
-    fn take_old_hello<'a>(
-        &mut self,
-        settings: &Settings,
-        life: u64,
-        heard: u64,
-    ) -> BorrowedFrame<'a>
+    /// Sends a HELLO of version 1 behind one of version 2, which is told by its header.
+    fn take_old_hello(&mut self, settings: &Settings, life: u64, heard: u64) -> Header
         requires link { IsLink settings.now.me settings.now.peer }
         requires life { IsLifeNumber life }
         requires heard { heard ≤ 2 ^ 62 }
-        ensures frame { result ≡ frame_sent (settings_in settings.now) Version.One life heard Body.Hello }
+        ensures frame { frame_of result Body.Hello ≡ frame_sent (settings_in settings.now) Version.One life heard Body.Hello }
+        ensures valid { IsHeader result }
         ensures state { state_in self.new ≡ after_old_hello (state_in self.old) }
     {
         self.owes_old_hello = false;
-        BorrowedFrame::hello(settings.header(Version::One, life, heard))
+        settings.header(Version::One, life, heard)
     }
 
     /// Sends the first packets due, which are put into `packets`, or an ACK where one is owed.
@@ -211,19 +202,14 @@ impl State {
         }
     }
 
-    /// A HELLO of version 1 behind one of version 2, or one of the newest version, where one is due.
-    fn poll_hello<'a>(
-        &mut self,
-        settings: &Settings,
-        life: u64,
-        heard: u64,
-        now: u64,
-    ) -> Option<BorrowedFrame<'a>>
+    /// A HELLO of version 1 behind one of version 2, or one of the newest version, where one is due: its header.
+    fn poll_hello(&mut self, settings: &Settings, life: u64, heard: u64, now: u64) -> Option<Header>
         requires link { IsLink settings.now.me settings.now.peer }
         requires life { IsLifeNumber life }
         requires heard { heard ≤ 2 ^ 62 }
-        ensures frame { result ≡ (on_hello (settings_in settings.now) (state_in self.old) life heard now (None, state_in self.old)).0 }
-        ensures state { state_in self.new ≡ (on_hello (settings_in settings.now) (state_in self.old) life heard now (None, state_in self.old)).1 }
+        ensures frame { IfSome result (λ header. (other : Option FrameParts × EndState) → (on_hello (settings_in settings.now) (state_in self.old) life heard now other).0 ≡ Some (frame_of header Body.Hello)) }
+        ensures state { IfSome result (λ _. (other : Option FrameParts × EndState) → state_in self.new ≡ (on_hello (settings_in settings.now) (state_in self.old) life heard now other).1) }
+        ensures valid { IfSome result (λ header. IsHeader header) }
         ensures none { IfNone result ((is_hello_due (settings_in settings.now) (state_in self.old) now ≡ false) × (is_old_hello_due (state_in self.old) ≡ false)) }
         ensures same { IfNone result (self.new ≡ self.old) }
     {
@@ -234,6 +220,22 @@ impl State {
             return Some(self.take_hello(settings, life, heard, now));
         }
         None
+    }
+
+    /// The first frame due, where it is a HELLO: its header.
+    #[tactic(auto, unfolding(crate::specs::LinkEnd::on_transmit, crate::specs::LinkEnd::on_transmit_in))]
+    pub fn poll_first_hello(&mut self, settings: &Settings, now: u64) -> Option<Header>
+        requires { IsEndState (settings_in settings.now) (state_in self.old) }
+        ensures frame { IfSome result (λ header. (on_transmit (settings_in settings.now) (state_in self.old) now).0 ≡ Some (frame_of header Body.Hello)) }
+        ensures state { IfSome result (λ _. state_in self.new ≡ (on_transmit (settings_in settings.now) (state_in self.old) now).1) }
+        ensures valid { IfSome result (λ header. IsHeader header) }
+        ensures same { IfNone result (self.new ≡ self.old) }
+    {
+        match self.phase {
+            Phase::Closed => None,
+            Phase::Unbound(own) => self.poll_hello(settings, own, self.heard, now),
+            Phase::Bound(life) => self.poll_hello(settings, life.own, life.peer, now),
+        }
     }
 
     /// The first frame due. Its packets are put into `packets`.
@@ -250,10 +252,13 @@ impl State {
     {
         match self.phase {
             Phase::Closed => None,
-            Phase::Unbound(own) => self.poll_hello(settings, own, self.heard, now),
+            Phase::Unbound(own) => {
+                let header = self.poll_hello(settings, own, self.heard, now)?;
+                Some(BorrowedFrame::hello(header))
+            }
             Phase::Bound(life) => {
-                if let Some(hello) = self.poll_hello(settings, life.own, life.peer, now) {
-                    return Some(hello);
+                if let Some(header) = self.poll_hello(settings, life.own, life.peer, now) {
+                    return Some(BorrowedFrame::hello(header));
                 }
                 self.take_due(settings, life, now, packets)
             }

@@ -1,5 +1,7 @@
 //! The datagrams that were sent.
 ghost use Rattle.std.specs.Prelude.{◌≡◌, ◌<◌, ◌^◌, ◌∷◌, ◌++◌, [], length, drop, option_map, option_to_list, slice_get, vec_len, vec_capacity, Some, IfOk, IfSome, OnOk};
+ghost use Rattle.tora_frame.specs.FrameParts.{IsHeader, frame_of};
+ghost use Rattle.tora_frame.specs.declared.parts.Body.{Body};
 ghost use Rattle.tora_sim.specs.Datagrams.{DatagramList, HasRoom, IsMore};
 ghost use Rattle.tora_sim.specs.Readers.{way_of};
 
@@ -7,7 +9,7 @@ use crate::kept_frames::KeptFrames;
 use crate::places::Places;
 use std::alloc::{AllocError, Global};
 use std::marker::Model;
-use tora_frame::{BorrowedBody, BorrowedFrame, Version};
+use tora_frame::{BorrowedBody, BorrowedFrame, Header, Version};
 use tora_height::Id;
 
 /// How many forms of frames there are: HELLOs of either version, DATA frames, and ACKs.
@@ -101,6 +103,18 @@ impl Datagrams {
             return None;
         };
         self.frames.get(at as usize)
+    }
+
+    /// The header of the datagram that stands behind so many others, where it is a HELLO, as most are.
+    #[inline(always)]
+    pub fn hello(&self, place: usize) -> Option<Header>
+        ensures hello { IfSome result (λ header. slice_get self.now.items place ≡ Some (frame_of header Body.Hello)) }
+        ensures valid { IfSome result (λ header. IsHeader header) }
+    {
+        let Some(at) = self.places.get(place) else {
+            return None;
+        };
+        self.frames.hello(at as usize)
     }
 
     /// From which node to which the datagram goes that stands behind so many others: only its frame's header is looked at.

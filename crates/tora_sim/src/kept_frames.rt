@@ -1,7 +1,7 @@
 //! Frames, each kept once where that is seen, with their headers and packets apart.
 ghost use Rattle.std.specs.Prelude.{◌≡◌, ◌<◌, ◌≤◌, ◌+◌, ◌^◌, ◌∷◌, ◌++◌, [], length, option_map, slice_get, slice_range, vec_len, vec_capacity, Some, IfSome, IsTrue, OnOk};
 ghost use Rattle.std.specs.List.{AllByRecursion};
-ghost use Rattle.tora_frame.specs.FrameParts.{IsFrame, batch, frame_of};
+ghost use Rattle.tora_frame.specs.FrameParts.{IsFrame, IsHeader, batch, frame_of};
 ghost use Rattle.tora_frame.specs.declared.parts.Body.TheVariants as Carries;
 ghost use Rattle.tora_sim.specs.Datagrams.{DatagramList, HasRoom, IsKept, IsMore, IsWithin, body_in, frame_in, header_at};
 ghost use Rattle.tora_sim.specs.Readers.{way_of};
@@ -152,6 +152,22 @@ impl KeptFrames {
             return false;
         };
         is_kept_frame(&self.headers, &self.packets, kept, frame)
+    }
+
+    /// The header of the frame that stands behind so many others, where it is a HELLO.
+    #[inline(always)]
+    pub fn hello(&self, place: usize) -> Option<Header>
+        ensures hello { IfSome result (λ header. slice_get self.now.items place ≡ Some (frame_of header Carries.Hello)) }
+        ensures valid { IfSome result (λ header. IsHeader header) }
+    {
+        let Some(kept) = self.frames.get(place) else {
+            return None;
+        };
+        match kept.body {
+            KeptBody::Hello => Some(header_at(&self.headers, kept.header)),
+            KeptBody::Data(..) => None,
+            KeptBody::Ack(_) => None,
+        }
     }
 
     /// From which node to which the frame goes that stands behind so many others: only its header is looked at.

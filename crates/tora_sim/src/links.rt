@@ -4,6 +4,8 @@ ghost use Rattle.std.specs.Prelude.{◌≡◌, ◌==◌, ◌≢◌, ◌<◌, ◌
 ghost use Rattle.tora_arq.specs.LinkEnd.{is_closed, after_frame, after_tick, frame_due, after_transmit, first_event, after_poll_event};
 ghost use Rattle.tora_sim.specs.Links.{with_state, after_open_at, after_arm, after_pull_at, is_at, is_key, key_of, AreRising, AreRisingKeys, AreChanged};
 ghost use Rattle.tora_arq.specs.LinkEnd.{first_end};
+ghost use Rattle.tora_frame.specs.FrameParts.{IsHeader, frame_of};
+ghost use Rattle.tora_frame.specs.declared.parts.Body.{Body};
 ghost use Rattle.tora_arq.specs.EndRange.{link_end_of};
 ghost use Rattle.tora_seat.specs.declared.TheConstants.{MOST_CARGOES};
 ghost use Rattle.tora_sim.specs.Keyed.{IsFirst};
@@ -19,7 +21,7 @@ use std::alloc::Global;
 use std::marker::Model;
 use std::mem;
 use tora_arq::{ArqError, Life, LinkEnd, LinkEvent, Times, lives_are_bound_once};
-use tora_frame::{BorrowedFrame, Packets, Version};
+use tora_frame::{BorrowedFrame, Header, Packets, Version};
 use tora_height::Id;
 use tora_life::{DiskCall, MemDisk, Owner};
 use tora_packet::Packet;
@@ -131,6 +133,18 @@ impl LinkSlot {
         self.end.poll_transmit_into(now, packets)
     }
 
+    /// Takes the first frame due, where it is a HELLO: its header. Else nothing is changed.
+    #[inline(always)]
+    pub fn send_hello(&mut self, now: u64) -> Option<Header>
+        ensures frame { IfSome result (λ header. frame_due self.old.settings self.old.state now ≡ Some (frame_of header Body.Hello)) }
+        ensures state { IfSome result (λ _. self.new ≡ with_state self.old (after_transmit self.old.settings self.old.state now)) }
+        ensures valid { IfSome result (λ header. IsHeader header) }
+        ensures none { IfNone result (self.new ≡ self.old) }
+    {
+        lives_are_bound_once();
+        self.end.poll_hello(now)
+    }
+
     /// Takes a frame in.
     #[inline(always)]
     pub fn receive(&mut self, frame: &BorrowedFrame<'_>, now: u64)
@@ -138,6 +152,16 @@ impl LinkSlot {
     {
         lives_are_bound_once();
         self.end.on_borrowed_frame(frame, now);
+    }
+
+    /// Takes a HELLO in, by its header.
+    #[inline(always)]
+    pub fn receive_hello(&mut self, header: &Header, now: u64)
+        requires { IsHeader header.now }
+        ensures { self.new ≡ with_state self.old (after_frame self.old.settings self.old.state (frame_of header.now Body.Hello) now) }
+    {
+        lives_are_bound_once();
+        self.end.on_hello(header, now);
     }
 
     /// Takes the first event.

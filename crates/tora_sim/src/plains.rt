@@ -1,6 +1,8 @@
 //! At which link ends nothing but a frame may be due.
 ghost use Rattle.std.specs.Prelude.{◌≡◌, ◌*◌, ◌<◌, true, false, length, slice_set};
 ghost use Rattle.tora_arq.specs.LinkEnd.{is_closed, after_frame, after_tick};
+ghost use Rattle.tora_frame.specs.FrameParts.{IsHeader, frame_of};
+ghost use Rattle.tora_frame.specs.declared.parts.Body.{Body};
 ghost use Rattle.tora_sim.specs.Links.{with_state};
 ghost use Rattle.tora_sim.specs.Plains.{IsPlain, ArePlainEach};
 ghost use Rattle.tora_sim.specs.Quiet.{IsStillIf};
@@ -9,7 +11,7 @@ use crate::links::LinkSlot;
 use crate::stills::{
     Stills, block_count, ends_of, is_still_block, keep_block, keep_still, still_at,
 };
-use tora_frame::BorrowedFrame;
+use tora_frame::{BorrowedFrame, Header};
 
 /// Looks at each link end that is not known to be plain, whether it is. The ends stay as they are.
 pub fn mark_ends(links: &Vec<LinkSlot>, plains: &mut Stills, now: u64)
@@ -66,6 +68,19 @@ pub fn forget_busy(plains: &mut Stills, place: usize, busy: bool)
     keep_still(plains, place, 0);
 }
 
+/// Keeps what was seen of the end at a place as it took a frame in: until when nothing is to be done there, and whether it is busy.
+#[inline(always)]
+pub fn keep_looked(stills: &mut Stills, plains: &mut Stills, at: usize, busy: bool, until: u64)
+    requires stills { at < length stills.old }
+    requires plains { at < length plains.old }
+    ensures stills { stills.new ≡ slice_set stills.old at until }
+    ensures same { busy ≡ false → plains.new ≡ plains.old }
+    ensures forgotten { busy ≡ true → plains.new ≡ slice_set plains.old at 0 }
+{
+    keep_still(stills, at, until);
+    forget_busy(plains, at, busy);
+}
+
 impl LinkSlot {
     /// Whether more than a frame may be due here: the end is closed, a cargo waits in its lane, or it has an event to give. Else it is plain.
     #[inline(always)]
@@ -100,6 +115,20 @@ impl LinkSlot {
         ensures still { IsStillIf result.1 self.new }
     {
         self.receive(frame, now);
+        let busy = self.is_busy();
+        let until = self.still_unless(busy);
+        (busy, until)
+    }
+
+    /// Takes a HELLO in, by its header, and tells the same.
+    #[inline(always)]
+    pub fn receive_hello_and_look(&mut self, header: &Header, now: u64) -> (bool, u64)
+        requires { IsHeader header.now }
+        ensures state { self.new ≡ with_state self.old (after_frame self.old.settings self.old.state (frame_of header.now Body.Hello) now) }
+        ensures plain { result.0 ≡ false → IsPlain self.new }
+        ensures still { IsStillIf result.1 self.new }
+    {
+        self.receive_hello(header, now);
         let busy = self.is_busy();
         let until = self.still_unless(busy);
         (busy, until)

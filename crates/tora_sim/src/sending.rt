@@ -1,19 +1,21 @@
 //! The frames of a link end go out, one after another.
-ghost use Rattle.std.specs.Prelude.{◌≡◌, ◌<◌, true, MatchResult, length};
+ghost use Rattle.std.specs.Prelude.{◌≡◌, ◌<◌, true, false, MatchResult, length};
 ghost use Rattle.tora_sim.specs.Keyed.{IsFirst};
 ghost use Rattle.tora_sim.specs.Links.{is_at};
 ghost use Rattle.tora_sim.specs.Nodes.{is_of};
 ghost use Rattle.tora_sim.specs.Store.{world_of};
 ghost use Rattle.tora_sim.specs.Sending.{IsOver};
-ghost use Rattle.tora_sim.specs.Steps.{Repeats};
+ghost use Rattle.tora_sim.specs.Steps.{Does, IsDone, Repeats};
 ghost use Rattle.tora_world.specs.declared.event.Event.TheVariants.{Transmit};
 
 use crate::SimError;
 use crate::links::place_near;
 use crate::nodes::place as node_place;
-use crate::sim::Sim;
+use crate::sim::{Sim, note_sent};
 use crate::stills::keep_still;
 use std::alloc::AllocError;
+use tora_arq::data_frames_are_what_was_submitted;
+use tora_frame::BorrowedFrame;
 use tora_height::Id;
 
 impl Sim {
@@ -64,6 +66,44 @@ impl Sim {
         !self.links[at].has_frame_due(self.clock)
     }
 
+    /// The first frame due of an end goes out, where it is a HELLO, as most are, and says whether it did; else nothing is changed.
+    #[inline(always)]
+    fn transmit_hello(&mut self, _n: Id, _k: Id, at: usize, home: usize) -> bool
+        requires end { IsFirst (is_at _n _k) self.old.links at }
+        requires node { IsFirst (is_of _n) self.old.nodes home }
+        ensures done { result ≡ true → IsDone (world_of self.old) (Transmit _n _k) (world_of self.new) }
+        ensures same { result ≡ false → self.new ≡ self.old }
+        ensures end { IsFirst (is_at _n _k) self.new.links at }
+        ensures node { IsFirst (is_of _n) self.new.nodes home }
+    {
+        if self.datagrams.reserve(at).is_err() {
+            return false;
+        }
+        data_frames_are_what_was_submitted();
+        let Some(header) = self.links[at].send_hello(self.clock) else {
+            return false;
+        };
+        self.quiet = 0;
+        let frame = BorrowedFrame::hello(header);
+        note_sent(&mut self.nodes[home], &mut self.datagrams, at, &frame);
+        true
+    }
+
+    /// The first frame due of an end goes out, as `transmit_at` has it. A HELLO is made of its header, at less cost than any other frame.
+    #[inline(always)]
+    fn transmit_first(&mut self, n: Id, k: Id, at: usize, home: usize) -> Result<(), SimError>
+        requires end { IsFirst (is_at n k) self.old.links at }
+        requires node { IsFirst (is_of n) self.old.nodes home }
+        ensures done { Does self.old (Transmit n k) result self.new }
+        ensures end { IsFirst (is_at n k) self.new.links at }
+        ensures node { IsFirst (is_of n) self.new.nodes home }
+    {
+        if self.transmit_hello(n, k, at, home) {
+            return Ok(());
+        }
+        self.transmit_at(n, k, at, home)
+    }
+
     /// Lets the frames of an end go out that are due, and so many at most: the end stands at the place `at`, and its node at the place `home`.
     /// Whether a frame is due is asked each time but the first: before that the caller asks.
     #[inline(always)]
@@ -84,7 +124,7 @@ impl Sim {
             if self.is_over(at, some) {
                 return Ok(some);
             }
-            match self.transmit_at(n, k, at, home) {
+            match self.transmit_first(n, k, at, home) {
                 Ok(()) => some = true,
                 Err(SimError::Memory) => return Err(AllocError),
                 Err(SimError::NoNode) => return Ok(some),

@@ -1,5 +1,7 @@
 //! The simulator.
-ghost use Rattle.std.specs.Prelude.{◌≡◌, ◌<◌, true};
+ghost use Rattle.std.specs.Prelude.{◌≡◌, ◌<◌, true, Some, IfSome};
+ghost use Rattle.tora_frame.specs.FrameParts.{IsHeader, frame_of};
+ghost use Rattle.tora_frame.specs.declared.parts.Body.TheVariants.{Hello};
 ghost use Rattle.tora_world.specs.declared.event.Event.TheVariants.{Tick, Open, Pull, Need, Transmit, Deliver, Pump, CoreTurn, Arm, Restart};
 ghost use Rattle.tora_world.specs.World.{with_datagram};
 ghost use Rattle.tora_sim.specs.Links.{is_at};
@@ -14,9 +16,9 @@ use crate::hints::Hints;
 use crate::lanes::make_room;
 use crate::links::{LinkSlot, arm, place, place_among};
 use crate::nodes::{NodeSlot, Sending, place as node_place};
-use crate::plains::forget_busy;
+use crate::plains::keep_looked;
 use crate::restarts::{new_ends, restart_ends};
-use crate::stills::{Stills, forget, keep_still};
+use crate::stills::{Stills, forget};
 use crate::ticking::tick;
 use crate::topology::Topology;
 use crate::turns::{forget_waiting, turn};
@@ -24,7 +26,7 @@ use crate::unready::{Unready, set_unready, still_unready, unready_at};
 use crate::{Call, Event, SimError};
 use std::marker::Model;
 use tora_arq::{Times, calls_keep_an_end, data_frames_are_what_was_submitted};
-use tora_frame::{BorrowedFrame, Packets};
+use tora_frame::{BorrowedFrame, Header, Packets};
 use tora_height::Id;
 use tora_life::DiskCall;
 use tora_seat::{MOST_ITEMS, What, what_of};
@@ -213,9 +215,52 @@ impl Sim {
     }
 
     /// A datagram is handed to its receiver, unless the receive is armed to fail. Until when nothing is to be done at the end that takes it in
-    /// is asked at once, while the end is at hand.
+    /// is asked at once, while the end is at hand. Of a HELLO the header alone is looked up.
     #[inline(always)]
     pub(crate) fn deliver(&mut self, i: u64) -> Result<(), SimError>
+        ensures { Does self.old (Deliver i) result self.new }
+    {
+        match numbered_hello(&self.datagrams, i) {
+            Some(header) => self.deliver_hello(i, &header),
+            None => self.deliver_frame(i),
+        }
+    }
+
+    /// The HELLO of this header, which datagram `_i` is, is handed to its receiver as `deliver` has it.
+    #[inline(always)]
+    fn deliver_hello(&mut self, _i: u64, header: &Header) -> Result<(), SimError>
+        requires hello { numbered _i self.old.datagrams ≡ Some (frame_of header.now Hello) }
+        requires valid { IsHeader header.now }
+        ensures { Does self.old (Deliver _i) result self.new }
+    {
+        let Some(home) = node_place(&self.nodes, &self.hints, header.receiver) else {
+            return Err(SimError::NoDatagram);
+        };
+        if self.nodes[home].receive() {
+            self.quiet = 0;
+            self.nodes[home].arm_receive(false);
+            return Ok(());
+        }
+        let first = self.nodes[home].first();
+        let count = self.nodes[home].count();
+        let Some(at) = place_among(
+            &self.links,
+            &self.keys,
+            first,
+            count,
+            header.receiver,
+            header.sender,
+        ) else {
+            return Err(SimError::NoDatagram);
+        };
+        self.quiet = 0;
+        let (busy, until) = self.links[at].receive_hello_and_look(header, self.clock);
+        keep_looked(&mut self.stills, &mut self.plains, at, busy, until);
+        Ok(())
+    }
+
+    /// A datagram is handed to its receiver as `deliver` has it, whatever it is.
+    fn deliver_frame(&mut self, i: u64) -> Result<(), SimError>
         ensures { Does self.old (Deliver i) result self.new }
     {
         let Some(frame) = numbered(&self.datagrams, i) else {
@@ -244,8 +289,7 @@ impl Sim {
         };
         self.quiet = 0;
         let (busy, until) = self.links[at].receive_and_look(&frame, self.clock);
-        keep_still(&mut self.stills, at, until);
-        forget_busy(&mut self.plains, at, busy);
+        keep_looked(&mut self.stills, &mut self.plains, at, busy, until);
         Ok(())
     }
 
@@ -406,9 +450,24 @@ pub fn numbered(datagrams: &Datagrams, i: u64) -> Option<BorrowedFrame<'_>>
     datagrams.get(place)
 }
 
+/// The header of the datagram of a number from 1 on, where it is a HELLO.
+#[inline(always)]
+fn numbered_hello(datagrams: &Datagrams, i: u64) -> Option<Header>
+    ensures hello { IfSome result (λ header. numbered i datagrams.now.items ≡ Some (frame_of header Hello)) }
+    ensures valid { IfSome result (λ header. IsHeader header) }
+{
+    let number = usize::try_from(i).ok()?;
+    datagrams.hello(number.checked_sub(1)?)
+}
+
 /// Notes a datagram that a node sent by its link end at this place, unless the send is armed to lose it; the arm is used.
 #[inline(always)]
-fn note_sent(node: &mut NodeSlot, datagrams: &mut Datagrams, end: usize, frame: &BorrowedFrame<'_>)
+pub fn note_sent(
+    node: &mut NodeSlot,
+    datagrams: &mut Datagrams,
+    end: usize,
+    frame: &BorrowedFrame<'_>,
+)
     requires { HasRoom datagrams.old }
     ensures node { node.new ≡ record node.old { sending = Sending.Goes } }
     ensures datagrams { datagrams.new.items ≡ with_datagram (sending_of node.old.sending) datagrams.old.items frame.now }

@@ -1,4 +1,4 @@
-use Rattle.std.proofs.Common.{◌<◌, ◌+◌, length, sym, subst, arith}
+use Rattle.std.proofs.Common.{◌<◌, ◌+◌, sym, subst, arith}
 use Rattle.std.specs.Prelude.{slice_set}
 use Rattle.tora_sim.specs.Lanes.{LanesView, lanes_of, DidOffer}
 use Rattle.tora_sim.proofs.Rooms.{still_ready, did}

@@ -1,86 +1,11 @@
-use Rattle.std.proofs.Common.{◌≡◌, true, None, refl, ap, sym, ◌∙◌, subst, find, arith}
-use Rattle.std.specs.Prelude.{slice_set}
-use Rattle.tora_frame.specs.declared.parts.Header.{Header}
-use Rattle.tora_world.specs.declared.event.Event.TheVariants.{Deliver}
-use Rattle.tora_sim.specs.Keyed.{IsFirst}
-use Rattle.tora_sim.specs.Links.{is_at}
-use Rattle.tora_sim.specs.Nodes.{NodeView, is_of}
-use Rattle.tora_sim.specs.Store.{SimState, state_of, world_of}
-use Rattle.tora_sim.specs.Steps.{IsDone}
-use Rattle.tora_sim.proofs.Opens.{same_read}
-use Rattle.tora_sim.proofs.Receives.{home_is_there, failed_done, failed_store, received_done, received_store}
-use Rattle.tora_sim.proofs.StillEnds.{found_still}
-use Rattle.tora_sim.proofs.PlainEnds.{looked_plain}
-use Rattle.tora_sim.proofs.ReadyEnds.{kept_as}
-use Rattle.tora_sim.proofs.UnreadyEnds.{node_kept, same_place}
+use Rattle.std.proofs.Common.{◌≡◌, Some, subst}
+use Rattle.tora_frame.specs.FrameParts.{frame_of}
+use Rattle.tora_frame.specs.declared.parts.Body.TheVariants.{Hello}
+use Rattle.tora_sim.specs.Store.{SimState, numbered}
 use Rattle.tora_sim.proofs.sim.Sim.deliver.Goals as goal
 
-pub place_among-requires-clause-keys : goal.place_among-requires-clause-keys
-place_among-requires-clause-keys c = c.self.invariant.3 ∙ sym c.self.invariant.0.keys
+pub deliver_hello-requires-clause-hello : goal.deliver_hello-requires-clause-hello
+deliver_hello-requires-clause-hello c = subst (λ (s : SimState). numbered c.args.i s.datagrams ≡ Some (frame_of c.in-Some.header Hello)) c.self.view_is c.in-Some.ensures.hello
 
-pub returns-in_default-node_place : goal.returns-in_default-node_place
-returns-in_default-node_place c =
-    let s = c.self.inside in
-    absurd (home_is_there s.topology s.times s.clock s.nodes.items s.links.items s.datagrams.items c.self.invariant.0 c.args.i c.in-Some.frame (sym c.in-Some.ensures)
-    (subst (λ (hd : Header). find (is_of hd.receiver) s.nodes.items ≡ None) c.header-header.ensures.value c.in_default-node_place.ensures.none))
-
-module _ (c : goal.After-self-then-receive-1) where
-  first : IsFirst (is_of c.in-Some.frame.header.receiver) c.self.inside.nodes.items c.in-Some-node_place.home
-  first = subst (λ (hd : Header). IsFirst (is_of hd.receiver) c.self.inside.nodes.items c.in-Some-node_place.home) c.header-header.ensures.value c.in-Some-node_place.ensures.first
-
-  armed : c.index_mut.result.now.receive ≡ true
-  armed =
-      ap (λ (y : NodeView). y.receive) (same_read c.self.inside.nodes.items c.in-Some-node_place.home c.index_mut.result.now c.index.result.now first.within c.index_mut.ensures.value c.index.ensures)
-      ∙ sym c.receive.ensures ∙ c.if-receive.true
-
-pub invariant_of-self : goal.invariant_of-self
-invariant_of-self c =
-    let s = c.self.inside in (
-      failed_store s.topology s.times s.clock s.nodes.items s.links.items s.datagrams.items c.self.invariant.0 c.args.i c.in-Some.frame (sym c.in-Some.ensures)
-          c.in-Some-node_place.home c.index_mut.result.now (first c) c.index_mut.ensures.value c.arm_receive.new.self c.arm_receive.ensures,
-      λ none. absurd (omega (arith, none)),
-      c.self.invariant.2,
-      c.self.invariant.3,
-      c.self.invariant.4,
-      c.self.invariant.5,
-      node_kept s.unready.items s.nodes.items s.ready.items c.in-Some-node_place.home c.index_mut.result.now c.arm_receive.new.self (first c).within c.index_mut.ensures.value (same_place c.index_mut.result.now c.arm_receive.new.self _ c.arm_receive.ensures (refl, refl)) c.self.invariant.6,
-    )
-
-pub returns-then-receive : goal.returns-then-receive
-returns-then-receive c =
-    let s = c.self.inside in
-    subst (λ (before : SimState). IsDone (world_of before) (Deliver c.args.i) (world_of (state_of s.topology s.times s.clock (slice_set s.nodes.items c.in-Some-node_place.home c.arm_receive.new.self) s.links.items s.datagrams.items))) c.self.view_is
-    (failed_done s.topology s.times s.clock s.nodes.items s.links.items s.datagrams.items c.self.invariant.0 c.args.i c.in-Some.frame (sym c.in-Some.ensures)
-    c.in-Some-node_place.home c.index_mut.result.now (first c) c.index_mut.ensures.value c.arm_receive.new.self (armed c) c.arm_receive.ensures)
-
-pub keep_still-requires : goal.keep_still-requires
-keep_still-requires c = omega (arith, c.in-Some-place_among.ensures.first.within, c.self.invariant.2.as_many)
-
-pub forget_busy-requires : goal.forget_busy-requires
-forget_busy-requires c = omega (arith, c.in-Some-place_among.ensures.first.within, c.self.invariant.4.as_many)
-
-pub invariant_of-self-2 : goal.invariant_of-self-2
-invariant_of-self-2 c =
-    let s = c.self.inside in
-    let home_first : IsFirst (is_of c.in-Some.frame.header.receiver) s.nodes.items c.in-Some-node_place.home = subst (λ (hd : Header). IsFirst (is_of hd.receiver) s.nodes.items c.in-Some-node_place.home) c.header-header.ensures.value c.in-Some-node_place.ensures.first in
-    let end_first : IsFirst (is_at c.in-Some.frame.header.receiver c.in-Some.frame.header.sender) s.links.items c.in-Some-place_among.at = subst (λ (hd : Header). IsFirst (is_at hd.receiver hd.sender) s.links.items c.in-Some-place_among.at) c.header-header.ensures.value c.in-Some-place_among.ensures.first in (
-      received_store s.topology s.times s.clock s.nodes.items s.links.items s.datagrams.items c.self.invariant.0 c.args.i c.in-Some.frame (sym c.in-Some.ensures)
-          c.in-Some-node_place.home c.index.result.now home_first c.index.ensures c.in-Some-place_among.at c.index_mut-2.result.now end_first c.index_mut-2.ensures.value c.receive_and_look-busy.new.self c.receive_and_look-busy.ensures.state,
-      λ none. absurd (omega (arith, none)),
-      found_still s.clock s.stills c.keep_still.new.stills s.links.items c.in-Some-place_among.at c.receive_and_look-busy.result.1 c.receive_and_look-busy.new.self c.in-Some-place_among.ensures.first.within c.keep_still.ensures c.receive_and_look-busy.ensures.still c.self.invariant.2,
-      c.self.invariant.3,
-      looked_plain s.clock s.plains c.forget_busy.new.plains s.links.items c.in-Some-place_among.at c.index_mut-2.result.now c.receive_and_look-busy.new.self c.receive_and_look-busy.result.0 c.in-Some-place_among.ensures.first.within c.index_mut-2.ensures.value
-          (λ e _. c.receive_and_look-busy.ensures.plain e) c.forget_busy.ensures.same c.forget_busy.ensures.forgotten c.self.invariant.4,
-      kept_as s.ready.items s.links.items c.in-Some-place_among.at c.index_mut-2.result.now c.receive_and_look-busy.new.self _ c.in-Some-place_among.ensures.first.within c.index_mut-2.ensures.value c.receive_and_look-busy.ensures.state (λ h. h) c.self.invariant.5,
-      c.self.invariant.6,
-    )
-
-pub returns : goal.returns
-returns c =
-    let s = c.self.inside in
-    let home_first : IsFirst (is_of c.in-Some.frame.header.receiver) s.nodes.items c.in-Some-node_place.home = subst (λ (hd : Header). IsFirst (is_of hd.receiver) s.nodes.items c.in-Some-node_place.home) c.header-header.ensures.value c.in-Some-node_place.ensures.first in
-    let end_first : IsFirst (is_at c.in-Some.frame.header.receiver c.in-Some.frame.header.sender) s.links.items c.in-Some-place_among.at = subst (λ (hd : Header). IsFirst (is_at hd.receiver hd.sender) s.links.items c.in-Some-place_among.at) c.header-header.ensures.value c.in-Some-place_among.ensures.first in
-    subst (λ (before : SimState). IsDone (world_of before) (Deliver c.args.i) (world_of (state_of s.topology s.times s.clock s.nodes.items (slice_set s.links.items c.in-Some-place_among.at c.receive_and_look-busy.new.self) s.datagrams.items))) c.self.view_is
-    (received_done s.topology s.times s.clock s.nodes.items s.links.items s.datagrams.items c.self.invariant.0 c.args.i c.in-Some.frame (sym c.in-Some.ensures)
-    c.in-Some-node_place.home c.index.result.now home_first c.index.ensures c.in-Some-place_among.at c.index_mut-2.result.now end_first c.index_mut-2.ensures.value c.receive_and_look-busy.new.self
-    (sym c.receive.ensures ∙ c.if-receive.false) c.receive_and_look-busy.ensures.state)
+pub deliver_hello-requires-clause-valid : goal.deliver_hello-requires-clause-valid
+deliver_hello-requires-clause-valid c = c.in-Some.ensures.valid

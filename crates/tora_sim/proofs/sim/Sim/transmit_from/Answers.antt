@@ -19,18 +19,18 @@ returns-then-is_over c =
     (refused w (repeats c.args.most (Transmit c.args.n c.args.k) w) (world_of c.loop.self) c.loop.some (c.args.most - (c.loop.counter + 1)) (Transmit c.args.n c.args.k) (rw left at c.loop.invariant.sent)
     (c.is_over.ensures.over c.if-is_over.true c.args.n c.args.k c.loop.invariant.end))
 
-pub transmit_at-requires-clause-end : goal.transmit_at-requires-clause-end
-transmit_at-requires-clause-end c = end_of c.args.n c.args.k c.args.at c.is_over.ensures.same c.loop.invariant.end
+pub transmit_first-requires-clause-end : goal.transmit_first-requires-clause-end
+transmit_first-requires-clause-end c = end_of c.args.n c.args.k c.args.at c.is_over.ensures.same c.loop.invariant.end
 
-pub transmit_at-requires-clause-node : goal.transmit_at-requires-clause-node
-transmit_at-requires-clause-node c = node_of c.args.n c.args.home c.is_over.ensures.same c.loop.invariant.node
+pub transmit_first-requires-clause-node : goal.transmit_first-requires-clause-node
+transmit_first-requires-clause-node c = node_of c.args.n c.args.home c.is_over.ensures.same c.loop.invariant.node
 
 pub returns-in-Err-Memory : goal.returns-in-Err-Memory
 returns-in-Err-Memory c =
     let w = world_of c.args.self.now in
     let left : c.args.most - c.loop.counter ≡ suc (c.args.most - (c.loop.counter + 1)) = omega (arith, c.loop-test.true) in
-    starved w (repeats c.args.most (Transmit c.args.n c.args.k) w) (world_of c.is_over.new.self) (world_of c.transmit_at.new.self) c.loop.some (c.args.most - (c.loop.counter + 1)) c.args.n c.args.k (still_onward w (repeats c.args.most (Transmit c.args.n c.args.k) w) c.loop.some (suc (c.args.most - (c.loop.counter + 1))) (Transmit c.args.n c.args.k) c.is_over.ensures.same (rw left at c.loop.invariant.sent))
-    (subst (λ (error : SimError). IsRefused (world_of c.is_over.new.self) (Transmit c.args.n c.args.k) error (world_of c.transmit_at.new.self)) c.in-Err-Memory.field-0-is c.in-Err-Memory.ensures.done)
+    starved w (repeats c.args.most (Transmit c.args.n c.args.k) w) (world_of c.is_over.new.self) (world_of c.transmit_first.new.self) c.loop.some (c.args.most - (c.loop.counter + 1)) c.args.n c.args.k (still_onward w (repeats c.args.most (Transmit c.args.n c.args.k) w) c.loop.some (suc (c.args.most - (c.loop.counter + 1))) (Transmit c.args.n c.args.k) c.is_over.ensures.same (rw left at c.loop.invariant.sent))
+    (subst (λ (error : SimError). IsRefused (world_of c.is_over.new.self) (Transmit c.args.n c.args.k) error (world_of c.transmit_first.new.self)) c.in-Err-Memory.field-0-is c.in-Err-Memory.ensures.done)
 
 pub returns-in-Err-NoNode : goal.returns-in-Err-NoNode
 returns-in-Err-NoNode c =
@@ -38,7 +38,7 @@ returns-in-Err-NoNode c =
     let left : c.args.most - c.loop.counter ≡ suc (c.args.most - (c.loop.counter + 1)) = omega (arith, c.loop-test.true) in
     subst (λ (v : World). Happened w (repeats c.args.most (Transmit c.args.n c.args.k) w) v c.loop.some) (sym c.in-Err-NoNode.ensures.done.world)
     (refused w (repeats c.args.most (Transmit c.args.n c.args.k) w) (world_of c.is_over.new.self) c.loop.some (c.args.most - (c.loop.counter + 1)) (Transmit c.args.n c.args.k) (still_onward w (repeats c.args.most (Transmit c.args.n c.args.k) w) c.loop.some (suc (c.args.most - (c.loop.counter + 1))) (Transmit c.args.n c.args.k) c.is_over.ensures.same (rw left at c.loop.invariant.sent))
-    (other_cause (world_of c.is_over.new.self) (Transmit c.args.n c.args.k) c.in-Err-NoNode.field-0 (world_of c.transmit_at.new.self) (λ e. let z : Refused.NoNode ≡ Refused.Memory = sym c.in-Err-NoNode.field-0-is ∙ e in cc) c.in-Err-NoNode.ensures.done))
+    (other_cause (world_of c.is_over.new.self) (Transmit c.args.n c.args.k) c.in-Err-NoNode.field-0 (world_of c.transmit_first.new.self) (λ e. let z : Refused.NoNode ≡ Refused.Memory = sym c.in-Err-NoNode.field-0-is ∙ e in cc) c.in-Err-NoNode.ensures.done))
 
 pub returns-in-Err-NotPossible : goal.returns-in-Err-NotPossible
 returns-in-Err-NotPossible c =
@@ -46,14 +46,14 @@ returns-in-Err-NotPossible c =
     let left : c.args.most - c.loop.counter ≡ suc (c.args.most - (c.loop.counter + 1)) = omega (arith, c.loop-test.true) in
     subst (λ (v : World). Happened w (repeats c.args.most (Transmit c.args.n c.args.k) w) v c.loop.some) (sym c.in-Err-NotPossible.ensures.done.world)
     (refused w (repeats c.args.most (Transmit c.args.n c.args.k) w) (world_of c.is_over.new.self) c.loop.some (c.args.most - (c.loop.counter + 1)) (Transmit c.args.n c.args.k) (still_onward w (repeats c.args.most (Transmit c.args.n c.args.k) w) c.loop.some (suc (c.args.most - (c.loop.counter + 1))) (Transmit c.args.n c.args.k) c.is_over.ensures.same (rw left at c.loop.invariant.sent))
-    (other_cause (world_of c.is_over.new.self) (Transmit c.args.n c.args.k) c.in-Err-NotPossible.field-0 (world_of c.transmit_at.new.self) (λ e. let z : Refused.NotPossible ≡ Refused.Memory = sym c.in-Err-NotPossible.field-0-is ∙ e in cc) c.in-Err-NotPossible.ensures.done))
+    (other_cause (world_of c.is_over.new.self) (Transmit c.args.n c.args.k) c.in-Err-NotPossible.field-0 (world_of c.transmit_first.new.self) (λ e. let z : Refused.NotPossible ≡ Refused.Memory = sym c.in-Err-NotPossible.field-0-is ∙ e in cc) c.in-Err-NotPossible.ensures.done))
 
 pub loop-preserved : goal.loop-preserved
 loop-preserved c =
     let w = world_of c.args.self.now in
     let left : c.args.most - c.loop.counter ≡ suc (c.args.most - (c.loop.counter + 1)) = omega (arith, c.loop-test.true) in
     record {
-      sent = again w (repeats c.args.most (Transmit c.args.n c.args.k) w) (world_of c.is_over.new.self) (world_of c.transmit_at.new.self) c.loop.some (c.args.most - (c.loop.counter + 1)) (Transmit c.args.n c.args.k) (still_onward w (repeats c.args.most (Transmit c.args.n c.args.k) w) c.loop.some (suc (c.args.most - (c.loop.counter + 1))) (Transmit c.args.n c.args.k) c.is_over.ensures.same (rw left at c.loop.invariant.sent)) c.in-Ok.ensures.done;
+      sent = again w (repeats c.args.most (Transmit c.args.n c.args.k) w) (world_of c.is_over.new.self) (world_of c.transmit_first.new.self) c.loop.some (c.args.most - (c.loop.counter + 1)) (Transmit c.args.n c.args.k) (still_onward w (repeats c.args.most (Transmit c.args.n c.args.k) w) c.loop.some (suc (c.args.most - (c.loop.counter + 1))) (Transmit c.args.n c.args.k) c.is_over.ensures.same (rw left at c.loop.invariant.sent)) c.in-Ok.ensures.done;
       end = c.in-Ok.ensures.end;
       node = c.in-Ok.ensures.node;
     }
