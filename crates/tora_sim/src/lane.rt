@@ -17,12 +17,12 @@ use tora_seat::{Cargo, MOST_CARGOES};
 /// What left the lane is kept in less, but not at once: before the next turn of the node's core, when memory may be asked for.
 #[derive(Drop)]
 pub struct Lane {
-    /// How many of these cargoes left the lane.
-    taken: usize,
+    /// The cargoes before the others, which left the lane.
+    past: KeptCargoes,
     /// The cargoes that were put last, in front those that left the lane.
     cargoes: Vec<Cargo>,
-    /// The cargoes before them, which left the lane.
-    past: KeptCargoes,
+    /// How many of these left the lane.
+    taken: usize,
 }
 
 impl Model for Lane {

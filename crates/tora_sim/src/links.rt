@@ -33,20 +33,21 @@ const MOST_TRIED: usize = 32;
 /// Of so few ends of a node each is looked at; more are halved.
 const FEW: usize = 8;
 
-/// The end of a link at one node, with its life file and the lane from the node's core to it.
+/// The end of a link at one node, with its life file and the lane from the node's core to it. What a HELLO looks at stands together, in few
+/// lines of the cache: the end of the lane's fields, and the front of those of the link end.
 #[derive(Drop)]
 pub struct LinkSlot {
-    pub(crate) node: Id,
-    pub(crate) peer: Id,
-    /// The place of the peer among the node's neighbours.
-    pub(crate) seat: usize,
-    /// The lane from the node's core. What a round asks of an end that it does not pass over stands in front.
-    pub(crate) lane: Lane,
-    pub(crate) end: LinkEnd,
     /// In a place of its own, since it is seldom looked at: so the ends lie close together.
     pub(crate) file: Box<FileSlot>,
     /// The packets of the peer that the node's core ever stepped, each with its life.
     pub(crate) steps: KeptCargoes,
+    /// The lane from the node's core.
+    pub(crate) lane: Lane,
+    /// The place of the peer among the node's neighbours.
+    pub(crate) seat: usize,
+    pub(crate) node: Id,
+    pub(crate) peer: Id,
+    pub(crate) end: LinkEnd,
 }
 
 impl Model for LinkSlot {
@@ -375,7 +376,8 @@ pub fn place_near(
     ensures first { IfSome result (λ i. IsFirst (is_at n k) links.now.items i) }
     ensures none { IfNone result (find (is_at n k) links.now.items ≡ None) }
 {
-    match stands_at(links, at, n, k) {
+    let ends = keys.as_slice();
+    match stands_at(ends, at, n, k) {
         Some(at) => Some(at),
         None => place(links, keys, hints, n, k),
     }
@@ -405,12 +407,11 @@ pub fn place_among(
 
 /// The place, where the end of node `n` towards `k` stands there.
 #[inline(always)]
-fn stands_at(links: &[LinkSlot], at: usize, n: Id, k: Id) -> Option<usize>
-    requires { AreRising links.now }
-    ensures { IfSome result (λ i. IsFirst (is_at n k) links.now i) }
+fn stands_at(keys: &[(Id, Id)], at: usize, n: Id, k: Id) -> Option<usize>
+    ensures { IfSome result (λ i. slice_get keys.now i ≡ Some (n, k)) }
 {
-    match links.get(at) {
-        Some(link) => { if link.is_end(n, k) { Some(at) } else { None } }
+    match keys.get(at) {
+        Some(key) => { if is_key(*key, n, k) { Some(at) } else { None } }
         None => None,
     }
 }
@@ -459,10 +460,7 @@ fn halved(keys: &[(Id, Id)], first: usize, count: usize, n: Id, k: Id) -> Option
             left = half;
         }
     }
-    match keys.get(at) {
-        Some(key) => { if is_key(*key, n, k) { Some(at) } else { None } }
-        None => None,
-    }
+    stands_at(keys, at, n, k)
 }
 
 /// Whether the peer of the end at a place is at most this one.

@@ -38,9 +38,6 @@ impl Sim {
         let Some(at) = place_near(&self.links, &self.keys, &self.hints, place, n, k) else {
             return Ok(false);
         };
-        if !self.links[at].has_frame_due(self.clock) {
-            return Ok(false);
-        }
         let Some(home) = node_place(&self.nodes, &self.hints, n) else {
             return Ok(false);
         };

@@ -1,9 +1,8 @@
-use Rattle.std.proofs.Common.{◌≡◌, ◌∙◌, true, is_some, sym, subst}
+use Rattle.std.proofs.Common.{◌≡◌, true, is_some, subst}
 use Rattle.tora_world.specs.declared.event.Event.TheVariants.{Transmit}
 use Rattle.tora_world.specs.World.{refusal_of}
 use Rattle.tora_sim.specs.Store.{SimState, world_of}
-use Rattle.tora_sim.proofs.Possibles.{is_impossible}
-use Rattle.tora_sim.proofs.Sends.{transmit_refused, at_home}
+use Rattle.tora_sim.proofs.Sends.{at_home}
 use Rattle.tora_sim.proofs.Sendings.{read_there, no_end, none_at_all}
 use Rattle.tora_sim.proofs.sim.Sim.transmit_all.Goals as goal
 
@@ -13,15 +12,6 @@ returns-in_default c =
     none_at_all (world_of c.args.self.now) c.args.most (Transmit c.args.n c.args.k)
     (subst (λ (v : SimState). is_some (refusal_of (world_of v) (Transmit c.args.n c.args.k)) ≡ true) c.self.view_is
     (no_end s.topology s.times s.clock s.nodes.items s.links.items s.datagrams.items c.self.invariant.0 c.args.n c.args.k c.in_default.ensures.none))
-
-pub returns-then-not-has_frame_due : goal.returns-then-not-has_frame_due
-returns-then-not-has_frame_due c =
-    let s = c.self.inside in
-    none_at_all (world_of c.args.self.now) c.args.most (Transmit c.args.n c.args.k)
-    (subst (λ (v : SimState). is_some (refusal_of (world_of v) (Transmit c.args.n c.args.k)) ≡ true) c.self.view_is
-    (is_impossible _ (Transmit c.args.n c.args.k)
-    (transmit_refused s.topology s.times s.clock s.nodes.items s.links.items s.datagrams.items c.self.invariant.0 c.args.n c.args.k c.in-Some.at c.index.result.now c.in-Some.ensures.first c.index.ensures
-    (sym c.has_frame_due.ensures ∙ c.if-not-has_frame_due.true))))
 
 pub returns-in_default-node_place : goal.returns-in_default-node_place
 returns-in_default-node_place c =
