@@ -47,7 +47,8 @@ pub mod Resting
 pub mod Quiets
 pub mod StillEnds
 pub mod PlainEnds
-pub mod StillBlocks
+pub mod MarkLaws
+pub mod StillTicks
 pub mod ReadyEnds
 pub mod UnreadyEnds
 pub mod TickEnds

@@ -1,5 +1,5 @@
 -- Of each node the ends outside which each is known to be ready, as ends and nodes change.
-use Rattle.std.proofs.Common.{◌≡◌, ℕ, zero, suc, ◌+◌, ◌-◌, ◌<◌, ◌≤◌, ◌⊎◌, inl, inr, Bool, true, false, true≢false, nat_lt, List, [], ◌∷◌, ◌++◌, length, set, slice_get, get_or, Option, Some, None, Result, Ok, Err, MatchOption, MatchResult, OnOk, is_err, refl, sym, ap, ◌∙◌, subst, arith}
+use Rattle.std.proofs.Common.{◌≡◌, ℕ, zero, suc, ◌+◌, ◌-◌, ◌<◌, ◌≤◌, ◌⊎◌, inl, inr, Bool, true, false, true≢false, List, [], ◌∷◌, ◌++◌, length, set, slice_get, get_or, Option, Some, None, Result, Ok, Err, MatchOption, MatchResult, OnOk, is_err, refl, sym, ap, ◌∙◌, subst, arith}
 use Rattle.std.specs.Prelude.{⊤, replicate, slice_index, slice_index_or}
 use Rattle.std.proofs.lemmas.Bool.{cases_eq}
 use Rattle.std.proofs.lemmas.List.{length-replicate, length-set}
@@ -17,7 +17,7 @@ use Rattle.tora_world.specs.declared.sim_error.SimError.TheVariants as Refused
 use Rattle.tora_sim.specs.declared.unready.Unready.{Unready}
 use Rattle.tora_sim.specs.Lanes.{LanesView, lanes_of, DidOffer, HasRoom, HaveRoom, IsReady, AreReadyEach, AreReadyOutside, AreReady, AreOthersKept, after_offer_at}
 use Rattle.tora_sim.specs.Links.{LinkView}
-use Rattle.tora_sim.specs.Nodes.{NodeView, after_item, ComesBefore}
+use Rattle.tora_sim.specs.Nodes.{NodeView, after_item}
 use Rattle.tora_sim.specs.Possible.{has_cargo}
 use Rattle.tora_sim.specs.Quiet.{AreForgottenWhere}
 use Rattle.tora_sim.specs.Store.{IsStore, state_of}
@@ -26,7 +26,7 @@ use Rattle.tora_sim.specs.Unready.{ends_below, IsOutside, AreMarkedOutside, IsMa
 use Rattle.tora_sim.proofs.FreshEnds.{item_at, below_next, set_same, set_other}
 use Rattle.tora_sim.proofs.ReadyEnds.{room_of, mark_there}
 use Rattle.tora_sim.proofs.Served.{lanes_stay}
-use Rattle.tora_sim.proofs.StillBlocks.{before_or_not}
+use Rattle.tora_sim.proofs.StillTicks.{before_or_not}
 use Rattle.tora_sim.proofs.Stores.{set_read}
 
 -- ---- at the start

@@ -31,6 +31,7 @@ mod lanes;
 mod link_keys;
 mod links;
 mod links_by_bits;
+mod marks;
 mod name_counts;
 mod nodes;
 mod places;

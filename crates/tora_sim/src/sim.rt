@@ -91,7 +91,7 @@ impl Sim {
             return Ok(());
         }
         self.quiet = 0;
-        tick(&mut self.links, &self.stills, &mut self.plains, now);
+        tick(&mut self.links, &mut self.stills, &mut self.plains, now);
         self.clock = now;
         Ok(())
     }
@@ -474,8 +474,10 @@ pub fn note_sent(
 {
     match node.sending() {
         Sending::Goes => datagrams.push(end, frame),
-        Sending::IsLost => {}
-        Sending::IsGone => datagrams.push(end, frame),
+        Sending::IsLost => node.arm_sending(Sending::Goes),
+        Sending::IsGone => {
+            datagrams.push(end, frame);
+            node.arm_sending(Sending::Goes);
+        }
     }
-    node.arm_sending(Sending::Goes);
 }
