@@ -209,13 +209,19 @@ fn new_link(
         return Err(SimError::Memory);
     };
     let file = apart(alloc, open(MemDisk::new(), Owner { node: n, peer: k }))?;
+    let Ok(lane) = Lane::new(alloc) else {
+        return Err(SimError::Memory);
+    };
+    let Ok(steps) = KeptCargoes::new(alloc) else {
+        return Err(SimError::Memory);
+    };
     Ok(LinkSlot {
         node: n,
         peer: k,
         seat,
         end,
         file,
-        lane: Lane::new(alloc),
-        steps: KeptCargoes::new(alloc),
+        lane,
+        steps,
     })
 }

@@ -1,5 +1,5 @@
 //! Cargoes as a simulator keeps them.
-ghost use Rattle.std.specs.Prelude.{◌≡◌, ◌<◌, ◌-◌, ◌^◌, ◌∷◌, ◌++◌, [], List, length, slice_get, vec_len, vec_capacity, Some, IfSome, OnOk};
+ghost use Rattle.std.specs.Prelude.{◌≡◌, ◌<◌, ◌-◌, ◌^◌, ◌∷◌, ◌++◌, [], List, length, slice_get, vec_len, vec_capacity, Some, IfOk, IfSome, OnOk};
 ghost use Rattle.tora_arq.specs.declared.life.Life.{Life as AnyLife};
 ghost use Rattle.tora_height.specs.Height.{IsHeight, quintuple};
 ghost use Rattle.tora_sim.specs.Datagrams.{IsMore};
@@ -30,8 +30,68 @@ pub enum KeptCargo {
 }
 
 /// Cargoes in the order in which they came.
+///
+/// Their lists stand in a place of their own, since they are seldom looked at: so link ends lie close together.
 #[derive(Drop)]
 pub struct KeptCargoes {
+    lists: Box<KeptLists>,
+}
+
+impl Model for KeptCargoes {
+    ghost use Rattle.tora_sim.specs.KeptCargoes.{CargoList};
+
+    ghost Value = { CargoList };
+
+    ghost view = { λ s. s.lists.value };
+}
+
+impl KeptCargoes {
+    /// No cargoes.
+    ///
+    /// # Errors
+    /// Want of memory.
+    pub fn new(alloc: Global) -> Result<KeptCargoes, AllocError>
+        ensures { IfOk result (λ kept. kept.items ≡ []) }
+    {
+        let lists = Box::new(alloc, KeptLists::new(alloc))?;
+        Ok(KeptCargoes { lists })
+    }
+
+    /// How many there are.
+    pub fn len(&self) -> usize
+        ensures len { result ≡ length self.now.items }
+        ensures most { result < 2 ^ 63 }
+    {
+        self.lists.len()
+    }
+
+    /// Makes room for one more.
+    pub fn reserve(&mut self) -> Result<(), AllocError>
+        ensures items { self.new.items ≡ self.old.items }
+        ensures room { OnOk result (0 < self.new.places) }
+    {
+        self.lists.reserve()
+    }
+
+    /// Appends a cargo. There must be room for it.
+    pub fn push(&mut self, cargo: &Cargo)
+        requires { 0 < self.old.places }
+        ensures { self.new ≡ record self.old { items = self.old.items ++ cargo.now ∷ []; places = self.old.places - 1 } }
+    {
+        self.lists.push(cargo);
+    }
+
+    /// The cargo that stands behind so many others.
+    pub fn get(&self, place: usize) -> Option<Cargo>
+        ensures { result ≡ slice_get self.now.items place }
+    {
+        self.lists.get(place)
+    }
+}
+
+/// The lists of them.
+#[derive(Drop)]
+struct KeptLists {
     cargoes: Vec<KeptCargo>,
     lives: Vec<Life>,
     apart: Vec<Cargo>,
@@ -39,7 +99,7 @@ pub struct KeptCargoes {
     spare: bool,
 }
 
-impl Model for KeptCargoes {
+impl Model for KeptLists {
     ghost use Rattle.std.specs.Prelude.{◌≡◌, ◌<◌, ◌^◌, true, map, vec_len, vec_capacity};
     ghost use Rattle.std.specs.List.{AllByRecursion};
     ghost use Rattle.tora_sim.specs.KeptCargoes.{CargoList, IsKeptCargo, cargo_in, one_if};
@@ -55,12 +115,12 @@ impl Model for KeptCargoes {
         × (s.spare ≡ true → (vec_len s.cargoes < vec_capacity s.cargoes) × (vec_len s.lives < vec_capacity s.lives) × (vec_len s.apart < vec_capacity s.apart) × (vec_len s.apart < 2 ^ 32)) };
 }
 
-impl KeptCargoes {
+impl KeptLists {
     /// No cargoes.
-    pub fn new(alloc: Global) -> KeptCargoes
+    fn new(alloc: Global) -> KeptLists
         ensures { result.items ≡ [] }
     {
-        KeptCargoes {
+        KeptLists {
             cargoes: Vec::new(alloc),
             lives: Vec::new(alloc),
             apart: Vec::new(alloc),
@@ -69,7 +129,7 @@ impl KeptCargoes {
     }
 
     /// How many there are.
-    pub fn len(&self) -> usize
+    fn len(&self) -> usize
         ensures len { result ≡ length self.now.items }
         ensures most { result < 2 ^ 63 }
     {
@@ -77,7 +137,7 @@ impl KeptCargoes {
     }
 
     /// Makes room for one more.
-    pub fn reserve(&mut self) -> Result<(), AllocError>
+    fn reserve(&mut self) -> Result<(), AllocError>
         ensures items { self.new.items ≡ self.old.items }
         ensures room { OnOk result (0 < self.new.places) }
     {
@@ -95,7 +155,7 @@ impl KeptCargoes {
     }
 
     /// Appends a cargo. There must be room for it.
-    pub fn push(&mut self, cargo: &Cargo)
+    fn push(&mut self, cargo: &Cargo)
         requires { 0 < self.old.places }
         ensures { self.new ≡ record self.old { items = self.old.items ++ cargo.now ∷ []; places = self.old.places - 1 } }
     {
@@ -106,7 +166,7 @@ impl KeptCargoes {
     }
 
     /// The cargo that stands behind so many others.
-    pub fn get(&self, place: usize) -> Option<Cargo>
+    fn get(&self, place: usize) -> Option<Cargo>
         ensures { result ≡ slice_get self.now.items place }
     {
         let Some(kept) = self.cargoes.get(place) else {

@@ -38,15 +38,18 @@ impl Model for Lane {
 
 impl Lane {
     /// An empty lane.
-    pub fn new(alloc: Global) -> Lane
-        ensures put { result.put ≡ [] }
-        ensures pulled { result.pulled ≡ 0 }
+    ///
+    /// # Errors
+    /// Want of memory.
+    pub fn new(alloc: Global) -> Result<Lane, AllocError>
+        ensures { IfOk result (λ lane. (lane.put ≡ []) × (lane.pulled ≡ 0)) }
     {
-        Lane {
-            taken: 0,
+        let past = KeptCargoes::new(alloc)?;
+        Ok(Lane {
+            past,
             cargoes: Vec::new(alloc),
-            past: KeptCargoes::new(alloc),
-        }
+            taken: 0,
+        })
     }
 
     /// Whether a cargo waits.
