@@ -117,6 +117,9 @@ fn add_node(
     let neighbours = topology.neighbours(lists, n);
     let count = neighbours.len();
     let seat = new_seat(alloc, topology, n, neighbours.as_slice())?;
+    let Ok(seat) = Box::new(alloc, seat) else {
+        return Err(SimError::Memory);
+    };
     let counts = no_counts(alloc, count + 1)?;
     add_links(alloc, topology, times, n, neighbours.as_slice(), links)?;
     let node = NodeSlot {

@@ -47,8 +47,8 @@ pub struct NodeSlot {
     pub(crate) counts: Vec<u64>,
     /// The inputs that its core accepted since the node's last restart, each with its tick.
     pub(crate) inputs: Vec<(Input, u64)>,
-    /// Its core's seat.
-    pub(crate) seat: CoreSeat,
+    /// Its core's seat, in a place of its own: so the nodes lie close together.
+    pub(crate) seat: Box<CoreSeat>,
 }
 
 impl Model for NodeSlot {
@@ -56,7 +56,7 @@ impl Model for NodeSlot {
 
     ghost Value = { NodeView };
 
-    ghost view = { λ s. node_of s.node s.first s.count s.seat s.inputs.items s.items.items s.counts.items s.sending s.receive };
+    ghost view = { λ s. node_of s.node s.first s.count s.seat.value s.inputs.items s.items.items s.counts.items s.sending s.receive };
 }
 
 impl NodeSlot {
@@ -192,7 +192,7 @@ impl NodeSlot {
     pub fn restart(&mut self, seat: CoreSeat)
         ensures { self.new ≡ restarted_node seat self.old }
     {
-        self.seat = seat;
+        *self.seat = seat;
         self.inputs.clear();
         self.items.clear();
         self.counts.fill(0);

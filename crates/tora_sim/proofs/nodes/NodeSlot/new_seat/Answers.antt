@@ -5,6 +5,7 @@ use Rattle.tora_core.specs.View.{View}
 use Rattle.tora_core.specs.Kept.{IsViewOf, destinations_of}
 use Rattle.tora_core.specs.CoreRun.{CoreView, core_refusal_within}
 use Rattle.tora_core.specs.declared.TheConstants.{GREATEST_NEIGHBOURS, MOST_DESTINATIONS}
+use Rattle.tora_seat.specs.Rows.{SeatView}
 use Rattle.tora_sim.specs.Nodes.{NodeView}
 use Rattle.tora_sim.proofs.Served.{not_refused}
 use Rattle.tora_sim.proofs.nodes.NodeSlot.new_seat.Goals as goal
@@ -22,4 +23,4 @@ with_limits-requires-clause-destinations c =
 pub returns-in-Err-clause-accepted : goal.returns-in-Err-clause-accepted
 returns-in-Err-clause-accepted c =
     subst (λ (core : CoreView). core_refusal_within GREATEST_NEIGHBOURS MOST_DESTINATIONS core.me core.neighbours (destinations_of core.views) ≡ None)
-    (c.core-core.ensures ∙ ap (λ (v : NodeView). v.seat.core) c.self.view_is) (not_refused c.core-core.result.now c.me.ensures.kept)
+    (c.core-core.ensures ∙ ap (λ (s : SeatView). s.core) c.deref.ensures ∙ ap (λ (v : NodeView). v.seat.core) c.self.view_is) (not_refused c.core-core.result.now c.me.ensures.kept)
