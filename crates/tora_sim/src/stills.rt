@@ -78,13 +78,17 @@ pub fn still_at(stills: &Stills, at: usize) -> u64
     stills.ends[at]
 }
 
-/// Keeps the tick of an end.
+/// Keeps the tick of an end; most often it is the one that is kept.
 #[inline(always)]
 pub fn keep_still(stills: &mut Stills, at: usize, until: u64)
     requires { at < length stills.old }
     ensures { stills.new ≡ slice_set stills.old at until }
 {
-    let slot = slot_of(stills.base, stills.ends[at]);
+    let old = stills.ends[at];
+    if old == until {
+        return;
+    }
+    let slot = slot_of(stills.base, old);
     unmark(&mut stills.marks, slot, at);
     mark(&mut stills.marks, stills.base, at, until);
     stills.ends[at] = until;
