@@ -1,11 +1,11 @@
 //! The frames of a link end go out, one after another.
-ghost use Rattle.std.specs.Prelude.{◌≡◌, ◌<◌, true, false, MatchResult, length};
+ghost use Rattle.std.specs.Prelude.{◌≡◌, ◌<◌, ℕ, true, false, MatchResult, length};
 ghost use Rattle.tora_sim.specs.Keyed.{IsFirst};
 ghost use Rattle.tora_sim.specs.Links.{is_at};
 ghost use Rattle.tora_sim.specs.Nodes.{is_of};
 ghost use Rattle.tora_sim.specs.Store.{world_of};
 ghost use Rattle.tora_sim.specs.Sending.{IsOver};
-ghost use Rattle.tora_sim.specs.Steps.{Does, IsDone, Repeats};
+ghost use Rattle.tora_sim.specs.Steps.{Does, IsDone, IsRefused, Repeats};
 ghost use Rattle.tora_world.specs.declared.event.Event.TheVariants.{Transmit};
 
 use crate::SimError;
@@ -44,8 +44,8 @@ impl Sim {
         self.transmit_from(n, k, at, home, most)
     }
 
-    /// Whether it is seen that no frame is due at the end that stands at the place `at`. It is looked at only where a frame was sent; until when
-    /// nothing is to be done there is then kept, if that is known.
+    /// Whether it is seen that no frame is due at the end that stands at the place `at`, by the tick before which none is. It is looked at only
+    /// where a frame was sent; that tick is then kept.
     #[inline(always)]
     fn is_over(&mut self, at: usize, sent: bool) -> bool
         requires { at < length self.old.links }
@@ -56,10 +56,19 @@ impl Sim {
             return false;
         }
         let until = self.links[at].still_until();
-        if self.clock < until {
-            keep_still(&mut self.stills, at, until);
-            return true;
+        if self.clock >= until {
+            return false;
         }
+        keep_still(&mut self.stills, at, until);
+        true
+    }
+
+    /// Whether no frame is due at the end that stands at the place `at`.
+    #[inline(always)]
+    fn has_none_due(&self, at: usize) -> bool
+        requires { at < length self.now.links }
+        ensures { result ≡ true → (n k : ℕ) → IsFirst (is_at n k) self.now.links at → IsRefused (world_of self.now) (Transmit n k) SimError.NotPossible (world_of self.now) }
+    {
         !self.links[at].has_frame_due(self.clock)
     }
 
@@ -98,11 +107,13 @@ impl Sim {
         if self.transmit_hello(n, k, at, home) {
             return Ok(());
         }
+        if self.has_none_due(at) {
+            return Err(SimError::NotPossible);
+        }
         self.transmit_at(n, k, at, home)
     }
 
     /// Lets the frames of an end go out that are due, and so many at most: the end stands at the place `at`, and its node at the place `home`.
-    /// Whether a frame is due is asked each time but the first: before that the caller asks.
     #[inline(always)]
     fn transmit_from(
         &mut self,

@@ -1,4 +1,4 @@
-use Rattle.std.proofs.Common.{◌≡◌, ◌∙◌, ◌<◌, Bool, true, false, not, refl, length, is_some, sym, subst, arith}
+use Rattle.std.proofs.Common.{◌≡◌, ◌<◌, true, refl, length, is_some, sym, subst, arith}
 use Rattle.std.proofs.lemmas.Option.{slice_get_read}
 use Rattle.tora_world.specs.declared.event.Event.TheVariants.{Transmit}
 use Rattle.tora_world.specs.World.{refusal_of}
@@ -8,10 +8,6 @@ use Rattle.tora_sim.proofs.Sends.{transmit_refused}
 use Rattle.tora_sim.proofs.Sendings.{end_of}
 use Rattle.tora_sim.proofs.StillEnds.{known_here}
 use Rattle.tora_sim.proofs.sim.Sim.is_over.Goals as goal
-
-not_true : (b : Bool) → not b ≡ true → b ≡ false
-not_true true e = let z : false ≡ true = e in cc
-not_true false e = refl
 
 pub keep_still-requires : goal.keep_still-requires
 keep_still-requires c = omega (arith, c.self.invariant.2.as_many, subst (λ (s : SimState). c.args.at < length s.links) (sym c.self.view_is) c.requires)
@@ -30,18 +26,10 @@ invariant_of-self c =
       c.self.invariant.6,
     )
 
-pub returns-then-self-until-clause-over : goal.returns-then-self-until-clause-over
-returns-then-self-until-clause-over c told n k first =
-    let s = c.self.inside in
-    subst (λ (v : SimState). is_some (refusal_of (world_of v) (Transmit n k)) ≡ true) c.self.view_is
-    (is_impossible _ (Transmit n k)
-    (transmit_refused s.topology s.times s.clock s.nodes.items s.links.items s.datagrams.items c.self.invariant.0 n k c.args.at c.index.result.now (end_of n k c.args.at c.self.view_is first) c.index.ensures
-    ((c.still_until-until.ensures (omega (arith, c.if-self-until.true))).frames s.clock c.if-self-until.true)))
-
 pub returns-clause-over : goal.returns-clause-over
 returns-clause-over c told n k first =
     let s = c.self.inside in
     subst (λ (v : SimState). is_some (refusal_of (world_of v) (Transmit n k)) ≡ true) c.self.view_is
     (is_impossible _ (Transmit n k)
-    (transmit_refused s.topology s.times s.clock s.nodes.items s.links.items s.datagrams.items c.self.invariant.0 n k c.args.at c.index-2.result.now (end_of n k c.args.at c.self.view_is first) c.index-2.ensures
-    (sym c.has_frame_due.ensures ∙ not_true c.has_frame_due.result told)))
+    (transmit_refused s.topology s.times s.clock s.nodes.items s.links.items s.datagrams.items c.self.invariant.0 n k c.args.at c.index.result.now (end_of n k c.args.at c.self.view_is first) c.index.ensures
+    ((c.still_until-until.ensures (omega (arith, c.if-self-until.false))).frames s.clock c.if-self-until.false)))
