@@ -47,8 +47,7 @@ pub mod Resting
 pub mod Quiets
 pub mod StillEnds
 pub mod PlainEnds
-pub mod MarkLaws
-pub mod StillTicks
+pub mod StillBlocks
 pub mod ReadyEnds
 pub mod UnreadyEnds
 pub mod TickEnds

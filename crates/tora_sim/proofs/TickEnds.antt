@@ -1,5 +1,5 @@
 -- Every link end is ticked but those that the tick does not change.
-use Rattle.std.proofs.Common.{◌≡◌, ℕ, zero, suc, ◌+◌, ◌-◌, ◌<◌, ◌≤◌, ◌⊎◌, inl, inr, List, [], ◌∷◌, map, length, set, slice_get, Some, refl, sym, ap, ◌∙◌, subst, arith}
+use Rattle.std.proofs.Common.{◌≡◌, ℕ, zero, suc, ◌+◌, ◌-◌, ◌<◌, ◌≤◌, ◌⊎◌, inl, inr, min, List, [], ◌∷◌, map, length, set, slice_get, Some, refl, sym, ap, ◌∙◌, subst, arith}
 use Rattle.std.specs.Prelude.{slice_index, slice_index_or}
 use Rattle.std.proofs.lemmas.Option.{none-some, same_Some, slice_get_read, slice_get_within}
 use Rattle.tora_sim.specs.Links.{LinkView, ticked, AreChanged}
@@ -8,7 +8,7 @@ use Rattle.tora_sim.specs.Stills.{AreLater}
 use Rattle.tora_sim.proofs.FreshEnds.{item_at, was, one_changed}
 use Rattle.tora_sim.proofs.NodeEnds.{by_places}
 use Rattle.tora_sim.proofs.Quiets.{set_same, still_tick}
-use Rattle.tora_sim.proofs.StillTicks.{before_or_not}
+use Rattle.tora_sim.proofs.StillBlocks.{before_or_not}
 
 read_of : (xs : List LinkView) (i : ℕ) (x : LinkView) → slice_get xs i ≡ Some x → x ≡ slice_index_or xs i x
 read_of [] i x e = absurd (none-some x e)
@@ -39,7 +39,7 @@ module _ (now first place count : ℕ) (before links : List LinkView) (h : AreCh
       subst (λ (ys : List LinkView). AreChanged (ticked now) before ys first (place + 1)) (sym (e x.0 x.1))
       (one_changed (ticked now) before links first place count h lt within x.0 (read_of links (first + place) x.0 x.1) (ticked now x.0) refl)
 
--- ---- ends that are passed over
+-- ---- blocks
 
 -- ends whose ticks are still to come
 pub block_same : (now first count : ℕ) (stills : List ℕ) (links : List LinkView) → length stills ≡ length links → AreStillFrom first now stills links → AreLater now first (first + count) stills → AreChanged (ticked now) links links first count
@@ -50,6 +50,14 @@ block_same now first count stills links many s later = record {
       let less : now < slice_index stills (first + place) = later (first + place) (omega arith) (omega (arith, lt)) (omega (arith, within, many)) in
       there ∙ ap Some (sym (still_tick (slice_index stills (first + place)) now link less (s (first + place) link (omega arith) less there)));
   rest = λ i link away there. there;
+}
+
+-- all ends of a block, of which there may be fewer
+pub whole_block : (now first count : ℕ) (before links : List LinkView) → count ≡ min 16 (length before - first) → AreChanged (ticked now) before links first count → AreChanged (ticked now) before links first 16
+whole_block now first count before links e h = record {
+  as_many = h.as_many;
+  done = λ place link lt there. let within = slice_get_within before (first + place) link there in h.done place link (omega (arith, within, e, lt)) there;
+  rest = λ i link away there. h.rest i link (λ place lt q. away place (omega (arith, lt, e)) q) there;
 }
 
 -- the ends behind those that are ticked are as still as they were
@@ -78,19 +86,6 @@ more_ticked now first count many before between links e h k = record {
         let same : 0 + place ≡ first + (place - first) = omega (arith, more) in
         let old : slice_get between (0 + place) ≡ Some link = h.rest (0 + place) link (λ j less q. absurd (omega (arith, less, q, more))) there in
         ap (slice_get links) same ∙ k.done (place - first) link (omega (arith, lt, e, more)) (ap (slice_get between) (sym same) ∙ old)
-
--- an end more is ticked
-pub one_more_ticked : (now at : ℕ) (before links after : List LinkView) → AreChanged (ticked now) before links 0 at → at < length before → ((link : LinkView) → slice_get links at ≡ Some link → after ≡ set links at (ticked now link)) → AreChanged (ticked now) before after 0 (at + 1)
-one_more_ticked now at before links after h lt e =
-    let here : 0 + at ≡ at = omega arith in
-    one_ticked now 0 at (length before) before links h lt (omega arith) after
-    (λ link there. subst (λ (n : ℕ). after ≡ set links n (ticked now link)) (sym here) (e link (subst (λ (n : ℕ). slice_get links n ≡ Some link) here there)))
-
--- ends are passed over that a tick does not change
-pub passed_over : (now from to : ℕ) (stills : List ℕ) (before links : List LinkView) → AreStillEach now stills before → AreChanged (ticked now) before links 0 from → from ≤ to → ((at : ℕ) → from ≤ at → at < to → now < slice_index stills at) → AreChanged (ticked now) before links 0 to
-passed_over now from to stills before links s h le later =
-    more_ticked now from (to - from) to before links links (omega (arith, le)) h
-    (block_same now from (to - from) stills links (s.as_many ∙ sym h.as_many) (still_behind now from stills before links s h) (λ i more less within. later i more (omega (arith, less, le))))
 
 -- all ends
 pub all_ticked : (now count : ℕ) (before links : List LinkView) → length before ≤ count → AreChanged (ticked now) before links 0 count → links ≡ map (ticked now) before

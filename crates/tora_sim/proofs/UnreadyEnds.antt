@@ -26,7 +26,7 @@ use Rattle.tora_sim.specs.Unready.{ends_below, IsOutside, AreMarkedOutside, IsMa
 use Rattle.tora_sim.proofs.FreshEnds.{item_at, below_next, set_same, set_other}
 use Rattle.tora_sim.proofs.ReadyEnds.{room_of, mark_there}
 use Rattle.tora_sim.proofs.Served.{lanes_stay}
-use Rattle.tora_sim.proofs.StillTicks.{before_or_not}
+use Rattle.tora_sim.proofs.StillBlocks.{before_or_not}
 use Rattle.tora_sim.proofs.Stores.{set_read}
 
 -- ---- at the start

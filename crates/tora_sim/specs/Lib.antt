@@ -24,7 +24,6 @@ pub mod Restarts
 pub mod Resting
 pub mod Quiet
 pub mod Plains
-pub mod Marks
 pub mod Stills
 pub mod KeptCargoes
 pub mod Lane

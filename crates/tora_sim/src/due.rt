@@ -1,13 +1,14 @@
 //! Where something may be to be done, among the link ends.
-ghost use Rattle.std.specs.Prelude.{◌≡◌, ◌<◌, ◌≤◌, ℕ, true, Some, slice_get};
+ghost use Rattle.std.specs.Prelude.{◌≡◌, ◌+◌, ◌*◌, ◌<◌, ◌≤◌, ℕ, true, Some, IfNone, IfSome, length, max, slice_get, slice_index};
 ghost use Rattle.tora_sim.specs.Plains.{MayOnlySend};
 ghost use Rattle.tora_sim.specs.Quiet.{IsQuietEnd};
 ghost use Rattle.tora_sim.specs.Readers.{ends_in};
+ghost use Rattle.tora_sim.specs.Stills.{AreLater};
 ghost use Rattle.tora_sim.specs.Store.{world_of};
 
 use crate::links::is_key;
 use crate::sim::Sim;
-use crate::stills::next_due;
+use crate::stills::{Stills, block_count, block_of, end_count, ends_of, is_still_block, still_at};
 use tora_height::Id;
 
 impl Sim {
@@ -55,4 +56,67 @@ fn are_ends(keys: &[(Id, Id)], ends: &[(Id, Id)]) -> bool
         }
     }
     true
+}
+
+/// The first place from `place` on at which a tick is not still to come.
+#[inline(always)]
+fn next_due(stills: &Stills, now: u64, place: usize) -> usize
+    ensures onward { place ≤ result }
+    ensures passed { (at : ℕ) → place ≤ at → at < result → now < slice_index stills.now at }
+{
+    if is_due(stills, now, place) {
+        return place;
+    }
+    due_from(stills, now, place)
+}
+
+/// Whether there is an end at this place, and its tick is not still to come.
+#[inline(always)]
+fn is_due(stills: &Stills, now: u64, place: usize) -> bool {
+    place < end_count(stills) && still_at(stills, place) <= now
+}
+
+/// The first such place, with the blocks passed over whose ticks tell that there is none in them.
+fn due_from(stills: &Stills, now: u64, place: usize) -> usize
+    ensures onward { place ≤ result }
+    ensures passed { (at : ℕ) → place ≤ at → at < result → now < slice_index stills.now at }
+{
+    for block in block_of(place)..block_count(stills) {
+        if let Some(at) = due_in_block(stills, block, now, place) {
+            return at;
+        }
+    }
+    place.max(end_count(stills))
+}
+
+/// The first such place in a block.
+#[inline(always)]
+fn due_in_block(stills: &Stills, block: usize, now: u64, place: usize) -> Option<usize>
+    requires { 16 * block < length stills.now }
+    ensures none { IfNone result (AreLater now (max place (16 * block)) (16 * block + 16) stills.now) }
+    ensures onward { IfSome result (λ at. place ≤ at) }
+    ensures within { IfSome result (λ at. at < length stills.now) }
+    ensures passed { IfSome result (λ at. AreLater now (max place (16 * block)) at stills.now) }
+{
+    if is_still_block(stills, block, now) {
+        return None;
+    }
+    let (first, count) = ends_of(stills, block);
+    due_within(stills, now, place.max(first), first + count)
+}
+
+/// The first such place from one on and before another.
+fn due_within(stills: &Stills, now: u64, from: usize, to: usize) -> Option<usize>
+    requires { to ≤ length stills.now }
+    ensures none { IfNone result (AreLater now from to stills.now) }
+    ensures onward { IfSome result (λ at. from ≤ at) }
+    ensures within { IfSome result (λ at. at < to) }
+    ensures passed { IfSome result (λ at. AreLater now from at stills.now) }
+{
+    for at in from..to {
+        if still_at(stills, at) <= now {
+            return Some(at);
+        }
+    }
+    None
 }

@@ -31,7 +31,6 @@ mod lanes;
 mod link_keys;
 mod links;
 mod links_by_bits;
-mod marks;
 mod name_counts;
 mod nodes;
 mod places;

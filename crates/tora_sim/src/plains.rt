@@ -1,5 +1,5 @@
 //! At which link ends nothing but a frame may be due.
-ghost use Rattle.std.specs.Prelude.{◌≡◌, ◌<◌, true, false, length, slice_set};
+ghost use Rattle.std.specs.Prelude.{◌≡◌, ◌*◌, ◌<◌, true, false, length, slice_set};
 ghost use Rattle.tora_arq.specs.LinkEnd.{is_closed, after_frame, after_tick};
 ghost use Rattle.tora_frame.specs.FrameParts.{IsHeader, frame_of};
 ghost use Rattle.tora_frame.specs.declared.parts.Body.{Body};
@@ -8,7 +8,9 @@ ghost use Rattle.tora_sim.specs.Plains.{IsPlain, ArePlainEach};
 ghost use Rattle.tora_sim.specs.Quiet.{IsStillIf};
 
 use crate::links::LinkSlot;
-use crate::stills::{Stills, advance, end_count, keep_still, next_due, still_at};
+use crate::stills::{
+    Stills, block_count, ends_of, is_still_block, keep_block, keep_still, still_at,
+};
 use tora_frame::{BorrowedFrame, Header};
 
 /// Looks at each link end that is not known to be plain, whether it is. The ends stay as they are.
@@ -16,13 +18,25 @@ pub fn mark_ends(links: &Vec<LinkSlot>, plains: &mut Stills, now: u64)
     requires { ArePlainEach now plains.old links.now.items }
     ensures { ArePlainEach now plains.new links.now.items }
 {
-    advance(plains, now);
-    let count = end_count(plains);
-    let mut at = next_due(plains, now, 0);
-    while at < count {
-        mark_end(links, plains, at, now);
-        at = next_due(plains, now, at + 1);
+    for block in 0..block_count(plains) {
+        mark_block(links, plains, block, now);
     }
+}
+
+/// Looks at each such end of a block, and keeps the tick of the block anew, unless it tells that there is none.
+fn mark_block(links: &Vec<LinkSlot>, plains: &mut Stills, block: usize, now: u64)
+    requires within { 16 * block < length plains.old }
+    requires plain { ArePlainEach now plains.old links.now.items }
+    ensures { ArePlainEach now plains.new links.now.items }
+{
+    if is_still_block(plains, block, now) {
+        return;
+    }
+    let (first, count) = ends_of(plains, block);
+    for place in 0..count {
+        mark_end(links, plains, first + place, now);
+    }
+    keep_block(plains, block);
 }
 
 /// Looks at the end at a place, unless it is known to be plain. One that is stays so until something happens at it, whatever the tick.

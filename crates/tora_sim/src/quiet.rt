@@ -1,5 +1,5 @@
 //! Until which tick nothing is to be done.
-ghost use Rattle.std.specs.Prelude.{◌≡◌, ◌<◌, true, length};
+ghost use Rattle.std.specs.Prelude.{◌≡◌, ◌*◌, ◌<◌, true, length};
 ghost use Rattle.std.specs.List.{list_all};
 ghost use Rattle.tora_sim.specs.Quiet.{IsQuiet, IsStillIf, is_idle, AreStill, AreStillEach};
 ghost use Rattle.tora_sim.specs.Store.{world_of};
@@ -8,7 +8,9 @@ use crate::links::LinkSlot;
 use crate::nodes::NodeSlot;
 use crate::plains::mark_ends;
 use crate::sim::Sim;
-use crate::stills::{Stills, advance, end_count, keep_still, next_due, still_at, still_until};
+use crate::stills::{
+    Stills, block_count, ends_of, is_still_block, keep_block, keep_still, still_at, still_until,
+};
 
 impl Sim {
     /// Whether it is known that nothing is to be done: no core has an item to take, and no link end can be opened, take a
@@ -57,13 +59,25 @@ fn settle_ends(links: &Vec<LinkSlot>, stills: &mut Stills, now: u64)
     requires { AreStillEach now stills.old links.now.items }
     ensures { AreStillEach now stills.new links.now.items }
 {
-    advance(stills, now);
-    let count = end_count(stills);
-    let mut at = next_due(stills, now, 0);
-    while at < count {
-        settle_end(links, stills, at, now);
-        at = next_due(stills, now, at + 1);
+    for block in 0..block_count(stills) {
+        settle_block(links, stills, block, now);
     }
+}
+
+/// Looks at each such end of a block, and keeps the tick of the block anew, unless it tells that there is none.
+fn settle_block(links: &Vec<LinkSlot>, stills: &mut Stills, block: usize, now: u64)
+    requires within { 16 * block < length stills.old }
+    requires still { AreStillEach now stills.old links.now.items }
+    ensures { AreStillEach now stills.new links.now.items }
+{
+    if is_still_block(stills, block, now) {
+        return;
+    }
+    let (first, count) = ends_of(stills, block);
+    for place in 0..count {
+        settle_end(links, stills, first + place, now);
+    }
+    keep_block(stills, block);
 }
 
 #[inline(always)]

@@ -48,7 +48,7 @@ pub struct Sim {
     /// Before this tick nothing is to be done at any node or link end, and no tick changes one; 0 where that isn't known.
     pub(crate) quiet: u64,
     /// Of each link end the tick before which nothing is to be done at it, where that tick is still to come; else it says nothing. They
-    /// stand here, and not at the ends, so that the ends whose tick has come are found without a look at the others.
+    /// stand here, and not at the ends, since every part of a round asks them of all ends.
     pub(crate) stills: Stills,
     /// Of each link end the tick before which it is plain: it is open, no cargo waits in its lane, and it has no event to give, so that nothing
     /// but a frame may be due at it. Time makes no end otherwise but by a tick: so it is the last tick, or 0 where nothing is known.

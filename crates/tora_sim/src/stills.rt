@@ -1,54 +1,45 @@
-//! Of each link end a tick before which something holds of it, as that nothing is to be done at it, and marks of the ends by these ticks.
-ghost use Rattle.std.specs.Prelude.{◌≡◌, ◌+◌, ◌^◌, ◌<◌, ◌≤◌, ℕ, MatchResult, length, replicate, slice_index, slice_set};
-ghost use Rattle.tora_sim.specs.Marks.{AreMarked};
+//! Of each link end a tick before which something holds of it, as that nothing is to be done at it, and of each block of ends one for them
+//! all.
+ghost use Rattle.std.specs.Prelude.{◌≡◌, ◌+◌, ◌*◌, ◌-◌, ◌^◌, ◌<◌, ◌≤◌, ℕ, true, MatchResult, length, min, replicate, slice_index, slice_set};
 ghost use Rattle.tora_sim.specs.Quiet.{AreForgotten};
 ghost use Rattle.tora_sim.specs.Stills.{AreLater};
 
 use crate::SimError;
-use crate::marks::{mark, mark_all, next_mark, no_marks, slot_of, ticks_ahead, turn, unmark};
 use std::alloc::Global;
 use std::marker::Model;
 
-/// After so many ticks all ends are marked anew; up to them the marks turn.
-const MOST_TURNS: u64 = 32;
+/// How many link ends stand in a block; fewer may stand in the last.
+const BLOCK: usize = 16;
 
 /// Of each link end the tick before which nothing is to be done at it, in the order of the ends; or likewise that before which it is plain.
 ///
-/// Each end is marked by its tick, so that those ends are found at once whose tick has come.
+/// The ends stand in blocks of 16, and each block has a tick, too, so that a block at whose ends nothing is to be done is passed over by
+/// one look.
 #[derive(Drop)]
 pub struct Stills {
     ends: Vec<u64>,
-    marks: Vec<u64>,
-    /// The tick from which on the marks are.
-    base: u64,
+    /// Of each block a tick that none of the ticks of its ends is before; 0 where nothing is known.
+    blocks: Vec<u64>,
 }
 
 impl Model for Stills {
     ghost use Rattle.std.specs.Prelude.{ℕ, List};
-    ghost use Rattle.tora_sim.specs.Marks.{AreMarked};
+    ghost use Rattle.tora_sim.specs.Stills.{AreBlocks};
 
     ghost Value = { List ℕ };
 
     ghost view = { λ s. s.ends.items };
 
-    ghost invariant = { λ s. AreMarked s.base s.marks.items s.ends.items };
+    ghost invariant = { λ s. AreBlocks s.blocks.items s.ends.items };
 }
 
 /// Nothing is known of so many ends.
-///
-/// # Errors
-/// `Memory`.
 pub fn no_stills(alloc: Global, count: usize) -> Result<Stills, SimError>
     ensures { MatchResult result (λ stills. stills ≡ replicate count 0) (λ e. e ≡ SimError.Memory) }
 {
     let ends = zeros(alloc, count)?;
-    let mut marks = no_marks(alloc, ends.len())?;
-    mark_all(&mut marks, &ends, 0);
-    Ok(Stills {
-        ends,
-        marks,
-        base: 0,
-    })
+    let blocks = zeros(alloc, blocks_of(count))?;
+    Ok(Stills { ends, blocks })
 }
 
 fn zeros(alloc: Global, count: usize) -> Result<Vec<u64>, SimError>
@@ -61,12 +52,55 @@ fn zeros(alloc: Global, count: usize) -> Result<Vec<u64>, SimError>
     }
 }
 
+/// The number of the block in which an end stands.
+#[inline(always)]
+pub fn block_of(at: usize) -> usize
+    ensures from { 16 * result ≤ at }
+    ensures to { at < 16 * result + 16 }
+{
+    at / BLOCK
+}
+
+/// In how many blocks so many ends stand.
+fn blocks_of(count: usize) -> usize
+    ensures all { count ≤ 16 * result }
+    ensures each { 16 * result < count + 16 }
+{
+    let whole = count / BLOCK;
+    if whole * BLOCK < count {
+        whole + 1
+    } else {
+        whole
+    }
+}
+
 /// How many ends there are.
 #[inline(always)]
 pub fn end_count(stills: &Stills) -> usize
     ensures { result ≡ length stills.now }
 {
     stills.ends.len()
+}
+
+/// How many blocks there are.
+pub fn block_count(stills: &Stills) -> usize
+    ensures all { length stills.now ≤ 16 * result }
+    ensures each { 16 * result < length stills.now + 16 }
+{
+    blocks_of(stills.ends.len())
+}
+
+/// The place of the first end of a block, and how many ends stand in it.
+#[inline(always)]
+pub fn ends_of(stills: &Stills, block: usize) -> (usize, usize)
+    requires { 16 * block < length stills.now }
+    ensures first { result.0 ≡ 16 * block }
+    ensures count { result.1 ≡ min 16 (length stills.now - 16 * block) }
+    ensures behind { result.0 + result.1 < 2 ^ 64 }
+{
+    let many = stills.ends.len();
+    let first = block * BLOCK;
+    (first, (many - first).min(BLOCK))
 }
 
 /// The tick of an end.
@@ -78,90 +112,50 @@ pub fn still_at(stills: &Stills, at: usize) -> u64
     stills.ends[at]
 }
 
-/// Keeps the tick of an end; most often it is the one that is kept.
+/// Whether the tick of a block tells that the ticks of its ends are still to come.
+#[inline(always)]
+pub fn is_still_block(stills: &Stills, block: usize, now: u64) -> bool
+    requires { 16 * block < length stills.now }
+    ensures { result ≡ true → AreLater now (16 * block) (16 * block + 16) stills.now }
+{
+    now < stills.blocks[block]
+}
+
+/// Keeps the tick of an end; most often it is the one that is kept. That of its block is no later then.
 #[inline(always)]
 pub fn keep_still(stills: &mut Stills, at: usize, until: u64)
     requires { at < length stills.old }
     ensures { stills.new ≡ slice_set stills.old at until }
 {
-    let old = stills.ends[at];
-    if old == until {
+    if stills.ends[at] == until {
         return;
     }
-    let slot = slot_of(stills.base, old);
-    unmark(&mut stills.marks, slot, at);
-    mark(&mut stills.marks, stills.base, at, until);
+    let block = block_of(at);
+    stills.blocks[block] = stills.blocks[block].min(until);
     stills.ends[at] = until;
 }
 
-/// Lets the marks turn up to a tick. What is known of the ends stays.
-pub fn advance(stills: &mut Stills, now: u64)
+/// Looks for the tick of a block: the first of those of its ends.
+#[inline(always)]
+pub fn keep_block(stills: &mut Stills, block: usize)
+    requires { 16 * block < length stills.old }
     ensures { stills.new ≡ stills.old }
 {
-    if now.saturating_sub(stills.base) > MOST_TURNS {
-        mark_all(&mut stills.marks, &stills.ends, now);
-        stills.base = now;
-        return;
-    }
-    turn_on(&mut stills.marks, &stills.ends, &mut stills.base, now);
+    let (first, count) = ends_of(stills, block);
+    let until = first_tick(&stills.ends, first, count);
+    stills.blocks[block] = until;
 }
 
-fn turn_on(marks: &mut Vec<u64>, ends: &Vec<u64>, base: &mut u64, now: u64)
-    requires { AreMarked base.old marks.old.items ends.now.items }
-    ensures { AreMarked base.new marks.new.items ends.now.items }
+/// The first of the ticks of the `count` ends from the place `first` on.
+fn first_tick(ends: &Vec<u64>, first: usize, count: usize) -> u64
+    requires { first + count ≤ length ends.now.items }
+    ensures { (at : ℕ) → first ≤ at → at < first + count → result ≤ slice_index ends.now.items at }
 {
-    while *base < now {
-        turn(marks, ends, *base);
-        *base += 1;
+    let mut until = u64::MAX;
+    for place in 0..count {
+        until = until.min(ends[first + place]);
     }
-}
-
-/// The first place from `place` on at which a tick is not still to come. Where the marks are from another tick on, each end is looked at.
-#[inline(always)]
-pub fn next_due(stills: &Stills, now: u64, place: usize) -> usize
-    ensures onward { place ≤ result }
-    ensures passed { (at : ℕ) → place ≤ at → at < result → now < slice_index stills.now at }
-{
-    if now == stills.base && now < u64::MAX {
-        next_marked(&stills.ends, &stills.marks, now, place)
-    } else {
-        due_from(&stills.ends, now, place)
-    }
-}
-
-/// The first such place, by the marks.
-#[inline(always)]
-fn next_marked(ends: &Vec<u64>, marks: &Vec<u64>, now: u64, place: usize) -> usize
-    requires before { now + 1 < 2 ^ 64 }
-    requires marked { AreMarked now marks.now.items ends.now.items }
-    ensures onward { place ≤ result }
-    ensures passed { (at : ℕ) → place ≤ at → at < result → now < slice_index ends.now.items at }
-{
-    let count = ends.len();
-    let slot = slot_of(now, now);
-    let mut at = next_mark(marks, slot, place, count);
-    while at < count {
-        if ends[at] <= now {
-            return at;
-        }
-        at = next_mark(marks, slot, at + 1, count);
-    }
-    place.max(count)
-}
-
-/// The first such place, by a look at each end.
-#[inline(never)]
-fn due_from(ends: &Vec<u64>, now: u64, place: usize) -> usize
-    ensures onward { place ≤ result }
-    ensures passed { (at : ℕ) → place ≤ at → at < result → now < slice_index ends.now.items at }
-{
-    for at in place..ends.len() {
-        let here = ends[at];
-        if here <= now {
-            return at;
-        }
-    }
-    place.max(ends.len())
+    until
 }
 
 /// Nothing is known any more of the `count` ends from the place `first` on.
@@ -176,24 +170,25 @@ pub fn forget(stills: &mut Stills, first: usize, count: usize)
     }
 }
 
-/// Before which tick nothing is to be done at any of the ends; 0 where something may be to be done at once. It looks at the marks alone.
+/// Before which tick nothing is to be done at any of the ends; 0 where something may be to be done at once. It looks at the ticks of the
+/// blocks alone.
 pub fn still_until(stills: &Stills, now: u64) -> u64
     ensures { 0 < result → (at : ℕ) → at < length stills.now → (now < slice_index stills.now at) × (result ≤ slice_index stills.now at) }
 {
-    if now != stills.base {
-        return 0;
-    }
-    if now == u64::MAX {
-        return 0;
-    }
-    match ticks_ahead(&stills.marks, now) {
-        Some(ahead) => {
-            if ahead == 0 {
-                0
-            } else {
-                now.saturating_add(ahead)
-            }
+    first_after(&stills.blocks, now)
+}
+
+/// The first of these ticks, where all are still to come; else 0.
+fn first_after(ticks: &Vec<u64>, now: u64) -> u64
+    ensures { 0 < result → (at : ℕ) → at < length ticks.now.items → (now < slice_index ticks.now.items at) × (result ≤ slice_index ticks.now.items at) }
+{
+    let mut until = u64::MAX;
+    for at in 0..ticks.len() {
+        let here = ticks[at];
+        if here <= now {
+            return 0;
         }
-        None => u64::MAX,
+        until = until.min(here);
     }
+    until
 }

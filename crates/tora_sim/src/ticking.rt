@@ -1,39 +1,47 @@
 //! A tick of the link ends.
-ghost use Rattle.std.specs.Prelude.{◌≡◌, ◌<◌, false, Some, length, map, slice_get, slice_index, slice_set};
-ghost use Rattle.tora_sim.specs.Links.{LinkView, ticked};
+ghost use Rattle.std.specs.Prelude.{◌≡◌, ◌*◌, ◌<◌, false, Some, length, map, slice_get, slice_index, slice_set};
+ghost use Rattle.tora_sim.specs.Links.{LinkView, ticked, AreChanged};
 ghost use Rattle.tora_sim.specs.Plains.{ArePlainEach};
-ghost use Rattle.tora_sim.specs.Quiet.{IsStill, AreStillEach};
+ghost use Rattle.tora_sim.specs.Quiet.{IsStill, AreStillEach, AreStillFrom};
 
 use crate::links::LinkSlot;
 use crate::plains::forget_busy;
-use crate::stills::{Stills, advance, end_count, next_due, still_at};
+use crate::stills::{Stills, block_count, ends_of, is_still_block, still_at};
 
 /// Ticks every end, but those of which a tick is known that is still to come: this one changes none of them. An end that it closes is no
 /// longer known to be plain.
-pub fn tick(links: &mut Vec<LinkSlot>, stills: &mut Stills, plains: &mut Stills, now: u64)
-    requires still { AreStillEach now stills.old links.old.items }
-    requires plain { ArePlainEach now plains.old links.old.items }
-    ensures links { links.new.items ≡ map (ticked now) links.old.items }
-    ensures stills { stills.new ≡ stills.old }
-    ensures plains { ArePlainEach now plains.new links.new.items }
-{
-    advance(stills, now);
-    advance(plains, now);
-    tick_ends(links, stills, plains, now);
-}
-
-/// Ticks those ends.
-fn tick_ends(links: &mut Vec<LinkSlot>, stills: &Stills, plains: &mut Stills, now: u64)
+pub fn tick(links: &mut Vec<LinkSlot>, stills: &Stills, plains: &mut Stills, now: u64)
     requires still { AreStillEach now stills.now links.old.items }
     requires plain { ArePlainEach now plains.old links.old.items }
     ensures links { links.new.items ≡ map (ticked now) links.old.items }
     ensures plains { ArePlainEach now plains.new links.new.items }
 {
-    let count = end_count(stills);
-    let mut at = next_due(stills, now, 0);
-    while at < count {
-        tick_end(links, stills, plains, at, now);
-        at = next_due(stills, now, at + 1);
+    for block in 0..block_count(stills) {
+        tick_block(links, stills, plains, block, now);
+    }
+}
+
+/// Ticks the ends of a block, unless a tick is known of all of them that is still to come.
+fn tick_block(
+    links: &mut Vec<LinkSlot>,
+    stills: &Stills,
+    plains: &mut Stills,
+    block: usize,
+    now: u64,
+)
+    requires within { 16 * block < length stills.now }
+    requires many { length stills.now ≡ length links.old.items }
+    requires still { AreStillFrom (16 * block) now stills.now links.old.items }
+    requires plain { ArePlainEach now plains.old links.old.items }
+    ensures links { AreChanged (ticked now) links.old.items links.new.items (16 * block) 16 }
+    ensures plains { ArePlainEach now plains.new links.new.items }
+{
+    if is_still_block(stills, block, now) {
+        return;
+    }
+    let (first, count) = ends_of(stills, block);
+    for place in 0..count {
+        tick_end(links, stills, plains, first + place, now);
     }
 }
 

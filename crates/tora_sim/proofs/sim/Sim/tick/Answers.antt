@@ -1,7 +1,6 @@
-use Rattle.std.proofs.Common.{◌≡◌, ℕ, List, ◌+◌, ◌<◌, ◌≤◌, sym, subst, arith}
+use Rattle.std.proofs.Common.{◌≡◌, ℕ, ◌+◌, ◌<◌, ◌≤◌, sym, subst, arith}
 use Rattle.tora_world.specs.declared.event.Event.TheVariants.{Tick}
 use Rattle.tora_sim.specs.Links.{ticked}
-use Rattle.tora_sim.specs.Quiet.{AreStillEach}
 use Rattle.tora_sim.specs.Store.{SimState, state_of, world_of}
 use Rattle.tora_sim.specs.Steps.{IsDone}
 use Rattle.tora_sim.proofs.Ticks.{tick_store, tick_done}
@@ -45,8 +44,7 @@ invariant_of-self-2 c =
     let s = c.self.inside in (
       tick_store s.topology s.times s.clock s.nodes.items s.links.items s.datagrams.items c.self.invariant.0 c.in-Some.now c.tick.new.links.items c.in-Some.ensures.1 c.tick.ensures.links,
       λ none. absurd (omega (arith, none)),
-      subst (λ (stills : List ℕ). AreStillEach c.in-Some.now stills c.tick.new.links.items) (sym c.tick.ensures.stills)
-          (ticked_still s.clock c.in-Some.now s.stills s.links.items c.tick.new.links.items (on c.in-Some.now s.clock c.in-Some.ensures.1) c.tick.ensures.links c.self.invariant.2),
+      ticked_still s.clock c.in-Some.now s.stills s.links.items c.tick.new.links.items (on c.in-Some.now s.clock c.in-Some.ensures.1) c.tick.ensures.links c.self.invariant.2,
       c.self.invariant.3,
       c.tick.ensures.plains,
       mapped_ready s.ready.items s.links.items c.tick.new.links.items (ticked c.in-Some.now) c.tick.ensures.links (λ x h. h) c.self.invariant.5,

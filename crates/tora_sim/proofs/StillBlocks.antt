@@ -1,0 +1,48 @@
+-- Ticks of link ends in blocks: what a block's tick tells of its ends, as ticks change.
+use Rattle.std.proofs.Common.{◌≡◌, ℕ, zero, suc, ◌+◌, ◌*◌, ◌<◌, ◌≤◌, ◌⊎◌, inl, inr, max, List, length, sym, ap, ◌∙◌, arith, ltb}
+use borrow.Author.Tests.{ltb-true, ltb-false}
+use Rattle.std.specs.Prelude.{slice_index}
+use Rattle.std.proofs.lemmas.Bool.{cases_Bool}
+use Rattle.tora_sim.specs.Stills.{AreLater, AreBlocks}
+use Rattle.tora_sim.proofs.FreshEnds.{below_next}
+
+pub before_or_not : (i n : ℕ) → (i < n) ⊎ (n ≤ i)
+before_or_not i n = elim (cases_Bool (ltb i n)) [ inl e ↦ inl (ltb-true i n e) | inr e ↦ inr (ltb-false i n e) ]
+
+-- ---- the block of an end
+
+block_at : (at : ℕ) → (block : ℕ) × ((16 * block ≤ at) × (at < 16 * block + 16))
+block_at zero = (0, (omega arith, omega arith))
+block_at (suc at) = let b = block_at at in go b.0 b.1.0 b.1.1 (below_next at (16 * b.0 + 15) (let lt = b.1.1 in omega (arith, lt)))
+  where
+    go : (block : ℕ) → 16 * block ≤ at → at < 16 * block + 16 → (at < 16 * block + 15) ⊎ (at ≡ 16 * block + 15) → (next : ℕ) × ((16 * next ≤ suc at) × (suc at < 16 * next + 16))
+    go block from to (inl less) = (block, (omega (arith, from), omega (arith, less)))
+    go block from to (inr last) = (block + 1, (omega (arith, last), omega (arith, last)))
+
+-- ---- what a block tells
+
+pub all_later : (now until : ℕ) (blocks ends : List ℕ) → AreBlocks blocks ends → ((block : ℕ) → block < length blocks → (now < slice_index blocks block) × (until ≤ slice_index blocks block))
+    → (at : ℕ) → at < length ends → (now < slice_index ends at) × (until ≤ slice_index ends at)
+all_later now until blocks ends h all at within = go (block_at at)
+  where
+    go : ((block : ℕ) × ((16 * block ≤ at) × (at < 16 * block + 16))) → (now < slice_index ends at) × (until ≤ slice_index ends at)
+    go (block, (from, to)) =
+        let many = h.enough in
+        let least = h.least block at from to within in
+        let here = all block (omega (arith, from, within, many)) in
+        let less = here.0 in
+        let le = here.1 in (omega (arith, less, least), omega (arith, le, least))
+
+-- ---- ends that are passed over
+
+-- one end more
+pub one_more_later : (now from at here : ℕ) (ends : List ℕ) → here ≡ slice_index ends at → now < here → AreLater now from at ends → AreLater now from (at + 1) ends
+one_more_later now from at here ends is less before i le lt within = go (below_next i at lt)
+  where
+    go : (i < at) ⊎ (i ≡ at) → now < slice_index ends i
+    go (inl l) = before i le l within
+    go (inr q) = let same : slice_index ends i ≡ here = ap (slice_index ends) q ∙ sym is in omega (arith, same, less)
+
+-- a block within which is looked from a place on
+pub later_from : (now place from to : ℕ) (ends : List ℕ) → AreLater now from to ends → AreLater now (max place from) to ends
+later_from now place from to ends h i le lt within = h i (omega (arith, le)) lt within

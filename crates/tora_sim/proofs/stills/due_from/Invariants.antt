@@ -1,6 +1,0 @@
-use Rattle.tora_sim.specs.Stills.{AreLater}
-use Rattle.tora_sim.proofs.stills.due_from.Given as goal
-
--- nothing is to be done at the ends that were passed over
-abbrev pub invariant-loop-at : goal.invariant-loop-at
-invariant-loop-at l = AreLater l.now l.place l.at l.ends.items
