@@ -39,6 +39,7 @@ pub mod KeptFrames
 pub mod SentFrames
 pub mod PlaceLists
 pub mod SamePackets
+pub mod RecentLaws
 pub mod KeptCargoes
 pub mod LaneLists
 pub mod Walking

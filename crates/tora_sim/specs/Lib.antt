@@ -15,6 +15,7 @@ pub mod Store
 pub mod Steps
 pub mod Sending
 pub mod Readers
+pub mod Recents
 pub mod Possible
 pub mod Firsts
 pub mod Unready

@@ -4,9 +4,11 @@ ghost use Rattle.tora_frame.specs.FrameParts.{IsHeader, frame_of};
 ghost use Rattle.tora_frame.specs.declared.parts.Body.{Body};
 ghost use Rattle.tora_sim.specs.Datagrams.{DatagramList, HasRoom, IsMore};
 ghost use Rattle.tora_sim.specs.Readers.{way_of};
+ghost use Rattle.tora_sim.specs.Recents.{AreHellos};
 
 use crate::kept_frames::KeptFrames;
 use crate::places::Places;
+use crate::recents::{LastHello, Recents, recent_hello, recent_of};
 use std::alloc::{AllocError, Global};
 use std::marker::Model;
 use tora_frame::{BorrowedBody, BorrowedFrame, Header, Version};
@@ -32,19 +34,24 @@ pub struct Datagrams {
     frames: KeptFrames,
     places: Places,
     guesses: Vec<u32>,
+    /// Of each link end the HELLOs that it sent last, one of either version: they are compared here, as a frame and its header lie elsewhere.
+    hellos: Vec<LastHello>,
+    /// The headers of the datagrams that were sent last, which are the ones that are delivered.
+    recents: Recents,
 }
 
 impl Model for Datagrams {
     ghost use Rattle.std.specs.Prelude.{◌<◌, length};
     ghost use Rattle.std.specs.List.{AllByRecursion};
     ghost use Rattle.tora_sim.specs.Datagrams.{DatagramList};
-    ghost use Rattle.tora_sim.specs.SentFrames.{sent_list, AreWithin};
+    ghost use Rattle.tora_sim.specs.Recents.{AreHellos, AreRecent};
+    ghost use Rattle.tora_sim.specs.SentFrames.{sent_frames, sent_list, AreWithin};
 
     ghost Value = { DatagramList };
 
     ghost view = { λ d. sent_list d.frames d.places };
 
-    ghost invariant = { λ d. AreWithin d.frames.items d.places.items };
+    ghost invariant = { λ d. AreWithin d.frames.items d.places.items × AreHellos d.hellos.items d.frames.items × AreRecent d.recents.first d.recents.frames.items (sent_frames d.frames.items d.places.items) };
 }
 
 impl Datagrams {
@@ -56,6 +63,8 @@ impl Datagrams {
             frames: KeptFrames::new(alloc),
             places: Places::new(alloc),
             guesses: Vec::new(alloc),
+            hellos: Vec::new(alloc),
+            recents: Recents::new(alloc),
         }
     }
 
@@ -81,7 +90,8 @@ impl Datagrams {
         if self.guesses.len() < guesses {
             self.guesses.resize(guesses, 0)?;
         }
-        Ok(())
+        make_hellos(&mut self.hellos, &self.frames, end)?;
+        self.recents.reserve()
     }
 
     /// Appends a datagram that the link end at a place sends. There must be room for it.
@@ -92,6 +102,19 @@ impl Datagrams {
     {
         let place = place_of(&mut self.frames, &mut self.guesses, end, frame);
         self.places.push(place);
+        self.recents.push(self.places.len(), recent_of(frame));
+    }
+
+    /// Appends a HELLO of this header that the link end at a place sends. There must be room for it.
+    #[inline(always)]
+    pub fn push_hello(&mut self, end: usize, header: &Header)
+        requires room { HasRoom self.old }
+        requires valid { IsHeader header.now }
+        ensures { self.new.items ≡ self.old.items ++ frame_of header.now Body.Hello ∷ [] }
+    {
+        let place = hello_place(&mut self.frames, &mut self.hellos, end, header);
+        self.places.push(place);
+        self.recents.push(self.places.len(), recent_hello(header));
     }
 
     /// The datagram that stands behind so many others, with its packets where they stand.
@@ -111,6 +134,22 @@ impl Datagrams {
         ensures hello { IfSome result (λ header. slice_get self.now.items place ≡ Some (frame_of header Body.Hello)) }
         ensures valid { IfSome result (λ header. IsHeader header) }
     {
+        if let Some(recent) = self.recents.get(place) {
+            return if recent.is_hello {
+                Some(recent.header)
+            } else {
+                None
+            };
+        }
+        self.kept_hello(place)
+    }
+
+    /// The same, by the frame that is kept.
+    #[inline(never)]
+    fn kept_hello(&self, place: usize) -> Option<Header>
+        ensures hello { IfSome result (λ header. slice_get self.now.items place ≡ Some (frame_of header Body.Hello)) }
+        ensures valid { IfSome result (λ header. IsHeader header) }
+    {
         let Some(at) = self.places.get(place) else {
             return None;
         };
@@ -120,6 +159,17 @@ impl Datagrams {
     /// From which node to which the datagram goes that stands behind so many others: only its frame's header is looked at.
     #[inline(always)]
     pub fn way(&self, place: usize) -> Option<(Id, Id)>
+        ensures { result ≡ option_map way_of (slice_get self.now.items place) }
+    {
+        if let Some(recent) = self.recents.get(place) {
+            return Some((recent.header.sender, recent.header.receiver));
+        }
+        self.kept_way(place)
+    }
+
+    /// The same, by the frame that is kept.
+    #[inline(never)]
+    fn kept_way(&self, place: usize) -> Option<(Id, Id)>
         ensures { result ≡ option_map way_of (slice_get self.now.items place) }
     {
         let Some(at) = self.places.get(place) else {
@@ -142,6 +192,7 @@ impl Datagrams {
         ensures { self.new.items ≡ drop many self.old.items }
     {
         self.places.forget_first(many);
+        self.recents.clear(self.places.len());
     }
 
     /// Keeps only the frames that datagrams have, where most of those that are kept are of none. Where memory for them is refused, all stays as
@@ -181,6 +232,112 @@ impl Datagrams {
         self.push(0, &frame);
         Ok(())
     }
+}
+
+/// Where the HELLOs of a link end begin.
+#[inline(always)]
+fn first_hello(end: usize) -> usize {
+    end.saturating_mul(2)
+}
+
+/// Makes places for the HELLOs of a link end.
+///
+/// # Errors
+/// Want of memory.
+#[inline(always)]
+fn make_hellos(
+    hellos: &mut Vec<LastHello>,
+    _frames: &KeptFrames,
+    end: usize,
+) -> Result<(), AllocError>
+    requires { AreHellos hellos.old.items _frames.now.items }
+    ensures { AreHellos hellos.new.items _frames.now.items }
+{
+    let behind = first_hello(end).saturating_add(2);
+    if hellos.len() < behind {
+        hellos.resize(behind, LastHello::none())?;
+    }
+    Ok(())
+}
+
+/// Where the HELLO of a link end of this version stands.
+#[inline(always)]
+fn hello_at(end: usize, version: Version) -> usize {
+    let form = match version {
+        Version::One => 0,
+        Version::Two => 1,
+    };
+    first_hello(end).saturating_add(form)
+}
+
+/// The place of a HELLO that is known to be kept.
+#[inline(always)]
+fn found_hello(
+    hellos: &[LastHello],
+    _frames: &KeptFrames,
+    at: usize,
+    header: &Header,
+) -> Option<u32>
+    requires valid { IsHeader header.now }
+    requires hellos { AreHellos hellos.now _frames.now.items }
+    ensures { IfSome result (λ place. slice_get _frames.now.items place ≡ Some (frame_of header.now Body.Hello)) }
+{
+    let Some(last) = hellos.get(at) else {
+        return None;
+    };
+    let is_same = last.header == *header;
+    if is_same { Some(last.place) } else { None }
+}
+
+/// The place of a HELLO of this header, whose frame is kept now if it was not the last one of its link end.
+#[inline(always)]
+fn hello_place(
+    frames: &mut KeptFrames,
+    hellos: &mut Vec<LastHello>,
+    end: usize,
+    header: &Header,
+) -> u32
+    requires room { HasRoom frames.old }
+    requires places { length frames.old.items < 2 ^ 32 }
+    requires valid { IsHeader header.now }
+    requires hellos { AreHellos hellos.old.items frames.old.items }
+    ensures is { slice_get frames.new.items result ≡ Some (frame_of header.now Body.Hello) }
+    ensures more { IsMore frames.old.items frames.new.items }
+    ensures hellos { AreHellos hellos.new.items frames.new.items }
+{
+    let at = hello_at(end, header.version);
+    if let Some(place) = found_hello(hellos, frames, at, header) {
+        return place;
+    }
+    keep_hello(frames, hellos, at, header)
+}
+
+/// Keeps the frame of a HELLO of this header, and that it is the last one.
+#[inline(never)]
+fn keep_hello(
+    frames: &mut KeptFrames,
+    hellos: &mut Vec<LastHello>,
+    at: usize,
+    header: &Header,
+) -> u32
+    requires room { HasRoom frames.old }
+    requires places { length frames.old.items < 2 ^ 32 }
+    requires valid { IsHeader header.now }
+    requires hellos { AreHellos hellos.old.items frames.old.items }
+    ensures is { slice_get frames.new.items result ≡ Some (frame_of header.now Body.Hello) }
+    ensures more { IsMore frames.old.items frames.new.items }
+    ensures hellos { AreHellos hellos.new.items frames.new.items }
+{
+    let place = frames.len() as u32;
+    let frame = BorrowedFrame::hello(*header);
+    frames.push(&frame, None);
+    if at < hellos.len() {
+        hellos[at] = LastHello {
+            header: *header,
+            place,
+        };
+    }
+    place
 }
 
 /// Where the guesses of a link end begin.

@@ -39,6 +39,7 @@ mod possible;
 mod quiet;
 mod readers;
 mod ready;
+mod recents;
 mod rest;
 mod restarts;
 mod same_frames;

@@ -11,11 +11,10 @@ ghost use Rattle.tora_world.specs.declared.event.Event.TheVariants.{Transmit};
 use crate::SimError;
 use crate::links::place_near;
 use crate::nodes::place as node_place;
-use crate::sim::{Sim, note_sent};
+use crate::sim::{Sim, note_hello};
 use crate::stills::keep_still;
 use std::alloc::AllocError;
 use tora_arq::data_frames_are_what_was_submitted;
-use tora_frame::BorrowedFrame;
 use tora_height::Id;
 
 impl Sim {
@@ -90,8 +89,7 @@ impl Sim {
             return false;
         };
         self.quiet = 0;
-        let frame = BorrowedFrame::hello(header);
-        note_sent(&mut self.nodes[home], &mut self.datagrams, at, &frame);
+        note_hello(&mut self.nodes[home], &mut self.datagrams, at, &header);
         true
     }
 

@@ -481,3 +481,21 @@ pub fn note_sent(
         }
     }
 }
+
+/// Notes a HELLO of this header that a node sent by its link end at this place, as `note_sent` does any frame.
+#[inline(always)]
+pub fn note_hello(node: &mut NodeSlot, datagrams: &mut Datagrams, end: usize, header: &Header)
+    requires room { HasRoom datagrams.old }
+    requires valid { IsHeader header.now }
+    ensures node { node.new ≡ record node.old { sending = Sending.Goes } }
+    ensures datagrams { datagrams.new.items ≡ with_datagram (sending_of node.old.sending) datagrams.old.items (frame_of header.now Hello) }
+{
+    match node.sending() {
+        Sending::Goes => datagrams.push_hello(end, header),
+        Sending::IsLost => node.arm_sending(Sending::Goes),
+        Sending::IsGone => {
+            datagrams.push_hello(end, header);
+            node.arm_sending(Sending::Goes);
+        }
+    }
+}

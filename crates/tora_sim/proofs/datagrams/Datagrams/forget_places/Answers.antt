@@ -1,17 +1,21 @@
 use Rattle.std.proofs.Common.{List, ℕ, drop, ap, sym, subst, ◌∙◌}
 use Rattle.tora_sim.specs.Datagrams.{DatagramList}
 use Rattle.tora_sim.specs.SentFrames.{AreWithin, sent_frames}
-use Rattle.tora_sim.proofs.SentFrames.{within_drop, sent_drop}
+use Rattle.tora_sim.proofs.SentFrames.{as_many, within_drop, sent_drop}
 use Rattle.tora_sim.proofs.datagrams.Datagrams.forget_places.Goals as goal
 
 pub invariant_of-self : goal.invariant_of-self
 invariant_of-self c =
     let d = c.self.inside in
-    subst (λ (places : List ℕ). AreWithin d.frames.items places) (sym c.forget_first.ensures) (within_drop d.frames.items d.places.items c.args.many c.self.invariant)
+    let within = subst (λ (places : List ℕ). AreWithin d.frames.items places) (sym c.forget_first.ensures) (within_drop d.frames.items d.places.items c.args.many c.self.invariant.0) in (
+      within,
+      c.self.invariant.1,
+      c.clear.ensures (sent_frames d.frames.items c.forget_first.new.self.items) (as_many d.frames.items c.forget_first.new.self.items within ∙ sym c.len.ensures),
+    )
 
 pub returns : goal.returns
 returns c =
     let d = c.self.inside in
     ap (sent_frames d.frames.items) c.forget_first.ensures
-    ∙ sent_drop d.frames.items d.places.items c.args.many c.self.invariant
+    ∙ sent_drop d.frames.items d.places.items c.args.many c.self.invariant.0
     ∙ ap (λ (x : DatagramList). drop c.args.many x.items) c.self.view_is

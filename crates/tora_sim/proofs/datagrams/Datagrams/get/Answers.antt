@@ -5,11 +5,11 @@ use Rattle.tora_sim.proofs.datagrams.Datagrams.get.Goals as goal
 
 pub returns-in_default : goal.returns-in_default
 returns-in_default c =
-    none_at c.self.inside.frames.items c.self.inside.places.items c.args.place c.self.invariant (sym c.get.ensures ∙ c.in_default.is)
+    none_at c.self.inside.frames.items c.self.inside.places.items c.args.place c.self.invariant.0 (sym c.get.ensures ∙ c.in_default.is)
     ∙ ap (λ (d : DatagramList). slice_get d.items c.args.place) c.self.view_is
 
 pub returns : goal.returns
 returns c =
     c.get-2.ensures
-    ∙ sent_at c.self.inside.frames.items c.self.inside.places.items c.args.place c.in-Some.at c.self.invariant (sym c.get.ensures ∙ c.in-Some.is)
+    ∙ sent_at c.self.inside.frames.items c.self.inside.places.items c.args.place c.in-Some.at c.self.invariant.0 (sym c.get.ensures ∙ c.in-Some.is)
     ∙ ap (λ (d : DatagramList). slice_get d.items c.args.place) c.self.view_is

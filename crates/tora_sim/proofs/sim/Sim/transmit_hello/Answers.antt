@@ -2,7 +2,8 @@ use Rattle.std.proofs.Common.{◌≡◌, ℕ, ◌<◌, List, Some, length, is_so
 use Rattle.std.specs.Prelude.{slice_set, slice_index_or}
 use Rattle.std.proofs.lemmas.Bool.{both_ways}
 use Rattle.std.proofs.lemmas.Option.{slice_get_read}
-use Rattle.tora_frame.specs.FrameParts.{FrameParts}
+use Rattle.tora_frame.specs.FrameParts.{FrameParts, frame_of}
+use Rattle.tora_frame.specs.declared.parts.Body.TheVariants.{Hello}
 use Rattle.tora_arq.specs.LinkEnd.{frame_due}
 use Rattle.tora_world.specs.declared.event.Event.TheVariants.{Transmit}
 use Rattle.tora_world.specs.World.{with_datagram}
@@ -82,18 +83,18 @@ returns-in_default-clause-node c = node_of c.args._n c.args.home c.self.view_is 
 -- ---- a HELLO goes out
 
 module _ (c : goal.After-self-3-1) where
-  due : frame_due c.index_mut.result.now.settings c.index_mut.result.now.state c.self.inside.clock ≡ Some c.hello-frame.result
-  due = c.in-Some.ensures.frame ∙ ap (λ (f : FrameParts). Some f) (sym c.hello-frame.ensures)
+  due : frame_due c.index_mut.result.now.settings c.index_mut.result.now.state c.self.inside.clock ≡ Some (frame_of c.in-Some.header Hello)
+  due = c.in-Some.ensures.frame
 
-  all : c.note_sent.new.datagrams.items ≡ with_datagram (sending_of c.index_mut-2.result.now.sending) c.self.inside.datagrams.items c.hello-frame.result
-  all = c.note_sent.ensures.datagrams ∙ ap (λ ds. with_datagram (sending_of c.index_mut-2.result.now.sending) ds c.hello-frame.result) c.reserve.ensures.items
+  all : c.note_hello.new.datagrams.items ≡ with_datagram (sending_of c.index_mut-2.result.now.sending) c.self.inside.datagrams.items (frame_of c.in-Some.header Hello)
+  all = c.note_hello.ensures.datagrams ∙ ap (λ ds. with_datagram (sending_of c.index_mut-2.result.now.sending) ds (frame_of c.in-Some.header Hello)) c.reserve.ensures.items
 
 pub invariant_of-self-2 : goal.invariant_of-self-2
 invariant_of-self-2 c =
     let s = c.self.inside in (
       transmit_store s.topology s.times s.clock s.nodes.items s.links.items s.datagrams.items c.self.invariant.0 c.args._n c.args._k c.args.at c.index_mut.result.now (end_of c.args._n c.args._k c.args.at c.self.view_is c.requires.end) c.index_mut.ensures.value
-          c.args.home c.index_mut-2.result.now (node_of c.args._n c.args.home c.self.view_is c.requires.node) c.index_mut-2.ensures.value c.hello-frame.result (due c)
-          c.data_frames_are_what_was_submitted.ensures.frame c.send_hello.new.self c.note_sent.new.node c.note_sent.new.datagrams.items c.in-Some.ensures.state c.note_sent.ensures.node (all c),
+          c.args.home c.index_mut-2.result.now (node_of c.args._n c.args.home c.self.view_is c.requires.node) c.index_mut-2.ensures.value (frame_of c.in-Some.header Hello) (due c)
+          c.data_frames_are_what_was_submitted.ensures.frame c.send_hello.new.self c.note_hello.new.node c.note_hello.new.datagrams.items c.in-Some.ensures.state c.note_hello.ensures.node (all c),
       λ none. absurd (omega (arith, none)),
       possible_still s.clock s.stills s.links.items c.args.at c.index_mut.result.now c.send_hello.new.self (end_of c.args._n c.args._k c.args.at c.self.view_is c.requires.end).within c.index_mut.ensures.value
           (λ until lt h. both_ways (is_some (frame_due c.index_mut.result.now.settings c.index_mut.result.now.state s.clock)) (h.frames s.clock lt) (ap is_some (due c))) c.self.invariant.2,
@@ -101,19 +102,19 @@ invariant_of-self-2 c =
       same_plain s.clock s.plains s.links.items c.args.at c.index_mut.result.now c.send_hello.new.self (slice_get_read s.links.items (length s.links.items) c.args.at c.index_mut.result.now refl (end_of c.args._n c.args._k c.args.at c.self.view_is c.requires.end).within c.index_mut.ensures.value)
           (λ h. subst (λ (x : LinkView). IsPlain x) (sym c.in-Some.ensures.state) (transmit_plain c.index_mut.result.now.settings c.index_mut.result.now.state s.clock (has_cargo c.index_mut.result.now) h)) c.self.invariant.4,
       kept_as s.ready.items s.links.items c.args.at c.index_mut.result.now c.send_hello.new.self _ (end_of c.args._n c.args._k c.args.at c.self.view_is c.requires.end).within c.index_mut.ensures.value c.in-Some.ensures.state (λ h. h) c.self.invariant.5,
-      node_kept s.unready.items s.nodes.items s.ready.items c.args.home c.index_mut-2.result.now c.note_sent.new.node (node_of c.args._n c.args.home c.self.view_is c.requires.node).within c.index_mut-2.ensures.value (same_place c.index_mut-2.result.now c.note_sent.new.node _ c.note_sent.ensures.node (refl, refl)) c.self.invariant.6,
+      node_kept s.unready.items s.nodes.items s.ready.items c.args.home c.index_mut-2.result.now c.note_hello.new.node (node_of c.args._n c.args.home c.self.view_is c.requires.node).within c.index_mut-2.ensures.value (same_place c.index_mut-2.result.now c.note_hello.new.node _ c.note_hello.ensures.node (refl, refl)) c.self.invariant.6,
     )
 
 pub returns-clause-done : goal.returns-clause-done
 returns-clause-done c told =
     let s = c.self.inside in
-    subst (λ (before : SimState). IsDone (world_of before) (Transmit c.args._n c.args._k) (world_of (state_of s.topology s.times s.clock (slice_set s.nodes.items c.args.home c.note_sent.new.node) (slice_set s.links.items c.args.at c.send_hello.new.self) c.note_sent.new.datagrams.items))) c.self.view_is
+    subst (λ (before : SimState). IsDone (world_of before) (Transmit c.args._n c.args._k) (world_of (state_of s.topology s.times s.clock (slice_set s.nodes.items c.args.home c.note_hello.new.node) (slice_set s.links.items c.args.at c.send_hello.new.self) c.note_hello.new.datagrams.items))) c.self.view_is
     (transmit_done s.topology s.times s.clock s.nodes.items s.links.items s.datagrams.items c.self.invariant.0 c.args._n c.args._k c.args.at c.index_mut.result.now (end_of c.args._n c.args._k c.args.at c.self.view_is c.requires.end) c.index_mut.ensures.value
-    c.args.home c.index_mut-2.result.now (node_of c.args._n c.args.home c.self.view_is c.requires.node) c.index_mut-2.ensures.value c.hello-frame.result (due c)
-    c.send_hello.new.self c.note_sent.new.node c.note_sent.new.datagrams.items c.in-Some.ensures.state c.note_sent.ensures.node (all c))
+    c.args.home c.index_mut-2.result.now (node_of c.args._n c.args.home c.self.view_is c.requires.node) c.index_mut-2.ensures.value (frame_of c.in-Some.header Hello) (due c)
+    c.send_hello.new.self c.note_hello.new.node c.note_hello.new.datagrams.items c.in-Some.ensures.state c.note_hello.ensures.node (all c))
 
 pub returns-clause-end : goal.returns-clause-end
 returns-clause-end c = still_end c.args._n c.args._k c.self.inside.links.items c.args.at c.index_mut.result.now c.send_hello.new.self _ (end_of c.args._n c.args._k c.args.at c.self.view_is c.requires.end) c.index_mut.ensures.value c.in-Some.ensures.state
 
 pub returns-clause-node : goal.returns-clause-node
-returns-clause-node c = still_node c.args._n c.self.inside.nodes.items c.args.home c.index_mut-2.result.now c.note_sent.new.node (node_of c.args._n c.args.home c.self.view_is c.requires.node) c.index_mut-2.ensures.value c.note_sent.ensures.node
+returns-clause-node c = still_node c.args._n c.self.inside.nodes.items c.args.home c.index_mut-2.result.now c.note_hello.new.node (node_of c.args._n c.args.home c.self.view_is c.requires.node) c.index_mut-2.ensures.value c.note_hello.ensures.node

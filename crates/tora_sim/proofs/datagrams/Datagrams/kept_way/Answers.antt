@@ -3,17 +3,17 @@ use Rattle.tora_frame.specs.FrameParts.{FrameParts}
 use Rattle.tora_sim.specs.Datagrams.{DatagramList}
 use Rattle.tora_sim.specs.Readers.{way_of}
 use Rattle.tora_sim.proofs.SentFrames.{sent_at, none_at}
-use Rattle.tora_sim.proofs.datagrams.Datagrams.way.Goals as goal
+use Rattle.tora_sim.proofs.datagrams.Datagrams.kept_way.Goals as goal
 
 pub returns-in_default : goal.returns-in_default
 returns-in_default c =
     ap (λ (o : Option FrameParts). option_map way_of o)
-    (none_at c.self.inside.frames.items c.self.inside.places.items c.args.place c.self.invariant (sym c.get.ensures ∙ c.in_default.is)
+    (none_at c.self.inside.frames.items c.self.inside.places.items c.args.place c.self.invariant.0 (sym c.get.ensures ∙ c.in_default.is)
     ∙ ap (λ (d : DatagramList). slice_get d.items c.args.place) c.self.view_is)
 
 pub returns : goal.returns
 returns c =
     c.way.ensures
     ∙ ap (λ (o : Option FrameParts). option_map way_of o)
-    (sent_at c.self.inside.frames.items c.self.inside.places.items c.args.place c.in-Some.at c.self.invariant (sym c.get.ensures ∙ c.in-Some.is)
+    (sent_at c.self.inside.frames.items c.self.inside.places.items c.args.place c.in-Some.at c.self.invariant.0 (sym c.get.ensures ∙ c.in-Some.is)
     ∙ ap (λ (d : DatagramList). slice_get d.items c.args.place) c.self.view_is)

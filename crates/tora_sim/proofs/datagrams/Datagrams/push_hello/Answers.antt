@@ -1,0 +1,33 @@
+use Rattle.std.proofs.Common.{ℕ, List, ◌∷◌, [], ◌++◌, sym, ap, ◌∙◌, subst}
+use Rattle.tora_frame.specs.FrameParts.{FrameParts, frame_of}
+use Rattle.tora_frame.specs.declared.parts.Body.TheVariants.{Hello}
+use Rattle.tora_sim.specs.Recents.{AreRecent}
+use Rattle.tora_sim.proofs.RecentLaws.{next_count}
+use Rattle.tora_sim.specs.Datagrams.{DatagramList}
+use Rattle.tora_sim.specs.SentFrames.{AreWithin, sent_frames}
+use Rattle.tora_sim.proofs.SentFrames.{one_more, all_within}
+use Rattle.tora_sim.proofs.datagrams.Datagrams.push_hello.Goals as goal
+
+pub returns : goal.returns
+returns c =
+    ap (sent_frames c.hello_place-place.new.frames.items) c.push.ensures
+    ∙ one_more c.self.inside.frames.items c.hello_place-place.new.frames.items c.self.inside.places.items c.hello_place-place.result (frame_of c.args.header.now Hello) c.hello_place-place.ensures.more c.hello_place-place.ensures.is c.self.invariant.0
+    ∙ ap (λ (d : DatagramList). d.items ++ (frame_of c.args.header.now Hello) ∷ []) c.self.view_is
+
+pub push-requires-2 : goal.push-requires-2
+push-requires-2 c =
+    let d = c.self.inside in
+    next_count d.frames.items d.places.items c.push.new.self.items d.recents.first c.len.result c.hello_place-place.result d.recents.frames.items c.self.invariant.0 c.self.invariant.2 c.push.ensures c.len.ensures
+
+pub invariant_of-self : goal.invariant_of-self
+invariant_of-self c =
+    let d = c.self.inside in
+    let after = c.hello_place-place.new.frames.items in
+    let is = c.hello_place-place.ensures.is in
+    let more = c.hello_place-place.ensures.more in (
+      subst (λ (places : List ℕ). AreWithin after places) (sym c.push.ensures) (all_within d.frames.items after d.places.items c.hello_place-place.result (frame_of c.args.header.now Hello) more is c.self.invariant.0),
+      c.hello_place-place.ensures.hellos,
+      subst (λ (items : List FrameParts). AreRecent c.push-2.new.self.first c.push-2.new.self.frames.items items)
+          (sym (ap (sent_frames after) c.push.ensures ∙ one_more d.frames.items after d.places.items c.hello_place-place.result (frame_of c.args.header.now Hello) more is c.self.invariant.0))
+          (c.push-2.ensures (sent_frames d.frames.items d.places.items) (frame_of c.args.header.now Hello) c.self.invariant.2 c.recent_hello.ensures),
+    )

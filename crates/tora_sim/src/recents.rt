@@ -1,0 +1,144 @@
+//! What the datagrams say that were sent last, and the HELLO that each link end sent last.
+//!
+//! They stand close together, in the order in which they are asked for, where frames and headers of many ends lie far apart.
+ghost use Rattle.std.specs.Prelude.{◌≡◌, ◌+◌, ◌<◌, ◌∷◌, ◌++◌, [], List, IfSome, length, slice_get, Some};
+ghost use Rattle.tora_frame.specs.FrameParts.{FrameParts, IsHeader, frame_of};
+ghost use Rattle.tora_frame.specs.declared.parts.Body.{Body};
+ghost use Rattle.tora_sim.specs.Recents.{IsTold, AreRecent};
+
+use std::alloc::{AllocError, Global};
+use tora_frame::{BorrowedBody, BorrowedFrame, Header, Version};
+
+/// Of so many datagrams at most the headers are kept; then those before them are let go.
+const MOST: usize = 16_384;
+
+/// The header of a datagram, and whether it is a HELLO.
+#[derive(Clone, Copy, Debug, PartialEq, Eq)]
+pub struct RecentFrame {
+    pub header: Header,
+    pub is_hello: bool,
+}
+
+/// The header of the HELLO of a version that a link end sent last, and the place of its frame.
+#[derive(Clone, Copy, Debug, PartialEq, Eq)]
+pub struct LastHello {
+    pub header: Header,
+    pub place: u32,
+}
+
+impl LastHello {
+    /// No HELLO: no header has the life 0.
+    pub fn none() -> LastHello
+        ensures { result.header.life ≡ 0 }
+    {
+        LastHello {
+            header: Header {
+                version: Version::One,
+                sender: 0,
+                receiver: 0,
+                life: 0,
+                heard: 0,
+            },
+            place: 0,
+        }
+    }
+}
+
+/// The headers of the last datagrams, in their order.
+#[derive(Drop)]
+pub struct Recents {
+    /// The place of the first of them among all datagrams.
+    pub first: usize,
+    pub frames: Vec<RecentFrame>,
+}
+
+impl Recents {
+    /// None, of no datagrams.
+    pub fn new(alloc: Global) -> Recents
+        ensures { AreRecent result.first result.frames.items [] }
+    {
+        Recents {
+            first: 0,
+            frames: Vec::new(alloc),
+        }
+    }
+
+    /// Takes the memory for one more, unless there are as many as are kept.
+    ///
+    /// # Errors
+    /// Want of memory.
+    #[inline(always)]
+    pub fn reserve(&mut self) -> Result<(), AllocError>
+        ensures first { self.new.first ≡ self.old.first }
+        ensures frames { self.new.frames.items ≡ self.old.frames.items }
+    {
+        if self.frames.len() < self.frames.capacity() {
+            return Ok(());
+        }
+        if self.frames.len() >= MOST {
+            return Ok(());
+        }
+        self.frames.reserve(1)
+    }
+
+    /// None, where there are so many datagrams.
+    pub fn clear(&mut self, count: usize)
+        ensures { (items : List FrameParts) → length items ≡ count → AreRecent self.new.first self.new.frames.items items }
+    {
+        self.first = count;
+        self.frames.clear();
+    }
+
+    /// Keeps the header of one more datagram, behind which there are so many in all; where there is no place for it none is kept any more.
+    #[inline(always)]
+    pub fn push(&mut self, count: usize, frame: RecentFrame)
+        requires { count ≡ self.old.first + length self.old.frames.items + 1 }
+        ensures { (items : List FrameParts) (datagram : FrameParts) → AreRecent self.old.first self.old.frames.items items → IsTold frame (Some datagram) → AreRecent self.new.first self.new.frames.items (items ++ datagram ∷ []) }
+    {
+        if self.frames.len() < self.frames.capacity() {
+            self.frames.push_reserved(frame);
+        } else {
+            self.first = count;
+            self.frames.clear();
+        }
+    }
+
+    /// What is kept of the datagram that stands behind so many others.
+    #[inline(always)]
+    pub fn get(&self, place: usize) -> Option<RecentFrame>
+        ensures { IfSome result (λ recent. (items : List FrameParts) → AreRecent self.now.first self.now.frames.items items → IsTold recent (slice_get items place)) }
+    {
+        let Some(at) = place.checked_sub(self.first) else {
+            return None;
+        };
+        self.frames.get(at).copied()
+    }
+}
+
+/// What is kept of a frame.
+#[inline(always)]
+pub fn recent_of(frame: &BorrowedFrame<'_>) -> RecentFrame
+    ensures { IsTold result (Some frame.now) }
+{
+    let is_hello = match frame.body() {
+        BorrowedBody::Hello => true,
+        BorrowedBody::Data(..) => false,
+        BorrowedBody::Ack(_) => false,
+    };
+    RecentFrame {
+        header: *frame.header(),
+        is_hello,
+    }
+}
+
+/// What is kept of a HELLO.
+#[inline(always)]
+pub fn recent_hello(header: &Header) -> RecentFrame
+    requires { IsHeader header.now }
+    ensures { IsTold result (Some (frame_of header.now Body.Hello)) }
+{
+    RecentFrame {
+        header: *header,
+        is_hello: true,
+    }
+}
