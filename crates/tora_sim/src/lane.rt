@@ -140,6 +140,9 @@ fn keep_taken(
     ensures within { taken.new ≤ length cargoes.new.items }
     ensures done { OnOk result (taken.new ≡ 0) }
 {
+    if *taken == 0 {
+        return Ok(());
+    }
     let kept = keep_first(past, &cargoes[..*taken]);
     cargoes.drain(..kept);
     *taken -= kept;
