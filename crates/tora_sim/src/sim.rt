@@ -91,7 +91,7 @@ impl Sim {
             return Ok(());
         }
         self.quiet = 0;
-        tick(&mut self.links, &mut self.stills, &mut self.plains, now);
+        tick(&mut self.links, &self.stills, &mut self.plains, now);
         self.clock = now;
         Ok(())
     }
