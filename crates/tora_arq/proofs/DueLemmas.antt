@@ -7,7 +7,8 @@ use Rattle.tora_arq.specs.SendQueue.{is_ready, is_given_up, has_given_up, DueBat
 use Rattle.tora_arq.specs.EndRange.{AreUntried}
 use Rattle.tora_arq.specs.Settings.{Settings, ticks_passed}
 use Rattle.tora_arq.specs.declared.life.Life.{Life}
-use Rattle.tora_arq.specs.LinkEnd.{EndState, on_transmit_due}
+use Rattle.tora_frame.specs.FrameParts.{FrameParts}
+use Rattle.tora_arq.specs.LinkEnd.{EndState, is_hello_body, is_hello, on_transmit_due}
 use Rattle.tora_arq.specs.NextDue.{is_any_due, IsNextDue, is_packet_due, has_begun}
 use Rattle.tora_arq.proofs.QueueLemmas.{none_of_untried}
 
@@ -96,3 +97,12 @@ all_due false false false false = refl
 pub sent_due : (s : Settings) (e : EndState) (life : Life) (due : Option DueBatch) → e.owes_ack ≡ false → is_some (on_transmit_due s e life due).0 ≡ is_some due
 sent_due s e life (Some due) h = refl
 sent_due s e life None h = rw h refl
+
+no_hello_if : (owes : Bool) (frame : FrameParts) (e left : EndState) → is_hello_body frame.body ≡ false → is_hello ((if◌then◌else◌ {A = Option FrameParts × EndState} owes (Some frame, e) (None, left)).0) ≡ false
+no_hello_if true frame e left h = h
+no_hello_if false frame e left h = refl
+
+-- what is due behind the HELLOs is none
+pub no_hello_behind : (s : Settings) (e : EndState) (life : Life) (due : Option DueBatch) → is_hello (on_transmit_due s e life due).0 ≡ false
+no_hello_behind s e life (Some due) = refl
+no_hello_behind s e life None = no_hello_if e.owes_ack _ _ _ refl

@@ -345,6 +345,16 @@ is_old_hello_due e = e.owes_old_hello && not e.speaks_two
 abbrev pub frame_sent : Settings → Version → ℕ → ℕ → Body → FrameParts
 frame_sent s version life heard body = frame_of (record { version = version; sender = s.me; receiver = s.peer; life = life; heard = heard }) body
 
+abbrev pub is_hello_body : Body → Bool
+is_hello_body Hello = true
+is_hello_body (Data _ _ _) = false
+is_hello_body (Ack _) = false
+
+-- whether there is a frame, and it is a HELLO
+abbrev pub is_hello : Option FrameParts → Bool
+is_hello None = false
+is_hello (Some frame) = is_hello_body frame.body
+
 -- a HELLO of the newest version is given, behind which one of version 1 may be due
 abbrev pub after_hello : Settings → EndState → ℕ → EndState
 after_hello s e now = record e { owes_hello = false; owes_old_hello = is_two s.version; last_hello = Some now }

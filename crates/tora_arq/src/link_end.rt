@@ -1,7 +1,7 @@
 //! A link end, as its node sees it.
 ghost use Rattle.std.specs.Prelude.{◌≡◌, ◌≢◌, ◌<◌, ◌≤◌, ◌^◌, ℕ, IfOk, IfNone, IfSome, IsTrue, OnSome, Some, false, is_some, length};
 ghost use Rattle.tora_arq.specs.Settings.{IsTimes, settings_of};
-ghost use Rattle.tora_arq.specs.LinkEnd.{first_end, is_closed, bound_life, after_open, verdict_of, after_frame, after_tick, submit_answer, after_submit, after_cut, first_event, after_poll_event, frame_due, after_transmit};
+ghost use Rattle.tora_arq.specs.LinkEnd.{first_end, is_closed, bound_life, after_open, verdict_of, after_frame, after_tick, submit_answer, after_submit, after_cut, first_event, after_poll_event, is_hello, frame_due, after_transmit};
 ghost use Rattle.tora_arq.specs.EndRange.{IsEndState, link_end_of};
 ghost use Rattle.tora_arq.specs.NextDue.{IsNextDue};
 ghost use Rattle.tora_arq.specs.Still.{still_until};
@@ -335,6 +335,7 @@ impl LinkEnd {
         ensures frame { IfSome result (λ header. frame_due self.old.settings self.old.state now ≡ Some (frame_of header Body.Hello)) }
         ensures state { IfSome result (λ _. self.new ≡ record self.old { state = after_transmit self.old.settings self.old.state now }) }
         ensures valid { IfSome result (λ header. IsHeader header) }
+        ensures given { is_some result ≡ is_hello (frame_due self.old.settings self.old.state now) }
         ensures none { IfNone result (self.new ≡ self.old) }
     {
         self.state.poll_first_hello(&self.settings, now)

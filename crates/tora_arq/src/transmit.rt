@@ -3,7 +3,7 @@ ghost use Rattle.std.specs.Prelude.{◌≡◌, ℕ, ◌<◌, ◌≤◌, ◌+◌,
 ghost use Rattle.tora_frame.specs.FrameParts.{FrameParts, frame_of, IsHeader, IsLifeNumber};
 ghost use Rattle.tora_frame.specs.declared.parts.Body.{Body};
 ghost use Rattle.tora_arq.specs.Settings.{IsLink};
-ghost use Rattle.tora_arq.specs.LinkEnd.{EndState, is_two, data_version, most_packets, is_hello_due, is_old_hello_due, frame_sent, after_hello, after_old_hello, on_hello, due_of, on_transmit_due, on_transmit};
+ghost use Rattle.tora_arq.specs.LinkEnd.{EndState, is_two, data_version, most_packets, is_hello, is_hello_due, is_old_hello_due, frame_sent, after_hello, after_old_hello, on_hello, due_of, on_transmit_due, on_transmit};
 ghost use Rattle.tora_arq.specs.EndRange.{IsEndState};
 ghost use Rattle.tora_arq.specs.NextDue.{is_any_due, is_due_in, IsNextDue, has_begun};
 ghost use Rattle.tora_arq.specs.StateView.{settings_in, state_in};
@@ -222,13 +222,14 @@ impl State {
         None
     }
 
-    /// The first frame due, where it is a HELLO: its header.
-    #[tactic(auto, unfolding(crate::specs::LinkEnd::on_transmit, crate::specs::LinkEnd::on_transmit_in))]
+    /// The first frame due, where it is a HELLO: its header. `None` where it is another, or none is due.
+    #[tactic(auto, unfolding(crate::specs::LinkEnd::on_transmit, crate::specs::LinkEnd::on_transmit_in), using(crate::proofs::DueLemmas::no_hello_behind))]
     pub fn poll_first_hello(&mut self, settings: &Settings, now: u64) -> Option<Header>
         requires { IsEndState (settings_in settings.now) (state_in self.old) }
         ensures frame { IfSome result (λ header. (on_transmit (settings_in settings.now) (state_in self.old) now).0 ≡ Some (frame_of header Body.Hello)) }
         ensures state { IfSome result (λ _. state_in self.new ≡ (on_transmit (settings_in settings.now) (state_in self.old) now).1) }
         ensures valid { IfSome result (λ header. IsHeader header) }
+        ensures given { is_some result ≡ is_hello (on_transmit (settings_in settings.now) (state_in self.old) now).0 }
         ensures same { IfNone result (self.new ≡ self.old) }
     {
         match self.phase {
