@@ -23,6 +23,9 @@ const MOST_FRAMES: usize = 0xffff_ffff;
 /// So many frames are kept beside twice as many as there are datagrams, before those that no datagram has are let go.
 const MOST_UNUSED: usize = 1024;
 
+/// So many headers of datagrams are let go behind a pass.
+const MANY_RECENTS: usize = 256;
+
 /// All datagrams that were ever sent, in order, but for the first ones that were let go.
 ///
 /// Most of them say what one before them said, as every HELLO does but the first of a life, and every DATA frame that is sent again: such a
@@ -176,6 +179,18 @@ impl Datagrams {
             return None;
         };
         self.frames.way(at as usize)
+    }
+
+    /// Lets the headers go of the datagrams that were sent last, where they are many: those that were delivered are seldom asked for again, so
+    /// that the next ones stand where memory is at hand.
+    #[inline(always)]
+    pub fn forget_recents(&mut self)
+        ensures { self.new.items ≡ self.old.items }
+    {
+        if self.recents.frames.len() < MANY_RECENTS {
+            return;
+        }
+        self.recents.clear(self.places.len());
     }
 
     /// Lets the first datagrams go, so many or all. What they took is for those to come: their places, and their frames once those that no

@@ -32,6 +32,7 @@ impl Sim {
         if self.clock < self.quiet {
             return;
         }
+        self.datagrams.forget_recents();
         settle_ends(&self.links, &mut self.stills, self.clock);
         mark_ends(&self.links, &mut self.plains, self.clock);
         let until = quiet_until(&self.nodes, &self.links, &self.stills, self.clock);

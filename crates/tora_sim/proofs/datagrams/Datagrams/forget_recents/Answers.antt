@@ -1,0 +1,12 @@
+use Rattle.std.proofs.Common.{sym, ◌∙◌}
+use Rattle.tora_sim.specs.SentFrames.{sent_frames}
+use Rattle.tora_sim.proofs.SentFrames.{as_many}
+use Rattle.tora_sim.proofs.datagrams.Datagrams.forget_recents.Goals as goal
+
+pub invariant_of-self : goal.invariant_of-self
+invariant_of-self c =
+    let d = c.self.inside in (
+      c.self.invariant.0,
+      c.self.invariant.1,
+      c.clear.ensures (sent_frames d.frames.items d.places.items) (as_many d.frames.items d.places.items c.self.invariant.0 ∙ sym c.len-2.ensures),
+    )
