@@ -4,7 +4,7 @@ ghost use Rattle.tora_arq.specs.Settings.{IsTimes, settings_of};
 ghost use Rattle.tora_arq.specs.LinkEnd.{first_end, is_closed, bound_life, after_open, verdict_of, after_frame, after_tick, submit_answer, after_submit, after_cut, first_event, after_poll_event, is_hello, frame_due, after_transmit};
 ghost use Rattle.tora_arq.specs.EndRange.{IsEndState, link_end_of};
 ghost use Rattle.tora_arq.specs.NextDue.{IsNextDue};
-ghost use Rattle.tora_arq.specs.Still.{still_until};
+ghost use Rattle.tora_arq.specs.Still.{IsStillUntil};
 ghost use Rattle.tora_frame.specs.FrameParts.{IsHeader, frame_of};
 ghost use Rattle.tora_frame.specs.declared.parts.Body.{Body};
 ghost use Rattle.tora_frame.specs.declared.parts.Version.TheVariants.{One, Two};
@@ -287,10 +287,11 @@ impl LinkEnd {
         self.state.next_due(&self.settings, now)
     }
 
-    /// The tick before which no frame is due and a tick changes nothing, unless something else happens at the end; 0 where a
-    /// frame is due at once, or a packet is not acknowledged yet. It is 2^64 - 1 at a closed end.
+    /// The tick before which no frame is due and a tick changes nothing, unless something else happens at the end, and from which on a frame is
+    /// due or a tick ends the life; 0 where a frame is due at once. It is 2^64 - 1 where none ever is, as at a closed end. It looks at no more
+    /// packets than the window, and at none where all are acknowledged.
     pub fn still_until(&self) -> u64
-        ensures value { result ≡ still_until self.now.settings self.now.state }
+        ensures exact { IsStillUntil self.now.settings self.now.state result }
         ensures frames { (tick : ℕ) → tick < result → is_some (frame_due self.now.settings self.now.state tick) ≡ false }
         ensures ticks { (tick : ℕ) → tick < result → after_tick self.now.settings self.now.state tick ≡ self.now.state }
     {

@@ -1,64 +1,100 @@
 //! Until which tick a link end is still.
-ghost use Rattle.std.specs.Prelude.{◌≡◌};
+ghost use Rattle.std.specs.Prelude.{◌≡◌, ◌<◌, ℕ, nat_le, ◌||◌, is_some, drop};
+ghost use Rattle.tora_arq.specs.EndRange.{AreUntried, IsEndState};
+ghost use Rattle.tora_arq.specs.LinkEnd.{is_hello_due, is_old_hello_due};
+ghost use Rattle.tora_arq.specs.NextDue.{is_due_in, has_begun};
+ghost use Rattle.tora_arq.specs.SendQueue.{first_due, has_given_up};
+ghost use Rattle.tora_arq.specs.Settings.{ticks_passed};
 ghost use Rattle.tora_arq.specs.StateView.{settings_in, state_in};
-ghost use Rattle.tora_arq.specs.Still.{tick_behind, hello_tick, owes_any_hello, owes_any, still_until};
+ghost use Rattle.tora_arq.specs.Still.{last_tick, IsStillUntil};
+ghost use Rattle.tora_arq.specs.declared.life.Life.{Life};
 
 use crate::phase::Phase;
+use crate::queue::SendQueue;
 use crate::settings::Settings;
 use crate::state::State;
+use crate::{Times, WINDOW};
 
 /// The tick that comes so many behind another; the last one at most.
 fn tick_behind(earlier: u64, ticks: u64) -> u64
-    ensures { result ≡ tick_behind earlier ticks }
+    requires { 0 < ticks }
+    ensures { (tick : ℕ) → tick < last_tick → nat_le result tick ≡ nat_le ticks (ticks_passed earlier tick) }
 {
     earlier.saturating_add(ticks)
+}
+
+/// The earlier one of two ticks, of which the other may be none.
+fn earliest(first: u64, other: Option<u64>) -> u64
+    ensures { (tick : ℕ) → nat_le result tick ≡ nat_le first tick || has_begun other tick }
+{
+    match other {
+        Some(other) => first.min(other),
+        None => first,
+    }
+}
+
+impl SendQueue {
+    /// A tick, or that from which on a packet is due within the window, or given up, where that is earlier. It looks at no more than the
+    /// window.
+    fn still_until(&self, times: &Times, first: u64) -> u64
+        requires retry { 0 < times.now.retry }
+        requires tries { 0 < times.now.tries }
+        requires untried { AreUntried (drop WINDOW self.now) }
+        ensures { (most number tick : ℕ) → tick < last_tick → nat_le result tick ≡ nat_le first tick || (is_some (first_due times.now tick most number WINDOW self.now) || has_given_up times.now tick self.now) }
+    {
+        if self.len() == 0 {
+            return first;
+        }
+        earliest(first, self.due_tick(times))
+    }
 }
 
 impl State {
     /// Whether a HELLO is due, whatever the tick.
     fn owes_any_hello(&self) -> bool
-        ensures { result ≡ owes_any_hello (state_in self.now) }
+        ensures { result ≡ self.now.owes_hello || is_old_hello_due (state_in self.now) }
     {
         self.owes_hello || (self.owes_old_hello && !self.speaks_two)
     }
 
-    /// Whether a HELLO or an ACK is due, whatever the tick, or a packet is not acknowledged.
-    fn owes_any(&self) -> bool
-        ensures { result ≡ owes_any (state_in self.now) }
-    {
-        self.owes_any_hello() || (self.owes_ack || self.queue.len() > 0)
-    }
-
-    /// When a HELLO is due, where none is owed.
+    /// From which tick on a HELLO is due.
     fn next_hello(&self, settings: &Settings) -> u64
-        ensures { result ≡ hello_tick (settings_in settings.now) (state_in self.now).last_hello }
+        requires { 0 < settings.now.times.hello }
+        ensures { (tick : ℕ) → tick < last_tick → nat_le result tick ≡ is_hello_due (settings_in settings.now) (state_in self.now) tick || is_old_hello_due (state_in self.now) }
     {
+        if self.owes_any_hello() {
+            return 0;
+        }
         match self.last_hello {
             Some(last) => tick_behind(last, settings.times.hello),
             None => u64::MAX,
         }
     }
 
-    /// Before which tick no frame is due and no tick ends the life.
+    /// From which tick on a frame of a bound end is due, or its life ends.
+    fn still_in_life(&self, settings: &Settings) -> u64
+        requires { IsEndState (settings_in settings.now) (state_in self.now) }
+        ensures { (life : Life) (tick : ℕ) → tick < last_tick → nat_le result tick ≡ is_due_in (settings_in settings.now) (state_in self.now) life tick }
+    {
+        if self.owes_ack {
+            return 0;
+        }
+        let times = &settings.times;
+        let silent = tick_behind(self.last_hearing, times.silent);
+        let first = self.next_hello(settings).min(silent);
+        self.queue.still_until(times, first)
+    }
+
+    /// From which tick on a frame is due, or a life ends.
+    #[tactic(auto, unfolding(crate::specs::LinkEnd::on_transmit, crate::specs::LinkEnd::on_transmit_in, crate::specs::LinkEnd::after_tick))]
     pub fn still_until(&self, settings: &Settings) -> u64
-        ensures { result ≡ still_until (settings_in settings.now) (state_in self.now) }
+        requires { IsEndState (settings_in settings.now) (state_in self.now) }
+        ensures { IsStillUntil (settings_in settings.now) (state_in self.now) result }
     {
         match self.phase {
             Phase::Closed => u64::MAX,
-            Phase::Unbound(_) => {
-                if self.owes_any_hello() {
-                    0
-                } else {
-                    self.next_hello(settings)
-                }
-            }
-            Phase::Bound(_) => {
-                if self.owes_any() {
-                    return 0;
-                }
-                let silent = tick_behind(self.last_hearing, settings.times.silent);
-                self.next_hello(settings).min(silent)
-            }
+            Phase::Unbound(_) => self.next_hello(settings),
+            Phase::Bound(_) => self.still_in_life(settings),
         }
     }
 }
