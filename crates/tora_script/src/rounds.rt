@@ -102,12 +102,12 @@ fn turn_core<S: Simulator>(sim: &mut S, place: usize, n: Id) -> Result<bool, All
     repeat(sim, place, &Event::CoreTurn(n), MOST_TIMES)
 }
 
-/// Lets each core take its items.
+/// Lets each core take its items, unless it is known that none has one.
 #[inline(always)]
 pub fn turn_cores<S: Simulator>(sim: &mut S, nodes: &[Id]) -> Result<bool, AllocError>
     ensures { IfOk result (λ some. Happened (S.world sim.old) (each_core nodes.now (S.world sim.old)) (S.world sim.new) some) }
 {
-    if sim.is_quiet() {
+    if !sim.may_turn() {
         return Ok(false);
     }
     let mut some = false;

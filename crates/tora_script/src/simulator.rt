@@ -1,7 +1,7 @@
 //! What the engine asks of a simulator.
 ghost use Rattle.std.specs.Prelude.{◌≡◌, ◌<◌, ◌≤◌, ℕ, true, false, Some, is_some, length, option_map, slice_get, IfOk};
 ghost use Rattle.tora_world.specs.World.{World, refusal_of, world_after, datagram, sent_packets, taken_packets};
-ghost use Rattle.tora_world.specs.declared.event.Event.TheVariants.{Transmit, Deliver};
+ghost use Rattle.tora_world.specs.declared.event.Event.TheVariants.{Transmit, Deliver, CoreTurn};
 ghost use Rattle.tora_arq.specs.Settings.{IsTimes};
 ghost use Rattle.tora_script.specs.Simulator.{ArePairs, AreIds, Starts, nodes_of};
 ghost use Rattle.tora_sim.specs.Cuts.{after_cut_at};
@@ -52,6 +52,12 @@ pub trait Simulator: Drop {
     /// It costs no more than the look at one number, and is asked before each part of a round. `settle` may make it known.
     fn is_quiet(&self) -> bool
         ensures { result ≡ true → IsQuiet (world self.now) };
+
+    /// Whether a core may have an item to take: where the answer is `false`, `happen` refuses every `CoreTurn`.
+    ///
+    /// It costs no more than the look at one mark, and is asked before the cores' part of a round. `settle` may make it known.
+    fn may_turn(&self) -> bool
+        ensures { result ≡ false → (n : ℕ) → is_some (refusal_of (world self.now) (CoreTurn n)) ≡ true };
 
     /// Whether these are the link ends, in the order of `ends`.
     fn has_ends(&self, ends: &[(Id, Id)]) -> bool

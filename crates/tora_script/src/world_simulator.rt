@@ -57,6 +57,11 @@ impl Simulator for Sim {
         Sim::is_quiet(self)
     }
 
+    #[inline(always)]
+    fn may_turn(&self) -> bool {
+        Sim::may_turn(self)
+    }
+
     fn has_ends(&self, ends: &[(Id, Id)]) -> bool {
         Sim::has_ends(self, ends)
     }

@@ -17,7 +17,7 @@ use Rattle.tora_sim.specs.Keyed.{IsFirst}
 use Rattle.tora_sim.specs.Links.{LinkView, is_at, key_of, ticked, with_state}
 use Rattle.tora_sim.specs.Nodes.{NodeView, is_of}
 use Rattle.tora_sim.specs.Plains.{MayOnlySend, IsPlain}
-use Rattle.tora_sim.specs.Quiet.{IsQuiet, IsQuietEnd, IsStill, is_idle, AreStill}
+use Rattle.tora_sim.specs.Quiet.{IsQuiet, IsQuietEnd, IsStill, is_idle, AreIdleIf, AreStill}
 use Rattle.tora_sim.specs.Readers.{ends_in}
 use Rattle.tora_sim.specs.Store.{state_of, world_of, IsStore, EachOf, node_at, link_at}
 use Rattle.tora_sim.proofs.Keys.{read_first, read_first_node}
@@ -64,6 +64,15 @@ idle_at (y ∷ nodes) zero x all e =
     subst (λ (z : NodeView). length z.items ≡ 0) same (eqb-true (length y.items) 0 (and_parts (is_idle y) (list_all is_idle nodes) all).0)
 idle_at (y ∷ nodes) (suc i) x all e = idle_at nodes i x (and_parts (is_idle y) (list_all is_idle nodes) all).1 e
 
+all_kept : (nodes : List NodeView) (home : ℕ) (x y : NodeView) → home < length nodes → x ≡ slice_index_or nodes home x → is_idle y ≡ is_idle x → list_all is_idle (set nodes home y) ≡ list_all is_idle nodes
+all_kept [] home x y lt read same = absurd (omega (arith, lt))
+all_kept (z ∷ nodes) zero x y lt read same = ap (λ (b : Bool). b && list_all is_idle nodes) (same ∙ ap is_idle read)
+all_kept (z ∷ nodes) (suc home) x y lt read same = ap (λ (b : Bool). is_idle z && b) (all_kept nodes home x y (omega (arith, lt)) read same)
+
+-- where a node changes and as many items wait for its core, nothing else is known
+pub idle_kept : (known : Bool) (nodes : List NodeView) (home : ℕ) (x y : NodeView) → home < length nodes → x ≡ slice_index_or nodes home x → is_idle y ≡ is_idle x → AreIdleIf known nodes → AreIdleIf known (set nodes home y)
+idle_kept known nodes home x y lt read same h told = all_kept nodes home x y lt read same ∙ h told
+
 no_link : (w : World) (n k : ℕ) (possible : Bool) → is_link w.topology n k ≡ false → is_some (at_link w n k possible) ≡ true
 no_link w n k possible e = ap (λ (b : Bool). is_some (if b then unless_possible possible else Some Refused.NoNode)) e
 
@@ -85,7 +94,7 @@ module _ (t : Topology) (times : Times) (clock : ℕ) (nodes : List NodeView) (l
           let read = read_of links f.place x f.there in
           here x f.place (read_first n k links f.place x h.rising_links (slice_get_within links f.place x f.there) read f.passes) read (still f.place x f.there)
 
-  at_nodes : (n : ℕ) → list_all is_idle nodes ≡ true → IsImpossible w (CoreTurn n)
+  pub at_nodes : (n : ℕ) → list_all is_idle nodes ≡ true → IsImpossible w (CoreTurn n)
   at_nodes n idle = go (node_at nodes n) refl
     where
       go : (o : Option NodeView) → node_at nodes n ≡ o → IsImpossible w (CoreTurn n)

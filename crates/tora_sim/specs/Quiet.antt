@@ -44,6 +44,10 @@ IsStillIf until link = 0 < until → IsStill until link
 abbrev pub is_idle : NodeView → Bool
 is_idle node = length node.items == 0
 
+-- no item waits for any core, where that is known
+abbrev pub AreIdleIf : Bool → List NodeView → Type 0
+AreIdleIf known nodes = known ≡ true → list_all is_idle nodes ≡ true
+
 -- nothing is to be done at any node or link end before a tick; of the tick 0 that says nothing
 abbrev pub AreStill : ℕ → List NodeView → List LinkView → Type 0
 AreStill until nodes links = 0 < until → (list_all is_idle nodes ≡ true) × EachOf (IsStill until) links

@@ -93,6 +93,7 @@ impl Sim {
             plains,
             ready,
             unready,
+            idle: false,
             packets: Packets::new(),
         })
     }

@@ -1,15 +1,17 @@
 //! Until which tick nothing is to be done.
-ghost use Rattle.std.specs.Prelude.{◌≡◌, ◌*◌, ◌<◌, true, length};
+ghost use Rattle.std.specs.Prelude.{◌≡◌, ◌*◌, ◌<◌, ℕ, true, false, is_some, length, slice_set};
 ghost use Rattle.std.specs.List.{list_all};
-ghost use Rattle.tora_sim.specs.Quiet.{IsQuiet, IsStillIf, is_idle, AreStill, AreStillEach};
+ghost use Rattle.tora_sim.specs.Quiet.{IsQuiet, IsStillIf, is_idle, AreIdleIf, AreStill, AreStillEach};
 ghost use Rattle.tora_sim.specs.Store.{world_of};
+ghost use Rattle.tora_world.specs.World.{refusal_of};
+ghost use Rattle.tora_world.specs.declared.event.Event.TheVariants.{CoreTurn};
 
 use crate::links::LinkSlot;
 use crate::nodes::NodeSlot;
 use crate::plains::mark_ends;
 use crate::sim::Sim;
 use crate::stills::{
-    Stills, block_count, ends_of, is_still_block, keep_block, keep_still, still_at, still_until,
+    Stills, block_count, ends_of, is_still_block, keep_least, keep_still, still_at, still_until,
 };
 
 impl Sim {
@@ -21,6 +23,14 @@ impl Sim {
         ensures { result ≡ true → IsQuiet (world_of self.now) }
     {
         self.clock < self.quiet
+    }
+
+    /// Whether an item may wait for a core. Where none does, `settle` has seen that no core has one to take, and no event has put one since.
+    #[inline(always)]
+    pub fn may_turn(&self) -> bool
+        ensures { result ≡ false → (n : ℕ) → is_some (refusal_of (world_of self.now) (CoreTurn n)) ≡ true }
+    {
+        !self.idle
     }
 
     /// Looks at every node, and at each link end of which no tick is known that is still to come, for the tick before which nothing is to
@@ -35,24 +45,34 @@ impl Sim {
         self.datagrams.forget_recents();
         settle_ends(&self.links, &mut self.stills, self.clock);
         mark_ends(&self.links, &mut self.plains, self.clock);
-        let until = quiet_until(&self.nodes, &self.links, &self.stills, self.clock);
+        self.idle = are_idle(&self.nodes);
+        let until = quiet_until(
+            self.idle,
+            &self.nodes,
+            &self.links,
+            &self.stills,
+            self.clock,
+        );
         self.quiet = until;
     }
 }
 
-/// Before which tick nothing is to be done; 0 where something is to be done at once. The nodes are looked at last: they lie far apart.
-fn quiet_until(nodes: &Vec<NodeSlot>, _links: &Vec<LinkSlot>, stills: &Stills, now: u64) -> u64
-    requires { AreStillEach now stills.now _links.now.items }
-    ensures { AreStill result nodes.now.items _links.now.items }
+/// Before which tick nothing is to be done, where it is known whether an item waits for any core; 0 where something is to be done at once.
+fn quiet_until(
+    idle: bool,
+    _nodes: &Vec<NodeSlot>,
+    _links: &Vec<LinkSlot>,
+    stills: &Stills,
+    now: u64,
+) -> u64
+    requires idle { AreIdleIf idle _nodes.now.items }
+    requires still { AreStillEach now stills.now _links.now.items }
+    ensures { AreStill result _nodes.now.items _links.now.items }
 {
-    let until = still_until(stills, now);
-    if until == 0 {
+    if !idle {
         return 0;
     }
-    if !are_idle(nodes) {
-        return 0;
-    }
-    until
+    still_until(stills, now)
 }
 
 /// Looks at each link end of which no tick is known that is still to come, for the tick before which nothing is to be done at it.
@@ -75,23 +95,29 @@ fn settle_block(links: &Vec<LinkSlot>, stills: &mut Stills, block: usize, now: u
         return;
     }
     let (first, count) = ends_of(stills, block);
+    let mut least = u64::MAX;
     for place in 0..count {
-        settle_end(links, stills, first + place, now);
+        let until = settle_end(links, stills, first + place, now);
+        least = least.min(until);
     }
-    keep_block(stills, block);
+    keep_least(stills, block, least);
 }
 
+/// Looks at the end at a place, unless its tick is still to come, and answers its tick.
 #[inline(always)]
-fn settle_end(links: &Vec<LinkSlot>, stills: &mut Stills, place: usize, now: u64)
+fn settle_end(links: &Vec<LinkSlot>, stills: &mut Stills, place: usize, now: u64) -> u64
     requires within { place < length stills.old }
     requires still { AreStillEach now stills.old links.now.items }
-    ensures { AreStillEach now stills.new links.now.items }
+    ensures still { AreStillEach now stills.new links.now.items }
+    ensures tick { stills.new ≡ slice_set stills.old place result }
 {
-    if now < still_at(stills, place) {
-        return;
+    let known = still_at(stills, place);
+    if now < known {
+        return known;
     }
     let until = links[place].still_until();
     keep_still(stills, place, until);
+    until
 }
 
 fn are_idle(nodes: &Vec<NodeSlot>) -> bool

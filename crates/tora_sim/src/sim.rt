@@ -58,6 +58,8 @@ pub struct Sim {
     pub(crate) ready: Vec<bool>,
     /// Of each node ends of it outside which that is known of each. A turn of its core looks at no other end.
     pub(crate) unready: Vec<Unready>,
+    /// Whether it is known that no item waits for any core.
+    pub(crate) idle: bool,
     /// Where the packets of a frame stand while it is sent.
     pub(crate) packets: Packets,
 }
@@ -67,7 +69,7 @@ impl Model for Sim {
     ghost use Rattle.tora_sim.specs.Store.{SimState, IsStore, state_of};
     ghost use Rattle.tora_sim.specs.Lanes.{AreReadyEach};
     ghost use Rattle.tora_sim.specs.Unready.{AreMarkedOutside};
-    ghost use Rattle.tora_sim.specs.Quiet.{AreStill, AreStillEach};
+    ghost use Rattle.tora_sim.specs.Quiet.{AreIdleIf, AreStill, AreStillEach};
     ghost use Rattle.tora_sim.specs.Plains.{ArePlainEach};
     ghost use Rattle.tora_sim.specs.Readers.{ends_in};
 
@@ -75,7 +77,7 @@ impl Model for Sim {
 
     ghost view = { λ s. state_of s.topology s.times s.clock s.nodes.items s.links.items s.datagrams.items };
 
-    ghost invariant = { λ s. IsStore (state_of s.topology s.times s.clock s.nodes.items s.links.items s.datagrams.items) × AreStill s.quiet s.nodes.items s.links.items × AreStillEach s.clock s.stills s.links.items × (s.keys.items ≡ ends_in s.topology) × ArePlainEach s.clock s.plains s.links.items × AreReadyEach s.ready.items s.links.items × AreMarkedOutside s.unready.items s.nodes.items s.ready.items };
+    ghost invariant = { λ s. IsStore (state_of s.topology s.times s.clock s.nodes.items s.links.items s.datagrams.items) × AreStill s.quiet s.nodes.items s.links.items × AreStillEach s.clock s.stills s.links.items × (s.keys.items ≡ ends_in s.topology) × ArePlainEach s.clock s.plains s.links.items × AreReadyEach s.ready.items s.links.items × AreMarkedOutside s.unready.items s.nodes.items s.ready.items × AreIdleIf s.idle s.nodes.items };
 }
 
 impl Sim {
@@ -140,6 +142,7 @@ impl Sim {
         }
         let seat = self.nodes[home].count();
         self.quiet = 0;
+        self.idle = false;
         self.nodes[home].put_item(seat, self.clock, What::Need(d))
     }
 
@@ -205,6 +208,7 @@ impl Sim {
         }
         let seat = self.links[at].seat();
         self.quiet = 0;
+        self.idle = false;
         match self.nodes[home].put_item(seat, self.clock, what_of(event)) {
             Ok(()) => {
                 self.links[at].take_event();
@@ -307,6 +311,7 @@ impl Sim {
         let first = self.nodes[home].first();
         let count = self.nodes[home].count();
         self.quiet = 0;
+        self.idle = false;
         let range = unready_at(&self.unready, home).within(count);
         let start = first + range.from;
         if make_room(
@@ -355,6 +360,7 @@ impl Sim {
             return Err(SimError::Memory);
         };
         self.quiet = 0;
+        self.idle = false;
         forget(&mut self.stills, first, count);
         forget(&mut self.plains, first, count);
         restart_ends(&mut self.links, first, &mut ends, torn);

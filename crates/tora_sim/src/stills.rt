@@ -146,6 +146,16 @@ pub fn keep_block(stills: &mut Stills, block: usize)
     stills.blocks[block] = until;
 }
 
+/// Keeps a tick of a block that none of the ticks of its ends is before.
+#[inline(always)]
+pub fn keep_least(stills: &mut Stills, block: usize, least: u64)
+    requires within { 16 * block < length stills.old }
+    requires least { (at : ℕ) → 16 * block ≤ at → at < 16 * block + 16 → at < length stills.old → least ≤ slice_index stills.old at }
+    ensures { stills.new ≡ stills.old }
+{
+    stills.blocks[block] = least;
+}
+
 /// The first of the ticks of the `count` ends from the place `first` on.
 fn first_tick(ends: &Vec<u64>, first: usize, count: usize) -> u64
     requires { first + count ≤ length ends.now.items }

@@ -211,6 +211,11 @@ impl<S: Watched> Simulator for Traced<S> {
         self.sim.is_quiet()
     }
 
+    #[inline(always)]
+    fn may_turn(&self) -> bool {
+        self.sim.may_turn()
+    }
+
     fn has_ends(&self, ends: &[(Id, Id)]) -> bool {
         self.sim.has_ends(ends)
     }

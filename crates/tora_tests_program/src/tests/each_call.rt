@@ -53,6 +53,10 @@ impl Simulator for Recorder {
         self.sim.is_quiet()
     }
 
+    fn may_turn(&self) -> bool {
+        self.sim.may_turn()
+    }
+
     fn has_ends(&self, ends: &[(Id, Id)]) -> bool {
         self.sim.has_ends(ends)
     }

@@ -3,9 +3,9 @@ use Rattle.tora_script.specs.Rounds.{while_possible, each_core}
 use Rattle.tora_script.proofs.RoundLaws.{each_part, all_idle}
 use Rattle.tora_script.proofs.rounds.turn_cores.Goals as goal
 
-pub returns-then-is_quiet : goal.returns-then-is_quiet
-returns-then-is_quiet g c =
-    all_idle (λ n. CoreTurn n) 1024 c.args.nodes.now (g.S.Simulator.world c.args.sim.now) (λ n. (c.is_quiet.ensures c.if-is_quiet.true).cores n)
+pub returns-then-not-may_turn : goal.returns-then-not-may_turn
+returns-then-not-may_turn g c =
+    all_idle (λ n. CoreTurn n) 1024 c.args.nodes.now (g.S.Simulator.world c.args.sim.now) (c.may_turn.ensures c.if-not-may_turn.true)
 
 pub loop-place-preserved : goal.loop-place-preserved
 loop-place-preserved g c =

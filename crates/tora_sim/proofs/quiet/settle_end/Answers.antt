@@ -1,4 +1,5 @@
-use Rattle.std.proofs.Common.{◌<◌, length, refl, arith}
+use Rattle.std.proofs.Common.{◌≡◌, ◌<◌, ℕ, List, length, refl, set, sym, ap, ◌∙◌, arith}
+use Rattle.std.proofs.lemmas.List.{set-get_or}
 use Rattle.std.proofs.lemmas.Option.{slice_get_read}
 use Rattle.tora_sim.proofs.StillEnds.{known_here}
 use Rattle.tora_sim.proofs.quiet.settle_end.Goals as goal
@@ -6,8 +7,13 @@ use Rattle.tora_sim.proofs.quiet.settle_end.Goals as goal
 pub index-requires : goal.index-requires
 index-requires c = let many = c.requires.still.as_many in omega (arith, c.requires.within, many)
 
-pub returns : goal.returns
-returns c =
+-- the same tick again
+pub returns-then-now-known-clause-tick : goal.returns-then-now-known-clause-tick
+returns-then-now-known-clause-tick c =
+    sym (ap (set c.args.stills.now c.args.place) c.still_at-known.ensures ∙ set-get_or c.args.stills.now c.args.place 0)
+
+pub returns-clause-still : goal.returns-clause-still
+returns-clause-still c =
     let links = c.args.links.now.items in
     let many = c.requires.still.as_many in
     let within : c.args.place < length links = omega (arith, c.requires.within, many) in

@@ -51,6 +51,7 @@ invariant_of-self c =
       mapped_ready s.ready.items s.links.items c.arm.new.links.items (armed_of c.args.n c.args.call) (armed c)
           (λ x h. cond_both (nat_eq x.node c.args.n) (after_arm x c.args.call) x (λ (z : LinkView). IsReady z) (λ _. h) (λ _. h)) c.self.invariant.5,
       c.self.invariant.6,
+      c.self.invariant.7,
     )
 
 pub returns : goal.returns

@@ -51,6 +51,7 @@ invariant_of-self c =
       alike_plain s.clock s.plains s.links.items c.make_room.new.links.items c.make_room.ensures.same c.self.invariant.4,
       c.make_room.ensures.marks,
       marks_kept s.unready.items s.nodes.items s.ready.items c.make_room.new.ready.items c.make_room.ensures.kept c.self.invariant.6,
+      λ known. absurd cc,
     )
 
 waits : (nodes : List NodeView) (home : ℕ) (x y : NodeView) (count : ℕ) → home < length nodes → x ≡ slice_index_or nodes home x → y ≡ slice_index_or nodes home y → count ≡ length x.items → 0 < count → 0 < length y.items
@@ -222,6 +223,7 @@ invariant_of-self-2 c =
           (marked_after s.topology s.times s.clock s.nodes.items s.links.items s.datagrams.items c.self.invariant.0 s.unready.items c.make_room.new.ready.items c.forget_waiting.new.ready.items c.in-Some.home node c.turn-turned.new.node range
           c.in-Some.ensures.first.within c.index_mut.ensures.value (turned_place node c.turn-turned.new.node c.make_room.new.links.items links c.turn-turned.result c.turn-turned.ensures.turned) small own unmarked
           (marks_kept s.unready.items s.nodes.items s.ready.items c.make_room.new.ready.items c.make_room.ensures.kept c.self.invariant.6)),
+      λ known. absurd cc,
     )
 
 pub returns : goal.returns

@@ -30,6 +30,7 @@ invariant_of-self c =
           (forgotten_plain s.clock s.plains c.forget-in-Some.new.stills s.links.items c.in-Some.at 1 c.forget-in-Some.ensures c.self.invariant.4),
       kept_as s.ready.items s.links.items c.in-Some.at c.index_mut.result.now c.cut_bound.new.self _ c.in-Some.ensures.first.within c.index_mut.ensures.value c.cut_bound.ensures (λ h. h) c.self.invariant.5,
       c.self.invariant.6,
+      c.self.invariant.7,
     )
 
 pub returns-in-Some : goal.returns-in-Some

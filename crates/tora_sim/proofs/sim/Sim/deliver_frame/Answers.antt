@@ -13,6 +13,8 @@ use Rattle.tora_sim.proofs.StillEnds.{found_still}
 use Rattle.tora_sim.proofs.PlainEnds.{looked_plain}
 use Rattle.tora_sim.proofs.ReadyEnds.{kept_as}
 use Rattle.tora_sim.proofs.UnreadyEnds.{node_kept, same_place}
+use Rattle.tora_sim.specs.Quiet.{is_idle}
+use Rattle.tora_sim.proofs.Quiets.{idle_kept}
 use Rattle.tora_sim.proofs.sim.Sim.deliver_frame.Goals as goal
 
 pub place_among-requires-clause-keys : goal.place_among-requires-clause-keys
@@ -44,6 +46,7 @@ invariant_of-self c =
       c.self.invariant.4,
       c.self.invariant.5,
       node_kept s.unready.items s.nodes.items s.ready.items c.in-Some-node_place.home c.index_mut.result.now c.arm_receive.new.self (first c).within c.index_mut.ensures.value (same_place c.index_mut.result.now c.arm_receive.new.self _ c.arm_receive.ensures (refl, refl)) c.self.invariant.6,
+      idle_kept s.idle s.nodes.items c.in-Some-node_place.home c.index_mut.result.now c.arm_receive.new.self (first c).within c.index_mut.ensures.value (ap is_idle c.arm_receive.ensures) c.self.invariant.7,
     )
 
 pub returns-then-receive : goal.returns-then-receive
@@ -73,6 +76,7 @@ invariant_of-self-2 c =
           (λ e _. c.receive_and_look-busy.ensures.plain e) c.keep_looked.ensures.same c.keep_looked.ensures.forgotten c.self.invariant.4,
       kept_as s.ready.items s.links.items c.in-Some-place_among.at c.index_mut-2.result.now c.receive_and_look-busy.new.self _ c.in-Some-place_among.ensures.first.within c.index_mut-2.ensures.value c.receive_and_look-busy.ensures.state (λ h. h) c.self.invariant.5,
       c.self.invariant.6,
+      c.self.invariant.7,
     )
 
 pub returns : goal.returns

@@ -28,7 +28,7 @@ put_item-requires c =
     subst (λ m. m < length y.counts) (sym (c.count-seat.ensures ∙ ap (λ (z : NodeView). z.count) same))
     (last_seat s.topology s.times s.clock s.nodes.items s.links.items s.datagrams.items c.self.invariant.0 c.args.n c.in-Some.home y c.in-Some.ensures.first c.index_mut.ensures.value)
 
-module _ (c : goal.After-self-2-1) where
+module _ (c : goal.After-self-3-1) where
   abbrev x : NodeView
   x = c.index_mut.result.now
 
@@ -62,6 +62,7 @@ invariant_of-self c =
       c.self.invariant.4,
       c.self.invariant.5,
       node_kept s.unready.items s.nodes.items s.ready.items c.in-Some.home (x c) c.put_item.new.self c.in-Some.ensures.first.within c.index_mut.ensures.value (put_place (x c) c.put_item.new.self (x c).count s.clock (Tells.Need c.args.d) c.put_item.result (is_put c)) c.self.invariant.6,
+      λ known. absurd cc,
     )
 
 pub returns : goal.returns

@@ -38,6 +38,7 @@ invariant_of-self c =
           ∙ sym c.is_closed.ensures ∙ c.if-not-is_closed.false)) c.self.invariant.4,
       kept_as s.ready.items s.links.items c.in-Some.at c.index_mut.result.now c.open.new.self _ c.in-Some.ensures.first.within c.index_mut.ensures.value c.open.ensures (λ h. h) c.self.invariant.5,
       c.self.invariant.6,
+      c.self.invariant.7,
     )
 
 pub returns : goal.returns

@@ -44,6 +44,7 @@ invariant_of-self c =
       kept_ready s.ready.items s.links.items c.in-Some.at c.index_mut.result.now c.pull.new.self c.in-Some.ensures.first.within c.index_mut.ensures.value
           (λ h. absurd (both_ways (nat_lt c.index_mut.result.now.pulled (length c.index_mut.result.now.put)) h.lane (lt-ltb c.index_mut.result.now.pulled (length c.index_mut.result.now.put) (waits c)))) c.self.invariant.5,
       c.self.invariant.6,
+      c.self.invariant.7,
     )
 
 pub returns : goal.returns

@@ -89,6 +89,7 @@ invariant_of-self c =
           (λ h. both_ways (is_some (first_event c.index.result.now.state)) h.events (ap is_some (sym c.next_event.ensures ∙ c.in-Some-next_event.is))) c.self.invariant.4,
       kept_as s.ready.items s.links.items c.in-Some.at c.index.result.now c.take_event.new.self _ c.in-Some.ensures.first.within c.index.ensures (link_is c) (λ h. h) c.self.invariant.5,
       node_kept s.unready.items s.nodes.items s.ready.items c.in-Some-node_place.home c.index_mut.result.now c.put_item.new.self c.in-Some-node_place.ensures.first.within c.index_mut.ensures.value (same_place c.index_mut.result.now c.put_item.new.self _ (node_is c) (refl, refl)) c.self.invariant.6,
+      λ known. absurd cc,
     )
 
 pub returns-in-Ok : goal.returns-in-Ok

@@ -96,6 +96,7 @@ invariant_of-self c =
           (forgotten_plain s.clock s.plains c.forget-2.new.stills s.links.items c.first-first.result c.count-count.result c.forget-2.ensures c.self.invariant.4),
       changed_ready s.ready.items s.links.items c.restart_ends.new.links.items (restarted c.args.torn) c.first-first.result (length c.in-Ok-new_ends.ends.items) (restarted_ready c.args.torn) c.restart_ends.ensures c.self.invariant.5,
       node_kept s.unready.items s.nodes.items s.ready.items c.in-Some.home (x c) c.restart.new.self c.in-Some.ensures.first.within c.index_mut.ensures.value (same_place (x c) c.restart.new.self _ c.restart.ensures (refl, refl)) c.self.invariant.6,
+      λ known. absurd cc,
     )
 
 pub returns : goal.returns

@@ -30,6 +30,7 @@ invariant_of-self c =
       later_plain s.clock c.in-Some.now s.plains s.links.items (on c.in-Some.now s.clock c.in-Some.ensures.1) c.self.invariant.4,
       c.self.invariant.5,
       c.self.invariant.6,
+      c.self.invariant.7,
     )
 
 pub returns-then-now-self : goal.returns-then-now-self
@@ -49,6 +50,7 @@ invariant_of-self-2 c =
       c.tick.ensures.plains,
       mapped_ready s.ready.items s.links.items c.tick.new.links.items (ticked c.in-Some.now) c.tick.ensures.links (λ x h. h) c.self.invariant.5,
       c.self.invariant.6,
+      c.self.invariant.7,
     )
 
 pub returns : goal.returns

@@ -13,7 +13,7 @@ use Rattle.tora_sim.specs.Links.{LinkView, is_at}
 use Rattle.tora_sim.specs.Nodes.{sending_of}
 use Rattle.tora_sim.specs.Plains.{IsPlain, ArePlainEach}
 use Rattle.tora_sim.specs.Possible.{has_cargo}
-use Rattle.tora_sim.specs.Quiet.{AreStill, AreStillEach}
+use Rattle.tora_sim.specs.Quiet.{is_idle, AreStill, AreStillEach}
 use Rattle.tora_sim.specs.Store.{SimState, IsStore, state_of, world_of}
 use Rattle.tora_sim.specs.Steps.{IsDone}
 use Rattle.tora_sim.proofs.Quiets.{set_same}
@@ -23,6 +23,7 @@ use Rattle.tora_sim.proofs.StillEnds.{possible_still}
 use Rattle.tora_sim.proofs.PlainEnds.{same_plain, transmit_plain}
 use Rattle.tora_sim.proofs.ReadyEnds.{kept_as}
 use Rattle.tora_sim.proofs.UnreadyEnds.{node_kept, same_place}
+use Rattle.tora_sim.proofs.Quiets.{idle_kept}
 use Rattle.tora_sim.proofs.sim.Sim.transmit_hello.Goals as goal
 
 -- ---- there is no memory, or no HELLO is due first
@@ -37,6 +38,7 @@ invariant_of-self c =
       c.self.invariant.4,
       c.self.invariant.5,
       c.self.invariant.6,
+      c.self.invariant.7,
     )
 
 pub returns-then-is_err-clause-same : goal.returns-then-is_err-clause-same
@@ -65,6 +67,7 @@ invariant_of-self-in_default c =
       subst (λ (xs : List LinkView). ArePlainEach s.clock s.plains xs) (sym (same c.self.inside.links.items c.args.at c.index_mut.result.now c.send_hello.new.self (end_of c.args._n c.args._k c.args.at c.self.view_is c.requires.end).within c.index_mut.ensures.value c.in_default.ensures.none)) c.self.invariant.4,
       subst (λ (xs : List LinkView). AreReadyEach s.ready.items xs) (sym (same c.self.inside.links.items c.args.at c.index_mut.result.now c.send_hello.new.self (end_of c.args._n c.args._k c.args.at c.self.view_is c.requires.end).within c.index_mut.ensures.value c.in_default.ensures.none)) c.self.invariant.5,
       c.self.invariant.6,
+      c.self.invariant.7,
     )
 
 pub returns-in_default-clause-same : goal.returns-in_default-clause-same
@@ -103,6 +106,7 @@ invariant_of-self-2 c =
           (λ h. subst (λ (x : LinkView). IsPlain x) (sym c.in-Some.ensures.state) (transmit_plain c.index_mut.result.now.settings c.index_mut.result.now.state s.clock (has_cargo c.index_mut.result.now) h)) c.self.invariant.4,
       kept_as s.ready.items s.links.items c.args.at c.index_mut.result.now c.send_hello.new.self _ (end_of c.args._n c.args._k c.args.at c.self.view_is c.requires.end).within c.index_mut.ensures.value c.in-Some.ensures.state (λ h. h) c.self.invariant.5,
       node_kept s.unready.items s.nodes.items s.ready.items c.args.home c.index_mut-2.result.now c.note_hello.new.node (node_of c.args._n c.args.home c.self.view_is c.requires.node).within c.index_mut-2.ensures.value (same_place c.index_mut-2.result.now c.note_hello.new.node _ c.note_hello.ensures.node (refl, refl)) c.self.invariant.6,
+      idle_kept s.idle s.nodes.items c.args.home c.index_mut-2.result.now c.note_hello.new.node (node_of c.args._n c.args.home c.self.view_is c.requires.node).within c.index_mut-2.ensures.value (ap is_idle c.note_hello.ensures.node) c.self.invariant.7,
     )
 
 pub returns-clause-done : goal.returns-clause-done

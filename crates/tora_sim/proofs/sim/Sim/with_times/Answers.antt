@@ -50,6 +50,7 @@ invariant_of-result c =
       none_known_ready c.len-count.result c.in_ok-ready.ready.items c.loop-n.links.items c.in_ok-ready.ensures many,
       none_marked c.len.result c.len-count.result c.in_ok-unready.unready.items c.loop-n.nodes.items c.in_ok-ready.ready.items c.in_ok-unready.ensures (omega (arith, c.len.ensures))
           (λ home node at. let few = few_ends c.in-Ok.own c.args.times 0 c.loop-n.nodes.items c.loop-n.links.items [] store home node at in omega (arith, few, many)),
+      λ known. absurd cc,
     )
 
 pub returns-clause-made : goal.returns-clause-made
