@@ -45,7 +45,7 @@ impl Sim {
         self.datagrams.forget_recents();
         settle_ends(&self.links, &mut self.stills, self.clock);
         mark_ends(&self.links, &mut self.plains, self.clock);
-        self.idle = are_idle(&self.nodes);
+        self.idle = find_idle(self.idle, &self.nodes);
         let until = quiet_until(
             self.idle,
             &self.nodes,
@@ -118,6 +118,14 @@ fn settle_end(links: &Vec<LinkSlot>, stills: &mut Stills, place: usize, now: u64
     let until = links[place].still_until();
     keep_still(stills, place, until);
     until
+}
+
+/// Whether no item waits for any core. The nodes are looked at where that is not known.
+fn find_idle(known: bool, nodes: &Vec<NodeSlot>) -> bool
+    requires { AreIdleIf known nodes.now.items }
+    ensures { AreIdleIf result nodes.now.items }
+{
+    known || are_idle(nodes)
 }
 
 fn are_idle(nodes: &Vec<NodeSlot>) -> bool

@@ -1,4 +1,4 @@
-use Rattle.std.proofs.Common.{ℕ, ◌+◌, ◌<◌, ◌≤◌, List, sym, subst, arith}
+use Rattle.std.proofs.Common.{ℕ, ◌≤◌, List, sym, subst, arith}
 use Rattle.std.specs.Prelude.{slice_index}
 use Rattle.tora_sim.specs.Quiet.{AreStillEach}
 use Rattle.tora_sim.proofs.StillBlocks.{least_so_far}
