@@ -7,7 +7,7 @@ use Rattle.std.specs.declared.cmp.Ordering.{Ordering}
 use Rattle.std.specs.declared.cmp.Ordering.TheVariants.{Less, Equal, Greater}
 use Rattle.std.proofs.lemmas.Grind.{common_steps}
 use Rattle.std.proofs.lemmas.Bool.{cond_both}
-use Rattle.std.proofs.lemmas.List.{length-take-le, take-append-drop, take_more, take_more_set}
+use Rattle.std.proofs.lemmas.List.{set-get_or, length-take-le, take-append-drop, take_more, take_more_set}
 use Rattle.std.proofs.lemmas.List.Filters.{length-filter_more}
 use Rattle.std.proofs.lemmas.Bool.Decides.{nat_tests}
 use Rattle.tora_height.specs.declared.direction.Direction.{Direction}
@@ -645,6 +645,21 @@ kept-put own rows ds count least place new before recount found kept lt read sum
       downstream_is = omega arith;
       least_is = is;
     }
+
+null-direction : (own : Option Quintuple) (rows : List Row) (place : ℕ) (d : Row) → (slice_index_or rows place d).entry ≡ None → Undirected ≡ slice_index_or (directions_of own rows) place Undirected
+null-direction own [] place d none = refl
+null-direction own (row ∷ rows) zero d none = sym (ap (link_status own) none ∙ status-none own)
+null-direction own (row ∷ rows) (suc place) d none = null-direction own rows place d none
+
+-- where a row without an entry takes the place of one without an entry, all stays that is kept
+pub kept-null : (own : Option Quintuple) (rows : List Row) (ds : List Direction) (count : ℕ) (least : Option ℕ) (place : ℕ) (new d : Row)
+    → IsNull new → (slice_index_or rows place d).entry ≡ None → place < length rows → AreKept own rows ds count least → AreKept own (slice_set rows place new) ds count least
+kept-null own rows ds count least place new d null none lt kept =
+    let read : Undirected ≡ slice_index_or ds place Undirected = null-direction own rows place d none ∙ ap (λ (xs : List Direction). slice_index_or xs place Undirected) (sym kept.directions_are) in
+    let status : link_status own new.entry ≡ Undirected = ap (link_status own) null ∙ status-none own in
+    let same : slice_set ds place (link_status own new.entry) ≡ ds = ap (slice_set ds place) (status ∙ read) ∙ set-get_or ds place Undirected in
+    subst (λ (xs : List Direction). AreKept own (slice_set rows place new) xs count least) same
+    (kept-put own rows ds count least place new Undirected count least kept lt read (ap (λ (x : Direction). count + one_if (is_down x)) (sym status)) (least-put_null place least new rows d null none kept.least_is))
 
 -- a link that is downstream is counted
 pub before-counted : (own : Option Quintuple) (rows : List Row) (ds : List Direction) (count : ℕ) (least : Option ℕ) (place : ℕ) (before : Direction)
