@@ -35,14 +35,19 @@ pub enum KeptCargo {
 #[derive(Drop)]
 pub struct KeptCargoes {
     lists: Box<KeptLists>,
+    /// Whether it is known that there is room for one more, so that the lists need not be looked at.
+    spare: bool,
 }
 
 impl Model for KeptCargoes {
     ghost use Rattle.tora_sim.specs.KeptCargoes.{CargoList};
+    ghost use Rattle.std.specs.Prelude.{◌≡◌, ◌<◌, true};
 
     ghost Value = { CargoList };
 
     ghost view = { λ s. s.lists.value };
+
+    ghost invariant = { λ s. s.spare ≡ true → 0 < s.lists.value.places };
 }
 
 impl KeptCargoes {
@@ -54,7 +59,10 @@ impl KeptCargoes {
         ensures { IfOk result (λ kept. kept.items ≡ []) }
     {
         let lists = Box::new(alloc, KeptLists::new(alloc))?;
-        Ok(KeptCargoes { lists })
+        Ok(KeptCargoes {
+            lists,
+            spare: false,
+        })
     }
 
     /// How many there are.
@@ -70,7 +78,12 @@ impl KeptCargoes {
         ensures items { self.new.items ≡ self.old.items }
         ensures room { OnOk result (0 < self.new.places) }
     {
-        self.lists.reserve()
+        if self.spare {
+            return Ok(());
+        }
+        self.lists.reserve()?;
+        self.spare = true;
+        Ok(())
     }
 
     /// Appends a cargo. There must be room for it.
@@ -78,6 +91,7 @@ impl KeptCargoes {
         requires { 0 < self.old.places }
         ensures { self.new ≡ record self.old { items = self.old.items ++ cargo.now ∷ []; places = self.old.places - 1 } }
     {
+        self.spare = false;
         self.lists.push(cargo);
     }
 

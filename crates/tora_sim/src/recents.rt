@@ -9,8 +9,9 @@ ghost use Rattle.tora_sim.specs.Recents.{IsTold, AreRecent};
 use std::alloc::{AllocError, Global};
 use tora_frame::{BorrowedBody, BorrowedFrame, Header, Version};
 
-/// Of so many datagrams at most the headers are kept; then those before them are let go.
-const MOST: usize = 16_384;
+/// Of so many datagrams at most the headers are kept; then those before them are let go. In a pass of 1,024 nodes with 8,000 links each end
+/// may send two HELLOs.
+const MOST: usize = 131_072;
 
 /// The header of a datagram, and whether it is a HELLO.
 #[derive(Clone, Copy, Debug, PartialEq, Eq)]
