@@ -41,6 +41,8 @@ pub struct Datagrams {
     hellos: Vec<LastHello>,
     /// The headers of the datagrams that were sent last, which are the ones that are delivered.
     recents: Recents,
+    /// Of so many link ends, the first ones, guesses and HELLOs have their places.
+    ends: usize,
 }
 
 impl Model for Datagrams {
@@ -68,6 +70,7 @@ impl Datagrams {
             guesses: Vec::new(alloc),
             hellos: Vec::new(alloc),
             recents: Recents::new(alloc),
+            ends: 0,
         }
     }
 
@@ -84,17 +87,32 @@ impl Datagrams {
         ensures items { self.new.items ≡ self.old.items }
         ensures room { OnOk result (HasRoom self.new) }
     {
+        if end >= self.ends {
+            self.make_ends(end)?;
+        }
         if self.frames.len() >= MOST_FRAMES {
             return Err(AllocError);
         }
         self.frames.reserve()?;
         self.places.reserve()?;
+        self.recents.reserve()
+    }
+
+    /// Makes places for the guesses and the HELLOs of a link end, and of those before it.
+    ///
+    /// # Errors
+    /// Want of memory.
+    #[inline(never)]
+    fn make_ends(&mut self, end: usize) -> Result<(), AllocError>
+        ensures { self.new.items ≡ self.old.items }
+    {
         let guesses = first_guess(end).saturating_add(FORMS);
         if self.guesses.len() < guesses {
             self.guesses.resize(guesses, 0)?;
         }
         make_hellos(&mut self.hellos, &self.frames, end)?;
-        self.recents.reserve()
+        self.ends = end.saturating_add(1);
+        Ok(())
     }
 
     /// Appends a datagram that the link end at a place sends. There must be room for it.
