@@ -106,13 +106,13 @@ impl Recents {
 
     /// What is kept of the datagram that stands behind so many others.
     #[inline(always)]
-    pub fn get(&self, place: usize) -> Option<RecentFrame>
-        ensures { IfSome result (λ recent. (items : List FrameParts) → AreRecent self.now.first self.now.frames.items items → IsTold recent (slice_get items place)) }
+    pub fn get(&self, place: usize) -> Option<&RecentFrame>
+        ensures { IfSome result (λ recent. (items : List FrameParts) → AreRecent self.now.first self.now.frames.items items → IsTold recent.now (slice_get items place)) }
     {
         let Some(at) = place.checked_sub(self.first) else {
             return None;
         };
-        self.frames.get(at).copied()
+        self.frames.get(at)
     }
 }
 
