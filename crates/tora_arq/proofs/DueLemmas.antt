@@ -1,6 +1,7 @@
 -- From which tick on something is due.
 use Rattle.std.proofs.Common.{◌≡◌, ℕ, zero, suc, ◌+◌, ◌^◌, ◌<◌, ◌≤◌, Bool, true, false, ◌||◌, nat_le, min, max, List, [], ◌∷◌, length, drop, Option, Some, None, if◌then◌else◌, refl, sym, ap, ◌∙◌, arith, slice_get, is_some}
 use Rattle.std.proofs.lemmas.Bool.Decides.{nat_tests}
+use Rattle.std.proofs.Math.Bool.{or-false}
 use Rattle.tora_arq.specs.declared.times.Times.{Times}
 use Rattle.tora_arq.specs.declared.queued_packet.QueuedPacket.{QueuedPacket}
 use Rattle.tora_arq.specs.SendQueue.{is_ready, is_given_up, has_given_up, DueBatch, due_behind, first_due}
@@ -31,10 +32,6 @@ is_queue_due times tick zero queue = false
 is_queue_due times tick (suc count) [] = false
 is_queue_due times tick (suc count) (q ∷ queue) = is_packet_due times tick q || is_queue_due times tick count queue
 
-or_none : (a : Bool) → a ≡ a || false
-or_none true = refl
-or_none false = refl
-
 or_rest : (a b c : Bool) → a || (b || c) ≡ (a || b) || c
 or_rest true b c = refl
 or_rest false b c = refl
@@ -42,7 +39,7 @@ or_rest false b c = refl
 pub one_more : (times : Times) (tick count : ℕ) (queue : List QueuedPacket) (q : QueuedPacket) → slice_get queue count ≡ Some q →
     is_queue_due times tick (suc count) queue ≡ is_queue_due times tick count queue || is_packet_due times tick q
 one_more times tick count [] q e = absurd (cc)
-one_more times tick zero (r ∷ queue) q e = let first : r ≡ q = cc in rw first (sym (or_none (is_packet_due times tick q)))
+one_more times tick zero (r ∷ queue) q e = let first : r ≡ q = cc in rw first (or-false (is_packet_due times tick q))
 one_more times tick (suc count) (r ∷ queue) q e =
     ap (λ (b : Bool). is_packet_due times tick r || b) (one_more times tick count queue q e)
     ∙ or_rest (is_packet_due times tick r) (is_queue_due times tick count queue) (is_packet_due times tick q)

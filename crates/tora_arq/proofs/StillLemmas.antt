@@ -13,10 +13,6 @@ use Rattle.tora_arq.specs.LinkEnd.{EndState, is_closed_in, is_closed, after_end,
 use Rattle.tora_arq.specs.NextDue.{is_any_due}
 use Rattle.tora_arq.specs.Still.{IsStillUntil}
 
-pub or_false : (a : Bool) → a ≡ a || false
-or_false true = refl
-or_false false = refl
-
 -- ---- packets
 
 no_batch : (times : Times) (now most number window : ℕ) → first_due times now most number window [] ≡ None
