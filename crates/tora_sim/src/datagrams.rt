@@ -8,7 +8,7 @@ ghost use Rattle.tora_sim.specs.Recents.{AreHellos};
 
 use crate::kept_frames::KeptFrames;
 use crate::places::Places;
-use crate::recents::{LastHello, Recents, recent_hello, recent_of};
+use crate::recents::{LastHello, RecentFrame, Recents, recent_hello, recent_of};
 use std::alloc::{AllocError, Global};
 use std::marker::Model;
 use tora_frame::{BorrowedBody, BorrowedFrame, Header, Version};
@@ -115,27 +115,30 @@ impl Datagrams {
         Ok(())
     }
 
-    /// Appends a datagram that the link end at a place sends. There must be room for it.
+    /// Appends a datagram that the link end at a place sends to the one that may stand at the place `far_end`. There must be room for it.
     #[inline(always)]
-    pub fn push(&mut self, end: usize, frame: &BorrowedFrame<'_>)
+    pub fn push(&mut self, end: usize, far_end: u32, frame: &BorrowedFrame<'_>)
         requires { HasRoom self.old }
         ensures { self.new.items ≡ self.old.items ++ frame.now ∷ [] }
     {
         let place = place_of(&mut self.frames, &mut self.guesses, end, frame);
         self.places.push(place);
-        self.recents.push(self.places.len(), recent_of(frame));
+        self.recents
+            .push(self.places.len(), recent_of(frame, far_end));
     }
 
-    /// Appends a HELLO of this header that the link end at a place sends. There must be room for it.
+    /// Appends a HELLO of this header that the link end at a place sends to the one that may stand at the place `far_end`. There must be room for
+    /// it.
     #[inline(always)]
-    pub fn push_hello(&mut self, end: usize, header: &Header)
+    pub fn push_hello(&mut self, end: usize, far_end: u32, header: &Header)
         requires room { HasRoom self.old }
         requires valid { IsHeader header.now }
         ensures { self.new.items ≡ self.old.items ++ frame_of header.now Body.Hello ∷ [] }
     {
         let place = hello_place(&mut self.frames, &mut self.hellos, end, header);
         self.places.push(place);
-        self.recents.push(self.places.len(), recent_hello(header));
+        self.recents
+            .push(self.places.len(), recent_hello(header, far_end));
     }
 
     /// The datagram that stands behind so many others, with its packets where they stand.
@@ -149,23 +152,26 @@ impl Datagrams {
         self.frames.get(at as usize)
     }
 
-    /// The header of the datagram that stands behind so many others, where it is a HELLO, as most are.
+    /// What is told of the datagram that stands behind so many others, where it is a HELLO, as most are.
     #[inline(always)]
-    pub fn hello(&self, place: usize) -> Option<Header>
-        ensures hello { IfSome result (λ header. slice_get self.now.items place ≡ Some (frame_of header Body.Hello)) }
-        ensures valid { IfSome result (λ header. IsHeader header) }
+    pub fn hello(&self, place: usize) -> Option<RecentFrame>
+        ensures hello { IfSome result (λ told. slice_get self.now.items place ≡ Some (frame_of told.header Body.Hello)) }
+        ensures valid { IfSome result (λ told. IsHeader told.header) }
     {
         if let Some(recent) = self.recents.get(place) {
-            return if recent.is_hello {
-                Some(recent.header)
-            } else {
-                None
-            };
+            return if recent.is_hello { Some(*recent) } else { None };
         }
-        self.kept_hello(place)
+        let Some(header) = self.kept_hello(place) else {
+            return None;
+        };
+        Some(RecentFrame {
+            header,
+            is_hello: true,
+            far_end: 0,
+        })
     }
 
-    /// The same, by the frame that is kept.
+    /// The header of the datagram that stands behind so many others, where it is a HELLO, by the frame that is kept.
     #[inline(never)]
     fn kept_hello(&self, place: usize) -> Option<Header>
         ensures hello { IfSome result (λ header. slice_get self.now.items place ≡ Some (frame_of header Body.Hello)) }
@@ -175,6 +181,15 @@ impl Datagrams {
             return None;
         };
         self.frames.hello(at as usize)
+    }
+
+    /// Where the link end may stand to which the datagram goes that stands behind so many others: a guess.
+    #[inline(always)]
+    pub fn far_end(&self, place: usize) -> usize {
+        match self.recents.get(place) {
+            Some(recent) => recent.far_end as usize,
+            None => 0,
+        }
     }
 
     /// From which node to which the datagram goes that stands behind so many others: only its frame's header is looked at.
@@ -262,7 +277,7 @@ impl Datagrams {
             return Ok(());
         };
         self.reserve(0)?;
-        self.push(0, &frame);
+        self.push(0, 0, &frame);
         Ok(())
     }
 }

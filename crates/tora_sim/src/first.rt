@@ -16,7 +16,7 @@ use crate::files::{apart, open};
 use crate::hints::Hints;
 use crate::kept_cargoes::KeptCargoes;
 use crate::lane::Lane;
-use crate::links::{LinkSlot, end_of, keys_of};
+use crate::links::{LinkSlot, end_of, far_ends_of, keys_of};
 use crate::links_by_bits::{LinkLists, links_by_bits};
 use crate::nodes::{NodeSlot, Sending, no_counts};
 use crate::ready::none_ready;
@@ -79,6 +79,7 @@ impl Sim {
         let unready = all_unready(alloc, nodes.len(), count)?;
         let keys = keys_of(alloc, &links)?;
         let hints = Hints::new(&nodes);
+        let far_ends = far_ends_of(alloc, &keys, &hints)?;
         Ok(Sim {
             topology: own,
             times,
@@ -86,6 +87,7 @@ impl Sim {
             nodes,
             links,
             keys,
+            far_ends,
             datagrams: Datagrams::new(alloc),
             hints,
             quiet: 0,

@@ -405,6 +405,29 @@ pub fn place_among(
     }
 }
 
+/// The place of the end of node `n` towards `k`, which is looked for at the place `at` first, and then as `place_among` does.
+#[inline(always)]
+pub fn place_at_or_among(
+    links: &Vec<LinkSlot>,
+    keys: &Vec<(Id, Id)>,
+    at: usize,
+    first: usize,
+    count: usize,
+    n: Id,
+    k: Id,
+) -> Option<usize>
+    requires rising { AreRising links.now.items }
+    requires keys { keys.now.items ≡ map key_of links.now.items }
+    ensures first { IfSome result (λ i. IsFirst (is_at n k) links.now.items i) }
+    ensures none { IfNone result (find (is_at n k) links.now.items ≡ None) }
+{
+    let ends = keys.as_slice();
+    match stands_at(ends, at, n, k) {
+        Some(at) => Some(at),
+        None => place_among(links, keys, first, count, n, k),
+    }
+}
+
 /// The place, where the end of node `n` towards `k` stands there.
 #[inline(always)]
 fn stands_at(keys: &[(Id, Id)], at: usize, n: Id, k: Id) -> Option<usize>
@@ -486,6 +509,45 @@ fn search(keys: &[(Id, Id)], n: Id, k: Id) -> Option<usize>
     ensures none { IfNone result (find (is_key n k) keys.now ≡ None) }
 {
     keys.binary_search(&(n, k)).ok()
+}
+
+/// Of each link end the place at which the other end of its link stands, by the keys of the ends. Who takes one looks which end stands there,
+/// so it may be wrong.
+///
+/// # Errors
+/// `Memory`.
+pub fn far_ends_of(alloc: Global, keys: &Vec<(Id, Id)>, hints: &Hints) -> Result<Vec<u32>, SimError>
+    ensures { IfErr result (λ e. e ≡ SimError.Memory) }
+{
+    let ends = keys.as_slice();
+    let mut far_ends = Vec::new(alloc);
+    if far_ends.reserve(ends.len()).is_err() {
+        return Err(SimError::Memory);
+    }
+    for (n, k) in ends {
+        if far_ends.push(far_end_of(ends, hints, *n, *k)).is_err() {
+            return Err(SimError::Memory);
+        }
+    }
+    Ok(far_ends)
+}
+
+/// The place at which the end of node `k` towards `n` stands; 0 where there is none.
+fn far_end_of(keys: &[(Id, Id)], hints: &Hints, n: Id, k: Id) -> u32 {
+    let found = match near(keys, hints.first_end(k), k, n) {
+        Some(at) => at,
+        None => keys.binary_search(&(k, n)).unwrap_or(0),
+    };
+    u32::try_from(found).unwrap_or(0)
+}
+
+/// Where the other end of the link may stand whose one end stands at the place `at`: a guess.
+#[inline(always)]
+pub fn far_end_at(far_ends: &Vec<u32>, at: usize) -> u32 {
+    match far_ends.get(at) {
+        Some(far_end) => *far_end,
+        None => 0,
+    }
 }
 
 /// The next such call of each life file fails, at the `count` ends from the place `first` on.

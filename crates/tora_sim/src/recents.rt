@@ -13,11 +13,13 @@ use tora_frame::{BorrowedBody, BorrowedFrame, Header, Version};
 /// may send two HELLOs.
 const MOST: usize = 131_072;
 
-/// The header of a datagram, and whether it is a HELLO.
+/// The header of a datagram, whether it is a HELLO, and where the link end may stand that it goes to.
 #[derive(Clone, Copy, Debug, PartialEq, Eq)]
 pub struct RecentFrame {
     pub header: Header,
     pub is_hello: bool,
+    /// A guess: who takes it looks which end stands there.
+    pub far_end: u32,
 }
 
 /// The header of the HELLO of a version that a link end sent last, and the place of its frame.
@@ -116,9 +118,9 @@ impl Recents {
     }
 }
 
-/// What is kept of a frame.
+/// What is kept of a frame, which goes to the link end that may stand at the place `far_end`.
 #[inline(always)]
-pub fn recent_of(frame: &BorrowedFrame<'_>) -> RecentFrame
+pub fn recent_of(frame: &BorrowedFrame<'_>, far_end: u32) -> RecentFrame
     ensures { IsTold result (Some frame.now) }
 {
     let is_hello = match frame.body() {
@@ -129,17 +131,19 @@ pub fn recent_of(frame: &BorrowedFrame<'_>) -> RecentFrame
     RecentFrame {
         header: *frame.header(),
         is_hello,
+        far_end,
     }
 }
 
-/// What is kept of a HELLO.
+/// What is kept of a HELLO, which goes to the link end that may stand at the place `far_end`.
 #[inline(always)]
-pub fn recent_hello(header: &Header) -> RecentFrame
+pub fn recent_hello(header: &Header, far_end: u32) -> RecentFrame
     requires { IsHeader header.now }
     ensures { IsTold result (Some (frame_of header.now Body.Hello)) }
 {
     RecentFrame {
         header: *header,
         is_hello: true,
+        far_end,
     }
 }

@@ -9,7 +9,7 @@ ghost use Rattle.tora_sim.specs.Steps.{Does, IsDone, IsRefused, Repeats};
 ghost use Rattle.tora_world.specs.declared.event.Event.TheVariants.{Transmit};
 
 use crate::SimError;
-use crate::links::place_near;
+use crate::links::{far_end_at, place_near};
 use crate::nodes::place as node_place;
 use crate::sim::{Sim, note_hello};
 use crate::stills::keep_still;
@@ -89,7 +89,14 @@ impl Sim {
             return false;
         };
         self.quiet = 0;
-        note_hello(&mut self.nodes[home], &mut self.datagrams, at, &header);
+        let far_end = far_end_at(&self.far_ends, at);
+        note_hello(
+            &mut self.nodes[home],
+            &mut self.datagrams,
+            at,
+            far_end,
+            &header,
+        );
         true
     }
 

@@ -14,9 +14,10 @@ ghost use Rattle.tora_sim.specs.Steps.{Does, Runs};
 use crate::datagrams::Datagrams;
 use crate::hints::Hints;
 use crate::lanes::make_room;
-use crate::links::{LinkSlot, arm, place, place_among};
+use crate::links::{LinkSlot, arm, far_end_at, place, place_at_or_among};
 use crate::nodes::{NodeSlot, Sending, place as node_place};
 use crate::plains::keep_looked;
+use crate::recents::RecentFrame;
 use crate::restarts::{new_ends, restart_ends};
 use crate::stills::{Stills, forget};
 use crate::ticking::tick;
@@ -42,6 +43,8 @@ pub struct Sim {
     /// Of each link end its node and its peer, by which the ends are in order. They stand here, too, since each end lies in other lines
     /// of the cache, and to find one others would be looked at.
     pub(crate) keys: Vec<(Id, Id)>,
+    /// Of each link end where the other end of its link may stand.
+    pub(crate) far_ends: Vec<u32>,
     pub(crate) datagrams: Datagrams,
     /// Where the nodes and the link ends may stand.
     pub(crate) hints: Hints,
@@ -186,7 +189,14 @@ impl Sim {
             return Err(SimError::NotPossible);
         };
         self.quiet = 0;
-        note_sent(&mut self.nodes[home], &mut self.datagrams, at, &frame);
+        let far_end = far_end_at(&self.far_ends, at);
+        note_sent(
+            &mut self.nodes[home],
+            &mut self.datagrams,
+            at,
+            far_end,
+            &frame,
+        );
         Ok(())
     }
 
@@ -225,14 +235,15 @@ impl Sim {
         ensures { Does self.old (Deliver i) result self.new }
     {
         match numbered_hello(&self.datagrams, i) {
-            Some(header) => self.deliver_hello(i, &header),
+            Some(told) => self.deliver_hello(i, &told.header, told.far_end as usize),
             None => self.deliver_frame(i),
         }
     }
 
-    /// The HELLO of this header, which datagram `_i` is, is handed to its receiver as `deliver` has it.
+    /// The HELLO of this header, which datagram `_i` is, is handed to its receiver as `deliver` has it. The end that takes it in may stand at
+    /// the place `far_end`.
     #[inline(always)]
-    fn deliver_hello(&mut self, _i: u64, header: &Header) -> Result<(), SimError>
+    fn deliver_hello(&mut self, _i: u64, header: &Header, far_end: usize) -> Result<(), SimError>
         requires hello { numbered _i self.old.datagrams ≡ Some (frame_of header.now Hello) }
         requires valid { IsHeader header.now }
         ensures { Does self.old (Deliver _i) result self.new }
@@ -247,9 +258,10 @@ impl Sim {
         }
         let first = self.nodes[home].first();
         let count = self.nodes[home].count();
-        let Some(at) = place_among(
+        let Some(at) = place_at_or_among(
             &self.links,
             &self.keys,
+            far_end,
             first,
             count,
             header.receiver,
@@ -267,6 +279,7 @@ impl Sim {
     fn deliver_frame(&mut self, i: u64) -> Result<(), SimError>
         ensures { Does self.old (Deliver i) result self.new }
     {
+        let far_end = numbered_far_end(&self.datagrams, i);
         let Some(frame) = numbered(&self.datagrams, i) else {
             return Err(SimError::NoDatagram);
         };
@@ -281,9 +294,10 @@ impl Sim {
         }
         let first = self.nodes[home].first();
         let count = self.nodes[home].count();
-        let Some(at) = place_among(
+        let Some(at) = place_at_or_among(
             &self.links,
             &self.keys,
+            far_end,
             first,
             count,
             header.receiver,
@@ -456,22 +470,33 @@ pub fn numbered(datagrams: &Datagrams, i: u64) -> Option<BorrowedFrame<'_>>
     datagrams.get(place)
 }
 
-/// The header of the datagram of a number from 1 on, where it is a HELLO.
+/// What is told of the datagram of a number from 1 on, where it is a HELLO.
 #[inline(always)]
-fn numbered_hello(datagrams: &Datagrams, i: u64) -> Option<Header>
-    ensures hello { IfSome result (λ header. numbered i datagrams.now.items ≡ Some (frame_of header Hello)) }
-    ensures valid { IfSome result (λ header. IsHeader header) }
+fn numbered_hello(datagrams: &Datagrams, i: u64) -> Option<RecentFrame>
+    ensures hello { IfSome result (λ told. numbered i datagrams.now.items ≡ Some (frame_of told.header Hello)) }
+    ensures valid { IfSome result (λ told. IsHeader told.header) }
 {
     let number = usize::try_from(i).ok()?;
     datagrams.hello(number.checked_sub(1)?)
 }
 
-/// Notes a datagram that a node sent by its link end at this place, unless the send is armed to lose it; the arm is used.
+/// Where the link end may stand to which the datagram of a number from 1 on goes: a guess.
+#[inline(always)]
+fn numbered_far_end(datagrams: &Datagrams, i: u64) -> usize {
+    match usize::try_from(i) {
+        Ok(number) => datagrams.far_end(number.saturating_sub(1)),
+        Err(_) => 0,
+    }
+}
+
+/// Notes a datagram that a node sent by its link end at this place to the one that may stand at the place `far_end`, unless the send is armed
+/// to lose it; the arm is used.
 #[inline(always)]
 pub fn note_sent(
     node: &mut NodeSlot,
     datagrams: &mut Datagrams,
     end: usize,
+    far_end: u32,
     frame: &BorrowedFrame<'_>,
 )
     requires { HasRoom datagrams.old }
@@ -479,10 +504,10 @@ pub fn note_sent(
     ensures datagrams { datagrams.new.items ≡ with_datagram (sending_of node.old.sending) datagrams.old.items frame.now }
 {
     match node.sending() {
-        Sending::Goes => datagrams.push(end, frame),
+        Sending::Goes => datagrams.push(end, far_end, frame),
         Sending::IsLost => node.arm_sending(Sending::Goes),
         Sending::IsGone => {
-            datagrams.push(end, frame);
+            datagrams.push(end, far_end, frame);
             node.arm_sending(Sending::Goes);
         }
     }
@@ -490,17 +515,23 @@ pub fn note_sent(
 
 /// Notes a HELLO of this header that a node sent by its link end at this place, as `note_sent` does any frame.
 #[inline(always)]
-pub fn note_hello(node: &mut NodeSlot, datagrams: &mut Datagrams, end: usize, header: &Header)
+pub fn note_hello(
+    node: &mut NodeSlot,
+    datagrams: &mut Datagrams,
+    end: usize,
+    far_end: u32,
+    header: &Header,
+)
     requires room { HasRoom datagrams.old }
     requires valid { IsHeader header.now }
     ensures node { node.new ≡ record node.old { sending = Sending.Goes } }
     ensures datagrams { datagrams.new.items ≡ with_datagram (sending_of node.old.sending) datagrams.old.items (frame_of header.now Hello) }
 {
     match node.sending() {
-        Sending::Goes => datagrams.push_hello(end, header),
+        Sending::Goes => datagrams.push_hello(end, far_end, header),
         Sending::IsLost => node.arm_sending(Sending::Goes),
         Sending::IsGone => {
-            datagrams.push_hello(end, header);
+            datagrams.push_hello(end, far_end, header);
             node.arm_sending(Sending::Goes);
         }
     }

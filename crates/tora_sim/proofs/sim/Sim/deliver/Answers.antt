@@ -5,7 +5,7 @@ use Rattle.tora_sim.specs.Store.{SimState, numbered}
 use Rattle.tora_sim.proofs.sim.Sim.deliver.Goals as goal
 
 pub deliver_hello-requires-clause-hello : goal.deliver_hello-requires-clause-hello
-deliver_hello-requires-clause-hello c = subst (λ (s : SimState). numbered c.args.i s.datagrams ≡ Some (frame_of c.in-Some.header Hello)) c.self.view_is c.in-Some.ensures.hello
+deliver_hello-requires-clause-hello c = subst (λ (s : SimState). numbered c.args.i s.datagrams ≡ Some (frame_of c.in-Some.told.header Hello)) c.self.view_is c.in-Some.ensures.hello
 
 pub deliver_hello-requires-clause-valid : goal.deliver_hello-requires-clause-valid
 deliver_hello-requires-clause-valid c = c.in-Some.ensures.valid

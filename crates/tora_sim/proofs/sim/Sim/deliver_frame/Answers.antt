@@ -17,8 +17,8 @@ use Rattle.tora_sim.specs.Quiet.{is_idle}
 use Rattle.tora_sim.proofs.Quiets.{idle_kept}
 use Rattle.tora_sim.proofs.sim.Sim.deliver_frame.Goals as goal
 
-pub place_among-requires-clause-keys : goal.place_among-requires-clause-keys
-place_among-requires-clause-keys c = c.self.invariant.3 ∙ sym c.self.invariant.0.keys
+pub place_at_or_among-requires-clause-keys : goal.place_at_or_among-requires-clause-keys
+place_at_or_among-requires-clause-keys c = c.self.invariant.3 ∙ sym c.self.invariant.0.keys
 
 pub returns-in_default-node_place : goal.returns-in_default-node_place
 returns-in_default-node_place c =
@@ -57,24 +57,24 @@ returns-then-receive c =
     c.in-Some-node_place.home c.index_mut.result.now (first c) c.index_mut.ensures.value c.arm_receive.new.self (armed c) c.arm_receive.ensures)
 
 pub keep_looked-requires-clause-stills : goal.keep_looked-requires-clause-stills
-keep_looked-requires-clause-stills c = omega (arith, c.in-Some-place_among.ensures.first.within, c.self.invariant.2.as_many)
+keep_looked-requires-clause-stills c = omega (arith, c.in-Some-place_at_or_among.ensures.first.within, c.self.invariant.2.as_many)
 
 pub keep_looked-requires-clause-plains : goal.keep_looked-requires-clause-plains
-keep_looked-requires-clause-plains c = omega (arith, c.in-Some-place_among.ensures.first.within, c.self.invariant.4.as_many)
+keep_looked-requires-clause-plains c = omega (arith, c.in-Some-place_at_or_among.ensures.first.within, c.self.invariant.4.as_many)
 
 pub invariant_of-self-2 : goal.invariant_of-self-2
 invariant_of-self-2 c =
     let s = c.self.inside in
     let home_first : IsFirst (is_of c.in-Some.frame.header.receiver) s.nodes.items c.in-Some-node_place.home = subst (λ (hd : Header). IsFirst (is_of hd.receiver) s.nodes.items c.in-Some-node_place.home) c.header-header.ensures.value c.in-Some-node_place.ensures.first in
-    let end_first : IsFirst (is_at c.in-Some.frame.header.receiver c.in-Some.frame.header.sender) s.links.items c.in-Some-place_among.at = subst (λ (hd : Header). IsFirst (is_at hd.receiver hd.sender) s.links.items c.in-Some-place_among.at) c.header-header.ensures.value c.in-Some-place_among.ensures.first in (
+    let end_first : IsFirst (is_at c.in-Some.frame.header.receiver c.in-Some.frame.header.sender) s.links.items c.in-Some-place_at_or_among.at = subst (λ (hd : Header). IsFirst (is_at hd.receiver hd.sender) s.links.items c.in-Some-place_at_or_among.at) c.header-header.ensures.value c.in-Some-place_at_or_among.ensures.first in (
       received_store s.topology s.times s.clock s.nodes.items s.links.items s.datagrams.items c.self.invariant.0 c.args.i c.in-Some.frame (sym c.in-Some.ensures)
-          c.in-Some-node_place.home c.index.result.now home_first c.index.ensures c.in-Some-place_among.at c.index_mut-2.result.now end_first c.index_mut-2.ensures.value c.receive_and_look-busy.new.self c.receive_and_look-busy.ensures.state,
+          c.in-Some-node_place.home c.index.result.now home_first c.index.ensures c.in-Some-place_at_or_among.at c.index_mut-2.result.now end_first c.index_mut-2.ensures.value c.receive_and_look-busy.new.self c.receive_and_look-busy.ensures.state,
       λ none. absurd (omega (arith, none)),
-      found_still s.clock s.stills c.keep_looked.new.stills s.links.items c.in-Some-place_among.at c.receive_and_look-busy.result.1 c.receive_and_look-busy.new.self c.in-Some-place_among.ensures.first.within c.keep_looked.ensures.stills c.receive_and_look-busy.ensures.still c.self.invariant.2,
+      found_still s.clock s.stills c.keep_looked.new.stills s.links.items c.in-Some-place_at_or_among.at c.receive_and_look-busy.result.1 c.receive_and_look-busy.new.self c.in-Some-place_at_or_among.ensures.first.within c.keep_looked.ensures.stills c.receive_and_look-busy.ensures.still c.self.invariant.2,
       c.self.invariant.3,
-      looked_plain s.clock s.plains c.keep_looked.new.plains s.links.items c.in-Some-place_among.at c.index_mut-2.result.now c.receive_and_look-busy.new.self c.receive_and_look-busy.result.0 c.in-Some-place_among.ensures.first.within c.index_mut-2.ensures.value
+      looked_plain s.clock s.plains c.keep_looked.new.plains s.links.items c.in-Some-place_at_or_among.at c.index_mut-2.result.now c.receive_and_look-busy.new.self c.receive_and_look-busy.result.0 c.in-Some-place_at_or_among.ensures.first.within c.index_mut-2.ensures.value
           (λ e _. c.receive_and_look-busy.ensures.plain e) c.keep_looked.ensures.same c.keep_looked.ensures.forgotten c.self.invariant.4,
-      kept_as s.ready.items s.links.items c.in-Some-place_among.at c.index_mut-2.result.now c.receive_and_look-busy.new.self _ c.in-Some-place_among.ensures.first.within c.index_mut-2.ensures.value c.receive_and_look-busy.ensures.state (λ h. h) c.self.invariant.5,
+      kept_as s.ready.items s.links.items c.in-Some-place_at_or_among.at c.index_mut-2.result.now c.receive_and_look-busy.new.self _ c.in-Some-place_at_or_among.ensures.first.within c.index_mut-2.ensures.value c.receive_and_look-busy.ensures.state (λ h. h) c.self.invariant.5,
       c.self.invariant.6,
       c.self.invariant.7,
     )
@@ -83,8 +83,8 @@ pub returns : goal.returns
 returns c =
     let s = c.self.inside in
     let home_first : IsFirst (is_of c.in-Some.frame.header.receiver) s.nodes.items c.in-Some-node_place.home = subst (λ (hd : Header). IsFirst (is_of hd.receiver) s.nodes.items c.in-Some-node_place.home) c.header-header.ensures.value c.in-Some-node_place.ensures.first in
-    let end_first : IsFirst (is_at c.in-Some.frame.header.receiver c.in-Some.frame.header.sender) s.links.items c.in-Some-place_among.at = subst (λ (hd : Header). IsFirst (is_at hd.receiver hd.sender) s.links.items c.in-Some-place_among.at) c.header-header.ensures.value c.in-Some-place_among.ensures.first in
-    subst (λ (before : SimState). IsDone (world_of before) (Deliver c.args.i) (world_of (state_of s.topology s.times s.clock s.nodes.items (slice_set s.links.items c.in-Some-place_among.at c.receive_and_look-busy.new.self) s.datagrams.items))) c.self.view_is
+    let end_first : IsFirst (is_at c.in-Some.frame.header.receiver c.in-Some.frame.header.sender) s.links.items c.in-Some-place_at_or_among.at = subst (λ (hd : Header). IsFirst (is_at hd.receiver hd.sender) s.links.items c.in-Some-place_at_or_among.at) c.header-header.ensures.value c.in-Some-place_at_or_among.ensures.first in
+    subst (λ (before : SimState). IsDone (world_of before) (Deliver c.args.i) (world_of (state_of s.topology s.times s.clock s.nodes.items (slice_set s.links.items c.in-Some-place_at_or_among.at c.receive_and_look-busy.new.self) s.datagrams.items))) c.self.view_is
     (received_done s.topology s.times s.clock s.nodes.items s.links.items s.datagrams.items c.self.invariant.0 c.args.i c.in-Some.frame (sym c.in-Some.ensures)
-    c.in-Some-node_place.home c.index.result.now home_first c.index.ensures c.in-Some-place_among.at c.index_mut-2.result.now end_first c.index_mut-2.ensures.value c.receive_and_look-busy.new.self
+    c.in-Some-node_place.home c.index.result.now home_first c.index.ensures c.in-Some-place_at_or_among.at c.index_mut-2.result.now end_first c.index_mut-2.ensures.value c.receive_and_look-busy.new.self
     (sym c.receive.ensures ∙ c.if-receive.false) c.receive_and_look-busy.ensures.state)
