@@ -18,6 +18,7 @@ pub mod ReactsHop
 pub mod Worked
 pub mod LinkLemmas
 pub mod RowPlaces
+pub mod HintLemmas
 pub mod PlaceLemmas
 pub mod TableViews
 pub mod RowChanges

@@ -28,6 +28,7 @@ mod links;
 mod neighbour_places;
 mod node;
 pub mod numbers;
+mod place_hints;
 mod reactions;
 mod relation;
 mod rows;

@@ -10,10 +10,11 @@ ghost use Rattle.tora_packet.specs.AnyPacket.{IsPacket};
 
 use crate::destination::Destination;
 use crate::errors::{CoreError, StepError};
-use crate::numbers::{ascending, has_number, has_repeat};
+use crate::numbers::{ascending, has_number, has_number_near, has_repeat};
+use crate::place_hints::PlaceHints;
 use crate::show::text_of;
 use crate::sorted_lists::{note, sorted};
-use crate::table::{first_views, step};
+use crate::table::{TableHints, first_views, step};
 use crate::{CoreLimits, GREATEST_NEIGHBOURS, Input, MOST_DESTINATIONS, Sends};
 use arrayvec::ArrayVec;
 use std::alloc::Global;
@@ -33,6 +34,8 @@ pub struct Core {
     up: Vec<Id>,
     destinations: ArrayVec<Id, MOST_DESTINATIONS>,
     views: Vec<Destination>,
+    /// Where the neighbours and the destinations may stand.
+    hints: TableHints,
 }
 
 impl Model for Core {
@@ -111,12 +114,17 @@ impl Core {
         let Ok(up) = Vec::with_capacity(alloc, neighbours.len()) else {
             return Err(CoreError::Memory);
         };
+        let hints = TableHints {
+            neighbours: PlaceHints::new(peers.as_slice()),
+            destinations: PlaceHints::new(table.as_slice()),
+        };
         Ok(Core {
             me,
             neighbours: peers,
             up,
             destinations: table,
             views,
+            hints,
         })
     }
 
@@ -196,6 +204,7 @@ impl Core {
             &mut self.views,
             self.destinations.as_slice(),
             self.neighbours.as_slice(),
+            &self.hints,
             input,
             now,
             sends,
@@ -234,8 +243,9 @@ impl Core {
     fn fault_of_link(&self, k: Id, is_up: bool) -> Option<StepError>
         ensures { result ≡ link_fault self.now k is_up }
     {
-        // A link that is up is that of a neighbour.
-        if has_number(k, self.up.as_slice()) {
+        // A link that is up is that of a neighbour, and stands at the neighbour's place while all before it are up.
+        let at = self.hints.neighbours.place(k);
+        if has_number_near(at, k, self.up.as_slice()) {
             if is_up {
                 None
             } else {

@@ -11,7 +11,8 @@ ghost use Rattle.tora_core.specs.Kept.{CanTake, IsLinked, IsOfOne, destinations_
 ghost use Rattle.tora_packet.specs.PacketParts.{IsId};
 
 use crate::destination::Destination;
-use crate::numbers::place_of;
+use crate::numbers::place_near;
+use crate::place_hints::PlaceHints;
 use crate::{GREATEST_NEIGHBOURS, Input, MOST_DESTINATIONS, Sends};
 use std::alloc::{AllocError, Global};
 use tora_height::Id;
@@ -37,12 +38,20 @@ pub fn first_views(
     Ok(views)
 }
 
+/// Where the neighbours and the destinations of a table may stand.
+#[derive(Clone, Copy, Debug, PartialEq, Eq)]
+pub struct TableHints {
+    pub neighbours: PlaceHints,
+    pub destinations: PlaceHints,
+}
+
 /// Takes an input in, and lists the packets to every up neighbour. `destinations` are those of the views, and `neighbours` those
 /// that each view has a place for. It takes no memory.
 pub fn step(
     views: &mut [Destination],
     destinations: &[Id],
     neighbours: &[Id],
+    hints: &TableHints,
     input: &Input,
     now: u64,
     sends: &mut Sends,
@@ -60,16 +69,32 @@ pub fn step(
     ensures sends { sends.new.items ≡ filter_map (next_packet input.now now) (views_in views.old) }
 {
     match input {
-        Input::LinkUp(k) => link_up(views, *k, place_in(*k, neighbours), sends),
-        Input::LinkDown(k) => link_down(views, *k, place_in(*k, neighbours), now, sends),
-        Input::Need(d) => step_need(*d, views, destinations, now, sends),
+        Input::LinkUp(k) => {
+            link_up(
+                views,
+                *k,
+                place_in(*k, neighbours, &hints.neighbours),
+                sends,
+            )
+        }
+        Input::LinkDown(k) => {
+            link_down(
+                views,
+                *k,
+                place_in(*k, neighbours, &hints.neighbours),
+                now,
+                sends,
+            )
+        }
+        Input::Need(d) => step_need(*d, views, destinations, &hints.destinations, now, sends),
         Input::Packet(k, packet) => {
             step_packet(
                 *k,
-                place_in(*k, neighbours),
+                place_in(*k, neighbours, &hints.neighbours),
                 packet,
                 views,
                 destinations,
+                &hints.destinations,
                 now,
                 sends,
             )
@@ -78,11 +103,11 @@ pub fn step(
 }
 
 /// The place of a neighbour.
-fn place_in(k: Id, neighbours: &[Id]) -> usize
+fn place_in(k: Id, neighbours: &[Id], hints: &PlaceHints) -> usize
     requires { IsAscending neighbours.now × (has_number k neighbours.now ≡ true) }
     ensures { IsOnlyPlace k result neighbours.now }
 {
-    place_of(k, neighbours).unwrap_or(neighbours.len())
+    place_near(hints.place(k), k, neighbours).unwrap_or(neighbours.len())
 }
 
 /// A link that came up goes to every view, to the neighbour's place.
@@ -114,7 +139,14 @@ fn link_down(views: &mut [Destination], k: Id, place: usize, now: u64, sends: &m
 }
 
 /// A need goes to the view of its destination alone. The rule for it reads no clock: `now` is any tick.
-fn step_need(d: Id, views: &mut [Destination], destinations: &[Id], now: u64, sends: &mut Sends)
+fn step_need(
+    d: Id,
+    views: &mut [Destination],
+    destinations: &[Id],
+    hints: &PlaceHints,
+    now: u64,
+    sends: &mut Sends,
+)
     requires may { All (λ t. CanTake (Input.Need d) t.view) views.old }
     requires ascending { IsAscending destinations.now }
     requires names { destinations.now ≡ destinations_of (views_in views.old) }
@@ -122,7 +154,7 @@ fn step_need(d: Id, views: &mut [Destination], destinations: &[Id], now: u64, se
     ensures views { views.new ≡ map (next_in (Input.Need d) now) views.old }
     ensures sends { sends.new.items ≡ filter_map (next_packet (Input.Need d) now) (views_in views.old) }
 {
-    let Some(place) = place_of(d, destinations) else {
+    let Some(place) = place_near(hints.place(d), d, destinations) else {
         return;
     };
     list(views[place].need(), sends);
@@ -135,6 +167,7 @@ fn step_packet(
     packet: &Packet,
     views: &mut [Destination],
     destinations: &[Id],
+    hints: &PlaceHints,
     now: u64,
     sends: &mut Sends,
 )
@@ -147,7 +180,8 @@ fn step_packet(
     ensures views { views.new ≡ map (next_in (Input.Packet k packet.now) now) views.old }
     ensures sends { sends.new.items ≡ filter_map (next_packet (Input.Packet k packet.now) now) (views_in views.old) }
 {
-    let Some(place) = place_of(packet.destination(), destinations) else {
+    let d = packet.destination();
+    let Some(place) = place_near(hints.place(d), d, destinations) else {
         return;
     };
     list(views[place].packet(k, row, packet, now), sends);

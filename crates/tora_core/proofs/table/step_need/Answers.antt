@@ -14,12 +14,12 @@ use Rattle.tora_core.proofs.table.step_need.Goals as goal
 
 pub returns-in_default-clause-views : goal.returns-in_default-clause-views
 returns-in_default-clause-views c =
-    let none = none-passes (is_of c.args.d) (views_in c.args.views.now) (sym (names-views c.args.d (views_in c.args.views.now)) ∙ sym (ap (λ (ns : List ℕ). position (λ n. n == c.args.d) ns) c.requires.names) ∙ sym c.place_of.ensures ∙ c.in_default.is) in
+    let none = none-passes (is_of c.args.d) (views_in c.args.views.now) (sym (names-views c.args.d (views_in c.args.views.now)) ∙ sym (ap (λ (ns : List ℕ). position (λ n. n == c.args.d) ns) c.requires.names) ∙ sym c.place_near.ensures ∙ c.in_default.is) in
     table-none (In.Need c.args.d) c.args.now c.args.views.now (views-none (In.Need c.args.d) c.args.now c.args.d refl (views_in c.args.views.now) none)
 
 pub returns-in_default-clause-sends : goal.returns-in_default-clause-sends
 returns-in_default-clause-sends c =
-    let none = none-passes (is_of c.args.d) (views_in c.args.views.now) (sym (names-views c.args.d (views_in c.args.views.now)) ∙ sym (ap (λ (ns : List ℕ). position (λ n. n == c.args.d) ns) c.requires.names) ∙ sym c.place_of.ensures ∙ c.in_default.is) in
+    let none = none-passes (is_of c.args.d) (views_in c.args.views.now) (sym (names-views c.args.d (views_in c.args.views.now)) ∙ sym (ap (λ (ns : List ℕ). position (λ n. n == c.args.d) ns) c.requires.names) ∙ sym c.place_near.ensures ∙ c.in_default.is) in
     let sends = sends-none (In.Need c.args.d) c.args.now c.args.d refl (views_in c.args.views.now) none in
     cc
 
@@ -29,7 +29,7 @@ returns-clause-views c =
     let views = views_in table in
     let t = c.index-views-place.result in
     let x = t.view in
-    let place = place-Some (is_of c.args.d) views c.in-Some.place (sym (names-views c.args.d (views_in c.args.views.now)) ∙ sym (ap (λ (ns : List ℕ). position (λ n. n == c.args.d) ns) c.requires.names) ∙ sym c.place_of.ensures ∙ c.in-Some.is) in
+    let place = place-Some (is_of c.args.d) views c.in-Some.place (sym (names-views c.args.d (views_in c.args.views.now)) ∙ sym (ap (λ (ns : List ℕ). position (λ n. n == c.args.d) ns) c.requires.names) ∙ sym c.place_near.ensures ∙ c.in-Some.is) in
     let same = length-in table in
     let lt : c.in-Some.place < length table = let within = place.0 in let is = place.1 in omega arith in
     let P : ℕ → Type 0 = λ i. x ≡ slice_index_or views i x in
@@ -49,7 +49,7 @@ returns-clause-sends c =
     let views = views_in table in
     let t = c.index-views-place.result in
     let x = t.view in
-    let place = place-Some (is_of c.args.d) views c.in-Some.place (sym (names-views c.args.d (views_in c.args.views.now)) ∙ sym (ap (λ (ns : List ℕ). position (λ n. n == c.args.d) ns) c.requires.names) ∙ sym c.place_of.ensures ∙ c.in-Some.is) in
+    let place = place-Some (is_of c.args.d) views c.in-Some.place (sym (names-views c.args.d (views_in c.args.views.now)) ∙ sym (ap (λ (ns : List ℕ). position (λ n. n == c.args.d) ns) c.requires.names) ∙ sym c.place_near.ensures ∙ c.in-Some.is) in
     let same = length-in table in
     let lt : c.in-Some.place < length table = let within = place.0 in let is = place.1 in omega arith in
     let P : ℕ → Type 0 = λ i. x ≡ slice_index_or views i x in

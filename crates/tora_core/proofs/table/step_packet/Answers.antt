@@ -14,13 +14,13 @@ use Rattle.tora_core.proofs.table.step_packet.Goals as goal
 
 pub returns-in_default-clause-views : goal.returns-in_default-clause-views
 returns-in_default-clause-views c =
-    let none = none-passes (is_of c.destination.result) (views_in c.args.views.now) (sym (names-views c.destination.result (views_in c.args.views.now)) ∙ sym (ap (λ (ns : List ℕ). position (λ n. n == c.destination.result) ns) c.requires.names) ∙ sym c.place_of.ensures ∙ c.in_default.is) in
-    table-none (In.Packet c.args.k c.args.packet.now) c.args.now c.args.views.now (views-none (In.Packet c.args.k c.args.packet.now) c.args.now c.destination.result (ap Some (sym c.destination.ensures.value)) (views_in c.args.views.now) none)
+    let none = none-passes (is_of c.destination-d.result) (views_in c.args.views.now) (sym (names-views c.destination-d.result (views_in c.args.views.now)) ∙ sym (ap (λ (ns : List ℕ). position (λ n. n == c.destination-d.result) ns) c.requires.names) ∙ sym c.place_near.ensures ∙ c.in_default.is) in
+    table-none (In.Packet c.args.k c.args.packet.now) c.args.now c.args.views.now (views-none (In.Packet c.args.k c.args.packet.now) c.args.now c.destination-d.result (ap Some (sym c.destination-d.ensures.value)) (views_in c.args.views.now) none)
 
 pub returns-in_default-clause-sends : goal.returns-in_default-clause-sends
 returns-in_default-clause-sends c =
-    let none = none-passes (is_of c.destination.result) (views_in c.args.views.now) (sym (names-views c.destination.result (views_in c.args.views.now)) ∙ sym (ap (λ (ns : List ℕ). position (λ n. n == c.destination.result) ns) c.requires.names) ∙ sym c.place_of.ensures ∙ c.in_default.is) in
-    let sends = sends-none (In.Packet c.args.k c.args.packet.now) c.args.now c.destination.result (ap Some (sym c.destination.ensures.value)) (views_in c.args.views.now) none in
+    let none = none-passes (is_of c.destination-d.result) (views_in c.args.views.now) (sym (names-views c.destination-d.result (views_in c.args.views.now)) ∙ sym (ap (λ (ns : List ℕ). position (λ n. n == c.destination-d.result) ns) c.requires.names) ∙ sym c.place_near.ensures ∙ c.in_default.is) in
+    let sends = sends-none (In.Packet c.args.k c.args.packet.now) c.args.now c.destination-d.result (ap Some (sym c.destination-d.ensures.value)) (views_in c.args.views.now) none in
     cc
 
 -- what is read at the place is the view of the destination
@@ -30,12 +30,12 @@ packet-requires-clause-may c =
     let views = views_in table in
     let t = c.index-views-place.result in
     let x = t.view in
-    let place = place-Some (is_of c.destination.result) views c.in-Some.place (sym (names-views c.destination.result (views_in c.args.views.now)) ∙ sym (ap (λ (ns : List ℕ). position (λ n. n == c.destination.result) ns) c.requires.names) ∙ sym c.place_of.ensures ∙ c.in-Some.is) in
+    let place = place-Some (is_of c.destination-d.result) views c.in-Some.place (sym (names-views c.destination-d.result (views_in c.args.views.now)) ∙ sym (ap (λ (ns : List ℕ). position (λ n. n == c.destination-d.result) ns) c.requires.names) ∙ sym c.place_near.ensures ∙ c.in-Some.is) in
     let same = length-in table in
     let lt : c.in-Some.place < length table = let within = place.0 in let is = place.1 in omega arith in
     let P : ℕ → Type 0 = λ i. x ≡ slice_index_or views i x in
     let read = subst P place.1 (read-in table c.in-Some.place t lt c.index-views-place.is) in
-    let own = concerned (In.Packet c.args.k c.args.packet.now) c.args.now c.destination.result (ap Some (sym c.destination.ensures.value)) x (found (In.Packet c.args.k c.args.packet.now) c.args.now c.destination.result (ap Some (sym c.destination.ensures.value)) views x place.0 read) in
+    let own = concerned (In.Packet c.args.k c.args.packet.now) c.args.now c.destination-d.result (ap Some (sym c.destination-d.ensures.value)) x (found (In.Packet c.args.k c.args.packet.now) c.args.now c.destination-d.result (ap Some (sym c.destination-d.ensures.value)) views x place.0 read) in
     let Q : TableView → Type 0 = λ u. concerns (In.Packet c.args.k c.args.packet.now) u.view.destination ≡ true in
     ((c.requires.may c.in-Some.place t lt).may (subst Q c.index-views-place.is own)).0
 
@@ -45,13 +45,13 @@ returns-clause-views c =
     let views = views_in table in
     let t = c.index-views-place.result in
     let x = t.view in
-    let place = place-Some (is_of c.destination.result) views c.in-Some.place (sym (names-views c.destination.result (views_in c.args.views.now)) ∙ sym (ap (λ (ns : List ℕ). position (λ n. n == c.destination.result) ns) c.requires.names) ∙ sym c.place_of.ensures ∙ c.in-Some.is) in
+    let place = place-Some (is_of c.destination-d.result) views c.in-Some.place (sym (names-views c.destination-d.result (views_in c.args.views.now)) ∙ sym (ap (λ (ns : List ℕ). position (λ n. n == c.destination-d.result) ns) c.requires.names) ∙ sym c.place_near.ensures ∙ c.in-Some.is) in
     let same = length-in table in
     let lt : c.in-Some.place < length table = let within = place.0 in let is = place.1 in omega arith in
     let P : ℕ → Type 0 = λ i. x ≡ slice_index_or views i x in
     let read = subst P place.1 (read-in table c.in-Some.place t lt c.index-views-place.is) in
-    let at = views-at (In.Packet c.args.k c.args.packet.now) c.args.now c.destination.result (ap Some (sym c.destination.ensures.value)) views x (subst IsAscending c.requires.names c.requires.ascending) place.0 read in
-    let own = concerned (In.Packet c.args.k c.args.packet.now) c.args.now c.destination.result (ap Some (sym c.destination.ensures.value)) x (found (In.Packet c.args.k c.args.packet.now) c.args.now c.destination.result (ap Some (sym c.destination.ensures.value)) views x place.0 read) in
+    let at = views-at (In.Packet c.args.k c.args.packet.now) c.args.now c.destination-d.result (ap Some (sym c.destination-d.ensures.value)) views x (subst IsAscending c.requires.names c.requires.ascending) place.0 read in
+    let own = concerned (In.Packet c.args.k c.args.packet.now) c.args.now c.destination-d.result (ap Some (sym c.destination-d.ensures.value)) x (found (In.Packet c.args.k c.args.packet.now) c.args.now c.destination-d.result (ap Some (sym c.destination-d.ensures.value)) views x place.0 read) in
     let new : c.packet.new.self.view ≡ next_view (In.Packet c.args.k c.args.packet.now) c.args.now x =
     c.packet.ensures.view ∙ ap (λ (u : TableView). view_after u.view (In.Packet c.args.k c.args.packet.now) c.args.now) (sym c.index-views-place.is) ∙ sym (view-taken (In.Packet c.args.k c.args.packet.now) c.args.now x own) in
     let Q : ℕ → Type 0 = λ i. map (next_view (In.Packet c.args.k c.args.packet.now) c.args.now) views ≡ slice_set views i (next_view (In.Packet c.args.k c.args.packet.now) c.args.now x) in
@@ -65,13 +65,13 @@ returns-clause-sends c =
     let views = views_in table in
     let t = c.index-views-place.result in
     let x = t.view in
-    let place = place-Some (is_of c.destination.result) views c.in-Some.place (sym (names-views c.destination.result (views_in c.args.views.now)) ∙ sym (ap (λ (ns : List ℕ). position (λ n. n == c.destination.result) ns) c.requires.names) ∙ sym c.place_of.ensures ∙ c.in-Some.is) in
+    let place = place-Some (is_of c.destination-d.result) views c.in-Some.place (sym (names-views c.destination-d.result (views_in c.args.views.now)) ∙ sym (ap (λ (ns : List ℕ). position (λ n. n == c.destination-d.result) ns) c.requires.names) ∙ sym c.place_near.ensures ∙ c.in-Some.is) in
     let same = length-in table in
     let lt : c.in-Some.place < length table = let within = place.0 in let is = place.1 in omega arith in
     let P : ℕ → Type 0 = λ i. x ≡ slice_index_or views i x in
     let read = subst P place.1 (read-in table c.in-Some.place t lt c.index-views-place.is) in
-    let at = sends-at (In.Packet c.args.k c.args.packet.now) c.args.now c.destination.result (ap Some (sym c.destination.ensures.value)) views x (subst IsAscending c.requires.names c.requires.ascending) place.0 read in
-    let own = concerned (In.Packet c.args.k c.args.packet.now) c.args.now c.destination.result (ap Some (sym c.destination.ensures.value)) x (found (In.Packet c.args.k c.args.packet.now) c.args.now c.destination.result (ap Some (sym c.destination.ensures.value)) views x place.0 read) in
+    let at = sends-at (In.Packet c.args.k c.args.packet.now) c.args.now c.destination-d.result (ap Some (sym c.destination-d.ensures.value)) views x (subst IsAscending c.requires.names c.requires.ascending) place.0 read in
+    let own = concerned (In.Packet c.args.k c.args.packet.now) c.args.now c.destination-d.result (ap Some (sym c.destination-d.ensures.value)) x (found (In.Packet c.args.k c.args.packet.now) c.args.now c.destination-d.result (ap Some (sym c.destination-d.ensures.value)) views x place.0 read) in
     let from : c.args.sends.now.items ≡ [] = c.requires.empty in
     let sent : c.packet.result ≡ next_packet (In.Packet c.args.k c.args.packet.now) c.args.now x =
     c.packet.ensures.packet ∙ ap (λ (u : TableView). packet_sent u.view (In.Packet c.args.k c.args.packet.now) c.args.now) (sym c.index-views-place.is) ∙ sym (packet-taken (In.Packet c.args.k c.args.packet.now) c.args.now x own) in

@@ -1,0 +1,44 @@
+//! Guesses of where numbers stand in a list.
+//!
+//! A guess may be wrong, as where two numbers end in the same bits: who takes one looks which number stands there, and searches where it is
+//! another.
+ghost use Rattle.std.specs.Prelude.{◌<◌};
+
+use tora_height::Id;
+
+/// How many guesses there are.
+const PLACES: usize = 64;
+
+/// Guesses of where the numbers of a list stand, by the last six bits of each.
+#[derive(Clone, Copy, Debug, PartialEq, Eq)]
+pub struct PlaceHints {
+    places: [u8; 64],
+}
+
+/// The bits of a number that a guess goes by.
+fn bits(n: Id) -> usize
+    ensures { result < 64 }
+{
+    n as usize % PLACES
+}
+
+/// The place as it is kept; one that does not fit is kept as the first.
+fn kept(place: usize) -> u8 {
+    u8::try_from(place).unwrap_or(0)
+}
+
+impl PlaceHints {
+    /// The guesses for the numbers of a list: each is right but where a later number ends in the same bits.
+    pub fn new(numbers: &[Id]) -> PlaceHints {
+        let mut hints = PlaceHints { places: [0; 64] };
+        for (place, n) in numbers.iter().enumerate() {
+            hints.places[bits(*n)] = kept(place);
+        }
+        hints
+    }
+
+    /// Where a number may stand.
+    pub fn place(&self, n: Id) -> usize {
+        usize::from(self.places[bits(n)])
+    }
+}
