@@ -12,9 +12,9 @@ use tora_packet::Packet;
 /// They stand in a list behind those that were polled.
 #[derive(Debug, Drop)]
 pub struct EventQueue {
-    events: Vec<LinkEvent>,
-    /// How many of them were polled.
+    /// How many of the events were polled.
     polled: usize,
+    events: Vec<LinkEvent>,
 }
 
 impl Model for EventQueue {

@@ -228,6 +228,7 @@ impl LinkEnd {
     }
 
     /// As `on_frame`, for a HELLO, which is told by its header.
+    #[inline(always)]
     pub fn on_hello(&mut self, header: &Header, now: u64) -> Verdict
         requires { IsHeader header.now }
         ensures verdict { result ≡ verdict_of self.old.settings self.old.state (frame_of header.now Body.Hello) now }
@@ -290,12 +291,23 @@ impl LinkEnd {
     /// The tick before which no frame is due and a tick changes nothing, unless something else happens at the end, and from which on a frame is
     /// due or a tick ends the life; 0 where a frame is due at once. It is 2^64 - 1 where none ever is, as at a closed end. It looks at no more
     /// packets than the window, and at none where all are acknowledged.
+    #[inline(always)]
     pub fn still_until(&self) -> u64
         ensures exact { IsStillUntil self.now.settings self.now.state result }
         ensures frames { (tick : ℕ) → tick < result → is_some (frame_due self.now.settings self.now.state tick) ≡ false }
         ensures ticks { (tick : ℕ) → tick < result → after_tick self.now.settings self.now.state tick ≡ self.now.state }
     {
         self.state.still_until(&self.settings)
+    }
+
+    /// The tick before which no frame is due and up to which a tick changes nothing, unless something else happens at the end; 0 says
+    /// nothing. Where nothing but a HELLO is due at the tick of `still_until` it is that tick, else the one before it.
+    #[inline(always)]
+    pub fn calm_until(&self) -> u64
+        ensures frames { (tick : ℕ) → tick < result → is_some (frame_due self.now.settings self.now.state tick) ≡ false }
+        ensures ticks { (tick : ℕ) → 0 < result → tick ≤ result → after_tick self.now.settings self.now.state tick ≡ self.now.state }
+    {
+        self.state.calm_until(&self.settings)
     }
 
     /// Takes the first frame due, which counts as sent; `None` only where none is due.

@@ -140,6 +140,7 @@ impl SendQueue {
     }
 
     /// The tick from which on a packet is due within the window, or given up. It looks at no more than the window.
+    #[inline(never)]
     pub fn due_tick(&self, times: &Times) -> Option<u64>
         requires retry { 0 < times.now.retry }
         requires tries { 0 < times.now.tries }

@@ -209,6 +209,7 @@ impl State {
     }
 
     /// A HELLO at an end that is not bound, by its header.
+    #[inline(never)]
     #[tactic(auto, unfolding(crate::specs::LinkEnd::on_frame_in, crate::specs::LinkEnd::on_matched))]
     fn on_unbound_hello(&mut self, own: u64, header: &Header, now: u64) -> Verdict
         requires room { length self.old.events + PLACES_OF_A_FRAME ≤ EVENT_PLACES }
@@ -232,6 +233,7 @@ impl State {
     }
 
     /// A HELLO at a bound end, by its header.
+    #[inline(always)]
     #[tactic(auto, unfolding(crate::specs::LinkEnd::on_frame_in, crate::specs::LinkEnd::on_matched))]
     fn on_bound_hello(&mut self, life: Life, header: &Header, now: u64) -> Verdict
         requires room { length self.old.events + PLACES_OF_A_FRAME ≤ EVENT_PLACES }
@@ -251,6 +253,7 @@ impl State {
     }
 
     /// A HELLO that came, by its header: most frames are HELLOs.
+    #[inline(always)]
     #[tactic(auto, unfolding(crate::specs::LinkEnd::on_frame, crate::specs::LinkEnd::on_frame_in))]
     pub fn on_hello(&mut self, settings: &Settings, header: &Header, now: u64) -> Verdict
         ensures verdict { result ≡ (on_frame (settings_in settings.now) (state_in self.old) (frame_of header.now Body.Hello) now).0 }

@@ -28,14 +28,14 @@ pub struct State {
     pub last_hello: Option<u64>,
     /// The tick at which the peer was last heard.
     pub last_hearing: u64,
+    /// The greatest life of the peer that was noted, 0 for none.
+    pub heard: u64,
     /// The packets submitted and not acknowledged.
     pub queue: SendQueue,
     /// The events that were not polled.
     pub events: EventQueue,
     /// The greatest number of a packet that was transmitted.
     pub transmitted: u64,
-    /// The greatest life of the peer that was noted, 0 for none.
-    pub heard: u64,
     /// How many packets the peer has accepted, as far as it told.
     pub acknowledged: u64,
     /// How many packets of the peer were delivered.
@@ -73,7 +73,8 @@ impl State {
         })
     }
 
-    /// Ends the bound life.
+    /// Ends the bound life. It stands apart, since it is seldom done where it is asked for.
+    #[inline(never)]
     pub fn end(&mut self, life: Life, reason: Reason)
         requires { length self.old.events < EVENT_PLACES }
         ensures { state_in self.new ≡ after_end (state_in self.old) life reason }

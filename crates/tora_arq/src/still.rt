@@ -1,7 +1,7 @@
 //! Until which tick a link end is still.
-ghost use Rattle.std.specs.Prelude.{◌≡◌, ◌<◌, ℕ, nat_le, ◌||◌, is_some, drop};
+ghost use Rattle.std.specs.Prelude.{◌≡◌, ◌<◌, ◌≤◌, ℕ, false, nat_le, ◌||◌, is_some, drop};
 ghost use Rattle.tora_arq.specs.EndRange.{AreUntried, IsEndState};
-ghost use Rattle.tora_arq.specs.LinkEnd.{is_hello_due, is_old_hello_due};
+ghost use Rattle.tora_arq.specs.LinkEnd.{after_tick, frame_due, is_hello_due, is_old_hello_due};
 ghost use Rattle.tora_arq.specs.NextDue.{is_due_in, has_begun};
 ghost use Rattle.tora_arq.specs.SendQueue.{first_due, has_given_up};
 ghost use Rattle.tora_arq.specs.Settings.{ticks_passed};
@@ -36,6 +36,7 @@ fn earliest(first: u64, other: Option<u64>) -> u64
 impl SendQueue {
     /// A tick, or that from which on a packet is due within the window, or given up, where that is earlier. It looks at no more than the
     /// window.
+    #[inline(always)]
     fn still_until(&self, times: &Times, first: u64) -> u64
         requires retry { 0 < times.now.retry }
         requires tries { 0 < times.now.tries }
@@ -58,6 +59,7 @@ impl State {
     }
 
     /// From which tick on a HELLO is due.
+    #[inline(always)]
     fn next_hello(&self, settings: &Settings) -> u64
         requires { 0 < settings.now.times.hello }
         ensures { (tick : ℕ) → tick < last_tick → nat_le result tick ≡ is_hello_due (settings_in settings.now) (state_in self.now) tick || is_old_hello_due (state_in self.now) }
@@ -72,6 +74,7 @@ impl State {
     }
 
     /// From which tick on a frame of a bound end is due, or its life ends.
+    #[inline(always)]
     fn still_in_life(&self, settings: &Settings) -> u64
         requires { IsEndState (settings_in settings.now) (state_in self.now) }
         ensures { (life : Life) (tick : ℕ) → tick < last_tick → nat_le result tick ≡ is_due_in (settings_in settings.now) (state_in self.now) life tick }
@@ -87,6 +90,7 @@ impl State {
 
     /// From which tick on a frame is due, or a life ends.
     #[tactic(auto, unfolding(crate::specs::LinkEnd::on_transmit, crate::specs::LinkEnd::on_transmit_in, crate::specs::LinkEnd::after_tick))]
+    #[inline(always)]
     pub fn still_until(&self, settings: &Settings) -> u64
         requires { IsEndState (settings_in settings.now) (state_in self.now) }
         ensures { IsStillUntil (settings_in settings.now) (state_in self.now) result }
@@ -95,6 +99,38 @@ impl State {
             Phase::Closed => u64::MAX,
             Phase::Unbound(_) => self.next_hello(settings),
             Phase::Bound(_) => self.still_in_life(settings),
+        }
+    }
+
+    /// Whether this tick may end a life: where none is bound, it never does.
+    #[tactic(auto, unfolding(crate::specs::LinkEnd::after_tick))]
+    #[inline(always)]
+    fn may_end_at(&self, settings: &Settings, tick: u64) -> bool
+        requires { IsEndState (settings_in settings.now) (state_in self.now) }
+        ensures { result ≡ false → after_tick (settings_in settings.now) (state_in self.now) tick ≡ state_in self.now }
+    {
+        match self.phase {
+            Phase::Closed => false,
+            Phase::Unbound(_) => false,
+            Phase::Bound(_) => {
+                tick_behind(self.last_hearing, settings.times.silent) <= tick
+                    || self.queue.len() > 0
+            }
+        }
+    }
+
+    /// Before which tick no frame is due, and up to which no tick changes the end; 0 says nothing.
+    #[inline(always)]
+    pub fn calm_until(&self, settings: &Settings) -> u64
+        requires { IsEndState (settings_in settings.now) (state_in self.now) }
+        ensures frames { (tick : ℕ) → tick < result → is_some (frame_due (settings_in settings.now) (state_in self.now) tick) ≡ false }
+        ensures ticks { (tick : ℕ) → 0 < result → tick ≤ result → after_tick (settings_in settings.now) (state_in self.now) tick ≡ state_in self.now }
+    {
+        let until = self.still_until(settings);
+        if self.may_end_at(settings, until) {
+            until.saturating_sub(1)
+        } else {
+            until
         }
     }
 }

@@ -67,7 +67,8 @@ fn deliver_once<S: Simulator>(
     Ok(some)
 }
 
-/// Delivers the datagrams behind the first ones over a clear channel.
+/// Delivers the datagrams behind the first ones over a clear channel. It stands apart, so that its loop has registers of its own.
+#[inline(never)]
 fn deliver_clear<S: Simulator>(
     sim: &mut S,
     parted: &Parted,

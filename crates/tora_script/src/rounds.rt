@@ -216,6 +216,21 @@ pub fn turn_known_ends<S: Simulator>(
     Ok(some)
 }
 
+/// Lets each link end send the frames that are due, so many at most, as `turn_known_ends` does. It stands apart, so that its loop has registers
+/// of its own.
+#[inline(never)]
+fn transmit_known_ends<S: Simulator>(
+    sim: &mut S,
+    known: bool,
+    ends: &[(Id, Id)],
+    most: u64,
+) -> Result<bool, AllocError>
+    requires { AreKnown known ends.now (S.world sim.old) }
+    ensures { IfOk result (λ some. Happened (S.world sim.old) (each (λ e. repeats most (end_event EndTurn.Transmit e)) ends.now (S.world sim.old)) (S.world sim.new) some) }
+{
+    turn_known_ends(sim, known, ends, EndTurn::Transmit, most)
+}
+
 /// Whether it is known that these are the link ends of the simulator, and may be used: it isn't asked where nothing is to be done.
 #[inline(always)]
 pub fn are_known<S: Simulator>(sim: &S, ends: &[(Id, Id)]) -> bool
@@ -284,7 +299,7 @@ fn pass<S: Simulator>(
     let first = sim.datagrams();
     let turned = turn_cores(sim, nodes)?;
     let pulled = turn_known_ends(sim, known, ends, EndTurn::Pull, MOST_TIMES)?;
-    let sent = turn_known_ends(sim, known, ends, EndTurn::Transmit, MOST_TIMES)?;
+    let sent = transmit_known_ends(sim, known, ends, MOST_TIMES)?;
     let delivered = deliver_new(sim, parted, table, moment, first)?;
     let pumped = turn_known_ends(sim, known, ends, EndTurn::Pump, MOST_TIMES)?;
     Ok(either(

@@ -1,5 +1,5 @@
 -- Cargoes as a simulator keeps them: their lives stand once, and cargoes whose numbers are great stand apart.
-use Rattle.std.specs.Prelude.{◌≡◌, ℕ, ◌<◌, Bool, List, Option, None, Some, length, slice_get, if◌then◌else◌}
+use Rattle.std.specs.Prelude.{◌≡◌, ℕ, suc, ◌<◌, Bool, List, Option, None, Some, length, slice_get, if◌then◌else◌}
 use Rattle.tora_height.specs.Height.{quintuple}
 use Rattle.tora_packet.specs.PacketParts.{IsId, IsUpdate, update_of}
 use Rattle.tora_packet.specs.declared.Packet.TheVariants.{Qry, Upd}
@@ -50,6 +50,10 @@ IsKeptCargo lives apart (Keeps.Apart place) = place < length apart
 pub record IsShort (number : ℕ) (cargo : Cargo) (kept : KeptCargo) : Type 0 where
   pub value : (lives : List Life) (apart : List Cargo) → slice_get lives number ≡ Some (life_of cargo) → cargo_in lives apart kept ≡ cargo
   pub within : (lives : List Life) (apart : List Cargo) → number < length lives → IsKeptCargo lives apart kept
+
+-- the last life is this one, where there is one
+abbrev pub IsLastLife : Life → List Life → Type 0
+IsLastLife last lives = (n : ℕ) → suc n ≡ length lives → slice_get lives n ≡ Some last
 
 abbrev pub one_if : Bool → ℕ
 one_if spare = if spare then 1 else 0

@@ -152,35 +152,17 @@ impl Datagrams {
         self.frames.get(at as usize)
     }
 
-    /// What is told of the datagram that stands behind so many others, where it is a HELLO, as most are.
+    /// What is told of the datagram that stands behind so many others, where it is known to be a HELLO, as most of those are that were sent
+    /// last.
     #[inline(always)]
-    pub fn hello(&self, place: usize) -> Option<RecentFrame>
-        ensures hello { IfSome result (λ told. slice_get self.now.items place ≡ Some (frame_of told.header Body.Hello)) }
-        ensures valid { IfSome result (λ told. IsHeader told.header) }
+    pub fn hello(&self, place: usize) -> Option<&RecentFrame>
+        ensures hello { IfSome result (λ told. slice_get self.now.items place ≡ Some (frame_of told.now.header Body.Hello)) }
+        ensures valid { IfSome result (λ told. IsHeader told.now.header) }
     {
-        if let Some(recent) = self.recents.get(place) {
-            return if recent.is_hello { Some(*recent) } else { None };
-        }
-        let Some(header) = self.kept_hello(place) else {
+        let Some(recent) = self.recents.get(place) else {
             return None;
         };
-        Some(RecentFrame {
-            header,
-            is_hello: true,
-            far_end: 0,
-        })
-    }
-
-    /// The header of the datagram that stands behind so many others, where it is a HELLO, by the frame that is kept.
-    #[inline(never)]
-    fn kept_hello(&self, place: usize) -> Option<Header>
-        ensures hello { IfSome result (λ header. slice_get self.now.items place ≡ Some (frame_of header Body.Hello)) }
-        ensures valid { IfSome result (λ header. IsHeader header) }
-    {
-        let Some(at) = self.places.get(place) else {
-            return None;
-        };
-        self.frames.hello(at as usize)
+        if recent.is_hello { Some(recent) } else { None }
     }
 
     /// Where the link end may stand to which the datagram goes that stands behind so many others: a guess.

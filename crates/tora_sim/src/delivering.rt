@@ -12,6 +12,7 @@ impl Sim {
     ///
     /// # Errors
     /// As for any event; a delivery takes no memory.
+    #[inline(always)]
     pub fn deliver_all(&mut self, i: u64, most: u64) -> Result<bool, AllocError>
         ensures { Repeats self.old most (Deliver i) result self.new }
     {

@@ -8,7 +8,9 @@ ghost use Rattle.tora_sim.specs.Store.{world_of};
 
 use crate::links::is_key;
 use crate::sim::Sim;
-use crate::stills::{Stills, block_count, block_of, end_count, ends_of, is_still_block, still_at};
+use crate::stills::{
+    Stills, block_count, block_of, end_count, ends_of, is_still_block, next_block, still_at,
+};
 use tora_height::Id;
 
 impl Sim {
@@ -81,10 +83,12 @@ fn due_from(stills: &Stills, now: u64, place: usize) -> usize
     ensures onward { place ≤ result }
     ensures passed { (at : ℕ) → place ≤ at → at < result → now < slice_index stills.now at }
 {
-    for block in block_of(place)..block_count(stills) {
+    let mut block = next_block(stills, block_of(place), now);
+    while block < block_count(stills) {
         if let Some(at) = due_in_block(stills, block, now, place) {
             return at;
         }
+        block = next_block(stills, block + 1, now);
     }
     place.max(end_count(stills))
 }

@@ -222,8 +222,6 @@ fn new_link(
         return Err(SimError::Memory);
     };
     Ok(LinkSlot {
-        node: n,
-        peer: k,
         seat,
         end,
         file,

@@ -3,7 +3,7 @@ ghost use Rattle.std.specs.Prelude.{◌≡◌, ◌<◌, ◌-◌, ◌^◌, ◌∷
 ghost use Rattle.tora_arq.specs.declared.life.Life.{Life as AnyLife};
 ghost use Rattle.tora_height.specs.Height.{IsHeight, quintuple};
 ghost use Rattle.tora_sim.specs.Datagrams.{IsMore};
-ghost use Rattle.tora_sim.specs.KeptCargoes.{IsKeptCargo, IsShort, apart_in, cargo_in, life_at, life_of};
+ghost use Rattle.tora_sim.specs.KeptCargoes.{IsKeptCargo, IsLastLife, IsShort, apart_in, cargo_in, life_at, life_of};
 
 use std::alloc::{AllocError, Global};
 use std::marker::Model;
@@ -111,12 +111,14 @@ struct KeptLists {
     apart: Vec<Cargo>,
     /// Whether there is room for one more.
     spare: bool,
+    /// The last of the lives, which is that of most cargoes that come: where the lives stand is not looked at for it.
+    last: Life,
 }
 
 impl Model for KeptLists {
     ghost use Rattle.std.specs.Prelude.{◌≡◌, ◌<◌, ◌^◌, true, map, vec_len, vec_capacity};
     ghost use Rattle.std.specs.List.{AllByRecursion};
-    ghost use Rattle.tora_sim.specs.KeptCargoes.{CargoList, IsKeptCargo, cargo_in, one_if};
+    ghost use Rattle.tora_sim.specs.KeptCargoes.{CargoList, IsKeptCargo, IsLastLife, cargo_in, one_if};
 
     ghost Value = { CargoList };
 
@@ -126,7 +128,8 @@ impl Model for KeptLists {
     } };
 
     ghost invariant = { λ s. AllByRecursion (IsKeptCargo s.lives.items s.apart.items) s.cargoes.items
-        × (s.spare ≡ true → (vec_len s.cargoes < vec_capacity s.cargoes) × (vec_len s.lives < vec_capacity s.lives) × (vec_len s.apart < vec_capacity s.apart) × (vec_len s.apart < 2 ^ 32)) };
+        × (s.spare ≡ true → (vec_len s.cargoes < vec_capacity s.cargoes) × (vec_len s.lives < vec_capacity s.lives) × (vec_len s.apart < vec_capacity s.apart) × (vec_len s.apart < 2 ^ 32))
+        × IsLastLife s.last s.lives.items };
 }
 
 impl KeptLists {
@@ -139,6 +142,7 @@ impl KeptLists {
             lives: Vec::new(alloc),
             apart: Vec::new(alloc),
             spare: false,
+            last: Life { own: 0, peer: 0 },
         }
     }
 
@@ -174,7 +178,7 @@ impl KeptLists {
         ensures { self.new ≡ record self.old { items = self.old.items ++ cargo.now ∷ []; places = self.old.places - 1 } }
     {
         self.spare = false;
-        let number = number_of(&mut self.lives, cargo);
+        let number = number_of(&mut self.lives, &mut self.last, cargo);
         let kept = keep(&mut self.apart, number, cargo);
         self.cargoes.push_reserved(kept);
     }
@@ -200,30 +204,32 @@ fn life_of(cargo: &Cargo) -> Life
 }
 
 /// The number of the life of a cargo, if it is the last that is kept.
-fn last_number(lives: &[Life], cargo: &Cargo) -> Option<usize>
+fn last_number(lives: &[Life], last: &Life, cargo: &Cargo) -> Option<usize>
+    requires { IsLastLife last.now lives.now }
     ensures { IfSome result (λ number. slice_get lives.now number ≡ Some (life_of cargo.now)) }
 {
     let Some(number) = lives.len().checked_sub(1) else {
         return None;
     };
-    let Some(other) = lives.get(number) else {
-        return None;
-    };
-    let is_same = *other == life_of(cargo);
+    let is_same = *last == life_of(cargo);
     if is_same { Some(number) } else { None }
 }
 
 /// The number of the life of a cargo, which is kept now if it was not the last.
-fn number_of(lives: &mut Vec<Life>, cargo: &Cargo) -> usize
-    requires { vec_len lives.old < vec_capacity lives.old }
+fn number_of(lives: &mut Vec<Life>, last: &mut Life, cargo: &Cargo) -> usize
+    requires places { vec_len lives.old < vec_capacity lives.old }
+    requires last { IsLastLife last.old lives.old.items }
     ensures is { slice_get lives.new.items result ≡ Some (life_of cargo.now) }
     ensures more { IsMore lives.old.items lives.new.items }
+    ensures last { IsLastLife last.new lives.new.items }
 {
-    if let Some(number) = last_number(lives, cargo) {
+    if let Some(number) = last_number(lives, last, cargo) {
         return number;
     }
     let number = lives.len();
-    lives.push_reserved(life_of(cargo));
+    let life = life_of(cargo);
+    lives.push_reserved(life);
+    *last = life;
     number
 }
 

@@ -154,22 +154,6 @@ impl KeptFrames {
         is_kept_frame(&self.headers, &self.packets, kept, frame)
     }
 
-    /// The header of the frame that stands behind so many others, where it is a HELLO.
-    #[inline(always)]
-    pub fn hello(&self, place: usize) -> Option<Header>
-        ensures hello { IfSome result (λ header. slice_get self.now.items place ≡ Some (frame_of header Carries.Hello)) }
-        ensures valid { IfSome result (λ header. IsHeader header) }
-    {
-        let Some(kept) = self.frames.get(place) else {
-            return None;
-        };
-        match kept.body {
-            KeptBody::Hello => Some(header_at(&self.headers, kept.header)),
-            KeptBody::Data(..) => None,
-            KeptBody::Ack(_) => None,
-        }
-    }
-
     /// From which node to which the frame goes that stands behind so many others: only its header is looked at.
     #[inline(always)]
     pub fn way(&self, place: usize) -> Option<(Id, Id)>

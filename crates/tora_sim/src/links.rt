@@ -43,11 +43,9 @@ pub struct LinkSlot {
     pub(crate) steps: KeptCargoes,
     /// The lane from the node's core.
     pub(crate) lane: Lane,
+    pub(crate) end: LinkEnd,
     /// The place of the peer among the node's neighbours.
     pub(crate) seat: usize,
-    pub(crate) node: Id,
-    pub(crate) peer: Id,
-    pub(crate) end: LinkEnd,
 }
 
 impl Model for LinkSlot {
@@ -60,7 +58,7 @@ impl Model for LinkSlot {
 
     ghost Value = { LinkView };
 
-    ghost view = { λ s. link_of s.node s.peer s.seat s.end (disk_of s.file.value) s.lane.put s.lane.pulled s.lane.room s.steps.items (length (parcels_in s.steps.items) + s.steps.places) };
+    ghost view = { λ s. link_of s.end.settings.me s.end.settings.peer s.seat s.end (disk_of s.file.value) s.lane.put s.lane.pulled s.lane.room s.steps.items (length (parcels_in s.steps.items) + s.steps.places) };
 
     ghost invariant = { λ s. IsDrawn s.end.state.last_life (disk_of s.file.value) × (s.lane.pulled ≤ length s.lane.put) × (owner_in (disk_of s.file.value) ≡ owner_of s.end.settings.me s.end.settings.peer) };
 }
@@ -70,14 +68,14 @@ impl LinkSlot {
     fn key(&self) -> (Id, Id)
         ensures { result ≡ (self.now.node, self.now.peer) }
     {
-        (self.node, self.peer)
+        (self.end.me(), self.end.peer())
     }
 
     /// Whether it is the end of node `n` towards `k`.
     pub fn is_end(&self, n: Id, k: Id) -> bool
         ensures { result ≡ is_at n k self.now }
     {
-        self.node == n && self.peer == k
+        self.end.me() == n && self.end.peer() == k
     }
 
     /// The place of the peer among the node's neighbours.
@@ -109,6 +107,7 @@ impl LinkSlot {
     }
 
     /// Before which tick no frame is due, and no tick ends the life.
+    #[inline(always)]
     pub fn quiet_end_until(&self) -> u64
         ensures frames { (tick : ℕ) → tick < result → is_some (frame_due self.now.settings self.now.state tick) ≡ false }
         ensures ticks { (tick : ℕ) → tick < result → after_tick self.now.settings self.now.state tick ≡ self.now.state }

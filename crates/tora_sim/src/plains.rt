@@ -8,9 +8,7 @@ ghost use Rattle.tora_sim.specs.Plains.{IsPlain, ArePlainEach};
 ghost use Rattle.tora_sim.specs.Quiet.{IsStillIf};
 
 use crate::links::LinkSlot;
-use crate::stills::{
-    Stills, block_count, ends_of, is_still_block, keep_block, keep_still, still_at,
-};
+use crate::stills::{Stills, block_count, ends_of, keep_block, keep_still, next_block, still_at};
 use tora_frame::{BorrowedFrame, Header};
 
 /// Looks at each link end that is not known to be plain, whether it is. The ends stay as they are.
@@ -18,20 +16,19 @@ pub fn mark_ends(links: &Vec<LinkSlot>, plains: &mut Stills, now: u64)
     requires { ArePlainEach now plains.old links.now.items }
     ensures { ArePlainEach now plains.new links.now.items }
 {
-    for block in 0..block_count(plains) {
+    let mut block = next_block(plains, 0, now);
+    while block < block_count(plains) {
         mark_block(links, plains, block, now);
+        block = next_block(plains, block + 1, now);
     }
 }
 
-/// Looks at each such end of a block, and keeps the tick of the block anew, unless it tells that there is none.
+/// Looks at each such end of a block, and keeps the tick of the block anew.
 fn mark_block(links: &Vec<LinkSlot>, plains: &mut Stills, block: usize, now: u64)
     requires within { 16 * block < length plains.old }
     requires plain { ArePlainEach now plains.old links.now.items }
     ensures { ArePlainEach now plains.new links.now.items }
 {
-    if is_still_block(plains, block, now) {
-        return;
-    }
     let (first, count) = ends_of(plains, block);
     for place in 0..count {
         mark_end(links, plains, first + place, now);

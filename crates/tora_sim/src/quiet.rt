@@ -11,7 +11,7 @@ use crate::nodes::NodeSlot;
 use crate::plains::mark_ends;
 use crate::sim::Sim;
 use crate::stills::{
-    Stills, block_count, ends_of, is_still_block, keep_least, keep_still, still_at, still_until,
+    Stills, block_count, ends_of, keep_least, keep_still, next_block, still_at, still_until,
 };
 
 impl Sim {
@@ -80,20 +80,19 @@ fn settle_ends(links: &Vec<LinkSlot>, stills: &mut Stills, now: u64)
     requires { AreStillEach now stills.old links.now.items }
     ensures { AreStillEach now stills.new links.now.items }
 {
-    for block in 0..block_count(stills) {
+    let mut block = next_block(stills, 0, now);
+    while block < block_count(stills) {
         settle_block(links, stills, block, now);
+        block = next_block(stills, block + 1, now);
     }
 }
 
-/// Looks at each such end of a block, and keeps the tick of the block anew, unless it tells that there is none.
+/// Looks at each such end of a block, and keeps the tick of the block anew.
 fn settle_block(links: &Vec<LinkSlot>, stills: &mut Stills, block: usize, now: u64)
     requires within { 16 * block < length stills.old }
     requires still { AreStillEach now stills.old links.now.items }
     ensures { AreStillEach now stills.new links.now.items }
 {
-    if is_still_block(stills, block, now) {
-        return;
-    }
     let (first, count) = ends_of(stills, block);
     let mut least = u64::MAX;
     for place in 0..count {

@@ -25,6 +25,7 @@ impl Sim {
     ///
     /// # Errors
     /// Where there is no memory for a frame that is due. The world is then as after the frames before it.
+    #[inline(always)]
     pub fn transmit_all(
         &mut self,
         place: usize,

@@ -1,15 +1,15 @@
 //! The simulator.
-ghost use Rattle.std.specs.Prelude.{◌≡◌, ◌<◌, true, Some, IfSome};
+ghost use Rattle.std.specs.Prelude.{◌≡◌, ◌<◌, true, false, Some, IfSome};
 ghost use Rattle.tora_frame.specs.FrameParts.{IsHeader, frame_of};
 ghost use Rattle.tora_frame.specs.declared.parts.Body.TheVariants.{Hello};
 ghost use Rattle.tora_world.specs.declared.event.Event.TheVariants.{Tick, Open, Pull, Need, Transmit, Deliver, Pump, CoreTurn, Arm, Restart};
 ghost use Rattle.tora_world.specs.World.{with_datagram};
 ghost use Rattle.tora_sim.specs.Links.{is_at};
 ghost use Rattle.tora_sim.specs.Nodes.{is_of, sending_of};
-ghost use Rattle.tora_sim.specs.Store.{numbered, call_of};
+ghost use Rattle.tora_sim.specs.Store.{numbered, call_of, world_of};
 ghost use Rattle.tora_sim.specs.Keyed.{IsFirst};
 ghost use Rattle.tora_sim.specs.Datagrams.{HasRoom};
-ghost use Rattle.tora_sim.specs.Steps.{Does, Runs};
+ghost use Rattle.tora_sim.specs.Steps.{Does, IsDone, Runs};
 
 use crate::datagrams::Datagrams;
 use crate::hints::Hints;
@@ -229,53 +229,54 @@ impl Sim {
     }
 
     /// A datagram is handed to its receiver, unless the receive is armed to fail. Until when nothing is to be done at the end that takes it in
-    /// is asked at once, while the end is at hand. Of a HELLO the header alone is looked up.
+    /// is asked at once, while the end is at hand. Of a HELLO that was sent lately the header alone is looked at.
     #[inline(always)]
     pub(crate) fn deliver(&mut self, i: u64) -> Result<(), SimError>
         ensures { Does self.old (Deliver i) result self.new }
     {
-        match numbered_hello(&self.datagrams, i) {
-            Some(told) => self.deliver_hello(i, &told.header, told.far_end as usize),
-            None => self.deliver_frame(i),
+        if self.deliver_hello(i) {
+            return Ok(());
         }
+        self.deliver_frame(i)
     }
 
-    /// The HELLO of this header, which datagram `_i` is, is handed to its receiver as `deliver` has it. The end that takes it in may stand at
-    /// the place `far_end`.
+    /// A datagram is handed to its receiver as `deliver` has it, where it is known to be a HELLO and the receive isn't armed, and says whether it
+    /// was; else nothing is changed.
     #[inline(always)]
-    fn deliver_hello(&mut self, _i: u64, header: &Header, far_end: usize) -> Result<(), SimError>
-        requires hello { numbered _i self.old.datagrams ≡ Some (frame_of header.now Hello) }
-        requires valid { IsHeader header.now }
-        ensures { Does self.old (Deliver _i) result self.new }
+    fn deliver_hello(&mut self, i: u64) -> bool
+        ensures done { result ≡ true → IsDone (world_of self.old) (Deliver i) (world_of self.new) }
+        ensures same { result ≡ false → self.new ≡ self.old }
     {
-        let Some(home) = node_place(&self.nodes, &self.hints, header.receiver) else {
-            return Err(SimError::NoDatagram);
+        let Some(told) = numbered_hello(&self.datagrams, i) else {
+            return false;
+        };
+        let Some(home) = node_place(&self.nodes, &self.hints, told.header.receiver) else {
+            return false;
         };
         if self.nodes[home].receive() {
-            self.quiet = 0;
-            self.nodes[home].arm_receive(false);
-            return Ok(());
+            return false;
         }
         let first = self.nodes[home].first();
         let count = self.nodes[home].count();
         let Some(at) = place_at_or_among(
             &self.links,
             &self.keys,
-            far_end,
+            told.far_end as usize,
             first,
             count,
-            header.receiver,
-            header.sender,
+            told.header.receiver,
+            told.header.sender,
         ) else {
-            return Err(SimError::NoDatagram);
+            return false;
         };
         self.quiet = 0;
-        let (busy, until) = self.links[at].receive_hello_and_look(header, self.clock);
+        let (busy, until) = self.links[at].receive_hello_and_look(&told.header, self.clock);
         keep_looked(&mut self.stills, &mut self.plains, at, busy, until);
-        Ok(())
+        true
     }
 
     /// A datagram is handed to its receiver as `deliver` has it, whatever it is.
+    #[inline(never)]
     fn deliver_frame(&mut self, i: u64) -> Result<(), SimError>
         ensures { Does self.old (Deliver i) result self.new }
     {
@@ -470,11 +471,11 @@ pub fn numbered(datagrams: &Datagrams, i: u64) -> Option<BorrowedFrame<'_>>
     datagrams.get(place)
 }
 
-/// What is told of the datagram of a number from 1 on, where it is a HELLO.
+/// What is told of the datagram of a number from 1 on, where it is known to be a HELLO.
 #[inline(always)]
-fn numbered_hello(datagrams: &Datagrams, i: u64) -> Option<RecentFrame>
-    ensures hello { IfSome result (λ told. numbered i datagrams.now.items ≡ Some (frame_of told.header Hello)) }
-    ensures valid { IfSome result (λ told. IsHeader told.header) }
+fn numbered_hello(datagrams: &Datagrams, i: u64) -> Option<&RecentFrame>
+    ensures hello { IfSome result (λ told. numbered i datagrams.now.items ≡ Some (frame_of told.now.header Hello)) }
+    ensures valid { IfSome result (λ told. IsHeader told.now.header) }
 {
     let number = usize::try_from(i).ok()?;
     datagrams.hello(number.checked_sub(1)?)

@@ -121,6 +121,20 @@ pub fn is_still_block(stills: &Stills, block: usize, now: u64) -> bool
     now < stills.blocks[block]
 }
 
+/// The first block from `block` on whose tick is not still to come: the ticks of the ends of those before it are.
+#[inline(always)]
+pub fn next_block(stills: &Stills, block: usize, now: u64) -> usize
+    ensures onward { block ≤ result }
+    ensures passed { AreLater now (16 * block) (16 * result) stills.now }
+{
+    for next in block..stills.blocks.len() {
+        if stills.blocks[next] <= now {
+            return next;
+        }
+    }
+    block.max(stills.blocks.len())
+}
+
 /// Keeps the tick of an end; most often it is the one that is kept. That of its block is no later then.
 #[inline(always)]
 pub fn keep_still(stills: &mut Stills, at: usize, until: u64)

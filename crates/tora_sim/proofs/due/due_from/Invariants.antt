@@ -1,7 +1,10 @@
-use Rattle.std.proofs.Common.{◌*◌}
+use Rattle.std.proofs.Common.{◌*◌, ◌-◌, length}
 use Rattle.tora_sim.specs.Stills.{AreLater}
 use Rattle.tora_sim.proofs.due.due_from.Given as goal
 
 -- nothing is to be done at the ends of the blocks that were passed over
 abbrev pub invariant-loop-block : goal.invariant-loop-block
 invariant-loop-block l = AreLater l.now l.place (16 * l.block) l.stills
+
+abbrev pub decreases-loop-block : goal.decreases-loop-block
+decreases-loop-block l = length l.stills - l.block

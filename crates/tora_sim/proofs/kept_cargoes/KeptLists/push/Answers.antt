@@ -13,7 +13,8 @@ invariant_of-self c =
       pushed_kept s.lives.items lives s.apart.items c.keep-kept.new.apart.items s.cargoes.items c.push_reserved.new.self.items c.keep-kept.result c.args.cargo.now
           c.number_of-number.ensures.more c.keep-kept.ensures.more (c.keep-kept.ensures.value lives c.number_of-number.ensures.is)
           (c.keep-kept.ensures.within lives (within lives c.number_of-number.result (life_of c.args.cargo.now) c.number_of-number.ensures.is)) c.push_reserved.ensures.items c.self.invariant.0,
-      λ none. absurd cc,
+      (λ none. absurd cc),
+      c.number_of-number.ensures.last,
     )
 
 -- there is no room left

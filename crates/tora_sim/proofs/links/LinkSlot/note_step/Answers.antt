@@ -18,5 +18,5 @@ returns c =
     let fits : length before < length before + s.steps.places = subst (λ (v : LinkView). length v.steps < v.step_room) (sym c.self.view_is) c.requires in
     let room : length (parcels_in c.push.new.self.items) + c.push.new.self.places ≡ length before + s.steps.places =
     omega (arith, fits, ap length steps, length-append before (parcel ∷ []), ap (λ (v : CargoList). v.places) c.push.ensures) in
-    ap₂ (λ (ps : List Parcel) (n : ℕ). record (link_of s.node s.peer s.seat s.end (disk_of s.file.value) s.lane.put s.lane.pulled s.lane.room s.steps.items n) { steps = ps }) steps room
+    ap₂ (λ (ps : List Parcel) (n : ℕ). record (link_of s.end.settings.me s.end.settings.peer s.seat s.end (disk_of s.file.value) s.lane.put s.lane.pulled s.lane.room s.steps.items n) { steps = ps }) steps room
     ∙ ap (λ (v : LinkView). record v { steps = v.steps ++ parcel ∷ [] }) c.self.view_is

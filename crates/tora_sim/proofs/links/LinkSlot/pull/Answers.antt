@@ -26,6 +26,6 @@ pub returns : goal.returns
 returns c =
     let s = c.self.inside in
     let room = length (parcels_in s.steps.items) + s.steps.places in
-    ap₂ (λ (e : LinkEndView) (l : LaneView). link_of s.node s.peer s.seat e (disk_of s.file.value) l.put l.pulled l.room s.steps.items room) c.hand_in.ensures c.take-cargo.ensures.lane
-    ∙ ap (λ (o : Option Cargo). after_pull_at (link_of s.node s.peer s.seat s.end (disk_of s.file.value) s.lane.put s.lane.pulled s.lane.room s.steps.items room) o) (sym c.take-cargo.ensures.cargo)
+    ap₂ (λ (e : LinkEndView) (l : LaneView). link_of e.settings.me e.settings.peer s.seat e (disk_of s.file.value) l.put l.pulled l.room s.steps.items room) c.hand_in.ensures c.take-cargo.ensures.lane
+    ∙ ap (λ (o : Option Cargo). after_pull_at (link_of s.end.settings.me s.end.settings.peer s.seat s.end (disk_of s.file.value) s.lane.put s.lane.pulled s.lane.room s.steps.items room) o) (sym c.take-cargo.ensures.cargo)
     ∙ ap (λ (v : LinkView). after_pull_at v (slice_get v.put v.pulled)) c.self.view_is
