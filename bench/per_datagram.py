@@ -2,8 +2,10 @@
 """Processor time that a datagram takes in `tora sim --large`, and that of the last file by that of the first.
 
 per_datagram.py ROUNDS PROGRAM FILE..
+per_datagram.py --more ROUNDS PROGRAM SHORT LONG SHORT LONG..
 Datagrams are counted in a trace (HELLO, DATA and ACK, those too that went over a parted link); the time is the best of ROUNDS runs
-without a trace, in turn, from the start of the process to its end.
+without a trace, in turn, from the start of the process to its end. With --more files come in pairs, a short one and one that goes on behind it:
+what is told is the time that each of the datagrams behind takes, without that in which the world is made.
 """
 import os
 import subprocess
@@ -31,12 +33,22 @@ def datagrams(program, path):
 
 
 def main():
-    """Prints a line for each file, and the ratio."""
-    rounds, program, paths = int(sys.argv[1]), sys.argv[2], sys.argv[3:]
+    """Prints a line for each file, or each pair of files, and the ratio."""
+    words = sys.argv[1:]
+    more = words[:1] == ["--more"]
+    if more:
+        words = words[1:]
+    rounds, program, paths = int(words[0]), words[1], words[2:]
+    if more and len(paths) % 2:
+        sys.exit("per_datagram: with --more files come in pairs")
     counts, best = [datagrams(program, path) for path in paths], [float("inf")] * len(paths)
     for _ in range(rounds):
         for at, path in enumerate(paths):
             best[at] = min(best[at], processor_time([program, "sim", "--large", path]))
+    if more:
+        best = [long - short for short, long in zip(best[::2], best[1::2])]
+        counts = [long - short for short, long in zip(counts[::2], counts[1::2])]
+        paths = paths[1::2]
     each = [seconds / count * 1e9 for seconds, count in zip(best, counts)]
     for path, count, seconds, one in zip(paths, counts, best, each):
         print(f"{os.path.basename(path):20} {count:9} datagrams  processor {seconds:8.3f} s  {one:8.1f} ns a datagram")

@@ -7,7 +7,7 @@
 # Large worlds come behind, once each, beside the baseline with its limits raised in a copy (bench/raised.py): a grid of 32 x 32 with
 # one need across it, 500 moving nodes for 1,200 rounds, and 1,024 nodes with 8,000 links and 16 destinations; the memory of the
 # first is to be under 150 MB, of the last under 1 GB. Then the time of a datagram at 64 and at 1,024 nodes, which is to be at most 1.5 times:
-# in a grid, where no link is parted, and with moving nodes.
+# in a grid, where no link is parted, and with moving nodes; and the same of each datagram more, without the time in which the world is made.
 # usage: bench/sim.sh [--large] BASE [REPEATS] [ROUNDS]     BASE: the folder of the baseline's sources (a Cargo crate `base`)
 #   --large   large worlds alone
 set -eu
@@ -125,6 +125,15 @@ datagrams() {
   moving 64
   moving 1024
   python3 "$top/bench/per_datagram.py" "$rounds" "$program" "$work/moving-64.sim" "$work/moving-1024.sim"
+  echo 'each datagram more, without the time in which the world is made: twice as many rounds of the grids by as many, the moving nodes by their first 600 rounds'
+  { cat "$work/grid-of-64"; grep '^rounds ' "$work/grid-of-64"; } >"$work/grid-of-64-on"
+  { cat "$work/grid-of-1024"; grep '^rounds ' "$work/grid-of-1024"; } >"$work/grid-of-1024-on"
+  python3 "$top/bench/per_datagram.py" --more "$rounds" "$program" "$work/grid-of-64" "$work/grid-of-64-on" "$work/grid-of-1024" "$work/grid-of-1024-on"
+  local nodes
+  for nodes in 64 1024; do
+    awk '/^rounds / { if (sum + $2 > 600) exit; sum += $2 } { print }' "$work/moving-$nodes.sim" >"$work/half-of-$nodes.sim"
+  done
+  python3 "$top/bench/per_datagram.py" --more "$rounds" "$program" "$work/half-of-64.sim" "$work/moving-64.sim" "$work/half-of-1024.sim" "$work/moving-1024.sim"
 }
 
 [ -n "$alone" ] || small_worlds
