@@ -13,3 +13,4 @@ pub mod PeerLemmas
 pub mod FloodLemmas
 pub mod DueLemmas
 pub mod StillLemmas
+pub mod SteadyLemmas

@@ -14,3 +14,4 @@ pub mod Floods
 pub mod WorkedHellos
 pub mod NextDue
 pub mod Still
+pub mod Steady

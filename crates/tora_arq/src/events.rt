@@ -39,7 +39,7 @@ impl EventQueue {
     }
 
     /// How many wait.
-    fn len(&self) -> usize
+    pub fn len(&self) -> usize
         ensures length { result ≡ length self.now }
         ensures most { result ≤ EVENT_PLACES }
     {

@@ -5,6 +5,7 @@ ghost use Rattle.tora_arq.specs.LinkEnd.{first_end, is_closed, bound_life, after
 ghost use Rattle.tora_arq.specs.EndRange.{IsEndState, link_end_of};
 ghost use Rattle.tora_arq.specs.NextDue.{IsNextDue};
 ghost use Rattle.tora_arq.specs.Still.{IsStillUntil};
+ghost use Rattle.tora_arq.specs.Steady.{IsSteady, resumed, steady_of};
 ghost use Rattle.tora_frame.specs.FrameParts.{IsHeader, frame_of};
 ghost use Rattle.tora_frame.specs.declared.parts.Body.{Body};
 ghost use Rattle.tora_frame.specs.declared.parts.Version.TheVariants.{One, Two};
@@ -12,7 +13,9 @@ ghost use Rattle.tora_frame.specs.declared.parts.Version.TheVariants.{One, Two};
 use crate::phase::Phase;
 use crate::settings::Settings;
 use crate::state::State;
-use crate::{ArqError, EVENT_PLACES, Life, LinkEvent, QUEUE_PLACES, SubmitError, Times, Verdict};
+use crate::{
+    ArqError, EVENT_PLACES, Life, LinkEvent, QUEUE_PLACES, Steady, SubmitError, Times, Verdict,
+};
 use std::alloc::Global;
 use std::marker::Model;
 use tora_frame::{BorrowedFrame, Frame, Header, Packets, Version};
@@ -308,6 +311,26 @@ impl LinkEnd {
         ensures ticks { (tick : ℕ) → 0 < result → tick ≤ result → after_tick self.now.settings self.now.state tick ≡ self.now.state }
     {
         self.state.calm_until(&self.settings)
+    }
+
+    /// What HELLOs look at, where the end is steady: it is open, has said a HELLO, owes neither one at once nor an ACK, no packet of it waits for
+    /// its acknowledgement, and no event to be polled. Whoever keeps it calls it in place of the end, and `resume` before any other call.
+    pub fn steady(&self) -> Option<Steady>
+        ensures given { result ≡ steady_of self.now.settings self.now.state }
+        ensures steady { IfSome result (λ steady. IsSteady steady self.now.settings self.now.state) }
+        ensures same { IfSome result (λ steady. resumed steady self.now.state ≡ self.now.state) }
+    {
+        self.state.steady(&self.settings)
+    }
+
+    /// Makes of the end what was said, heard and ticked at what was kept of it.
+    pub fn resume(&mut self, steady: &Steady)
+        requires { IsSteady steady.now self.old.settings self.old.state }
+        ensures { self.new ≡ record self.old { state = resumed steady.now self.old.state } }
+    {
+        self.state.last_hello = Some(steady.said);
+        self.state.last_hearing = steady.heard;
+        self.state.owes_old_hello = steady.owes_old_hello;
     }
 
     /// Takes the first frame due, which counts as sent; `None` only where none is due.

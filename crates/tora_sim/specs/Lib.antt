@@ -28,3 +28,4 @@ pub mod Plains
 pub mod Stills
 pub mod KeptCargoes
 pub mod Lane
+pub mod SteadyLinks

@@ -6,16 +6,16 @@ ghost use Rattle.tora_sim.specs.Links.{with_state};
 ghost use Rattle.tora_sim.specs.Cuts.{after_cut_at};
 ghost use Rattle.tora_sim.specs.Store.{world_of};
 
-use crate::links::{LinkSlot, place};
+use crate::links::{LinkParts, place};
 use crate::sim::Sim;
 use crate::stills::forget;
 use tora_arq::lives_are_bound_once;
 use tora_height::Id;
 use tora_seat::cut_bound;
 
-impl LinkSlot {
+impl LinkParts {
     /// Cuts the bound life, if there is one.
-    fn cut_bound(&mut self)
+    pub fn cut_bound(&mut self)
         ensures { self.new ≡ with_state self.old (after_cut_of_bound self.old.state (bound_life self.old.state)) }
     {
         lives_are_bound_once();

@@ -16,7 +16,8 @@ use crate::files::{apart, open};
 use crate::hints::Hints;
 use crate::kept_cargoes::KeptCargoes;
 use crate::lane::Lane;
-use crate::links::{LinkSlot, end_of, far_ends_of, keys_of};
+use crate::link_slot::LinkSlot;
+use crate::links::{LinkParts, end_of, far_ends_of, keys_of};
 use crate::links_by_bits::{LinkLists, links_by_bits};
 use crate::nodes::{NodeSlot, Sending, no_counts};
 use crate::ready::none_ready;
@@ -211,6 +212,28 @@ fn new_link(
     requires other { n ≢ k }
     ensures { MatchResult result (λ link. IsFirstEnd version times n k seat link) (λ e. e ≡ SimError.Memory) }
 {
+    let parts = new_parts(alloc, version, times, n, k, seat)?;
+    match Box::new(alloc, parts) {
+        Ok(parts) => Ok(LinkSlot::new(parts)),
+        Err(_) => Err(SimError::Memory),
+    }
+}
+
+/// What stands at the end of a link at its start.
+fn new_parts(
+    alloc: Global,
+    version: Version,
+    times: Times,
+    n: Id,
+    k: Id,
+    seat: usize,
+) -> Result<LinkParts, SimError>
+    requires times { IsTimes times }
+    requires me { 0 < n }
+    requires peer { 0 < k }
+    requires other { n ≢ k }
+    ensures { MatchResult result (λ link. IsFirstEnd version times n k seat link) (λ e. e ≡ SimError.Memory) }
+{
     let Ok(end) = end_of(alloc, version, n, k, times) else {
         return Err(SimError::Memory);
     };
@@ -221,7 +244,7 @@ fn new_link(
     let Ok(steps) = KeptCargoes::new(alloc) else {
         return Err(SimError::Memory);
     };
-    Ok(LinkSlot {
+    Ok(LinkParts {
         seat,
         end,
         file,

@@ -6,7 +6,7 @@ ghost use Rattle.tora_sim.specs.Turns.{IsNoted};
 ghost use Rattle.tora_sim.specs.Unready.{AreMarksKept};
 
 use crate::SimError;
-use crate::links::LinkSlot;
+use crate::link_slot::LinkSlot;
 use crate::ready::{is_ready, set_ready};
 use crate::unready::Unready;
 use std::marker::Model;

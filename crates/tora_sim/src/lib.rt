@@ -29,6 +29,7 @@ mod kept_frames;
 mod lane;
 mod lanes;
 mod link_keys;
+mod link_slot;
 mod links;
 mod links_by_bits;
 mod name_counts;

@@ -10,6 +10,8 @@ ghost use Rattle.tora_arq.specs.EndRange.{link_end_of};
 ghost use Rattle.tora_seat.specs.declared.TheConstants.{MOST_CARGOES};
 ghost use Rattle.tora_sim.specs.Keyed.{IsFirst};
 ghost use Rattle.tora_sim.specs.Restarts.{restarted};
+ghost use Rattle.tora_sim.specs.SteadyLinks.{IsSteadyLink};
+ghost use Rattle.tora_arq.specs.Steady.{resumed};
 ghost use Rattle.tora_sim.specs.Lanes.{after_offer_at, has_place, bare, HasRoom, IsReady};
 
 use crate::SimError;
@@ -17,10 +19,11 @@ use crate::files::FileSlot;
 use crate::hints::Hints;
 use crate::kept_cargoes::KeptCargoes;
 use crate::lane::Lane;
+use crate::link_slot::LinkSlot;
 use std::alloc::Global;
 use std::marker::Model;
 use std::mem;
-use tora_arq::{ArqError, Life, LinkEnd, LinkEvent, Times, lives_are_bound_once};
+use tora_arq::{ArqError, Life, LinkEnd, LinkEvent, Steady, Times, lives_are_bound_once};
 use tora_frame::{BorrowedFrame, Header, Packets, Version};
 use tora_height::Id;
 use tora_life::{DiskCall, MemDisk, Owner};
@@ -33,10 +36,11 @@ const MOST_TRIED: usize = 32;
 /// Of so few ends of a node each is looked at; more are halved.
 const FEW: usize = 8;
 
-/// The end of a link at one node, with its life file and the lane from the node's core to it. What a HELLO looks at stands together, in few
-/// lines of the cache: the end of the lane's fields, and the front of those of the link end.
+/// All that stands at the end of a link at one node: the link end, its life file, and the lane from the node's core to it. What a HELLO looks at
+/// that comes to an end which is not steady stands together, in few lines of the cache: the end of the lane's fields, and the front of those of
+/// the link end.
 #[derive(Drop)]
-pub struct LinkSlot {
+pub struct LinkParts {
     /// In a place of its own, since it is seldom looked at: so the ends lie close together.
     pub(crate) file: Box<FileSlot>,
     /// The packets of the peer that the node's core ever stepped, each with its life.
@@ -48,7 +52,7 @@ pub struct LinkSlot {
     pub(crate) seat: usize,
 }
 
-impl Model for LinkSlot {
+impl Model for LinkParts {
     ghost use Rattle.std.specs.Prelude.{◌≡◌, ◌≤◌, ◌+◌, length};
     ghost use Rattle.tora_world.specs.Lists.{parcels_in};
     ghost use Rattle.tora_life.specs.LifeRun.{owner_in};
@@ -63,9 +67,9 @@ impl Model for LinkSlot {
     ghost invariant = { λ s. IsDrawn s.end.state.last_life (disk_of s.file.value) × (s.lane.pulled ≤ length s.lane.put) × (owner_in (disk_of s.file.value) ≡ owner_of s.end.settings.me s.end.settings.peer) };
 }
 
-impl LinkSlot {
+impl LinkParts {
     /// Its node and its peer, by which the ends are in order.
-    fn key(&self) -> (Id, Id)
+    pub fn key(&self) -> (Id, Id)
         ensures { result ≡ (self.now.node, self.now.peer) }
     {
         (self.end.me(), self.end.peer())
@@ -162,6 +166,25 @@ impl LinkSlot {
     {
         lives_are_bound_once();
         self.end.on_hello(header, now);
+    }
+
+    /// What HELLOs look at, where the end is steady and no cargo waits in its lane.
+    pub fn steady(&self) -> Option<Steady>
+        ensures steady { IfSome result (λ steady. IsSteadyLink steady self.now) }
+        ensures same { IfSome result (λ steady. with_state self.now (resumed steady self.now.state) ≡ self.now) }
+    {
+        if self.has_cargo() {
+            return None;
+        }
+        self.end.steady()
+    }
+
+    /// Makes of the end what was said, heard and ticked at what was kept of it.
+    pub fn resume(&mut self, steady: &Steady)
+        requires { IsSteadyLink steady.now self.old }
+        ensures { self.new ≡ with_state self.old (resumed steady.now self.old.state) }
+    {
+        self.end.resume(steady);
     }
 
     /// Takes the first event.

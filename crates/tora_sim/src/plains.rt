@@ -7,7 +7,8 @@ ghost use Rattle.tora_sim.specs.Links.{with_state};
 ghost use Rattle.tora_sim.specs.Plains.{IsPlain, ArePlainEach};
 ghost use Rattle.tora_sim.specs.Quiet.{IsStillIf};
 
-use crate::links::LinkSlot;
+use crate::link_slot::LinkSlot;
+use crate::links::LinkParts;
 use crate::stills::{Stills, block_count, ends_of, keep_block, keep_still, next_block, still_at};
 use tora_frame::{BorrowedFrame, Header};
 
@@ -78,7 +79,7 @@ pub fn keep_looked(stills: &mut Stills, plains: &mut Stills, at: usize, busy: bo
     forget_busy(plains, at, busy);
 }
 
-impl LinkSlot {
+impl LinkParts {
     /// Whether more than a frame may be due here: the end is closed, a cargo waits in its lane, or it has an event to give. Else it is plain.
     #[inline(always)]
     pub fn is_busy(&self) -> bool

@@ -6,7 +6,7 @@ ghost use Rattle.tora_sim.specs.Store.{world_of};
 ghost use Rattle.tora_sim.specs.Possible.{end_may, node_may, may_happen, has_cargo};
 
 use crate::Event;
-use crate::links::LinkSlot;
+use crate::link_slot::LinkSlot;
 use crate::nodes::NodeSlot;
 use crate::sim::Sim;
 use tora_height::Id;

@@ -6,7 +6,8 @@ ghost use Rattle.tora_sim.specs.Store.{world_of};
 ghost use Rattle.tora_world.specs.World.{refusal_of};
 ghost use Rattle.tora_world.specs.declared.event.Event.TheVariants.{CoreTurn};
 
-use crate::links::LinkSlot;
+use crate::link_slot::LinkSlot;
+use crate::links::LinkParts;
 use crate::nodes::NodeSlot;
 use crate::plains::mark_ends;
 use crate::sim::Sim;
@@ -142,7 +143,7 @@ impl NodeSlot {
     }
 }
 
-impl LinkSlot {
+impl LinkParts {
     /// Before which tick nothing is to be done here; 0 where something is to be done at once.
     #[inline(always)]
     pub fn still_until(&self) -> u64

@@ -11,7 +11,7 @@ ghost use Rattle.tora_sim.specs.Readers.{ends_at, ends_in, way_of};
 
 use crate::datagrams::Datagrams;
 use crate::kept_cargoes::KeptCargoes;
-use crate::links::{LinkSlot, place};
+use crate::links::{LinkParts, place};
 use crate::nodes::{NodeSlot, place as node_place};
 use crate::sim::Sim;
 use crate::topology::Topology;
@@ -213,30 +213,30 @@ impl NodeSlot {
     }
 }
 
-impl LinkSlot {
+impl LinkParts {
     /// How many packets were put into the lane in a life.
-    fn sent_count(&self, life: Life) -> usize
+    pub fn sent_count(&self, life: Life) -> usize
         ensures { result ≡ length (packets_of life (parcels_in self.now.put)) }
     {
         self.lane.sent_count(life)
     }
 
     /// The packets that were put into the lane in a life.
-    fn sent(&self, alloc: Global, life: Life) -> Result<Vec<Packet>, AllocError>
+    pub fn sent(&self, alloc: Global, life: Life) -> Result<Vec<Packet>, AllocError>
         ensures { IfOk result (λ v. v.items ≡ packets_of life (parcels_in self.now.put)) }
     {
         self.lane.sent(alloc, life)
     }
 
     /// How many packets of the peer the node's core stepped in a life.
-    fn taken_count(&self, life: Life) -> usize
+    pub fn taken_count(&self, life: Life) -> usize
         ensures { result ≡ length (packets_of life self.now.steps) }
     {
         count_kept(&self.steps, life)
     }
 
     /// The packets of the peer that the node's core stepped in a life.
-    fn taken(&self, alloc: Global, life: Life) -> Result<Vec<Packet>, AllocError>
+    pub fn taken(&self, alloc: Global, life: Life) -> Result<Vec<Packet>, AllocError>
         ensures { IfOk result (λ v. v.items ≡ packets_of life self.now.steps) }
     {
         let mut packets = Vec::new(alloc);

@@ -11,7 +11,7 @@ ghost use Rattle.tora_sim.specs.Links.{waiting};
 ghost use Rattle.tora_sim.specs.Store.{world_of};
 ghost use Rattle.tora_sim.specs.Resting.{is_idle};
 
-use crate::links::{LinkSlot, place};
+use crate::links::{LinkParts, place};
 use crate::nodes::{NodeSlot, place as node_place};
 use crate::sim::Sim;
 use tora_arq::Life;
@@ -144,9 +144,9 @@ fn is_life(life: Life, bound: Option<Life>) -> bool
     }
 }
 
-impl LinkSlot {
+impl LinkParts {
     /// Whether nothing waits in the lane or the end, and all that was submitted is acknowledged.
-    fn is_idle(&self) -> bool
+    pub fn is_idle(&self) -> bool
         ensures { result ≡ is_idle self.now }
     {
         self.has_no_cargo() && self.has_no_event() && self.has_no_packet()
@@ -176,7 +176,7 @@ impl LinkSlot {
     }
 
     /// The life that the end is bound in.
-    fn life(&self) -> Option<Life>
+    pub fn life(&self) -> Option<Life>
         ensures { result ≡ bound_life self.now.state }
     {
         self.end.life()

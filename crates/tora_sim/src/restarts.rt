@@ -4,7 +4,7 @@ ghost use Rattle.tora_sim.specs.Links.{AreChanged};
 ghost use Rattle.tora_sim.specs.Restarts.{AreFresh, restarted};
 
 use crate::SimError;
-use crate::links::LinkSlot;
+use crate::link_slot::LinkSlot;
 use std::alloc::Global;
 use tora_arq::LinkEnd;
 

@@ -4,7 +4,7 @@ ghost use Rattle.tora_sim.specs.Links.{LinkView, ticked, AreChanged};
 ghost use Rattle.tora_sim.specs.Plains.{ArePlainEach};
 ghost use Rattle.tora_sim.specs.Quiet.{IsStill, AreStillEach, AreStillFrom};
 
-use crate::links::LinkSlot;
+use crate::link_slot::LinkSlot;
 use crate::plains::forget_busy;
 use crate::stills::{Stills, block_count, ends_of, is_still_block, still_at};
 

@@ -7,7 +7,7 @@ ghost use Rattle.tora_sim.specs.Unready.{AreUnmarked};
 
 use crate::SimError;
 use crate::lanes::NodeLanes;
-use crate::links::LinkSlot;
+use crate::link_slot::LinkSlot;
 use crate::nodes::NodeSlot;
 use crate::ready::set_ready;
 use crate::stills::{Stills, keep_still};

@@ -1,0 +1,260 @@
+//! What HELLOs look at, of a link end at which nothing else is to be done.
+ghost use Rattle.std.specs.Prelude.{◌≡◌, ◌<◌, ◌≤◌, ◌||◌, ℕ, true, false, is_some, IfSome, IfNone};
+ghost use Rattle.tora_frame.specs.FrameParts.{IsHeader, frame_of};
+ghost use Rattle.tora_frame.specs.declared.parts.Body.TheVariants.{Hello};
+ghost use Rattle.tora_arq.specs.Settings.{Settings as EndSettings};
+ghost use Rattle.tora_arq.specs.StateView.{settings_in, state_in};
+ghost use Rattle.tora_arq.specs.LinkEnd.{EndState, after_frame, after_tick, after_transmit, frame_due};
+ghost use Rattle.tora_arq.specs.Still.{IsStillUntil};
+ghost use Rattle.tora_arq.specs.Steady.{IsSteady, resumed, header_of, owes_old, has_hello, is_at_ease, is_over, kept_of, on_send, is_told, steady_of, told_by, until_of};
+
+use crate::phase::Phase;
+use crate::settings::{Settings, ticks_passed};
+use crate::state::State;
+use crate::transmit::is_two;
+use tora_frame::{Header, Version};
+use tora_height::Id;
+
+/// What HELLOs look at, of a link end that is steady: it is open, it owes neither a HELLO at once nor an ACK, no packet of it waits for its
+/// acknowledgement, and it has no event to give. 64 bytes, where a link end has some 250.
+///
+/// Whoever keeps many link ends can keep these close together, and the ends apart: `LinkEnd::steady` gives what is kept of an end,
+/// the calls here do what the same calls of the end would do, and `LinkEnd::resume` makes of the end what they made of it, before any
+/// other call. Own profile.
+#[derive(Clone, Copy, Debug, PartialEq, Eq)]
+pub struct Steady {
+    /// The tick of the last HELLO, those of version 1 that follow one of version 2 apart.
+    pub said: u64,
+    /// The tick at which the peer was last heard.
+    pub heard: u64,
+    /// The own number of the life; 0 stands for no end.
+    pub own: u64,
+    /// The number of the peer: that of the bound life, or the greatest that was noted, 0 for none.
+    pub peer_life: u64,
+    /// How many ticks after a HELLO the next one is due.
+    pub hello: u64,
+    /// After how many ticks without hearing the peer the bound life ends.
+    pub silent: u64,
+    /// The node of the end.
+    pub me: Id,
+    /// The node at the other end.
+    pub peer: Id,
+    /// The newest version that the end speaks.
+    pub version: Version,
+    /// Whether a life is bound.
+    pub is_bound: bool,
+    /// The mark that the peer speaks version 2.
+    pub speaks_two: bool,
+    /// The last HELLO was one of version 2 that none of version 1 has followed.
+    pub owes_old_hello: bool,
+}
+
+impl Steady {
+    /// The same of no end.
+    pub fn none() -> Steady
+        ensures { result.own ≡ 0 }
+    {
+        Steady {
+            said: 0,
+            heard: 0,
+            own: 0,
+            peer_life: 0,
+            hello: 0,
+            silent: 0,
+            me: 0,
+            peer: 0,
+            version: Version::One,
+            is_bound: false,
+            speaks_two: false,
+            owes_old_hello: false,
+        }
+    }
+
+    /// The header of a HELLO.
+    #[inline(always)]
+    fn header(&self, version: Version) -> Header
+        ensures { result ≡ header_of self.now version }
+    {
+        Header {
+            version,
+            sender: self.me,
+            receiver: self.peer,
+            life: self.own,
+            heard: self.peer_life,
+        }
+    }
+
+    /// Whether a HELLO of version 1 follows one of version 2.
+    #[inline(always)]
+    fn owes_old(&self) -> bool
+        ensures { result ≡ owes_old self.now }
+    {
+        self.owes_old_hello && !self.speaks_two
+    }
+
+    /// Whether it is long enough since the last HELLO.
+    #[inline(always)]
+    fn has_hello(&self, now: u64) -> bool
+        ensures { result ≡ has_hello self.now now }
+    {
+        ticks_passed(self.said, now) >= self.hello
+    }
+
+    /// Takes the first HELLO that is due: its header.
+    #[inline(always)]
+    fn take_hello(&mut self, now: u64) -> Option<Header>
+        ensures header { result ≡ (on_send self.old now).0 }
+        ensures kept { self.new ≡ (on_send self.old now).1 }
+    {
+        if self.owes_old() {
+            self.owes_old_hello = false;
+            return Some(self.header(Version::One));
+        }
+        if self.has_hello(now) {
+            self.said = now;
+            self.owes_old_hello = is_two(self.version);
+            return Some(self.header(self.version));
+        }
+        None
+    }
+
+    /// Takes the first frame due, which is a HELLO: its header; `None` where none is due, as nothing else is due at a steady end.
+    #[inline(always)]
+    pub fn send_hello(&mut self, now: u64) -> Option<Header>
+        ensures frame { (s : EndSettings) (e : EndState) → IsSteady self.old s e → frame_due s (resumed self.old e) now ≡ told_by result }
+        ensures state { (s : EndSettings) (e : EndState) → IsSteady self.old s e → after_transmit s (resumed self.old e) now ≡ resumed self.new e }
+        ensures valid { (s : EndSettings) (e : EndState) → IsSteady self.old s e → IfSome result IsHeader }
+        ensures steady { (s : EndSettings) (e : EndState) → IsSteady self.old s e → IsSteady self.new s e }
+        ensures own { self.new.own ≡ self.old.own }
+        ensures none { IfNone result (self.new ≡ self.old) }
+    {
+        self.take_hello(now)
+    }
+
+    /// Takes a HELLO in where it is one of the bound life that changes nothing but when the peer was heard, and answers whether it is; else
+    /// nothing is changed, and the end itself has to take it.
+    #[inline(always)]
+    pub fn on_hello(&mut self, header: &Header, now: u64) -> bool
+        ensures taken { (s : EndSettings) (e : EndState) → IsSteady self.old s e → result ≡ true → after_frame s (resumed self.old e) (frame_of header.now Hello) now ≡ resumed self.new e }
+        ensures steady { (s : EndSettings) (e : EndState) → IsSteady self.old s e → IsSteady self.new s e }
+        ensures own { self.new.own ≡ self.old.own }
+        ensures same { result ≡ false → self.new ≡ self.old }
+    {
+        if !self.is_told(header) {
+            return false;
+        }
+        self.heard = now;
+        true
+    }
+
+    /// Whether a HELLO of this header says nothing but that the peer of the bound life is there.
+    #[inline(always)]
+    fn is_told(&self, header: &Header) -> bool
+        ensures { result ≡ is_told self.now header.now }
+    {
+        self.is_bound
+            && header.sender == self.peer
+            && header.receiver == self.me
+            && header.life == self.peer_life
+            && header.heard == self.own
+            && (self.speaks_two || !is_two(header.version))
+    }
+
+    /// Whether a frame is due.
+    #[inline(always)]
+    pub fn has_frame_due(&self, now: u64) -> bool
+        ensures { (s : EndSettings) (e : EndState) → IsSteady self.now s e → result ≡ is_some (frame_due s (resumed self.now e) now) }
+    {
+        self.owes_old() || self.has_hello(now)
+    }
+
+    /// Whether this tick ends no life, so that it changes nothing.
+    #[inline(always)]
+    pub fn is_calm(&self, now: u64) -> bool
+        ensures { (s : EndSettings) (e : EndState) → IsSteady self.now s e → result ≡ true → after_tick s (resumed self.now e) now ≡ resumed self.now e }
+    {
+        !self.is_over(now)
+    }
+
+    /// Whether the peer of a bound life was not heard for long enough.
+    #[inline(always)]
+    fn is_over(&self, now: u64) -> bool
+        ensures { result ≡ is_over self.now now }
+    {
+        self.is_bound && ticks_passed(self.heard, now) >= self.silent
+    }
+
+    /// The tick before which no frame is due and a tick changes nothing, unless something else happens at the end, and from which on a HELLO is
+    /// due or a tick ends the life; 0 where a HELLO is due at once.
+    #[inline(always)]
+    pub fn still_until(&self) -> u64
+        ensures exact { (s : EndSettings) (e : EndState) → IsSteady self.now s e → IsStillUntil s (resumed self.now e) result }
+        ensures frames { (s : EndSettings) (e : EndState) (tick : ℕ) → IsSteady self.now s e → tick < result → is_some (frame_due s (resumed self.now e) tick) ≡ false }
+        ensures ticks { (s : EndSettings) (e : EndState) (tick : ℕ) → IsSteady self.now s e → tick < result → after_tick s (resumed self.now e) tick ≡ resumed self.now e }
+    {
+        self.until()
+    }
+
+    /// The same, as a number alone.
+    #[inline(always)]
+    fn until(&self) -> u64
+        ensures { result ≡ until_of self.now }
+    {
+        if self.owes_old() {
+            return 0;
+        }
+        let hello = self.said.saturating_add(self.hello);
+        if !self.is_bound {
+            return hello;
+        }
+        hello.min(self.heard.saturating_add(self.silent))
+    }
+}
+
+impl State {
+    /// Whether nothing is owed but HELLOs in their time, no packet waits and no event does.
+    fn is_at_ease(&self, settings: &Settings) -> bool
+        ensures { result ≡ is_at_ease (settings_in settings.now) (state_in self.now) }
+    {
+        !self.owes_hello
+            && !self.owes_ack
+            && self.queue.len() == 0
+            && self.events.len() == 0
+            && (is_two(settings.version) || !self.speaks_two)
+    }
+
+    /// What is kept of an end that said its last HELLO at this tick.
+    fn kept(&self, settings: &Settings, said: u64, own: u64, is_bound: bool) -> Steady
+        ensures { result ≡ kept_of (settings_in settings.now) (state_in self.now) said own is_bound }
+    {
+        Steady {
+            said,
+            heard: self.last_hearing,
+            own,
+            peer_life: self.heard,
+            hello: settings.times.hello,
+            silent: settings.times.silent,
+            me: settings.me,
+            peer: settings.peer,
+            version: settings.version,
+            is_bound,
+            speaks_two: self.speaks_two,
+            owes_old_hello: self.owes_old_hello,
+        }
+    }
+
+    /// What HELLOs look at, where the end is steady.
+    pub fn steady(&self, settings: &Settings) -> Option<Steady>
+        ensures { result ≡ steady_of (settings_in settings.now) (state_in self.now) }
+    {
+        let said = self.last_hello?;
+        if !self.is_at_ease(settings) {
+            return None;
+        }
+        match self.phase {
+            Phase::Closed => None,
+            Phase::Unbound(own) => Some(self.kept(settings, said, own, false)),
+            Phase::Bound(life) => Some(self.kept(settings, said, life.own, true)),
+        }
+    }
+}

@@ -1,0 +1,11 @@
+use Rattle.tora_sim.proofs.links.LinkParts.still_unless.Goals as goal
+
+pub returns : goal.returns
+returns c some =
+    let plain = c.requires c.if-busy.false in record {
+      opened = plain.opened;
+      lane = plain.lane;
+      events = plain.events;
+      frames = c.quiet_end_until.ensures.frames;
+      ticks = c.quiet_end_until.ensures.ticks;
+    }

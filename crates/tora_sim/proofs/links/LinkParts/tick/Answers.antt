@@ -1,0 +1,15 @@
+use Rattle.std.proofs.Common.{ap, sym, ◌∙◌}
+use Rattle.tora_arq.specs.LinkEnd.{after_tick}
+use Rattle.tora_arq.specs.EndRange.{LinkEndView}
+use Rattle.tora_world.specs.World.{owner_of}
+use Rattle.tora_sim.proofs.Lasts.{tick_stays, stays_drawn}
+use Rattle.tora_sim.proofs.links.LinkParts.tick.Goals as goal
+
+pub invariant_of-self : goal.invariant_of-self
+invariant_of-self c =
+    let end = c.self.inside.end in (
+      stays_drawn end.state (after_tick end.settings end.state c.args.now) c.on_tick.new.self.state _ (ap (λ (e : LinkEndView). e.state) c.on_tick.ensures)
+          (tick_stays c.lives_are_bound_once.ensures.number end.settings end.state c.args.now) c.self.invariant.0,
+      c.self.invariant.1,
+      c.self.invariant.2 ∙ sym (ap (λ (e : LinkEndView). owner_of e.settings.me e.settings.peer) c.on_tick.ensures),
+    )

@@ -1,7 +1,0 @@
-use Rattle.tora_sim.proofs.links.LinkSlot.still_until.Goals as goal
-
-pub still_unless-requires : goal.still_unless-requires
-still_unless-requires c = c.is_busy.ensures
-
-pub returns : goal.returns
-returns c = c.still_unless.ensures

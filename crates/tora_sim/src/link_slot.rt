@@ -1,0 +1,423 @@
+//! The link ends of all nodes, as HELLOs see them.
+ghost use Rattle.std.specs.Prelude.{◌≡◌, ◌<◌, ◌≤◌, ◌+◌, ◌++◌, ◌∷◌, [], ℕ, true, false, IsTrue, IfSome, IfNone, OnOk, IfOk, IfErr, Some, length, is_some, nat_lt, slice_get};
+ghost use Rattle.tora_arq.specs.EndRange.{link_end_of};
+ghost use Rattle.tora_arq.specs.LinkEnd.{after_frame, after_poll_event, after_tick, after_transmit, bound_life, first_end, first_event, frame_due, is_closed};
+ghost use Rattle.tora_frame.specs.FrameParts.{IsHeader, frame_of};
+ghost use Rattle.tora_frame.specs.declared.parts.Body.{Body};
+ghost use Rattle.tora_seat.specs.Between.{after_cut_of_bound};
+ghost use Rattle.tora_seat.specs.declared.TheConstants.{MOST_CARGOES};
+ghost use Rattle.tora_world.specs.Lists.{packets_of, parcels_in};
+ghost use Rattle.tora_sim.specs.Lanes.{HasRoom, IsReady, after_offer_at, bare, has_place};
+ghost use Rattle.tora_sim.specs.Links.{after_arm, after_open_at, after_pull_at, is_at, with_state};
+ghost use Rattle.tora_sim.specs.Plains.{IsPlain};
+ghost use Rattle.tora_sim.specs.Quiet.{IsStillIf};
+ghost use Rattle.tora_sim.specs.Resting.{is_idle};
+ghost use Rattle.tora_sim.specs.Restarts.{restarted};
+ghost use Rattle.tora_sim.specs.SteadyLinks.{IsKept, is_none, shown};
+
+use crate::SimError;
+use crate::links::LinkParts;
+use std::alloc::{AllocError, Global};
+use std::marker::Model;
+use tora_arq::{Life, LinkEnd, LinkEvent, Steady};
+use tora_frame::{BorrowedFrame, Header, Packets};
+use tora_height::Id;
+use tora_life::DiskCall;
+use tora_packet::Packet;
+use tora_seat::Cargo;
+
+/// The end of a link at one node. While it is steady, what HELLOs look at is kept here, and all else stands in a place of its own: so the ends
+/// lie close together, and a HELLO that says nothing new looks at no more than a line or two of the cache.
+#[derive(Drop)]
+pub struct LinkSlot {
+    /// What is kept of the end while it is steady; else that of no end.
+    steady: Steady,
+    parts: Box<LinkParts>,
+}
+
+impl Model for LinkSlot {
+    ghost use Rattle.tora_sim.specs.Links.{LinkView};
+    ghost use Rattle.tora_sim.specs.SteadyLinks.{IsKept, shown};
+
+    ghost Value = { LinkView };
+
+    ghost view = { λ s. shown s.steady s.parts.value };
+
+    ghost invariant = { λ s. IsKept s.steady s.parts.value };
+}
+
+/// Makes of the parts what was kept of them, so that nothing is.
+#[inline(always)]
+fn wake(steady: &mut Steady, parts: &mut LinkParts)
+    requires { IsKept steady.old parts.old }
+    ensures parts { parts.new ≡ shown steady.old parts.old }
+    ensures none { is_none steady.new ≡ true }
+{
+    if steady.own == 0 {
+        return;
+    }
+    parts.resume(steady);
+    steady.own = 0;
+}
+
+/// Keeps what HELLOs look at, where the end is steady.
+#[inline(always)]
+fn keep(steady: &mut Steady, parts: &LinkParts)
+    requires { is_none steady.old ≡ true }
+    ensures shown { shown steady.new parts.now ≡ parts.now }
+    ensures kept { IsKept steady.new parts.now }
+{
+    if let Some(kept) = parts.steady() {
+        *steady = kept;
+    }
+}
+
+impl LinkSlot {
+    /// An end of these parts.
+    pub fn new(parts: Box<LinkParts>) -> LinkSlot
+        ensures { result ≡ parts.value }
+    {
+        LinkSlot {
+            steady: Steady::none(),
+            parts,
+        }
+    }
+
+    /// Its node and its peer, by which the ends are in order.
+    pub fn key(&self) -> (Id, Id)
+        ensures { result ≡ (self.now.node, self.now.peer) }
+    {
+        self.parts.key()
+    }
+
+    /// Whether it is the end of node `n` towards `k`.
+    pub fn is_end(&self, n: Id, k: Id) -> bool
+        ensures { result ≡ is_at n k self.now }
+    {
+        self.parts.is_end(n, k)
+    }
+
+    /// The place of the peer among the node's neighbours.
+    pub fn seat(&self) -> usize
+        ensures { result ≡ self.now.seat }
+    {
+        self.parts.seat()
+    }
+
+    /// Whether the end has to be opened.
+    pub fn is_closed(&self) -> bool
+        ensures { result ≡ is_closed self.now.state }
+    {
+        self.parts.is_closed()
+    }
+
+    /// The next event of the end, which stays.
+    pub fn next_event(&self) -> Option<LinkEvent>
+        ensures { result ≡ first_event self.now.state }
+    {
+        self.parts.next_event()
+    }
+
+    /// Whether a frame is due.
+    pub fn has_frame_due(&self, now: u64) -> bool
+        ensures { result ≡ is_some (frame_due self.now.settings self.now.state now) }
+    {
+        if self.steady.own == 0 {
+            return self.parts.has_frame_due(now);
+        }
+        self.steady.has_frame_due(now)
+    }
+
+    /// Takes the first frame due, whose packets are put into `packets`.
+    #[inline(always)]
+    pub fn send<'a>(&mut self, now: u64, packets: &'a mut Packets) -> Option<BorrowedFrame<'a>>
+        ensures frame { result ≡ frame_due self.old.settings self.old.state now }
+        ensures state { self.new ≡ with_state self.old (after_transmit self.old.settings self.old.state now) }
+    {
+        wake(&mut self.steady, &mut *self.parts);
+        self.parts.send(now, packets)
+    }
+
+    /// Takes the first frame due, where it is a HELLO: its header. Else nothing is changed.
+    #[inline(always)]
+    pub fn send_hello(&mut self, now: u64) -> Option<Header>
+        ensures frame { IfSome result (λ header. frame_due self.old.settings self.old.state now ≡ Some (frame_of header Body.Hello)) }
+        ensures state { IfSome result (λ _. self.new ≡ with_state self.old (after_transmit self.old.settings self.old.state now)) }
+        ensures valid { IfSome result (λ header. IsHeader header) }
+        ensures none { IfNone result (self.new ≡ self.old) }
+    {
+        if self.steady.own == 0 {
+            return self.send_first_hello(now);
+        }
+        self.steady.send_hello(now)
+    }
+
+    /// The same at an end of which nothing is kept: what can be is kept then.
+    #[inline(never)]
+    fn send_first_hello(&mut self, now: u64) -> Option<Header>
+        ensures frame { IfSome result (λ header. frame_due self.old.settings self.old.state now ≡ Some (frame_of header Body.Hello)) }
+        ensures state { IfSome result (λ _. self.new ≡ with_state self.old (after_transmit self.old.settings self.old.state now)) }
+        ensures valid { IfSome result (λ header. IsHeader header) }
+        ensures none { IfNone result (self.new ≡ self.old) }
+    {
+        wake(&mut self.steady, &mut *self.parts);
+        let header = self.parts.send_hello(now)?;
+        keep(&mut self.steady, &self.parts);
+        Some(header)
+    }
+
+    /// Takes a frame in, and tells whether the end is busy then, and before which tick nothing is to be done at it; 0 where something is to be
+    /// done at once.
+    #[inline(always)]
+    pub fn receive_and_look(&mut self, frame: &BorrowedFrame<'_>, now: u64) -> (bool, u64)
+        ensures state { self.new ≡ with_state self.old (after_frame self.old.settings self.old.state frame.now now) }
+        ensures plain { result.0 ≡ false → IsPlain self.new }
+        ensures still { IsStillIf result.1 self.new }
+    {
+        wake(&mut self.steady, &mut *self.parts);
+        self.parts.receive_and_look(frame, now)
+    }
+
+    /// Takes a HELLO in, by its header, and tells the same.
+    #[inline(always)]
+    pub fn receive_hello_and_look(&mut self, header: &Header, now: u64) -> (bool, u64)
+        requires { IsHeader header.now }
+        ensures state { self.new ≡ with_state self.old (after_frame self.old.settings self.old.state (frame_of header.now Body.Hello) now) }
+        ensures plain { result.0 ≡ false → IsPlain self.new }
+        ensures still { IsStillIf result.1 self.new }
+    {
+        if let Some(until) = self.hear(header, now) {
+            return (false, until);
+        }
+        self.receive_first_hello(header, now)
+    }
+
+    /// Takes a HELLO in by what is kept of the end, where it says nothing new, and tells before which tick nothing is to be done at it then;
+    /// `None` where it has to be taken in by the end itself, and then nothing is changed.
+    #[inline(always)]
+    fn hear(&mut self, header: &Header, now: u64) -> Option<u64>
+        ensures state { IfSome result (λ _. self.new ≡ with_state self.old (after_frame self.old.settings self.old.state (frame_of header.now Body.Hello) now)) }
+        ensures plain { IfSome result (λ _. IsPlain self.new) }
+        ensures still { IfSome result (λ until. IsStillIf until self.new) }
+        ensures none { IfNone result (self.new ≡ self.old) }
+    {
+        if self.steady.own == 0 {
+            return None;
+        }
+        if !self.steady.on_hello(header, now) {
+            return None;
+        }
+        Some(self.steady.still_until())
+    }
+
+    /// The same at an end of which nothing is kept, or where the HELLO says something new.
+    #[inline(never)]
+    fn receive_first_hello(&mut self, header: &Header, now: u64) -> (bool, u64)
+        requires { IsHeader header.now }
+        ensures state { self.new ≡ with_state self.old (after_frame self.old.settings self.old.state (frame_of header.now Body.Hello) now) }
+        ensures plain { result.0 ≡ false → IsPlain self.new }
+        ensures still { IsStillIf result.1 self.new }
+    {
+        wake(&mut self.steady, &mut *self.parts);
+        let seen = self.parts.receive_hello_and_look(header, now);
+        keep(&mut self.steady, &self.parts);
+        seen
+    }
+
+    /// Ticks the end, and tells whether it is closed then. One that isn't is as it was.
+    #[inline(always)]
+    pub fn tick_and_look(&mut self, now: u64) -> bool
+        ensures state { self.new ≡ with_state self.old (after_tick self.old.settings self.old.state now) }
+        ensures closed { result ≡ is_closed self.new.state }
+    {
+        if self.is_calm(now) {
+            return false;
+        }
+        self.tick_parts(now)
+    }
+
+    /// Whether it is seen by what is kept of the end that this tick changes nothing.
+    #[inline(always)]
+    fn is_calm(&self, now: u64) -> bool
+        ensures same { result ≡ true → after_tick self.now.settings self.now.state now ≡ self.now.state }
+        ensures open { result ≡ true → is_closed self.now.state ≡ false }
+    {
+        self.steady.own != 0 && self.steady.is_calm(now)
+    }
+
+    /// The same, whatever the tick changes.
+    #[inline(never)]
+    fn tick_parts(&mut self, now: u64) -> bool
+        ensures state { self.new ≡ with_state self.old (after_tick self.old.settings self.old.state now) }
+        ensures closed { result ≡ is_closed self.new.state }
+    {
+        wake(&mut self.steady, &mut *self.parts);
+        self.parts.tick_and_look(now)
+    }
+
+    /// Takes the first event.
+    pub fn take_event(&mut self) -> Option<LinkEvent>
+        ensures event { result ≡ first_event self.old.state }
+        ensures state { self.new ≡ with_state self.old (after_poll_event self.old.state) }
+    {
+        wake(&mut self.steady, &mut *self.parts);
+        self.parts.take_event()
+    }
+
+    /// Draws a number, and opens the closed end with it, if one is drawn.
+    pub fn open(&mut self, now: u64)
+        requires { IsTrue (is_closed self.old.state) }
+        ensures { self.new ≡ after_open_at self.old now }
+    {
+        wake(&mut self.steady, &mut *self.parts);
+        self.parts.open(now);
+    }
+
+    /// The next such call of the life file fails.
+    pub fn arm(&mut self, call: DiskCall)
+        ensures { self.new ≡ after_arm self.old call }
+    {
+        wake(&mut self.steady, &mut *self.parts);
+        self.parts.arm(call);
+    }
+
+    /// Cuts the bound life, if there is one.
+    pub fn cut_bound(&mut self)
+        ensures { self.new ≡ with_state self.old (after_cut_of_bound self.old.state (bound_life self.old.state)) }
+    {
+        wake(&mut self.steady, &mut *self.parts);
+        self.parts.cut_bound();
+    }
+
+    /// Whether a cargo waits in the lane.
+    pub fn has_cargo(&self) -> bool
+        ensures { result ≡ nat_lt self.now.pulled (length self.now.put) }
+    {
+        self.parts.has_cargo()
+    }
+
+    /// Takes a cargo of the lane, and submits its packet or cuts its life.
+    pub fn pull(&mut self)
+        requires { self.old.pulled < length self.old.put }
+        ensures { self.new ≡ after_pull_at self.old (slice_get self.old.put self.old.pulled) }
+    {
+        wake(&mut self.steady, &mut *self.parts);
+        self.parts.pull();
+    }
+
+    /// Takes the memory for all that one item of the node can put here: cargoes up to as many as a lane holds, and a packet that is stepped; and
+    /// answers whether no cargo waits in the lane.
+    ///
+    /// # Errors
+    /// `Memory`. The end is as it was either way.
+    pub fn make_ready(&mut self) -> Result<bool, SimError>
+        ensures same { bare self.new ≡ bare self.old }
+        ensures room { OnOk result (HasRoom self.new) }
+        ensures ready { IfOk result (λ known. known ≡ true → IsReady self.new) }
+        ensures memory { IfErr result (λ e. e ≡ SimError.Memory) }
+    {
+        wake(&mut self.steady, &mut *self.parts);
+        self.parts.make_ready()
+    }
+
+    /// Puts a cargo at the back of the lane, where fewer wait than it holds, and answers whether it was put.
+    pub fn offer(&mut self, cargo: Cargo) -> bool
+        requires { self.old.pulled + MOST_CARGOES ≤ self.old.room }
+        ensures put { result ≡ has_place self.old }
+        ensures lane { self.new ≡ after_offer_at self.old cargo result }
+    {
+        wake(&mut self.steady, &mut *self.parts);
+        self.parts.offer(cargo)
+    }
+
+    /// A fresh end of the same link.
+    ///
+    /// # Errors
+    /// `Memory`.
+    pub fn new_end(&self, alloc: Global) -> Result<LinkEnd, SimError>
+        ensures fresh { IfOk result (λ end. end ≡ link_end_of self.now.settings first_end) }
+        ensures memory { IfErr result (λ e. e ≡ SimError.Memory) }
+    {
+        self.parts.new_end(alloc)
+    }
+
+    /// Takes a fresh end in place of its own, which is behind `end` then, empties the lane, and opens the life file after
+    /// a crash of its disk.
+    pub fn restart(&mut self, end: &mut LinkEnd, torn: Option<[u8; 16]>)
+        requires { end.old ≡ link_end_of self.old.settings first_end }
+        ensures { self.new ≡ restarted torn self.old }
+    {
+        wake(&mut self.steady, &mut *self.parts);
+        self.parts.restart(end, torn);
+    }
+
+    /// Notes a packet of the peer that the node's core stepped, with its life.
+    pub fn note_step(&mut self, life: Life, packet: Packet)
+        requires { length self.old.steps < self.old.step_room }
+        ensures { self.new ≡ record self.old { steps = self.old.steps ++ record { life = life; packet = packet } ∷ [] } }
+    {
+        wake(&mut self.steady, &mut *self.parts);
+        self.parts.note_step(life, packet);
+    }
+
+    /// Whether more than a frame may be due here: the end is closed, a cargo waits in its lane, or it has an event to give. Else it is plain.
+    #[inline(always)]
+    pub fn is_busy(&self) -> bool
+        ensures { result ≡ false → IsPlain self.now }
+    {
+        self.steady.own == 0 && self.parts.is_busy()
+    }
+
+    /// Before which tick nothing is to be done here; 0 where something is to be done at once.
+    #[inline(always)]
+    pub fn still_until(&self) -> u64
+        ensures { IsStillIf result self.now }
+    {
+        if self.steady.own == 0 {
+            return self.parts.still_until();
+        }
+        self.steady.still_until()
+    }
+
+    /// Whether nothing waits in the lane or the end, and all that was submitted is acknowledged.
+    pub fn is_idle(&self) -> bool
+        ensures { result ≡ is_idle self.now }
+    {
+        self.parts.is_idle()
+    }
+
+    /// The life that the end is bound in.
+    pub fn life(&self) -> Option<Life>
+        ensures { result ≡ bound_life self.now.state }
+    {
+        self.parts.life()
+    }
+
+    /// How many packets were put into the lane in a life.
+    pub fn sent_count(&self, life: Life) -> usize
+        ensures { result ≡ length (packets_of life (parcels_in self.now.put)) }
+    {
+        self.parts.sent_count(life)
+    }
+
+    /// The packets that were put into the lane in a life.
+    pub fn sent(&self, alloc: Global, life: Life) -> Result<Vec<Packet>, AllocError>
+        ensures { IfOk result (λ v. v.items ≡ packets_of life (parcels_in self.now.put)) }
+    {
+        self.parts.sent(alloc, life)
+    }
+
+    /// How many packets of the peer the node's core stepped in a life.
+    pub fn taken_count(&self, life: Life) -> usize
+        ensures { result ≡ length (packets_of life self.now.steps) }
+    {
+        self.parts.taken_count(life)
+    }
+
+    /// The packets of the peer that the node's core stepped in a life.
+    pub fn taken(&self, alloc: Global, life: Life) -> Result<Vec<Packet>, AllocError>
+        ensures { IfOk result (λ v. v.items ≡ packets_of life self.now.steps) }
+    {
+        self.parts.taken(alloc, life)
+    }
+}
