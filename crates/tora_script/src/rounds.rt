@@ -228,7 +228,17 @@ fn transmit_known_ends<S: Simulator>(
     requires { AreKnown known ends.now (S.world sim.old) }
     ensures { IfOk result (λ some. Happened (S.world sim.old) (each (λ e. repeats most (end_event EndTurn.Transmit e)) ends.now (S.world sim.old)) (S.world sim.new) some) }
 {
-    turn_known_ends(sim, known, ends, EndTurn::Transmit, most)
+    if sim.is_quiet() {
+        return Ok(false);
+    }
+    let mut some = false;
+    let mut place = next_place(sim, known, ends, EndTurn::Transmit, 0);
+    while place < ends.len() {
+        let any = sim.transmit(place, ends[place], most)?;
+        some = either(some, any);
+        place = next_place(sim, known, ends, EndTurn::Transmit, place + 1);
+    }
+    Ok(some)
 }
 
 /// Whether it is known that these are the link ends of the simulator, and may be used: it isn't asked where nothing is to be done.
