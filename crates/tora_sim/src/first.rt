@@ -238,12 +238,8 @@ fn new_parts(
         return Err(SimError::Memory);
     };
     let file = apart(alloc, open(MemDisk::new(), Owner { node: n, peer: k }))?;
-    let Ok(lane) = Lane::new(alloc) else {
-        return Err(SimError::Memory);
-    };
-    let Ok(steps) = KeptCargoes::new(alloc) else {
-        return Err(SimError::Memory);
-    };
+    let lane = Lane::new(alloc);
+    let steps = KeptCargoes::new(alloc);
     Ok(LinkParts {
         seat,
         end,

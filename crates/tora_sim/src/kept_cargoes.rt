@@ -30,82 +30,8 @@ pub enum KeptCargo {
 }
 
 /// Cargoes in the order in which they came.
-///
-/// Their lists stand in a place of their own, since they are seldom looked at: so link ends lie close together.
 #[derive(Drop)]
 pub struct KeptCargoes {
-    lists: Box<KeptLists>,
-    /// Whether it is known that there is room for one more, so that the lists need not be looked at.
-    spare: bool,
-}
-
-impl Model for KeptCargoes {
-    ghost use Rattle.tora_sim.specs.KeptCargoes.{CargoList};
-    ghost use Rattle.std.specs.Prelude.{◌≡◌, ◌<◌, true};
-
-    ghost Value = { CargoList };
-
-    ghost view = { λ s. s.lists.value };
-
-    ghost invariant = { λ s. s.spare ≡ true → 0 < s.lists.value.places };
-}
-
-impl KeptCargoes {
-    /// No cargoes.
-    ///
-    /// # Errors
-    /// Want of memory.
-    pub fn new(alloc: Global) -> Result<KeptCargoes, AllocError>
-        ensures { IfOk result (λ kept. kept.items ≡ []) }
-    {
-        let lists = Box::new(alloc, KeptLists::new(alloc))?;
-        Ok(KeptCargoes {
-            lists,
-            spare: false,
-        })
-    }
-
-    /// How many there are.
-    pub fn len(&self) -> usize
-        ensures len { result ≡ length self.now.items }
-        ensures most { result < 2 ^ 63 }
-    {
-        self.lists.len()
-    }
-
-    /// Makes room for one more.
-    pub fn reserve(&mut self) -> Result<(), AllocError>
-        ensures items { self.new.items ≡ self.old.items }
-        ensures room { OnOk result (0 < self.new.places) }
-    {
-        if self.spare {
-            return Ok(());
-        }
-        self.lists.reserve()?;
-        self.spare = true;
-        Ok(())
-    }
-
-    /// Appends a cargo. There must be room for it.
-    pub fn push(&mut self, cargo: &Cargo)
-        requires { 0 < self.old.places }
-        ensures { self.new ≡ record self.old { items = self.old.items ++ cargo.now ∷ []; places = self.old.places - 1 } }
-    {
-        self.spare = false;
-        self.lists.push(cargo);
-    }
-
-    /// The cargo that stands behind so many others.
-    pub fn get(&self, place: usize) -> Option<Cargo>
-        ensures { result ≡ slice_get self.now.items place }
-    {
-        self.lists.get(place)
-    }
-}
-
-/// The lists of them.
-#[derive(Drop)]
-struct KeptLists {
     cargoes: Vec<KeptCargo>,
     lives: Vec<Life>,
     apart: Vec<Cargo>,
@@ -115,7 +41,7 @@ struct KeptLists {
     last: Life,
 }
 
-impl Model for KeptLists {
+impl Model for KeptCargoes {
     ghost use Rattle.std.specs.Prelude.{◌≡◌, ◌<◌, ◌^◌, true, map, vec_len, vec_capacity};
     ghost use Rattle.std.specs.List.{AllByRecursion};
     ghost use Rattle.tora_sim.specs.KeptCargoes.{CargoList, IsKeptCargo, IsLastLife, cargo_in, one_if};
@@ -132,12 +58,12 @@ impl Model for KeptLists {
         × IsLastLife s.last s.lives.items };
 }
 
-impl KeptLists {
+impl KeptCargoes {
     /// No cargoes.
-    fn new(alloc: Global) -> KeptLists
+    pub fn new(alloc: Global) -> KeptCargoes
         ensures { result.items ≡ [] }
     {
-        KeptLists {
+        KeptCargoes {
             cargoes: Vec::new(alloc),
             lives: Vec::new(alloc),
             apart: Vec::new(alloc),
@@ -147,7 +73,7 @@ impl KeptLists {
     }
 
     /// How many there are.
-    fn len(&self) -> usize
+    pub fn len(&self) -> usize
         ensures len { result ≡ length self.now.items }
         ensures most { result < 2 ^ 63 }
     {
@@ -155,7 +81,7 @@ impl KeptLists {
     }
 
     /// Makes room for one more.
-    fn reserve(&mut self) -> Result<(), AllocError>
+    pub fn reserve(&mut self) -> Result<(), AllocError>
         ensures items { self.new.items ≡ self.old.items }
         ensures room { OnOk result (0 < self.new.places) }
     {
@@ -173,7 +99,7 @@ impl KeptLists {
     }
 
     /// Appends a cargo. There must be room for it.
-    fn push(&mut self, cargo: &Cargo)
+    pub fn push(&mut self, cargo: &Cargo)
         requires { 0 < self.old.places }
         ensures { self.new ≡ record self.old { items = self.old.items ++ cargo.now ∷ []; places = self.old.places - 1 } }
     {
@@ -184,7 +110,7 @@ impl KeptLists {
     }
 
     /// The cargo that stands behind so many others.
-    fn get(&self, place: usize) -> Option<Cargo>
+    pub fn get(&self, place: usize) -> Option<Cargo>
         ensures { result ≡ slice_get self.now.items place }
     {
         let Some(kept) = self.cargoes.get(place) else {

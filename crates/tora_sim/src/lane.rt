@@ -38,18 +38,15 @@ impl Model for Lane {
 
 impl Lane {
     /// An empty lane.
-    ///
-    /// # Errors
-    /// Want of memory.
-    pub fn new(alloc: Global) -> Result<Lane, AllocError>
-        ensures { IfOk result (λ lane. (lane.put ≡ []) × (lane.pulled ≡ 0)) }
+    pub fn new(alloc: Global) -> Lane
+        ensures put { result.put ≡ [] }
+        ensures pulled { result.pulled ≡ 0 }
     {
-        let past = KeptCargoes::new(alloc)?;
-        Ok(Lane {
-            past,
+        Lane {
+            past: KeptCargoes::new(alloc),
             cargoes: Vec::new(alloc),
             taken: 0,
-        })
+        }
     }
 
     /// Whether a cargo waits.

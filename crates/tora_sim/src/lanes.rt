@@ -49,6 +49,7 @@ impl OutLanes for NodeLanes {
 
 impl NodeLanes {
     /// The lanes of the node whose `count` ends stand from the place `first` on. Those of them that are not `unready` are ready.
+    #[inline(always)]
     pub fn new(links: Vec<LinkSlot>, first: usize, count: usize, unready: Unready) -> NodeLanes
         requires { AreReady (lanes_of links.items first count) unready }
         ensures { result ≡ lanes_of links.items first count }
@@ -63,6 +64,7 @@ impl NodeLanes {
 
     /// The ends, with the packet that was stepped, if one was, noted at the end at a place of the node. Those of the node outside which each
     /// is ready are put into `unready`.
+    #[inline(always)]
     pub fn into_links(
         self,
         place: usize,

@@ -41,7 +41,7 @@ const FEW: usize = 8;
 /// the link end.
 #[derive(Drop)]
 pub struct LinkParts {
-    /// In a place of its own, since it is seldom looked at: so the ends lie close together.
+    /// In a place of its own, since it is seldom looked at.
     pub(crate) file: Box<FileSlot>,
     /// The packets of the peer that the node's core ever stepped, each with its life.
     pub(crate) steps: KeptCargoes,

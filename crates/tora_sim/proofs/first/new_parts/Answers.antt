@@ -23,6 +23,6 @@ pub invariant_of-result : goal.invariant_of-result
 invariant_of-result c =
     let last : c.in-Ok.end.state.last_life ≡ 0 = ap (λ (e : LinkEndView). e.state.last_life) c.in-Ok.ensures in (
       subst (λ (n : ℕ). IsDrawn n (disk_of c.in_ok-file.file.value)) (sym last) (drawn_none (disk_of c.in_ok-file.file.value)),
-      omega (arith, c.in-Ok-new.ensures.1),
+      omega (arith, c.new-lane.ensures.pulled),
       ap owner_in (ap disk_of c.in_ok-file.ensures ∙ c.open.ensures) ∙ same_owner _ _ _ ∙ sym (ap (λ (e : LinkEndView). owner_of e.settings.me e.settings.peer) c.in-Ok.ensures),
     )

@@ -4,7 +4,7 @@ use Rattle.tora_sim.specs.KeptCargoes.{CargoList, one_if}
 use Rattle.tora_sim.proofs.SentFrames.{within}
 use Rattle.tora_sim.specs.KeptCargoes.{life_of}
 use Rattle.tora_sim.proofs.KeptCargoes.{pushed, pushed_kept}
-use Rattle.tora_sim.proofs.kept_cargoes.KeptLists.push.Goals as goal
+use Rattle.tora_sim.proofs.kept_cargoes.KeptCargoes.push.Goals as goal
 
 pub invariant_of-self : goal.invariant_of-self
 invariant_of-self c =
