@@ -9,8 +9,8 @@ use crate::session::{FileKind, LONGEST_LINE, Session};
 use crate::text::numbered;
 use crate::words::{LineError, place};
 use std::alloc::{AllocError, Global};
-use std::io;
 use std::io::{ErrorKind, Read, Write};
+use std::{io, mem};
 
 /// The most times that a reader is asked. Own profile.
 pub const MOST_READS: u64 = 0x1_0000_0000;
@@ -237,6 +237,51 @@ pub fn read_lines<K: FileKind, R: Read, W: Write>(
         IsFrontOfText (text_of K.kind state 1) (R.remaining reader.old) (R.remaining reader.new) (W.contents writer.old) (W.contents writer.new)) }
 {
     let mut session = Session::new(alloc, state);
+    read_session(alloc, &mut session, reader, writer)
+}
+
+/// Reads the lines of a file as `read_lines` does, for a program that ends behind it: what the state took is left to the system, and not given
+/// back piece by piece, which takes time where it is much.
+///
+/// # Errors
+/// Those of `read_lines`.
+pub fn read_last_lines<K: FileKind, R: Read, W: Write>(
+    alloc: Global,
+    state: K,
+    reader: &mut R,
+    writer: &mut W,
+) -> Result<Ended, ReplayError>
+    ensures whole { IfOk result (λ ended. IfSome (R.remaining reader.old) (λ input.
+        IsWholeText (text_of K.kind state 1) input (W.contents writer.old) (W.contents writer.new) ended)) }
+    ensures at_end { result ≡ Ok Ended.Whole → IsAtEnd (R.remaining reader.new) }
+    ensures begun { IfErr result (λ e. e ≢ ReplayError.Write →
+        IsFrontOfText (text_of K.kind state 1) (R.remaining reader.old) (R.remaining reader.new) (W.contents writer.old) (W.contents writer.new)) }
+{
+    let mut session = Session::new(alloc, state);
+    let ended = read_session(alloc, &mut session, reader, writer);
+    mem::forget(session);
+    ended
+}
+
+/// Reads the lines of a file as `read_lines` does, in a session that stays with its owner: it is before the first line.
+///
+/// # Errors
+/// `Memory` where memory was refused; `Read` where a read failed, or 2^32 reads came to no end; `Write` where a write
+/// failed. No line is taken in part.
+fn read_session<K: FileKind, R: Read, W: Write>(
+    alloc: Global,
+    session: &mut Session<K>,
+    reader: &mut R,
+    writer: &mut W,
+) -> Result<Ended, ReplayError>
+    // What was written is the text of the whole input, and the input ends so.
+    ensures whole { IfOk result (λ ended. IfSome (R.remaining reader.old) (λ input.
+        IsWholeText (text_of K.kind session.old.state 1) input (W.contents writer.old) (W.contents writer.new) ended)) }
+    ensures at_end { result ≡ Ok Ended.Whole → IsAtEnd (R.remaining reader.new) }
+    // What was written begins the text of what was read.
+    ensures begun { IfErr result (λ e. e ≢ ReplayError.Write →
+        IsFrontOfText (text_of K.kind session.old.state 1) (R.remaining reader.old) (R.remaining reader.new) (W.contents writer.old) (W.contents writer.new)) }
+{
     let mut number = 1u64;
     let Ok(mut pending) = Vec::with_capacity(alloc, LONGEST_LINE) else {
         return Err(ReplayError::Memory);
@@ -248,11 +293,11 @@ pub fn read_lines<K: FileKind, R: Read, W: Write>(
         match read_some(reader, &mut chunk) {
             Ok(n) => {
                 if n == 0 {
-                    return finish(alloc, &mut session, number, writer, pending.as_slice());
+                    return finish(alloc, session, number, writer, pending.as_slice());
                 }
                 let goes = take_chunk(
                     alloc,
-                    &mut session,
+                    session,
                     &mut number,
                     writer,
                     &mut pending,

@@ -23,7 +23,7 @@ mod text;
 pub mod words;
 
 pub use ended::{Ended, ReplayError};
-pub use engine::{MOST_READS, read_lines};
+pub use engine::{MOST_READS, read_last_lines, read_lines};
 pub use flushing::flushed;
 pub use fronts::{after, behind};
 pub use output::Output;

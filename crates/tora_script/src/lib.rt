@@ -48,4 +48,6 @@ pub use simulation_file::{
     first_line, simulate_in, simulation_fault_is_the_first, take_link, take_old,
 };
 pub use simulator::Simulator;
-pub use told_simulation::{Told, simulate_telling, simulate_told, tell_cause};
+pub use told_simulation::{
+    Told, simulate_telling, simulate_telling_last, simulate_told, tell_cause,
+};

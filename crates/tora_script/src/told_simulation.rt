@@ -20,7 +20,7 @@ use tora_arq::Times;
 use tora_channel::ChannelTable;
 use tora_height::Id;
 use tora_lines::words::LineError;
-use tora_lines::{Ended, FileKind, ReplayError, read_lines};
+use tora_lines::{Ended, FileKind, ReplayError, read_last_lines, read_lines};
 use tora_world::Event;
 
 /// A simulation file, and where is told why a line is a fault and, where it is verbose, why an event is refused.
@@ -123,6 +123,35 @@ pub fn simulate_telling<S: Simulator, T: Eprint, R: Read, W: Write>(
         state: Simulation::with_table(setup, table),
     };
     read_lines(alloc, state, reader, writer)
+}
+
+/// Simulates as `simulate_telling` does, for a program that ends behind it: what the world took is left to the system, and not given back piece by
+/// piece, which for a world of a thousand nodes takes a tenth of the time.
+#[tactic(auto, unfolding(tora_lines::specs::Engine::text_of))]
+pub fn simulate_telling_last<S: Simulator, T: Eprint, R: Read, W: Write>(
+    rt: &T,
+    alloc: Global,
+    setup: Setup,
+    table: ChannelTable,
+    reader: &mut R,
+    writer: &mut W,
+    is_verbose: bool,
+) -> Result<Ended, ReplayError>
+    requires { IsTimes setup.times }
+    ensures whole { IfOk result (λ ended. IfSome (R.remaining reader.old) (λ input.
+        SimulatesWith setup (lines_of table) input (W.contents writer.old) (W.contents writer.new) ended)) }
+    ensures at_end { result ≡ Ok Ended.Whole → IsAtEnd (R.remaining reader.new) }
+    ensures fault { IfOk result (λ ended. IfSome (R.remaining reader.old) (λ input. fault_of ended ≡ first_fault_with setup (lines_of table) input)) }
+    ensures begun { IfErr result (λ e. e ≢ ReplayError.Write →
+        IsBegunWith setup (lines_of table) (R.remaining reader.old) (R.remaining reader.new) (W.contents writer.old) (W.contents writer.new)) }
+{
+    let state: Told<'_, S, T> = Told {
+        rt,
+        is_verbose,
+        number: 0,
+        state: Simulation::with_table(setup, table),
+    };
+    read_last_lines(alloc, state, reader, writer)
 }
 
 /// Simulates with these times of each link end, and tells on standard error why an event is refused and why a line is a fault, unless it is too long.

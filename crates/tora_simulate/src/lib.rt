@@ -12,7 +12,7 @@ mod simulated;
 mod statuses;
 mod telling;
 
-pub use flushing::simulate_telling_and_flush;
+pub use flushing::{simulate_last_and_flush, simulate_telling_and_flush};
 pub use simulated::{simulate, simulate_with};
 pub use statuses::{INPUT, LIFE, MEMORY, SOCKET, USAGE, status, stop};
 pub use telling::{tell, tell_at};

@@ -6,7 +6,7 @@ ghost use Rattle.tora_arq.specs.Settings.{IsTimes};
 ghost use Rattle.tora_channel.specs.Table.{lines_of};
 ghost use Rattle.tora_script.specs.SimulationText.{rules_with};
 
-use crate::flushing::simulate_telling_and_flush;
+use crate::flushing::simulate_last_and_flush;
 use crate::statuses::{INPUT, MEMORY, status, stop};
 use crate::telling::{tell as tell_error, tell_at};
 use std::io::{ErrorKind, Read};
@@ -45,7 +45,8 @@ pub fn tell<T: Eprint, R: Read>(rt: &T, reader: &Recent<R>, ended: Result<Ended,
 
 /// Simulates the lines that a reader gives, in a world that is made with this and over a channel that the lines of a table
 /// change, and ends with a status: 0 at its end, 1 where a line is a fault or reading or writing failed, 5 where memory was
-/// refused. It says why a line is a fault and what failed, and with `is_verbose` why events are refused.
+/// refused. It says why a line is a fault and what failed, and with `is_verbose` why events are refused. The program ends behind it: what the
+/// world took is not given back.
 pub fn run_over<S: Simulator, T: AllocGlobal + Eprint, R: Read + Drop, W: Output>(
     rt: &T,
     setup: Setup,
@@ -59,7 +60,7 @@ pub fn run_over<S: Simulator, T: AllocGlobal + Eprint, R: Read + Drop, W: Output
 {
     let alloc = rt.alloc();
     let mut reader = Recent::new(alloc, reader);
-    let result = simulate_telling_and_flush::<S, T, Recent<R>, W>(
+    let result = simulate_last_and_flush::<S, T, Recent<R>, W>(
         rt,
         alloc,
         setup,
