@@ -73,6 +73,7 @@ impl Sim {
         for n in named.as_slice() {
             add_node(alloc, &own, &lists, times, *n, &mut nodes, &mut links)?;
         }
+        let links = slots_of(alloc, links)?;
         let count = links.len();
         let stills = no_stills(alloc, count)?;
         let plains = no_stills(alloc, count)?;
@@ -110,7 +111,7 @@ fn add_node(
     times: Times,
     n: Id,
     nodes: &mut Vec<NodeSlot>,
-    links: &mut Vec<LinkSlot>,
+    links: &mut Vec<LinkParts>,
 ) -> Result<(), SimError>
     requires lists { AreRowsOf topology.now (rows_in lists.now.items) }
     requires times { IsTimes times }
@@ -177,7 +178,7 @@ fn add_links(
     times: Times,
     n: Id,
     peers: &[Id],
-    links: &mut Vec<LinkSlot>,
+    links: &mut Vec<LinkParts>,
 ) -> Result<(), SimError>
     requires times { IsTimes times }
     requires me { 0 < n }
@@ -188,7 +189,7 @@ fn add_links(
     numbers_are_put_in_order();
     let version = topology.version_of(n);
     for seat in 0..peers.len() {
-        let link = new_link(alloc, version, times, n, peers[seat], seat)?;
+        let link = new_parts(alloc, version, times, n, peers[seat], seat)?;
         match links.push(link) {
             Ok(()) => {}
             Err(_) => return Err(SimError::Memory),
@@ -197,26 +198,25 @@ fn add_links(
     Ok(())
 }
 
-/// The end of a link at its start.
-fn new_link(
-    alloc: Global,
-    version: Version,
-    times: Times,
-    n: Id,
-    k: Id,
-    seat: usize,
-) -> Result<LinkSlot, SimError>
-    requires times { IsTimes times }
-    requires me { 0 < n }
-    requires peer { 0 < k }
-    requires other { n ≢ k }
-    ensures { MatchResult result (λ link. IsFirstEnd version times n k seat link) (λ e. e ≡ SimError.Memory) }
+/// Link ends of these parts, in their order. They are put apart only once all are made, so that the parts lie close together, too, and not each beside
+/// what its end takes for its queues.
+///
+/// # Errors
+/// `Memory`.
+fn slots_of(alloc: Global, parts: Vec<LinkParts>) -> Result<Vec<LinkSlot>, SimError>
+    ensures { MatchResult result (λ slots. slots.items ≡ parts.items) (λ e. e ≡ SimError.Memory) }
 {
-    let parts = new_parts(alloc, version, times, n, k, seat)?;
-    match Box::new(alloc, parts) {
-        Ok(parts) => Ok(LinkSlot::new(parts)),
-        Err(_) => Err(SimError::Memory),
+    let mut slots = Vec::new(alloc);
+    for part in parts {
+        let Ok(part) = Box::new(alloc, part) else {
+            return Err(SimError::Memory);
+        };
+        match slots.push(LinkSlot::new(part)) {
+            Ok(()) => {}
+            Err(_) => return Err(SimError::Memory),
+        }
     }
+    Ok(slots)
 }
 
 /// What stands at the end of a link at its start.

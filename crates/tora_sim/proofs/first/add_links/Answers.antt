@@ -8,14 +8,14 @@ use Rattle.tora_sim.proofs.Peers.{positive-peer, other-peer}
 use Rattle.tora_sim.proofs.FirstLists.{first-link, keys-more}
 use Rattle.tora_sim.proofs.first.add_links.Goals as goal
 
-pub new_link-requires-clause-peer : goal.new_link-requires-clause-peer
-new_link-requires-clause-peer c =
+pub new_parts-requires-clause-peer : goal.new_parts-requires-clause-peer
+new_parts-requires-clause-peer c =
     let same : c.args.peers.now ≡ neighbours_of c.args.topology.now c.args.n = c.requires.peers in
     let lt : c.loop-seat.seat < length (neighbours_of c.args.topology.now c.args.n) = subst (λ (ns : List ℕ). c.loop-seat.seat < length ns) same c.loop-seat-test.true in
     subst (λ (ns : List ℕ). 0 < get_or ns c.loop-seat.seat 0) (sym same) (positive-peer c.args.topology.now c.requires.kept c.args.n c.loop-seat.seat 0 lt)
 
-pub new_link-requires-clause-other : goal.new_link-requires-clause-other
-new_link-requires-clause-other c =
+pub new_parts-requires-clause-other : goal.new_parts-requires-clause-other
+new_parts-requires-clause-other c =
     let same : c.args.peers.now ≡ neighbours_of c.args.topology.now c.args.n = c.requires.peers in
     let lt : c.loop-seat.seat < length (neighbours_of c.args.topology.now c.args.n) = subst (λ (ns : List ℕ). c.loop-seat.seat < length ns) same c.loop-seat-test.true in
     subst (λ (ns : List ℕ). c.args.n ≢ get_or ns c.loop-seat.seat 0) (sym same) (other-peer c.args.topology.now c.requires.kept c.args.n c.loop-seat.seat 0 lt)
