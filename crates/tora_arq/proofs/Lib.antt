@@ -14,3 +14,4 @@ pub mod FloodLemmas
 pub mod DueLemmas
 pub mod StillLemmas
 pub mod SteadyLemmas
+pub mod NearLemmas

@@ -1,32 +1,28 @@
 //! The events of a link end that wait to be polled.
 ghost use Rattle.std.specs.Prelude.{◌≡◌, ◌<◌, ◌≤◌, ◌-◌, [], ◌∷◌, ◌++◌, length, drop, slice_get, nat_lt, IfOk};
 
-use crate::fifo::{make_place, take_first};
-use crate::{EVENT_PLACES, LinkEvent, PLACES_OF_A_FRAME};
+use crate::near_queue::NearQueue;
+use crate::{EVENT_PLACES, Life, LinkEvent, PLACES_OF_A_FRAME};
 use std::alloc::{AllocError, Global};
 use std::marker::Model;
 use tora_packet::Packet;
 
 /// Events in the order in which they came, `EVENT_PLACES` at most.
-///
-/// They stand in a list behind those that were polled.
 #[derive(Debug, Drop)]
 pub struct EventQueue {
-    /// How many of the events were polled.
-    polled: usize,
-    events: Vec<LinkEvent>,
+    events: NearQueue<LinkEvent, EVENT_PLACES>,
 }
 
 impl Model for EventQueue {
-    ghost use Rattle.std.specs.Prelude.{◌≤◌, List, drop, length, vec_capacity};
+    ghost use Rattle.std.specs.Prelude.{◌≤◌, List, length};
     ghost use Rattle.tora_arq.specs.declared.link_event.LinkEvent.{LinkEvent};
     ghost use Rattle.tora_arq.specs.declared.TheConstants.{EVENT_PLACES};
 
     ghost Value = { List LinkEvent };
 
-    ghost view = { λ q. drop q.polled q.events.items };
+    ghost view = { λ q. q.events };
 
-    ghost invariant = { λ q. (q.polled ≤ length q.events.items) × (length q.events.items ≤ EVENT_PLACES) × (EVENT_PLACES ≤ vec_capacity q.events) };
+    ghost invariant = { λ q. length q.events ≤ EVENT_PLACES };
 }
 
 impl EventQueue {
@@ -34,8 +30,9 @@ impl EventQueue {
     pub fn new(alloc: Global) -> Result<EventQueue, AllocError>
         ensures { IfOk result (λ q. q ≡ []) }
     {
-        let events = Vec::with_capacity(alloc, EVENT_PLACES)?;
-        Ok(EventQueue { events, polled: 0 })
+        let any = LinkEvent::Up(Life { own: 0, peer: 0 });
+        let events = NearQueue::new(alloc, any)?;
+        Ok(EventQueue { events })
     }
 
     /// How many wait.
@@ -43,7 +40,7 @@ impl EventQueue {
         ensures length { result ≡ length self.now }
         ensures most { result ≤ EVENT_PLACES }
     {
-        self.events.len() - self.polled
+        self.events.len()
     }
 
     /// Whether there is too little room for what a frame may give.
@@ -60,15 +57,17 @@ impl EventQueue {
     {
         // The check has to meet the type of packets where an event is passed on.
         let _none: Option<Packet> = None;
-        make_place(&mut self.events, &mut self.polled, EVENT_PLACES);
-        self.events.push_reserved(event);
+        self.events.push(event);
     }
 
     /// The first event.
     pub fn first(&self) -> Option<LinkEvent>
         ensures { result ≡ slice_get self.now 0 }
     {
-        self.events.get(self.polled).copied()
+        if self.events.len() == 0 {
+            return None;
+        }
+        Some(self.events.at(0))
     }
 
     /// Removes the first event.
@@ -79,7 +78,7 @@ impl EventQueue {
         let Some(event) = self.first() else {
             return None;
         };
-        take_first(&mut self.events, &mut self.polled, 1);
+        self.events.remove_first(1);
         Some(event)
     }
 }

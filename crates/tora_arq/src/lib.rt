@@ -29,6 +29,7 @@ mod held;
 mod life;
 mod link_end;
 mod link_event;
+mod near_queue;
 mod phase;
 mod queue;
 mod queued_packet;

@@ -5,7 +5,7 @@ ghost use Rattle.tora_arq.specs.SendQueue.{untried, retried, is_retry_time, is_r
 ghost use Rattle.tora_arq.specs.EndRange.{AreUntried};
 ghost use Rattle.tora_arq.specs.NextDue.{has_begun, is_packet_due};
 
-use crate::fifo::{make_place, take_first};
+use crate::near_queue::NearQueue;
 use crate::queued_packet::QueuedPacket;
 use crate::settings::{earlier, tick_behind, ticks_passed};
 use crate::{QUEUE_PLACES, Times, WINDOW};
@@ -17,22 +17,19 @@ use tora_packet::Packet;
 /// The packets that were submitted and are not acknowledged, in order, `QUEUE_PLACES` at most.
 #[derive(Debug, Drop)]
 pub struct SendQueue {
-    /// The packets, behind those that left.
-    packets: Vec<QueuedPacket>,
-    /// How many of them left.
-    left: usize,
+    packets: NearQueue<QueuedPacket, QUEUE_PLACES>,
 }
 
 impl Model for SendQueue {
-    ghost use Rattle.std.specs.Prelude.{◌≤◌, List, drop, length, vec_capacity};
+    ghost use Rattle.std.specs.Prelude.{◌≤◌, List, length};
     ghost use Rattle.tora_arq.specs.declared.queued_packet.QueuedPacket.{QueuedPacket};
     ghost use Rattle.tora_arq.specs.declared.TheConstants.{QUEUE_PLACES};
 
     ghost Value = { List QueuedPacket };
 
-    ghost view = { λ q. drop q.left q.packets.items };
+    ghost view = { λ q. q.packets };
 
-    ghost invariant = { λ q. (q.left ≤ length q.packets.items) × (length q.packets.items ≤ QUEUE_PLACES) × (QUEUE_PLACES ≤ vec_capacity q.packets) };
+    ghost invariant = { λ q. length q.packets ≤ QUEUE_PLACES };
 }
 
 impl SendQueue {
@@ -40,15 +37,16 @@ impl SendQueue {
     pub fn new(alloc: Global) -> Result<SendQueue, AllocError>
         ensures { IfOk result (λ q. q ≡ []) }
     {
-        let packets = Vec::with_capacity(alloc, QUEUE_PLACES)?;
-        Ok(SendQueue { packets, left: 0 })
+        let any = QueuedPacket::untried(Packet::default());
+        let packets = NearQueue::new(alloc, any)?;
+        Ok(SendQueue { packets })
     }
 
     pub fn len(&self) -> usize
         ensures len { result ≡ length self.now }
         ensures within { result ≤ QUEUE_PLACES }
     {
-        self.packets.len() - self.left
+        self.packets.len()
     }
 
     /// Appends a packet that was never transmitted.
@@ -56,8 +54,7 @@ impl SendQueue {
         requires { length self.old < QUEUE_PLACES }
         ensures { self.new ≡ self.old ++ untried packet ∷ [] }
     {
-        make_place(&mut self.packets, &mut self.left, QUEUE_PLACES);
-        self.packets.push_reserved(QueuedPacket::untried(packet));
+        self.packets.push(QueuedPacket::untried(packet));
     }
 
     /// Removes the first packets, as many as there are.
@@ -66,14 +63,13 @@ impl SendQueue {
     {
         let len = self.len();
         let count = usize::try_from(count).unwrap_or(len).min(len);
-        take_first(&mut self.packets, &mut self.left, count);
+        self.packets.remove_first(count);
     }
 
     pub fn clear(&mut self)
         ensures { self.new ≡ [] }
     {
         self.packets.clear();
-        self.left = 0;
     }
 
     /// How many packets may be under way: those behind them were never transmitted.
@@ -88,7 +84,7 @@ impl SendQueue {
         requires { place < length self.now }
         ensures { slice_get self.now place ≡ Some result }
     {
-        self.packets[self.left + place]
+        self.packets.at(place)
     }
 
     /// Puts a packet in the place of that which stands behind so many others.
@@ -96,8 +92,7 @@ impl SendQueue {
         requires { place < length self.old }
         ensures { self.new ≡ slice_set self.old place packet }
     {
-        let at = self.left + place;
-        self.packets[at] = packet;
+        self.packets.set(place, packet);
     }
 
     /// Whether a packet was transmitted as often as it may be, and long enough ago. It looks at no more than the window.

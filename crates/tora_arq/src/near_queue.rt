@@ -1,0 +1,227 @@
+//! Queues of which the first places lie near.
+ghost use Rattle.std.specs.Prelude.{◌≡◌, ◌<◌, ◌≤◌, ◌+◌, ◌++◌, ◌∷◌, [], length, drop, slice_get, slice_set, Some, IfOk};
+
+use crate::fifo::{make_place, take_first};
+use std::alloc::{AllocError, Global};
+use std::marker::Model;
+
+/// How many items stand in front.
+const FRONT: usize = 4;
+
+/// Few items, in a place that is part of what has them.
+#[derive(Debug, Drop)]
+pub struct Front<T> {
+    len: usize,
+    cells: [T; 4],
+}
+
+impl<T> Model for Front<T> {
+    ghost use Rattle.std.specs.Prelude.{◌≡◌, ◌≤◌, List, take, length};
+
+    ghost Value = { List T };
+
+    ghost view = { λ f. take f.len f.cells };
+
+    ghost invariant = { λ f. (f.len ≤ 4) × (length f.cells ≡ 4) };
+}
+
+impl<T: Copy + Drop> Front<T> {
+    /// No items. Any fills the places.
+    fn new(any: T) -> Front<T>
+        ensures { result ≡ [] }
+    {
+        Front {
+            len: 0,
+            cells: [any; 4],
+        }
+    }
+
+    /// How many there are.
+    #[inline(always)]
+    fn len(&self) -> usize
+        ensures len { result ≡ length self.now }
+        ensures most { result ≤ 4 }
+    {
+        self.len
+    }
+
+    /// Appends an item.
+    #[inline(always)]
+    fn push(&mut self, item: T)
+        requires { length self.old < 4 }
+        ensures { self.new ≡ self.old ++ item ∷ [] }
+    {
+        self.cells[self.len] = item;
+        self.len += 1;
+    }
+
+    /// The item at a place.
+    #[inline(always)]
+    fn at(&self, place: usize) -> T
+        requires { place < length self.now }
+        ensures { slice_get self.now place ≡ Some result }
+    {
+        cell(&self.cells, place)
+    }
+
+    /// Puts an item at a place in the place of the one there.
+    #[inline(always)]
+    fn set(&mut self, place: usize, item: T)
+        requires { place < length self.old }
+        ensures { self.new ≡ slice_set self.old place item }
+    {
+        set_cell(&mut self.cells, place, item);
+    }
+
+    /// Removes all.
+    #[inline(always)]
+    fn clear(&mut self)
+        ensures { self.new ≡ [] }
+    {
+        self.len = 0;
+    }
+}
+
+/// What stands at a place.
+#[inline(always)]
+fn cell<T: Copy + Drop>(cells: &[T; 4], place: usize) -> T
+    requires { place < 4 }
+    ensures { slice_get cells.now place ≡ Some result }
+{
+    cells[place]
+}
+
+/// Puts an item at a place.
+#[inline(always)]
+fn set_cell<T: Copy + Drop>(cells: &mut [T; 4], place: usize, item: T)
+    requires { place < 4 }
+    ensures { cells.new ≡ slice_set cells.old place item }
+{
+    cells[place] = item;
+}
+
+/// Takes the first items that wait in front, so many. Where none is left, the next one is put at the first place again.
+#[inline(always)]
+fn take_front<T: Copy + Drop>(front: &mut Front<T>, taken: &mut usize, count: usize)
+    requires { taken.old + count ≤ length front.old }
+    ensures rest { drop taken.new front.new ≡ drop (taken.old + count) front.old }
+    ensures within { taken.new ≤ length front.new }
+{
+    let all = front.len();
+    *taken += count;
+    if *taken == all {
+        front.clear();
+        *taken = 0;
+    }
+}
+
+/// Items in the order in which they came, `PLACES` at most, from whose front items are taken.
+///
+/// The first ones stand in front, where the queue itself lies, and those behind them in a list of its own: where few wait at a time, as at most link
+/// ends, that list is never looked at.
+#[derive(Debug, Drop)]
+pub struct NearQueue<T, const PLACES: usize> {
+    /// How many of the items in front were taken.
+    taken: usize,
+    /// How many of the items behind were taken.
+    gone: usize,
+    back: Vec<T>,
+    front: Front<T>,
+}
+
+impl<T, const PLACES: usize> Model for NearQueue<T, PLACES> {
+    ghost use Rattle.std.specs.Prelude.{◌≤◌, ◌++◌, List, drop, length, vec_capacity};
+
+    ghost Value = { List T };
+
+    ghost view = { λ q. drop q.taken q.front ++ drop q.gone q.back.items };
+
+    ghost invariant = { λ q. (q.taken ≤ length q.front) × (q.gone ≤ length q.back.items) × (length q.back.items ≤ PLACES) × (PLACES ≤ vec_capacity q.back) };
+}
+
+impl<T: Copy + Drop, const PLACES: usize> NearQueue<T, PLACES> {
+    /// An empty queue, with room for all its items. Any item fills the places in front.
+    ///
+    /// # Errors
+    /// Want of memory.
+    pub fn new(alloc: Global, any: T) -> Result<NearQueue<T, PLACES>, AllocError>
+        ensures { IfOk result (λ q. q ≡ []) }
+    {
+        let back = Vec::with_capacity(alloc, PLACES)?;
+        Ok(NearQueue {
+            taken: 0,
+            gone: 0,
+            back,
+            front: Front::new(any),
+        })
+    }
+
+    /// How many wait.
+    #[inline(always)]
+    pub fn len(&self) -> usize
+        ensures { result ≡ length self.now }
+    {
+        self.front.len() - self.taken + (self.back.len() - self.gone)
+    }
+
+    /// Appends an item.
+    pub fn push(&mut self, item: T)
+        requires { length self.old < PLACES }
+        ensures { self.new ≡ self.old ++ item ∷ [] }
+    {
+        if self.front.len() < FRONT && self.back.len() == self.gone {
+            self.front.push(item);
+            return;
+        }
+        make_place(&mut self.back, &mut self.gone, PLACES);
+        self.back.push_reserved(item);
+    }
+
+    /// The item that stands behind so many others.
+    #[inline(always)]
+    pub fn at(&self, place: usize) -> T
+        requires { place < length self.now }
+        ensures { slice_get self.now place ≡ Some result }
+    {
+        let near = self.front.len() - self.taken;
+        if place < near {
+            return self.front.at(self.taken + place);
+        }
+        self.back[self.gone + (place - near)]
+    }
+
+    /// Puts an item in the place of that which stands behind so many others.
+    #[inline(always)]
+    pub fn set(&mut self, place: usize, item: T)
+        requires { place < length self.old }
+        ensures { self.new ≡ slice_set self.old place item }
+    {
+        let near = self.front.len() - self.taken;
+        if place < near {
+            self.front.set(self.taken + place, item);
+            return;
+        }
+        let at = self.gone + (place - near);
+        self.back[at] = item;
+    }
+
+    /// Removes the first items, so many.
+    pub fn remove_first(&mut self, count: usize)
+        requires { count ≤ length self.old }
+        ensures { self.new ≡ drop count self.old }
+    {
+        let near = (self.front.len() - self.taken).min(count);
+        take_front(&mut self.front, &mut self.taken, near);
+        take_first(&mut self.back, &mut self.gone, count - near);
+    }
+
+    /// Removes all items.
+    pub fn clear(&mut self)
+        ensures { self.new ≡ [] }
+    {
+        self.front.clear();
+        self.taken = 0;
+        self.gone = 0;
+        self.back.clear();
+    }
+}
