@@ -1,7 +1,7 @@
 -- The nodes and link ends of a world at its start, one more at a time.
 use Rattle.std.proofs.Common.{◌≡◌, refl, sym, ap, ap₂, ◌∙◌, subst, ℕ, zero, suc, ◌+◌, ◌<◌, List, [], ◌∷◌, ◌++◌, map, take, length, get_or, slice_get, Some, None, arith}
 use Rattle.std.specs.Prelude.{option_map}
-use Rattle.std.proofs.lemmas.List.{append_assoc, map_push, map_more, flat_map_more, length-append, length-map}
+use Rattle.std.proofs.lemmas.List.{append_assoc, map-append, map_push, map_more, flat_map_more, length-append, length-map}
 use Rattle.std.proofs.lemmas.Option.{slice_get-map}
 use Rattle.tora_arq.specs.declared.times.Times.{Times}
 use Rattle.tora_frame.specs.declared.parts.Version.{Version}
@@ -42,6 +42,21 @@ keys-more version times n ks old links i d x lt f e =
     ∙ ap₂ (λ (xs : List (ℕ × ℕ)) (y : ℕ × ℕ). xs ++ y ∷ []) e (ap₂ (λ (a b : ℕ). (a, b)) f.node f.peer)
     ∙ append_assoc (map key_of old) (map (λ k. (n, k)) (take i ks)) ((n, get_or ks i d) ∷ [])
     ∙ ap (λ ys. map key_of old ++ ys) (sym (map_more (λ (k : ℕ). (n, k)) ks i d lt))
+
+-- ends that were added to none are added to others
+each_append : {A : Type 0} → (P : A → Type 0) (xs ys : List A) → EachOf P xs → EachOf P ys → EachOf P (xs ++ ys)
+each_append P [] ys h k j y e = k j y e
+each_append P (x ∷ xs) ys h k zero y e = h zero y e
+each_append P (x ∷ xs) ys h k (suc j) y e = each_append P xs ys (λ m z q. h (suc m) z q) k j y e
+
+none_each : {A : Type 0} → (P : A → Type 0) → EachOf P []
+none_each P i x e = absurd cc
+
+pub added-behind : (t : Topology) (times : Times) (n : ℕ) (links parts : List LinkView) → AreAdded t times n [] parts → AreAdded t times n links (links ++ parts)
+added-behind t times n links parts h = record {
+  keys = map-append key_of links parts ∙ ap (λ ks. map key_of links ++ ks) h.keys;
+  each = λ before. each_append (IsFirstLink t times) links parts before (h.each (none_each (IsFirstLink t times)));
+}
 
 -- ---- a node more
 

@@ -1,5 +1,5 @@
 //! A world at its start.
-ghost use Rattle.std.specs.Prelude.{◌≡◌, ◌≢◌, ◌<◌, IfErr, IfOk, MatchResult};
+ghost use Rattle.std.specs.Prelude.{◌≡◌, ◌≢◌, ◌<◌, ◌++◌, IfErr, IfOk, MatchResult};
 ghost use Rattle.tora_arq.specs.declared.times.TheConstants.Times.{STANDARD};
 ghost use Rattle.tora_arq.specs.Settings.{IsTimes};
 ghost use Rattle.tora_seat.specs.Rows.{first_seat};
@@ -73,7 +73,6 @@ impl Sim {
         for n in named.as_slice() {
             add_node(alloc, &own, &lists, times, *n, &mut nodes, &mut links)?;
         }
-        let links = slots_of(alloc, links)?;
         let count = links.len();
         let stills = no_stills(alloc, count)?;
         let plains = no_stills(alloc, count)?;
@@ -111,7 +110,7 @@ fn add_node(
     times: Times,
     n: Id,
     nodes: &mut Vec<NodeSlot>,
-    links: &mut Vec<LinkParts>,
+    links: &mut Vec<LinkSlot>,
 ) -> Result<(), SimError>
     requires lists { AreRowsOf topology.now (rows_in lists.now.items) }
     requires times { IsTimes times }
@@ -171,8 +170,30 @@ fn new_seat(
     }
 }
 
-/// Adds the link ends of a node towards these neighbours.
+/// Adds the link ends of a node towards these neighbours. They are put apart only once all of the node are made, so that their parts lie close together,
+/// too, and not each beside what its end takes for its queues.
 fn add_links(
+    alloc: Global,
+    topology: &Topology,
+    times: Times,
+    n: Id,
+    peers: &[Id],
+    links: &mut Vec<LinkSlot>,
+) -> Result<(), SimError>
+    requires times { IsTimes times }
+    requires me { 0 < n }
+    requires kept { IsTopology topology.now }
+    requires peers { peers.now ≡ neighbours_of topology.now n }
+    ensures { MatchResult result (λ _. AreAdded topology.now times n links.old.items links.new.items) (λ e. e ≡ SimError.Memory) }
+{
+    let mut parts = Vec::new(alloc);
+    add_parts(alloc, topology, times, n, peers, &mut parts)?;
+    put_apart(alloc, parts, links)?;
+    Ok(())
+}
+
+/// Adds what stands at the link ends of a node towards these neighbours.
+fn add_parts(
     alloc: Global,
     topology: &Topology,
     times: Times,
@@ -198,25 +219,27 @@ fn add_links(
     Ok(())
 }
 
-/// Link ends of these parts, in their order. They are put apart only once all are made, so that the parts lie close together, too, and not each beside
-/// what its end takes for its queues.
+/// Puts link ends of these parts behind others.
 ///
 /// # Errors
 /// `Memory`.
-fn slots_of(alloc: Global, parts: Vec<LinkParts>) -> Result<Vec<LinkSlot>, SimError>
-    ensures { MatchResult result (λ slots. slots.items ≡ parts.items) (λ e. e ≡ SimError.Memory) }
+fn put_apart(
+    alloc: Global,
+    parts: Vec<LinkParts>,
+    links: &mut Vec<LinkSlot>,
+) -> Result<(), SimError>
+    ensures { MatchResult result (λ _. links.new.items ≡ links.old.items ++ parts.items) (λ e. e ≡ SimError.Memory) }
 {
-    let mut slots = Vec::new(alloc);
     for part in parts {
         let Ok(part) = Box::new(alloc, part) else {
             return Err(SimError::Memory);
         };
-        match slots.push(LinkSlot::new(part)) {
+        match links.push(LinkSlot::new(part)) {
             Ok(()) => {}
             Err(_) => return Err(SimError::Memory),
         }
     }
-    Ok(slots)
+    Ok(())
 }
 
 /// What stands at the end of a link at its start.

@@ -135,10 +135,13 @@ impl LinkSlot {
         ensures state { self.new ≡ with_state self.old (after_transmit self.old.settings self.old.state now) }
     {
         wake(&mut self.steady, &mut *self.parts);
-        self.parts.send(now, packets)
+        let frame = self.parts.send(now, packets);
+        keep(&mut self.steady, &self.parts);
+        frame
     }
 
-    /// Takes the first frame due, where it is a HELLO: its header. Else nothing is changed.
+    /// Takes the first frame due by what is kept of the end, which is a HELLO: its header. Where nothing is kept, or no frame is due, nothing is
+    /// changed.
     #[inline(always)]
     pub fn send_hello(&mut self, now: u64) -> Option<Header>
         ensures frame { IfSome result (λ header. frame_due self.old.settings self.old.state now ≡ Some (frame_of header Body.Hello)) }
@@ -147,14 +150,15 @@ impl LinkSlot {
         ensures none { IfNone result (self.new ≡ self.old) }
     {
         if self.steady.own == 0 {
-            return self.send_first_hello(now);
+            return None;
         }
         self.steady.send_hello(now)
     }
 
-    /// The same at an end of which nothing is kept: what can be is kept then.
+    /// Takes the first frame due of the end itself, where it is a HELLO: its header, and what can be kept of the end is kept then. Else nothing is
+    /// changed.
     #[inline(never)]
-    fn send_first_hello(&mut self, now: u64) -> Option<Header>
+    pub fn send_first_hello(&mut self, now: u64) -> Option<Header>
         ensures frame { IfSome result (λ header. frame_due self.old.settings self.old.state now ≡ Some (frame_of header Body.Hello)) }
         ensures state { IfSome result (λ _. self.new ≡ with_state self.old (after_transmit self.old.settings self.old.state now)) }
         ensures valid { IfSome result (λ header. IsHeader header) }
@@ -175,7 +179,9 @@ impl LinkSlot {
         ensures still { IsStillIf result.1 self.new }
     {
         wake(&mut self.steady, &mut *self.parts);
-        self.parts.receive_and_look(frame, now)
+        let seen = self.parts.receive_and_look(frame, now);
+        keep(&mut self.steady, &self.parts);
+        seen
     }
 
     /// Takes a HELLO in, by its header, and tells the same.
@@ -261,7 +267,9 @@ impl LinkSlot {
         ensures state { self.new ≡ with_state self.old (after_poll_event self.old.state) }
     {
         wake(&mut self.steady, &mut *self.parts);
-        self.parts.take_event()
+        let event = self.parts.take_event();
+        keep(&mut self.steady, &self.parts);
+        event
     }
 
     /// Draws a number, and opens the closed end with it, if one is drawn.

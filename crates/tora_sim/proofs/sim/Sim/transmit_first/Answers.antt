@@ -1,8 +1,8 @@
-use Rattle.std.proofs.Common.{subst}
+use Rattle.std.proofs.Common.{subst, ◌∙◌}
 use Rattle.tora_world.specs.declared.event.Event.TheVariants.{Transmit}
 use Rattle.tora_world.specs.declared.sim_error.SimError.TheVariants as Refused
 use Rattle.tora_sim.specs.Store.{SimState, world_of}
-use Rattle.tora_sim.specs.Steps.{Does, IsRefused}
+use Rattle.tora_sim.specs.Steps.{Does, IsDone, IsRefused}
 use Rattle.tora_sim.proofs.sim.Sim.transmit_first.Goals as goal
 
 pub returns-then-transmit_hello-clause-done : goal.returns-then-transmit_hello-clause-done
@@ -10,7 +10,11 @@ returns-then-transmit_hello-clause-done c = c.transmit_hello.ensures.done c.if-t
 
 pub returns-clause-done : goal.returns-clause-done
 returns-clause-done c =
-    subst (λ (s : SimState). Does s (Transmit c.args.n c.args.k) c.transmit_at.result c.transmit_at.new.self) (c.transmit_hello.ensures.same c.if-transmit_hello.false) c.transmit_at.ensures.done
+    subst (λ (s : SimState). Does s (Transmit c.args.n c.args.k) c.transmit_at.result c.transmit_at.new.self) (c.transmit_first_hello.ensures.same c.if-transmit_first_hello.false ∙ c.transmit_hello.ensures.same c.if-transmit_hello.false) c.transmit_at.ensures.done
+
+pub returns-then-transmit_first_hello-clause-done : goal.returns-then-transmit_first_hello-clause-done
+returns-then-transmit_first_hello-clause-done c =
+    subst (λ (s : SimState). IsDone (world_of s) (Transmit c.args.n c.args.k) (world_of c.transmit_first_hello.new.self)) (c.transmit_hello.ensures.same c.if-transmit_hello.false) (c.transmit_first_hello.ensures.done c.if-transmit_first_hello.true)
 
 pub has_none_due-requires : goal.has_none_due-requires
 has_none_due-requires c = c.transmit_hello.ensures.end.within

@@ -5,7 +5,7 @@ use Rattle.tora_world.specs.Topology.{Topology, nodes_in}
 use Rattle.tora_world.specs.World.{first_world}
 use Rattle.tora_sim.specs.Store.{IsStore, state_of, world_of}
 use Rattle.tora_sim.specs.Firsts.{AreMade, IsMade}
-use Rattle.tora_sim.specs.Links.{LinkView, key_of}
+use Rattle.tora_sim.specs.Links.{key_of}
 use Rattle.tora_sim.proofs.Peers.{positive-node}
 use Rattle.tora_sim.proofs.FirstStore.{is-store, is-first}
 use Rattle.tora_sim.proofs.StillEnds.{none_known}
@@ -31,31 +31,30 @@ loop-n-preserved c =
     (more (take c.loop-n.n-index c.as_slice-n-items.result.now) c.loop-n.invariant)
 
 module _ (c : goal.After-new-2) where
-  made : AreMade c.in-Ok.own c.args.times (nodes_in c.in-Ok.own.links) c.loop-n.nodes.items c.in_ok-links.links.items
+  made : AreMade c.in-Ok.own c.args.times (nodes_in c.in-Ok.own.links) c.loop-n.nodes.items c.loop-n.links.items
   made =
       let same : c.as_slice-n-items.result.now ≡ nodes_in c.in-Ok.own.links = c.as_slice-n-items.ensures.value ∙ c.nodes-named.ensures.items in
       let whole : take c.loop-n.n-index c.as_slice-n-items.result.now ≡ c.as_slice-n-items.result.now = take_all c.loop-n.n-index c.as_slice-n-items.result.now c.loop-n-test.false in
-      subst (λ (links : List LinkView). AreMade c.in-Ok.own c.args.times (nodes_in c.in-Ok.own.links) c.loop-n.nodes.items links) (sym c.in_ok-links.ensures)
-      (subst (λ (t : Topology). AreMade t c.args.times (nodes_in c.in-Ok.own.links) c.loop-n.nodes.items c.loop-n.links.items) (sym c.in-Ok.ensures)
-      (subst (λ (ns : List ℕ). AreMade c.args.topology.now c.args.times ns c.loop-n.nodes.items c.loop-n.links.items) (whole ∙ same) c.loop-n.invariant))
+      subst (λ (t : Topology). AreMade t c.args.times (nodes_in c.in-Ok.own.links) c.loop-n.nodes.items c.loop-n.links.items) (sym c.in-Ok.ensures)
+      (subst (λ (ns : List ℕ). AreMade c.args.topology.now c.args.times ns c.loop-n.nodes.items c.loop-n.links.items) (whole ∙ same) c.loop-n.invariant)
 
 pub invariant_of-result : goal.invariant_of-result
 invariant_of-result c =
-    let many : c.len-count.result ≡ length c.in_ok-links.links.items = omega (arith, c.len-count.ensures) in
-    let store = is-store c.numbers_are_put_in_order.ensures.order c.numbers_come_and_go.ensures.in_order c.in-Ok.own c.args.times c.nodes-named.ensures.kept c.loop-n.nodes.items c.in_ok-links.links.items (made c) in (
-      subst (λ (ds : List FrameParts). IsStore (state_of c.in-Ok.own c.args.times 0 c.loop-n.nodes.items c.in_ok-links.links.items ds)) (sym c.new.ensures) store,
+    let many : c.len-count.result ≡ length c.loop-n.links.items = omega (arith, c.len-count.ensures) in
+    let store = is-store c.numbers_are_put_in_order.ensures.order c.numbers_come_and_go.ensures.in_order c.in-Ok.own c.args.times c.nodes-named.ensures.kept c.loop-n.nodes.items c.loop-n.links.items (made c) in (
+      subst (λ (ds : List FrameParts). IsStore (state_of c.in-Ok.own c.args.times 0 c.loop-n.nodes.items c.loop-n.links.items ds)) (sym c.new.ensures) store,
       λ none. absurd (omega (arith, none)),
-      none_known 0 c.len-count.result c.in_ok-stills.stills c.in_ok-links.links.items c.in_ok-stills.ensures many,
+      none_known 0 c.len-count.result c.in_ok-stills.stills c.loop-n.links.items c.in_ok-stills.ensures many,
       c.in_ok-keys.ensures ∙ ap (map key_of) c.deref.ensures.value ∙ store.keys,
-      none_plain 0 c.len-count.result c.in_ok-plains.plains c.in_ok-links.links.items c.in_ok-plains.ensures many,
-      none_known_ready c.len-count.result c.in_ok-ready.ready.items c.in_ok-links.links.items c.in_ok-ready.ensures many,
+      none_plain 0 c.len-count.result c.in_ok-plains.plains c.loop-n.links.items c.in_ok-plains.ensures many,
+      none_known_ready c.len-count.result c.in_ok-ready.ready.items c.loop-n.links.items c.in_ok-ready.ensures many,
       none_marked c.len.result c.len-count.result c.in_ok-unready.unready.items c.loop-n.nodes.items c.in_ok-ready.ready.items c.in_ok-unready.ensures (omega (arith, c.len.ensures))
-          (λ home node at. let few = few_ends c.in-Ok.own c.args.times 0 c.loop-n.nodes.items c.in_ok-links.links.items [] store home node at in omega (arith, few, many)),
+          (λ home node at. let few = few_ends c.in-Ok.own c.args.times 0 c.loop-n.nodes.items c.loop-n.links.items [] store home node at in omega (arith, few, many)),
       λ known. absurd cc,
     )
 
 pub returns-clause-made : goal.returns-clause-made
 returns-clause-made c =
-    ap (λ (ds : List FrameParts). world_of (state_of c.in-Ok.own c.args.times 0 c.loop-n.nodes.items c.in_ok-links.links.items ds)) c.new.ensures
-    ∙ is-first c.numbers_are_put_in_order.ensures.order c.numbers_come_and_go.ensures.in_order c.in-Ok.own c.args.times c.nodes-named.ensures.kept c.loop-n.nodes.items c.in_ok-links.links.items (made c.before)
+    ap (λ (ds : List FrameParts). world_of (state_of c.in-Ok.own c.args.times 0 c.loop-n.nodes.items c.loop-n.links.items ds)) c.new.ensures
+    ∙ is-first c.numbers_are_put_in_order.ensures.order c.numbers_come_and_go.ensures.in_order c.in-Ok.own c.args.times c.nodes-named.ensures.kept c.loop-n.nodes.items c.loop-n.links.items (made c.before)
     ∙ ap (λ (t : Topology). first_world t c.args.times) c.in-Ok.ensures

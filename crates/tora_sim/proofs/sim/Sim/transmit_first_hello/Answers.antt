@@ -1,0 +1,124 @@
+use Rattle.std.proofs.Common.{◌≡◌, ℕ, ◌<◌, List, Some, length, is_some, refl, ap, sym, ◌∙◌, subst, arith}
+use Rattle.std.specs.Prelude.{slice_set, slice_index_or}
+use Rattle.std.proofs.lemmas.Bool.{both_ways}
+use Rattle.std.proofs.lemmas.Option.{slice_get_read}
+use Rattle.tora_frame.specs.FrameParts.{FrameParts, frame_of}
+use Rattle.tora_frame.specs.declared.parts.Body.TheVariants.{Hello}
+use Rattle.tora_arq.specs.LinkEnd.{frame_due}
+use Rattle.tora_world.specs.declared.event.Event.TheVariants.{Transmit}
+use Rattle.tora_world.specs.World.{with_datagram}
+use Rattle.tora_sim.specs.Lanes.{AreReadyEach}
+use Rattle.tora_sim.specs.Keyed.{IsFirst}
+use Rattle.tora_sim.specs.Links.{LinkView, is_at}
+use Rattle.tora_sim.specs.Nodes.{sending_of}
+use Rattle.tora_sim.specs.Plains.{IsPlain, ArePlainEach}
+use Rattle.tora_sim.specs.Possible.{has_cargo}
+use Rattle.tora_sim.specs.Quiet.{is_idle, AreStill, AreStillEach}
+use Rattle.tora_sim.specs.Store.{SimState, IsStore, state_of, world_of}
+use Rattle.tora_sim.specs.Steps.{IsDone}
+use Rattle.tora_sim.proofs.Quiets.{set_same}
+use Rattle.tora_sim.proofs.Sendings.{end_of, node_of, still_end, still_node}
+use Rattle.tora_sim.proofs.Sends.{transmit_done, transmit_store}
+use Rattle.tora_sim.proofs.StillEnds.{possible_still}
+use Rattle.tora_sim.proofs.PlainEnds.{same_plain, transmit_plain}
+use Rattle.tora_sim.proofs.ReadyEnds.{kept_as}
+use Rattle.tora_sim.proofs.UnreadyEnds.{node_kept, same_place}
+use Rattle.tora_sim.proofs.Quiets.{idle_kept}
+use Rattle.tora_sim.proofs.sim.Sim.transmit_first_hello.Goals as goal
+
+-- ---- there is no memory, or no HELLO is due first
+
+pub invariant_of-self : goal.invariant_of-self
+invariant_of-self c =
+    let s = c.self.inside in (
+      subst (λ (ds : List FrameParts). IsStore (state_of s.topology s.times s.clock s.nodes.items s.links.items ds)) (sym c.reserve.ensures.items) c.self.invariant.0,
+      c.self.invariant.1,
+      c.self.invariant.2,
+      c.self.invariant.3,
+      c.self.invariant.4,
+      c.self.invariant.5,
+      c.self.invariant.6,
+      c.self.invariant.7,
+    )
+
+pub returns-then-is_err-clause-same : goal.returns-then-is_err-clause-same
+returns-then-is_err-clause-same c told =
+    let s = c.self.inside in
+    ap (λ (ds : List FrameParts). state_of s.topology s.times s.clock s.nodes.items s.links.items ds) c.reserve.ensures.items ∙ c.self.view_is
+
+pub returns-then-is_err-clause-end : goal.returns-then-is_err-clause-end
+returns-then-is_err-clause-end c = end_of c.args._n c.args._k c.args.at c.self.view_is c.requires.end
+
+pub returns-then-is_err-clause-node : goal.returns-then-is_err-clause-node
+returns-then-is_err-clause-node c = node_of c.args._n c.args.home c.self.view_is c.requires.node
+
+-- an end of which no HELLO is due first stays as it is
+same : (links : List LinkView) (at : ℕ) (x new : LinkView) → at < length links → x ≡ slice_index_or links at x → new ≡ x → slice_set links at new ≡ links
+same links at x new within read e = set_same links at x new within read e
+
+pub invariant_of-self-in_default : goal.invariant_of-self-in_default
+invariant_of-self-in_default c =
+    let s = c.self.inside in (
+      subst (λ (ds : List FrameParts). IsStore (state_of s.topology s.times s.clock s.nodes.items (slice_set s.links.items c.args.at c.send_first_hello.new.self) ds)) (sym c.reserve.ensures.items)
+          (subst (λ (xs : List LinkView). IsStore (state_of s.topology s.times s.clock s.nodes.items xs s.datagrams.items)) (sym (same c.self.inside.links.items c.args.at c.index_mut.result.now c.send_first_hello.new.self (end_of c.args._n c.args._k c.args.at c.self.view_is c.requires.end).within c.index_mut.ensures.value c.in_default.ensures.none)) c.self.invariant.0),
+      subst (λ (xs : List LinkView). AreStill s.quiet s.nodes.items xs) (sym (same c.self.inside.links.items c.args.at c.index_mut.result.now c.send_first_hello.new.self (end_of c.args._n c.args._k c.args.at c.self.view_is c.requires.end).within c.index_mut.ensures.value c.in_default.ensures.none)) c.self.invariant.1,
+      subst (λ (xs : List LinkView). AreStillEach s.clock s.stills xs) (sym (same c.self.inside.links.items c.args.at c.index_mut.result.now c.send_first_hello.new.self (end_of c.args._n c.args._k c.args.at c.self.view_is c.requires.end).within c.index_mut.ensures.value c.in_default.ensures.none)) c.self.invariant.2,
+      c.self.invariant.3,
+      subst (λ (xs : List LinkView). ArePlainEach s.clock s.plains xs) (sym (same c.self.inside.links.items c.args.at c.index_mut.result.now c.send_first_hello.new.self (end_of c.args._n c.args._k c.args.at c.self.view_is c.requires.end).within c.index_mut.ensures.value c.in_default.ensures.none)) c.self.invariant.4,
+      subst (λ (xs : List LinkView). AreReadyEach s.ready.items xs) (sym (same c.self.inside.links.items c.args.at c.index_mut.result.now c.send_first_hello.new.self (end_of c.args._n c.args._k c.args.at c.self.view_is c.requires.end).within c.index_mut.ensures.value c.in_default.ensures.none)) c.self.invariant.5,
+      c.self.invariant.6,
+      c.self.invariant.7,
+    )
+
+pub returns-in_default-clause-same : goal.returns-in_default-clause-same
+returns-in_default-clause-same c told =
+    let s = c.self.inside in
+    ap (λ (ds : List FrameParts). state_of s.topology s.times s.clock s.nodes.items (slice_set s.links.items c.args.at c.send_first_hello.new.self) ds) c.reserve.ensures.items
+    ∙ ap (λ (xs : List LinkView). state_of s.topology s.times s.clock s.nodes.items xs s.datagrams.items) (same c.self.inside.links.items c.args.at c.index_mut.result.now c.send_first_hello.new.self (end_of c.args._n c.args._k c.args.at c.self.view_is c.requires.end).within c.index_mut.ensures.value c.in_default.ensures.none) ∙ c.self.view_is
+
+pub returns-in_default-clause-end : goal.returns-in_default-clause-end
+returns-in_default-clause-end c =
+    subst (λ (xs : List LinkView). IsFirst (is_at c.args._n c.args._k) xs c.args.at) (sym (same c.self.inside.links.items c.args.at c.index_mut.result.now c.send_first_hello.new.self (end_of c.args._n c.args._k c.args.at c.self.view_is c.requires.end).within c.index_mut.ensures.value c.in_default.ensures.none)) (end_of c.args._n c.args._k c.args.at c.self.view_is c.requires.end)
+
+pub returns-in_default-clause-node : goal.returns-in_default-clause-node
+returns-in_default-clause-node c = node_of c.args._n c.args.home c.self.view_is c.requires.node
+
+-- ---- a HELLO goes out
+
+module _ (c : goal.After-self-3-1) where
+  due : frame_due c.index_mut.result.now.settings c.index_mut.result.now.state c.self.inside.clock ≡ Some (frame_of c.in-Some.header Hello)
+  due = c.in-Some.ensures.frame
+
+  all : c.note_hello.new.datagrams.items ≡ with_datagram (sending_of c.index_mut-2.result.now.sending) c.self.inside.datagrams.items (frame_of c.in-Some.header Hello)
+  all = c.note_hello.ensures.datagrams ∙ ap (λ ds. with_datagram (sending_of c.index_mut-2.result.now.sending) ds (frame_of c.in-Some.header Hello)) c.reserve.ensures.items
+
+pub invariant_of-self-2 : goal.invariant_of-self-2
+invariant_of-self-2 c =
+    let s = c.self.inside in (
+      transmit_store s.topology s.times s.clock s.nodes.items s.links.items s.datagrams.items c.self.invariant.0 c.args._n c.args._k c.args.at c.index_mut.result.now (end_of c.args._n c.args._k c.args.at c.self.view_is c.requires.end) c.index_mut.ensures.value
+          c.args.home c.index_mut-2.result.now (node_of c.args._n c.args.home c.self.view_is c.requires.node) c.index_mut-2.ensures.value (frame_of c.in-Some.header Hello) (due c)
+          c.data_frames_are_what_was_submitted.ensures.frame c.send_first_hello.new.self c.note_hello.new.node c.note_hello.new.datagrams.items c.in-Some.ensures.state c.note_hello.ensures.node (all c),
+      λ none. absurd (omega (arith, none)),
+      possible_still s.clock s.stills s.links.items c.args.at c.index_mut.result.now c.send_first_hello.new.self (end_of c.args._n c.args._k c.args.at c.self.view_is c.requires.end).within c.index_mut.ensures.value
+          (λ until lt h. both_ways (is_some (frame_due c.index_mut.result.now.settings c.index_mut.result.now.state s.clock)) (h.frames s.clock lt) (ap is_some (due c))) c.self.invariant.2,
+      c.self.invariant.3,
+      same_plain s.clock s.plains s.links.items c.args.at c.index_mut.result.now c.send_first_hello.new.self (slice_get_read s.links.items (length s.links.items) c.args.at c.index_mut.result.now refl (end_of c.args._n c.args._k c.args.at c.self.view_is c.requires.end).within c.index_mut.ensures.value)
+          (λ h. subst (λ (x : LinkView). IsPlain x) (sym c.in-Some.ensures.state) (transmit_plain c.index_mut.result.now.settings c.index_mut.result.now.state s.clock (has_cargo c.index_mut.result.now) h)) c.self.invariant.4,
+      kept_as s.ready.items s.links.items c.args.at c.index_mut.result.now c.send_first_hello.new.self _ (end_of c.args._n c.args._k c.args.at c.self.view_is c.requires.end).within c.index_mut.ensures.value c.in-Some.ensures.state (λ h. h) c.self.invariant.5,
+      node_kept s.unready.items s.nodes.items s.ready.items c.args.home c.index_mut-2.result.now c.note_hello.new.node (node_of c.args._n c.args.home c.self.view_is c.requires.node).within c.index_mut-2.ensures.value (same_place c.index_mut-2.result.now c.note_hello.new.node _ c.note_hello.ensures.node (refl, refl)) c.self.invariant.6,
+      idle_kept s.idle s.nodes.items c.args.home c.index_mut-2.result.now c.note_hello.new.node (node_of c.args._n c.args.home c.self.view_is c.requires.node).within c.index_mut-2.ensures.value (ap is_idle c.note_hello.ensures.node) c.self.invariant.7,
+    )
+
+pub returns-clause-done : goal.returns-clause-done
+returns-clause-done c told =
+    let s = c.self.inside in
+    subst (λ (before : SimState). IsDone (world_of before) (Transmit c.args._n c.args._k) (world_of (state_of s.topology s.times s.clock (slice_set s.nodes.items c.args.home c.note_hello.new.node) (slice_set s.links.items c.args.at c.send_first_hello.new.self) c.note_hello.new.datagrams.items))) c.self.view_is
+    (transmit_done s.topology s.times s.clock s.nodes.items s.links.items s.datagrams.items c.self.invariant.0 c.args._n c.args._k c.args.at c.index_mut.result.now (end_of c.args._n c.args._k c.args.at c.self.view_is c.requires.end) c.index_mut.ensures.value
+    c.args.home c.index_mut-2.result.now (node_of c.args._n c.args.home c.self.view_is c.requires.node) c.index_mut-2.ensures.value (frame_of c.in-Some.header Hello) (due c)
+    c.send_first_hello.new.self c.note_hello.new.node c.note_hello.new.datagrams.items c.in-Some.ensures.state c.note_hello.ensures.node (all c))
+
+pub returns-clause-end : goal.returns-clause-end
+returns-clause-end c = still_end c.args._n c.args._k c.self.inside.links.items c.args.at c.index_mut.result.now c.send_first_hello.new.self _ (end_of c.args._n c.args._k c.args.at c.self.view_is c.requires.end) c.index_mut.ensures.value c.in-Some.ensures.state
+
+pub returns-clause-node : goal.returns-clause-node
+returns-clause-node c = still_node c.args._n c.self.inside.nodes.items c.args.home c.index_mut-2.result.now c.note_hello.new.node (node_of c.args._n c.args.home c.self.view_is c.requires.node) c.index_mut-2.ensures.value c.note_hello.ensures.node
