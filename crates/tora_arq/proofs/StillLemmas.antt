@@ -53,14 +53,3 @@ module _ (s : Settings) (e : EndState) (until tick : ℕ) (is : IsStillUntil s e
   pub still_ticks : after_tick s e tick ≡ e
   unfolding after_tick
   still_ticks = ticks_in e.phase (neither (is_some (frame_due s e tick)) _ none).1
-
--- up to the tick that is told, where that one changes nothing either
-pub calm_ticks : (s : Settings) (e : EndState) (until tick : ℕ) → IsStillUntil s e until → until < 2 ^ 64 → after_tick s e until ≡ e → tick ≤ until → after_tick s e tick ≡ e
-calm_ticks s e until tick is most here le = go (cases_Bool (ltb tick until))
-  where
-    go : (ltb tick until ≡ true) ⊎ (ltb tick until ≡ false) → after_tick s e tick ≡ e
-    go (inl less) = still_ticks s e until tick is most (ltb-true tick until less)
-    go (inr more) =
-        let from : until ≤ tick = ltb-false tick until more in
-        let same : tick ≡ until = omega (arith, le, from) in
-        subst (λ (n : ℕ). after_tick s e n ≡ e) (sym same) here

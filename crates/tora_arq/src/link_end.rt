@@ -303,16 +303,6 @@ impl LinkEnd {
         self.state.still_until(&self.settings)
     }
 
-    /// The tick before which no frame is due and up to which a tick changes nothing, unless something else happens at the end; 0 says
-    /// nothing. Where nothing but a HELLO is due at the tick of `still_until` it is that tick, else the one before it.
-    #[inline(always)]
-    pub fn calm_until(&self) -> u64
-        ensures frames { (tick : ℕ) → tick < result → is_some (frame_due self.now.settings self.now.state tick) ≡ false }
-        ensures ticks { (tick : ℕ) → 0 < result → tick ≤ result → after_tick self.now.settings self.now.state tick ≡ self.now.state }
-    {
-        self.state.calm_until(&self.settings)
-    }
-
     /// What HELLOs look at, where the end is steady: it is open, has said a HELLO, owes neither one at once nor an ACK, no packet of it waits for
     /// its acknowledgement, and no event to be polled. Whoever keeps it calls it in place of the end, and `resume` before any other call.
     pub fn steady(&self) -> Option<Steady>

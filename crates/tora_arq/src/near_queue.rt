@@ -12,17 +12,18 @@ const FRONT: usize = 4;
 #[derive(Debug, Drop)]
 pub struct Front<T> {
     len: usize,
-    cells: [T; 4],
+    cells: [T; FRONT],
 }
 
 impl<T> Model for Front<T> {
     ghost use Rattle.std.specs.Prelude.{◌≡◌, ◌≤◌, List, take, length};
+    ghost use Rattle.tora_arq.specs.declared.near_queue.TheConstants.{FRONT};
 
     ghost Value = { List T };
 
     ghost view = { λ f. take f.len f.cells };
 
-    ghost invariant = { λ f. (f.len ≤ 4) × (length f.cells ≡ 4) };
+    ghost invariant = { λ f. (f.len ≤ FRONT) × (length f.cells ≡ FRONT) };
 }
 
 impl<T: Copy + Drop> Front<T> {
@@ -32,7 +33,7 @@ impl<T: Copy + Drop> Front<T> {
     {
         Front {
             len: 0,
-            cells: [any; 4],
+            cells: [any; FRONT],
         }
     }
 
@@ -40,7 +41,7 @@ impl<T: Copy + Drop> Front<T> {
     #[inline(always)]
     fn len(&self) -> usize
         ensures len { result ≡ length self.now }
-        ensures most { result ≤ 4 }
+        ensures most { result ≤ FRONT }
     {
         self.len
     }
@@ -48,7 +49,7 @@ impl<T: Copy + Drop> Front<T> {
     /// Appends an item.
     #[inline(always)]
     fn push(&mut self, item: T)
-        requires { length self.old < 4 }
+        requires { length self.old < FRONT }
         ensures { self.new ≡ self.old ++ item ∷ [] }
     {
         self.cells[self.len] = item;
@@ -84,8 +85,8 @@ impl<T: Copy + Drop> Front<T> {
 
 /// What stands at a place.
 #[inline(always)]
-fn cell<T: Copy + Drop>(cells: &[T; 4], place: usize) -> T
-    requires { place < 4 }
+fn cell<T: Copy + Drop>(cells: &[T; FRONT], place: usize) -> T
+    requires { place < FRONT }
     ensures { slice_get cells.now place ≡ Some result }
 {
     cells[place]
@@ -93,8 +94,8 @@ fn cell<T: Copy + Drop>(cells: &[T; 4], place: usize) -> T
 
 /// Puts an item at a place.
 #[inline(always)]
-fn set_cell<T: Copy + Drop>(cells: &mut [T; 4], place: usize, item: T)
-    requires { place < 4 }
+fn set_cell<T: Copy + Drop>(cells: &mut [T; FRONT], place: usize, item: T)
+    requires { place < FRONT }
     ensures { cells.new ≡ slice_set cells.old place item }
 {
     cells[place] = item;

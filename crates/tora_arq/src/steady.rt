@@ -1,5 +1,5 @@
 //! What HELLOs look at, of a link end at which nothing else is to be done.
-ghost use Rattle.std.specs.Prelude.{◌≡◌, ◌<◌, ◌≤◌, ◌||◌, ℕ, true, false, is_some, IfSome, IfNone};
+ghost use Rattle.std.specs.Prelude.{◌≡◌, ◌<◌, ◌≤◌, ◌==◌, ◌||◌, ℕ, true, false, not, is_some, IfSome, IfNone};
 ghost use Rattle.tora_frame.specs.FrameParts.{IsHeader, frame_of};
 ghost use Rattle.tora_frame.specs.declared.parts.Body.TheVariants.{Hello};
 ghost use Rattle.tora_arq.specs.Settings.{Settings as EndSettings};
@@ -16,7 +16,7 @@ use tora_frame::{Header, Version};
 use tora_height::Id;
 
 /// What HELLOs look at, of a link end that is steady: it is open, it owes neither a HELLO at once nor an ACK, no packet of it waits for its
-/// acknowledgement, and it has no event to give. 64 bytes, where a link end has some 250.
+/// acknowledgement, and it has no event to give. It has 64 bytes.
 ///
 /// Whoever keeps many link ends can keep these close together, and the ends apart: `LinkEnd::steady` gives what is kept of an end,
 /// the calls here do what the same calls of the end would do, and `LinkEnd::resume` makes of the end what they made of it, before any
@@ -68,6 +68,14 @@ impl Steady {
             speaks_two: false,
             owes_old_hello: false,
         }
+    }
+
+    /// Whether it is that of no end.
+    #[inline(always)]
+    pub fn is_none(&self) -> bool
+        ensures { result ≡ (self.now.own == 0) }
+    {
+        self.own == 0
     }
 
     /// The header of a HELLO.
@@ -139,6 +147,7 @@ impl Steady {
         ensures steady { (s : EndSettings) (e : EndState) → IsSteady self.old s e → IsSteady self.new s e }
         ensures own { self.new.own ≡ self.old.own }
         ensures same { result ≡ false → self.new ≡ self.old }
+        ensures told { result ≡ is_told self.old header.now }
     {
         if !self.is_told(header) {
             return false;
@@ -171,7 +180,8 @@ impl Steady {
     /// Whether this tick ends no life, so that it changes nothing.
     #[inline(always)]
     pub fn is_calm(&self, now: u64) -> bool
-        ensures { (s : EndSettings) (e : EndState) → IsSteady self.now s e → result ≡ true → after_tick s (resumed self.now e) now ≡ resumed self.now e }
+        ensures same { (s : EndSettings) (e : EndState) → IsSteady self.now s e → result ≡ true → after_tick s (resumed self.now e) now ≡ resumed self.now e }
+        ensures exact { result ≡ not (is_over self.now now) }
     {
         !self.is_over(now)
     }

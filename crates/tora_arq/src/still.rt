@@ -101,36 +101,4 @@ impl State {
             Phase::Bound(_) => self.still_in_life(settings),
         }
     }
-
-    /// Whether this tick may end a life: where none is bound, it never does.
-    #[tactic(auto, unfolding(crate::specs::LinkEnd::after_tick))]
-    #[inline(always)]
-    fn may_end_at(&self, settings: &Settings, tick: u64) -> bool
-        requires { IsEndState (settings_in settings.now) (state_in self.now) }
-        ensures { result ≡ false → after_tick (settings_in settings.now) (state_in self.now) tick ≡ state_in self.now }
-    {
-        match self.phase {
-            Phase::Closed => false,
-            Phase::Unbound(_) => false,
-            Phase::Bound(_) => {
-                tick_behind(self.last_hearing, settings.times.silent) <= tick
-                    || self.queue.len() > 0
-            }
-        }
-    }
-
-    /// Before which tick no frame is due, and up to which no tick changes the end; 0 says nothing.
-    #[inline(always)]
-    pub fn calm_until(&self, settings: &Settings) -> u64
-        requires { IsEndState (settings_in settings.now) (state_in self.now) }
-        ensures frames { (tick : ℕ) → tick < result → is_some (frame_due (settings_in settings.now) (state_in self.now) tick) ≡ false }
-        ensures ticks { (tick : ℕ) → 0 < result → tick ≤ result → after_tick (settings_in settings.now) (state_in self.now) tick ≡ state_in self.now }
-    {
-        let until = self.still_until(settings);
-        if self.may_end_at(settings, until) {
-            until.saturating_sub(1)
-        } else {
-            until
-        }
-    }
 }

@@ -53,7 +53,7 @@ fn wake(steady: &mut Steady, parts: &mut LinkParts)
     ensures parts { parts.new ≡ shown steady.old parts.old }
     ensures none { is_none steady.new ≡ true }
 {
-    if steady.own == 0 {
+    if steady.is_none() {
         return;
     }
     parts.resume(steady);
@@ -122,7 +122,7 @@ impl LinkSlot {
     pub fn has_frame_due(&self, now: u64) -> bool
         ensures { result ≡ is_some (frame_due self.now.settings self.now.state now) }
     {
-        if self.steady.own == 0 {
+        if self.steady.is_none() {
             return self.parts.has_frame_due(now);
         }
         self.steady.has_frame_due(now)
@@ -149,7 +149,7 @@ impl LinkSlot {
         ensures valid { IfSome result (λ header. IsHeader header) }
         ensures none { IfNone result (self.new ≡ self.old) }
     {
-        if self.steady.own == 0 {
+        if self.steady.is_none() {
             return None;
         }
         self.steady.send_hello(now)
@@ -207,7 +207,7 @@ impl LinkSlot {
         ensures still { IfSome result (λ until. IsStillIf until self.new) }
         ensures none { IfNone result (self.new ≡ self.old) }
     {
-        if self.steady.own == 0 {
+        if self.steady.is_none() {
             return None;
         }
         if !self.steady.on_hello(header, now) {
@@ -248,7 +248,7 @@ impl LinkSlot {
         ensures same { result ≡ true → after_tick self.now.settings self.now.state now ≡ self.now.state }
         ensures open { result ≡ true → is_closed self.now.state ≡ false }
     {
-        self.steady.own != 0 && self.steady.is_calm(now)
+        !self.steady.is_none() && self.steady.is_calm(now)
     }
 
     /// The same, whatever the tick changes.
@@ -373,7 +373,7 @@ impl LinkSlot {
     pub fn is_busy(&self) -> bool
         ensures { result ≡ false → IsPlain self.now }
     {
-        self.steady.own == 0 && self.parts.is_busy()
+        self.steady.is_none() && self.parts.is_busy()
     }
 
     /// Before which tick nothing is to be done here; 0 where something is to be done at once.
@@ -381,7 +381,7 @@ impl LinkSlot {
     pub fn still_until(&self) -> u64
         ensures { IsStillIf result self.now }
     {
-        if self.steady.own == 0 {
+        if self.steady.is_none() {
             return self.parts.still_until();
         }
         self.steady.still_until()

@@ -36,9 +36,7 @@ const MOST_TRIED: usize = 32;
 /// Of so few ends of a node each is looked at; more are halved.
 const FEW: usize = 8;
 
-/// All that stands at the end of a link at one node: the link end, its life file, and the lane from the node's core to it. What a HELLO looks at
-/// that comes to an end which is not steady stands together, in few lines of the cache: the end of the lane's fields, and the front of those of
-/// the link end.
+/// All that stands at the end of a link at one node: the link end, its life file, and the lane from the node's core to it.
 #[derive(Drop)]
 pub struct LinkParts {
     /// In a place of its own, since it is seldom looked at.
