@@ -29,15 +29,9 @@ dropped {A} xs ys count = go (cases_Bool (ltb count (length xs)))
         let split : length xs + (count - length xs) ≡ count = omega (arith, le) in
         rw (near, here) (sym (drop-append-add xs ys (count - length xs)) ∙ ap (λ n. drop n (xs ++ ys)) split)
 
--- an item of the first list is another
-pub set_near : {A : Type 0} (taken place : ℕ) (front rest : List A) (x : A) → place < length front - taken → drop taken (slice_set front (taken + place) x) ++ rest ≡ slice_set (drop taken front ++ rest) place x
-set_near taken place front rest x lt =
-    let near : place < length (drop taken front) = omega (arith, lt, length-drop taken front) in
-    ap (λ xs. xs ++ rest) (drop-set-add taken front place x) ∙ sym (set-append_left (drop taken front) rest place x near)
-
--- or one of the second
-pub set_far : {A : Type 0} (taken gone place : ℕ) (front back : List A) (x : A) → length front - taken ≤ place →
-    drop taken front ++ drop gone (slice_set back (gone + (place - (length front - taken))) x) ≡ slice_set (drop taken front ++ drop gone back) place x
-set_far taken gone place front back x le =
-    ap (λ xs. drop taken front ++ xs) (drop-set-add gone back (place - (length front - taken)) x)
-    ∙ sym (set-append_right (drop taken front) (drop gone back) (length front - taken) place x (length-drop taken front) le)
+-- an item of the second list is another
+pub set_far : {A : Type 0} (gone place : ℕ) (front back : List A) (x : A) → length front ≤ place →
+    front ++ drop gone (slice_set back (gone + (place - length front)) x) ≡ slice_set (front ++ drop gone back) place x
+set_far gone place front back x le =
+    ap (λ xs. front ++ xs) (drop-set-add gone back (place - length front) x)
+    ∙ sym (set-append_right front (drop gone back) (length front) place x refl le)

@@ -74,6 +74,18 @@ impl<T: Copy + Drop> Front<T> {
         set_cell(&mut self.cells, place, item);
     }
 
+    /// Removes the first ones, so many: those behind them move up.
+    #[inline(always)]
+    fn remove_first(&mut self, count: usize)
+        requires { count ≤ length self.old }
+        ensures { self.new ≡ drop count self.old }
+    {
+        if count < self.len {
+            self.cells.copy_within(count..self.len, 0);
+        }
+        self.len -= count;
+    }
+
     /// Removes all.
     #[inline(always)]
     fn clear(&mut self)
@@ -101,29 +113,12 @@ fn set_cell<T: Copy + Drop>(cells: &mut [T; FRONT], place: usize, item: T)
     cells[place] = item;
 }
 
-/// Takes the first items that wait in front, so many. Where none is left, the next one is put at the first place again.
-#[inline(always)]
-fn take_front<T: Copy + Drop>(front: &mut Front<T>, taken: &mut usize, count: usize)
-    requires { taken.old + count ≤ length front.old }
-    ensures rest { drop taken.new front.new ≡ drop (taken.old + count) front.old }
-    ensures within { taken.new ≤ length front.new }
-{
-    let all = front.len();
-    *taken += count;
-    if *taken == all {
-        front.clear();
-        *taken = 0;
-    }
-}
-
 /// Items in the order in which they came, `PLACES` at most, from whose front items are taken.
 ///
 /// The first ones stand in front, where the queue itself lies, and those behind them in a list of its own: where few wait at a time, as at most link
-/// ends, that list is never looked at.
+/// ends, that list is never looked at. A queue of no more places than stand in front has none.
 #[derive(Debug, Drop)]
 pub struct NearQueue<T, const PLACES: usize> {
-    /// How many of the items in front were taken.
-    taken: usize,
     /// How many of the items behind were taken.
     gone: usize,
     back: Vec<T>,
@@ -131,26 +126,27 @@ pub struct NearQueue<T, const PLACES: usize> {
 }
 
 impl<T, const PLACES: usize> Model for NearQueue<T, PLACES> {
-    ghost use Rattle.std.specs.Prelude.{◌≤◌, ◌++◌, List, drop, length, vec_capacity};
+    ghost use Rattle.std.specs.Prelude.{◌≡◌, ◌<◌, ◌≤◌, ◌++◌, [], List, drop, length, vec_capacity};
+    ghost use Rattle.tora_arq.specs.declared.near_queue.TheConstants.{FRONT};
 
     ghost Value = { List T };
 
-    ghost view = { λ q. drop q.taken q.front ++ drop q.gone q.back.items };
+    ghost view = { λ q. q.front ++ drop q.gone q.back.items };
 
-    ghost invariant = { λ q. (q.taken ≤ length q.front) × (q.gone ≤ length q.back.items) × (length q.back.items ≤ PLACES) × (PLACES ≤ vec_capacity q.back) };
+    ghost invariant = { λ q. (q.gone ≤ length q.back.items) × (length q.back.items ≤ PLACES) × (PLACES ≤ FRONT → q.back.items ≡ []) × (FRONT < PLACES → PLACES ≤ vec_capacity q.back) };
 }
 
 impl<T: Copy + Drop, const PLACES: usize> NearQueue<T, PLACES> {
     /// An empty queue, with room for all its items. Any item fills the places in front.
     ///
     /// # Errors
-    /// Want of memory.
+    /// Want of memory, where there are more places than stand in front.
     pub fn new(alloc: Global, any: T) -> Result<NearQueue<T, PLACES>, AllocError>
         ensures { IfOk result (λ q. q ≡ []) }
     {
-        let back = Vec::with_capacity(alloc, PLACES)?;
+        let places = if PLACES <= FRONT { 0 } else { PLACES };
+        let back = Vec::with_capacity(alloc, places)?;
         Ok(NearQueue {
-            taken: 0,
             gone: 0,
             back,
             front: Front::new(any),
@@ -162,7 +158,7 @@ impl<T: Copy + Drop, const PLACES: usize> NearQueue<T, PLACES> {
     pub fn len(&self) -> usize
         ensures { result ≡ length self.now }
     {
-        self.front.len() - self.taken + (self.back.len() - self.gone)
+        self.front.len() + (self.back.len() - self.gone)
     }
 
     /// Appends an item.
@@ -184,9 +180,9 @@ impl<T: Copy + Drop, const PLACES: usize> NearQueue<T, PLACES> {
         requires { place < length self.now }
         ensures { slice_get self.now place ≡ Some result }
     {
-        let near = self.front.len() - self.taken;
+        let near = self.front.len();
         if place < near {
-            return self.front.at(self.taken + place);
+            return self.front.at(place);
         }
         self.back[self.gone + (place - near)]
     }
@@ -197,9 +193,9 @@ impl<T: Copy + Drop, const PLACES: usize> NearQueue<T, PLACES> {
         requires { place < length self.old }
         ensures { self.new ≡ slice_set self.old place item }
     {
-        let near = self.front.len() - self.taken;
+        let near = self.front.len();
         if place < near {
-            self.front.set(self.taken + place, item);
+            self.front.set(place, item);
             return;
         }
         let at = self.gone + (place - near);
@@ -211,8 +207,8 @@ impl<T: Copy + Drop, const PLACES: usize> NearQueue<T, PLACES> {
         requires { count ≤ length self.old }
         ensures { self.new ≡ drop count self.old }
     {
-        let near = (self.front.len() - self.taken).min(count);
-        take_front(&mut self.front, &mut self.taken, near);
+        let near = self.front.len().min(count);
+        self.front.remove_first(near);
         take_first(&mut self.back, &mut self.gone, count - near);
     }
 
@@ -221,7 +217,6 @@ impl<T: Copy + Drop, const PLACES: usize> NearQueue<T, PLACES> {
         ensures { self.new ≡ [] }
     {
         self.front.clear();
-        self.taken = 0;
         self.gone = 0;
         self.back.clear();
     }
