@@ -258,7 +258,7 @@ module _ (s : Settings) where
   life_told_kept e own version life (Data number count packets) j n h = h
   life_told_kept e own version life (Ack count) j n h = h
 
-  packet_kept : (e : EndState) (life : Life) (furthest number : ℕ) (packet : Packet) → HasRoom s.window furthest e → number ≤ 2 ^ 62 → IsEndState s e →
+  packet_kept : (e : EndState) (life : Life) (furthest number : ℕ) (packet : Packet) → HasRoom EVENT_PLACES s.window furthest e → number ≤ 2 ^ 62 → IsEndState s e →
       IsEndState s (after_packet life furthest e number packet)
   unfolding after_packet
   packet_kept e life furthest number packet r n h =
@@ -268,16 +268,16 @@ module _ (s : Settings) where
       let above = leb-false number e.accepted late in
       let within = leb-true number furthest soon in
       let k : IsEndState s (after_hold e number packet) = hold_kept e number packet above (omega (arith, r.near, within)) n h in
-      let room = hold_room s.window furthest e number packet above within r in
+      let room = hold_room EVENT_PLACES s.window furthest e number packet above within r in
       release_kept (after_hold e number packet).held (after_hold e number packet) life refl (omega (arith, room.room, room.held)) k)
       (λ _. h))
 
-  packets_kept : (ps : List Packet) (e : EndState) (life : Life) (furthest number : ℕ) → HasRoom s.window furthest e → number + length ps ≤ 2 ^ 62 + 1 → IsEndState s e →
+  packets_kept : (ps : List Packet) (e : EndState) (life : Life) (furthest number : ℕ) → HasRoom EVENT_PLACES s.window furthest e → number + length ps ≤ 2 ^ 62 + 1 → IsEndState s e →
       IsEndState s (after_packets life furthest e number ps)
   unfolding after_packets
   packets_kept [] e life furthest number r n h = h
   packets_kept (p ∷ ps) e life furthest number r n h =
-      packets_kept ps (after_packet life furthest e number p) life furthest (suc number) (packet_room s.window furthest life e number p r) (omega (arith, n))
+      packets_kept ps (after_packet life furthest e number p) life furthest (suc number) (packet_room EVENT_PLACES s.window furthest life e number p r) (omega (arith, n))
       (packet_kept e life furthest number p r (omega (arith, n)) h)
 
   data_kept : (e : EndState) (life : Life) (number : ℕ) (ps : List Packet) → length e.events + WINDOW < EVENT_PLACES → number + length ps ≤ 2 ^ 62 + 1 → IsEndState s e → IsEndState s (on_data s.window e life number ps).1

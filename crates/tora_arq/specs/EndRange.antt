@@ -27,9 +27,9 @@ IsNumbered Hello = Unit {0}
 IsNumbered (Data number count packets) = (0 < length packets.items) × (number + length packets.items ≤ 2 ^ 62 + 1)
 IsNumbered (Ack count) = Unit {0}
 
--- the events have room for the packets up to the last number of the window, and none further ahead is held
-pub record HasRoom (window furthest : ℕ) (e : EndState) : Type 0 where
-  pub room : length e.events + furthest < EVENT_PLACES + e.accepted
+-- so many places for events have room for the packets up to the last number of the window, and none further ahead is held
+pub record HasRoom (places window furthest : ℕ) (e : EndState) : Type 0 where
+  pub room : length e.events + furthest < places + e.accepted
   pub near : furthest ≤ e.accepted + window
   pub held : e.accepted + length e.held ≤ furthest
 

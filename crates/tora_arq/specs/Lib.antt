@@ -4,6 +4,7 @@ pub mod Held
 pub mod SendQueue
 pub mod LinkEnd
 pub mod EndRange
+pub mod Rooms
 pub mod StateView
 pub mod LinkFacts
 pub mod LinkRuns

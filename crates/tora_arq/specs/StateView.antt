@@ -1,4 +1,5 @@
 -- The settings and the state that the code keeps.
+use Rattle.std.specs.Prelude.{ℕ}
 use Rattle.tora_arq.specs.declared.settings.Settings.{Settings as CodeSettings}
 use Rattle.tora_arq.specs.declared.state.State.{State}
 use Rattle.tora_arq.specs.Settings.{Settings, settings_of}
@@ -7,7 +8,8 @@ use Rattle.tora_arq.specs.LinkEnd.{EndState}
 abbrev pub settings_in : CodeSettings → Settings
 settings_in s = settings_of s.version s.me s.peer s.times
 
-abbrev pub state_in : State → EndState
+-- of an end with so many places for events, packets and packets that came early
+abbrev pub state_in : {events packets early : ℕ} → State events packets early → EndState
 state_in s = record {
   phase = s.phase;
   heard = s.heard;

@@ -7,27 +7,26 @@ use std::alloc::{AllocError, Global};
 use std::marker::Model;
 use tora_packet::Packet;
 
-/// Events in the order in which they came, `EVENT_PLACES` at most.
+/// Events in the order in which they came, `PLACES` at most, which are `EVENT_PLACES` or less.
 #[derive(Debug, Drop)]
-pub struct EventQueue {
-    events: NearQueue<LinkEvent, EVENT_PLACES>,
+pub struct EventQueue<const PLACES: usize> {
+    events: NearQueue<LinkEvent, PLACES>,
 }
 
-impl Model for EventQueue {
+impl<const PLACES: usize> Model for EventQueue<PLACES> {
     ghost use Rattle.std.specs.Prelude.{◌≤◌, List, length};
     ghost use Rattle.tora_arq.specs.declared.link_event.LinkEvent.{LinkEvent};
-    ghost use Rattle.tora_arq.specs.declared.TheConstants.{EVENT_PLACES};
 
     ghost Value = { List LinkEvent };
 
     ghost view = { λ q. q.events };
 
-    ghost invariant = { λ q. length q.events ≤ EVENT_PLACES };
+    ghost invariant = { λ q. length q.events ≤ PLACES };
 }
 
-impl EventQueue {
+impl<const PLACES: usize> EventQueue<PLACES> {
     /// An empty queue, with room for all its events.
-    pub fn new(alloc: Global) -> Result<EventQueue, AllocError>
+    pub fn new(alloc: Global) -> Result<EventQueue<PLACES>, AllocError>
         ensures { IfOk result (λ q. q ≡ []) }
     {
         let any = LinkEvent::Up(Life { own: 0, peer: 0 });
@@ -38,7 +37,7 @@ impl EventQueue {
     /// How many wait.
     pub fn len(&self) -> usize
         ensures length { result ≡ length self.now }
-        ensures most { result ≤ EVENT_PLACES }
+        ensures most { result ≤ PLACES }
     {
         self.events.len()
     }
@@ -47,12 +46,12 @@ impl EventQueue {
     pub fn is_busy(&self) -> bool
         ensures { result ≡ nat_lt (EVENT_PLACES - length self.now) PLACES_OF_A_FRAME }
     {
-        EVENT_PLACES - self.len() < PLACES_OF_A_FRAME
+        EVENT_PLACES.saturating_sub(self.len()) < PLACES_OF_A_FRAME
     }
 
     /// Appends an event.
     pub fn push(&mut self, event: LinkEvent)
-        requires { length self.old < EVENT_PLACES }
+        requires { length self.old < PLACES }
         ensures { self.new ≡ self.old ++ event ∷ [] }
     {
         // The check has to meet the type of packets where an event is passed on.

@@ -2,37 +2,35 @@
 ghost use Rattle.std.specs.Prelude.{◌≡◌, ◌<◌, ◌≤◌, ◌==◌, [], length, drop, IfOk, IfNone, OnSome};
 ghost use Rattle.tora_arq.specs.Held.{hold_at, padded, first_held};
 
-use crate::WINDOW;
 use crate::rings::{push, set};
 use circular_buffer::HeapCircularBuffer;
 use std::alloc::{AllocError, Global};
 use std::marker::Model;
 use tora_packet::Packet;
 
-/// The packets that came early, by place: the first place is that of the next packet. At most `WINDOW` places.
+/// The packets that came early, by place: the first place is that of the next packet. At most `PLACES`.
 #[derive(Debug, Drop)]
-pub struct HeldPackets {
+pub struct HeldPackets<const PLACES: usize> {
     ring: HeapCircularBuffer<Option<Packet>>,
 }
 
-impl Model for HeldPackets {
+impl<const PLACES: usize> Model for HeldPackets<PLACES> {
     ghost use Rattle.std.specs.Prelude.{◌≡◌, List, Option};
     ghost use Rattle.tora_packet.specs.declared.Packet.{Packet};
-    ghost use Rattle.tora_arq.specs.declared.TheConstants.{WINDOW};
 
     ghost Value = { List (Option Packet) };
 
     ghost view = { λ h. h.ring.items };
 
-    ghost invariant = { λ h. h.ring.capacity ≡ WINDOW };
+    ghost invariant = { λ h. h.ring.capacity ≡ PLACES };
 }
 
-impl HeldPackets {
+impl<const PLACES: usize> HeldPackets<PLACES> {
     /// No packets, with room for all that may come early.
-    pub fn new(alloc: Global) -> Result<HeldPackets, AllocError>
+    pub fn new(alloc: Global) -> Result<HeldPackets<PLACES>, AllocError>
         ensures { IfOk result (λ h. h ≡ []) }
     {
-        let ring = HeapCircularBuffer::with_capacity(alloc, WINDOW as usize)?;
+        let ring = HeapCircularBuffer::with_capacity(alloc, PLACES)?;
         Ok(HeldPackets { ring })
     }
 
@@ -51,7 +49,7 @@ impl HeldPackets {
     /// Appends empty places up to this many.
     #[tactic(auto, using(crate::proofs::HeldLemmas::padded_more, crate::proofs::HeldLemmas::padded_all))]
     fn pad(&mut self, places: usize)
-        requires { places ≤ WINDOW }
+        requires { places ≤ PLACES }
         ensures { self.new ≡ padded places self.old }
     {
         for _ in self.ring.len()..places {
@@ -62,7 +60,7 @@ impl HeldPackets {
     /// Holds a packet at a place; one that is held there stays.
     #[tactic(auto, using(crate::proofs::HeldLemmas::hold_empty, crate::proofs::HeldLemmas::hold_taken, crate::proofs::HeldLemmas::padded_within))]
     pub fn hold(&mut self, place: usize, packet: Packet)
-        requires { place < WINDOW }
+        requires { place < PLACES }
         ensures { self.new ≡ hold_at place packet self.old }
     {
         self.pad(place + 1);

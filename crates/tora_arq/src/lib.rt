@@ -71,5 +71,8 @@ pub const EVENT_PLACES: usize = 2 * WINDOW as usize;
 /// window, and for the event that the life ended. Own profile.
 pub const PLACES_OF_A_FRAME: usize = WINDOW as usize + 2;
 
+/// How many packets that came early are held at most: a window.
+const HELD_PLACES: usize = WINDOW as usize;
+
 /// How many packets of a life may wait for their acknowledgement. Own profile.
 pub const QUEUE_PLACES: usize = 256;

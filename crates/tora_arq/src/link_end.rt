@@ -14,7 +14,8 @@ use crate::phase::Phase;
 use crate::settings::Settings;
 use crate::state::State;
 use crate::{
-    ArqError, EVENT_PLACES, Life, LinkEvent, QUEUE_PLACES, Steady, SubmitError, Times, Verdict,
+    ArqError, EVENT_PLACES, HELD_PLACES, Life, LinkEvent, QUEUE_PLACES, Steady, SubmitError, Times,
+    Verdict,
 };
 use std::alloc::Global;
 use std::marker::Model;
@@ -41,7 +42,7 @@ use tora_packet::Packet;
 #[derive(Debug, Drop)]
 pub struct LinkEnd {
     settings: Settings,
-    state: State,
+    state: State<EVENT_PLACES, QUEUE_PLACES, HELD_PLACES>,
 }
 
 impl Model for LinkEnd {

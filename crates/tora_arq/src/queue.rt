@@ -8,33 +8,32 @@ ghost use Rattle.tora_arq.specs.NextDue.{has_begun, is_packet_due};
 use crate::near_queue::NearQueue;
 use crate::queued_packet::QueuedPacket;
 use crate::settings::{earlier, tick_behind, ticks_passed};
-use crate::{QUEUE_PLACES, Times, WINDOW};
+use crate::{Times, WINDOW};
 use std::alloc::{AllocError, Global};
 use std::marker::Model;
 use tora_frame::{MOST_PACKETS, Packets};
 use tora_packet::Packet;
 
-/// The packets that were submitted and are not acknowledged, in order, `QUEUE_PLACES` at most.
+/// The packets that were submitted and are not acknowledged, in order, `PLACES` at most.
 #[derive(Debug, Drop)]
-pub struct SendQueue {
-    packets: NearQueue<QueuedPacket, QUEUE_PLACES>,
+pub struct SendQueue<const PLACES: usize> {
+    packets: NearQueue<QueuedPacket, PLACES>,
 }
 
-impl Model for SendQueue {
+impl<const PLACES: usize> Model for SendQueue<PLACES> {
     ghost use Rattle.std.specs.Prelude.{◌≤◌, List, length};
     ghost use Rattle.tora_arq.specs.declared.queued_packet.QueuedPacket.{QueuedPacket};
-    ghost use Rattle.tora_arq.specs.declared.TheConstants.{QUEUE_PLACES};
 
     ghost Value = { List QueuedPacket };
 
     ghost view = { λ q. q.packets };
 
-    ghost invariant = { λ q. length q.packets ≤ QUEUE_PLACES };
+    ghost invariant = { λ q. length q.packets ≤ PLACES };
 }
 
-impl SendQueue {
+impl<const PLACES: usize> SendQueue<PLACES> {
     /// An empty queue, with room for all its packets.
-    pub fn new(alloc: Global) -> Result<SendQueue, AllocError>
+    pub fn new(alloc: Global) -> Result<SendQueue<PLACES>, AllocError>
         ensures { IfOk result (λ q. q ≡ []) }
     {
         let any = QueuedPacket::untried(Packet::default());
@@ -44,14 +43,14 @@ impl SendQueue {
 
     pub fn len(&self) -> usize
         ensures len { result ≡ length self.now }
-        ensures within { result ≤ QUEUE_PLACES }
+        ensures within { result ≤ PLACES }
     {
         self.packets.len()
     }
 
     /// Appends a packet that was never transmitted.
     pub fn push(&mut self, packet: Packet)
-        requires { length self.old < QUEUE_PLACES }
+        requires { length self.old < PLACES }
         ensures { self.new ≡ self.old ++ untried packet ∷ [] }
     {
         self.packets.push(QueuedPacket::untried(packet));

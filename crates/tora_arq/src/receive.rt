@@ -1,18 +1,19 @@
 //! What a link end makes of a frame.
-ghost use Rattle.std.specs.Prelude.{◌≡◌, ◌<◌, ◌≤◌, ◌+◌, ◌^◌, length};
+ghost use Rattle.std.specs.Prelude.{◌≡◌, ◌<◌, ◌≤◌, ◌+◌, ◌^◌, ◌⊎◌, length};
 ghost use Rattle.tora_frame.specs.FrameParts.{IsFrame, batch, frame_of};
 ghost use Rattle.tora_frame.specs.declared.parts.Body.{Body};
 ghost use Rattle.tora_frame.specs.BorrowedFrames.{body_of};
 ghost use Rattle.tora_arq.specs.Held.{hold_at};
 ghost use Rattle.tora_arq.specs.LinkEnd.{count_of, passed, on_life_told, after_release, after_packet, after_packets, on_data, on_matched, on_frame_in, on_frame};
-ghost use Rattle.tora_arq.specs.EndRange.{HasRoom, IsNumbered};
+ghost use Rattle.tora_arq.specs.EndRange.{IsNumbered};
+ghost use Rattle.tora_arq.specs.Rooms.{HasLists, HasRoomFor, HasBodyRoom, HasFirstRoom, HasFrameRoom};
 ghost use Rattle.tora_arq.specs.StateView.{settings_in, state_in};
 
 use crate::phase::Phase;
 use crate::settings::Settings;
 use crate::state::State;
 use crate::transmit::is_two;
-use crate::{EVENT_PLACES, Life, PLACES_OF_A_FRAME, Reason, Verdict, WINDOW};
+use crate::{Life, Reason, Verdict, WINDOW};
 use tora_frame::{BorrowedBody, BorrowedFrame, Header, Version};
 use tora_packet::Packet;
 
@@ -27,7 +28,7 @@ fn count_of(body: BorrowedBody<'_>) -> u64
     }
 }
 
-impl State {
+impl<const EVENTS: usize, const PACKETS: usize, const EARLY: usize> State<EVENTS, PACKETS, EARLY> {
     /// A frame of a version has passed: one of version 2 sets the mark.
     fn pass(&mut self, version: Version)
         ensures { state_in self.new ≡ passed (state_in self.old) version }
@@ -61,9 +62,11 @@ impl State {
 
     /// Holds a packet at a place, and delivers what is held up to the first gap.
     fn hold(&mut self, life: Life, place: usize, packet: Packet)
-        requires place { place < WINDOW }
-        requires room { length self.old.events + length self.old.held < EVENT_PLACES }
-        requires place_room { length self.old.events + place + 1 < EVENT_PLACES }
+        requires place { place < EARLY }
+        requires near { place < WINDOW }
+        requires held { length self.old.held ≤ WINDOW }
+        requires room { length self.old.events + length self.old.held < EVENTS }
+        requires place_room { length self.old.events + place + 1 < EVENTS }
         requires accepted { self.old.accepted ≤ 2 ^ 63 }
         ensures { state_in self.new ≡ after_release life (record (state_in self.old) { held = hold_at place packet self.old.held }) (hold_at place packet self.old.held) }
     {
@@ -74,7 +77,7 @@ impl State {
     /// A packet of the bound life, where `furthest` is the last number of the window.
     #[tactic(auto, using(crate::proofs::ReceiveLemmas::passed_over, crate::proofs::ReceiveLemmas::dropped))]
     fn on_packet(&mut self, life: Life, furthest: u64, number: u64, packet: Packet)
-        requires room { HasRoom WINDOW furthest (state_in self.old) }
+        requires room { HasRoomFor EVENTS EARLY furthest number 1 (state_in self.old) }
         requires accepted { self.old.accepted ≤ 2 ^ 63 }
         ensures { state_in self.new ≡ after_packet life furthest (state_in self.old) number packet }
     {
@@ -91,9 +94,8 @@ impl State {
 
     /// Packets of the bound life, numbered on from the first.
     fn on_packets(&mut self, life: Life, number: u64, packets: &[Packet])
-        requires room { length self.old.events + WINDOW < EVENT_PLACES }
+        requires room { HasRoomFor EVENTS EARLY (self.old.accepted + WINDOW) number (length packets.now) (state_in self.old) }
         requires accepted { self.old.accepted ≤ 2 ^ 62 }
-        requires held { length self.old.held ≤ WINDOW }
         requires number { number + length packets.now ≤ 2 ^ 62 + 1 }
         ensures { state_in self.new ≡ after_packets life (self.old.accepted + WINDOW) (state_in self.old) number packets.now }
     {
@@ -108,9 +110,8 @@ impl State {
     /// A DATA frame of the bound life.
     #[tactic(auto, unfolding(crate::specs::LinkEnd::on_data))]
     fn on_data(&mut self, life: Life, number: u64, packets: &[Packet]) -> Verdict
-        requires room { length self.old.events + WINDOW < EVENT_PLACES }
+        requires room { HasRoomFor EVENTS EARLY (self.old.accepted + WINDOW) number (length packets.now) (state_in self.old) }
         requires accepted { self.old.accepted ≤ 2 ^ 62 }
-        requires held { length self.old.held ≤ WINDOW }
         requires some { 0 < length packets.now }
         requires number { number + length packets.now ≤ 2 ^ 62 + 1 }
         ensures verdict { result ≡ (on_data WINDOW (state_in self.old) life number packets.now).0 }
@@ -132,9 +133,8 @@ impl State {
     #[tactic(auto, unfolding(crate::specs::LinkEnd::on_matched))]
     fn on_matched(&mut self, life: Life, binds: bool, now: u64, body: BorrowedBody<'_>) -> Verdict
         requires numbered { IsNumbered (body_of body) }
-        requires room { length self.old.events + WINDOW < EVENT_PLACES }
+        requires room { HasBodyRoom EVENTS EARLY (body_of body) (state_in self.old) }
         requires accepted { self.old.accepted ≤ 2 ^ 62 }
-        requires held { length self.old.held ≤ WINDOW }
         ensures verdict { result ≡ (on_matched WINDOW (state_in self.old) life binds now (body_of body.entry)).0 }
         ensures state { state_in self.new ≡ (on_matched WINDOW (state_in self.old) life binds now (body_of body.entry)).1 }
     {
@@ -162,7 +162,8 @@ impl State {
 
     #[tactic(auto, unfolding(crate::specs::LinkEnd::on_frame_in))]
     fn on_unbound_frame(&mut self, own: u64, frame: &BorrowedFrame<'_>, now: u64) -> Verdict
-        requires room { length self.old.events + PLACES_OF_A_FRAME ≤ EVENT_PLACES }
+        requires place { length self.old.events < EVENTS }
+        requires room { HasFirstRoom EVENTS EARLY frame.now.body (state_in self.old) }
         ensures verdict { result ≡ (on_frame_in WINDOW (state_in self.old) frame.now now (Phase.Unbound own)).0 }
         ensures state { state_in self.new ≡ (on_frame_in WINDOW (state_in self.old) frame.now now (Phase.Unbound own)).1 }
     {
@@ -187,9 +188,9 @@ impl State {
 
     #[tactic(auto, unfolding(crate::specs::LinkEnd::on_frame_in))]
     fn on_bound_frame(&mut self, life: Life, frame: &BorrowedFrame<'_>, now: u64) -> Verdict
-        requires room { length self.old.events + PLACES_OF_A_FRAME ≤ EVENT_PLACES }
+        requires place { length self.old.events < EVENTS }
+        requires room { HasBodyRoom EVENTS EARLY frame.now.body (state_in self.old) }
         requires accepted { self.old.accepted ≤ 2 ^ 62 }
-        requires held { length self.old.held ≤ WINDOW }
         ensures verdict { result ≡ (on_frame_in WINDOW (state_in self.old) frame.now now (Phase.Bound life)).0 }
         ensures state { state_in self.new ≡ (on_frame_in WINDOW (state_in self.old) frame.now now (Phase.Bound life)).1 }
     {
@@ -212,7 +213,7 @@ impl State {
     #[inline(never)]
     #[tactic(auto, unfolding(crate::specs::LinkEnd::on_frame_in, crate::specs::LinkEnd::on_matched))]
     fn on_unbound_hello(&mut self, own: u64, header: &Header, now: u64) -> Verdict
-        requires room { length self.old.events + PLACES_OF_A_FRAME ≤ EVENT_PLACES }
+        requires place { length self.old.events < EVENTS }
         ensures verdict { result ≡ (on_frame_in WINDOW (state_in self.old) (frame_of header.now Body.Hello) now (Phase.Unbound own)).0 }
         ensures state { state_in self.new ≡ (on_frame_in WINDOW (state_in self.old) (frame_of header.now Body.Hello) now (Phase.Unbound own)).1 }
     {
@@ -236,7 +237,7 @@ impl State {
     #[inline(always)]
     #[tactic(auto, unfolding(crate::specs::LinkEnd::on_frame_in, crate::specs::LinkEnd::on_matched))]
     fn on_bound_hello(&mut self, life: Life, header: &Header, now: u64) -> Verdict
-        requires room { length self.old.events + PLACES_OF_A_FRAME ≤ EVENT_PLACES }
+        requires place { length self.old.events < EVENTS }
         ensures verdict { result ≡ (on_frame_in WINDOW (state_in self.old) (frame_of header.now Body.Hello) now (Phase.Bound life)).0 }
         ensures state { state_in self.new ≡ (on_frame_in WINDOW (state_in self.old) (frame_of header.now Body.Hello) now (Phase.Bound life)).1 }
     {
@@ -256,6 +257,7 @@ impl State {
     #[inline(always)]
     #[tactic(auto, unfolding(crate::specs::LinkEnd::on_frame, crate::specs::LinkEnd::on_frame_in))]
     pub fn on_hello(&mut self, settings: &Settings, header: &Header, now: u64) -> Verdict
+        requires { HasLists EVENTS EARLY ⊎ length self.old.events < EVENTS }
         ensures verdict { result ≡ (on_frame (settings_in settings.now) (state_in self.old) (frame_of header.now Body.Hello) now).0 }
         ensures state { state_in self.new ≡ (on_frame (settings_in settings.now) (state_in self.old) (frame_of header.now Body.Hello) now).1 }
     {
@@ -277,6 +279,7 @@ impl State {
     pub fn on_frame(&mut self, settings: &Settings, frame: &BorrowedFrame<'_>, now: u64) -> Verdict
         requires accepted { self.old.accepted ≤ 2 ^ 62 }
         requires held { length self.old.held ≤ WINDOW }
+        requires room { HasLists EVENTS EARLY ⊎ HasFrameRoom EVENTS frame.now (state_in self.old) }
         ensures verdict { result ≡ (on_frame (settings_in settings.now) (state_in self.old) frame.now now).0 }
         ensures state { state_in self.new ≡ (on_frame (settings_in settings.now) (state_in self.old) frame.now now).1 }
         ensures valid { IsFrame frame.now }

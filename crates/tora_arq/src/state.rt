@@ -1,7 +1,8 @@
 //! The state of a link end, and what each call makes of it.
 ghost use Rattle.std.specs.Prelude.{◌≡◌, ◌<◌, ◌≤◌, ◌+◌, ◌^◌, length, IfOk, IsOk, MatchOption};
 ghost use Rattle.tora_arq.specs.LinkEnd.{after_open, after_end, after_bind, after_acknowledgement, after_delivery, after_release, first_end, is_silent, after_tick, on_submit, after_cut};
-ghost use Rattle.tora_arq.specs.EndRange.{IsEndState, IsPhase};
+ghost use Rattle.tora_arq.specs.EndRange.{IsEndState};
+ghost use Rattle.tora_arq.specs.Rooms.{HasEventPlace};
 ghost use Rattle.tora_arq.specs.StateView.{settings_in, state_in};
 
 use crate::events::EventQueue;
@@ -9,14 +10,15 @@ use crate::held::HeldPackets;
 use crate::phase::Phase;
 use crate::queue::SendQueue;
 use crate::settings::{Settings, ticks_passed};
-use crate::{EVENT_PLACES, Life, LinkEvent, QUEUE_PLACES, Reason, SubmitError};
+use crate::{Life, LinkEvent, QUEUE_PLACES, Reason, SubmitError};
 use std::alloc::{AllocError, Global};
 use tora_frame::GREATEST_NUMBER;
 use tora_packet::Packet;
 
-/// The state of a link end. What a HELLO and a tick look at stands in front.
+/// The state of a link end with so many places for events, for packets that wait for their acknowledgement, and for packets that came early. What a
+/// HELLO and a tick look at stands in front.
 #[derive(Debug, Drop)]
-pub struct State {
+pub struct State<const EVENTS: usize, const PACKETS: usize, const EARLY: usize> {
     pub phase: Phase,
     /// The mark that the peer speaks version 2.
     pub speaks_two: bool,
@@ -31,9 +33,9 @@ pub struct State {
     /// The greatest life of the peer that was noted, 0 for none.
     pub heard: u64,
     /// The packets submitted and not acknowledged.
-    pub queue: SendQueue,
+    pub queue: SendQueue<PACKETS>,
     /// The events that were not polled.
-    pub events: EventQueue,
+    pub events: EventQueue<EVENTS>,
     /// The greatest number of a packet that was transmitted.
     pub transmitted: u64,
     /// How many packets the peer has accepted, as far as it told.
@@ -41,14 +43,14 @@ pub struct State {
     /// How many packets of the peer were delivered.
     pub accepted: u64,
     /// The packets of the peer that came early.
-    pub held: HeldPackets,
+    pub held: HeldPackets<EARLY>,
     /// The number of the last life, 0 before the first.
     pub last_life: u64,
 }
 
-impl State {
+impl<const EVENTS: usize, const PACKETS: usize, const EARLY: usize> State<EVENTS, PACKETS, EARLY> {
     /// A closed end that had no life.
-    pub fn new(alloc: Global) -> Result<State, AllocError>
+    pub fn new(alloc: Global) -> Result<State<EVENTS, PACKETS, EARLY>, AllocError>
         ensures { IfOk result (λ s. state_in s ≡ first_end) }
     {
         let queue = SendQueue::new(alloc)?;
@@ -76,7 +78,7 @@ impl State {
     /// Ends the bound life. It stands apart, since it is seldom done where it is asked for.
     #[inline(never)]
     pub fn end(&mut self, life: Life, reason: Reason)
-        requires { length self.old.events < EVENT_PLACES }
+        requires { length self.old.events < EVENTS }
         ensures { state_in self.new ≡ after_end (state_in self.old) life reason }
     {
         self.phase = Phase::Closed;
@@ -90,7 +92,7 @@ impl State {
 
     /// Binds a life.
     pub fn bind(&mut self, life: Life)
-        requires { length self.old.events < EVENT_PLACES }
+        requires { length self.old.events < EVENTS }
         ensures { state_in self.new ≡ after_bind (state_in self.old) life }
     {
         let is_changed = self.heard != life.peer;
@@ -118,7 +120,7 @@ impl State {
 
     /// Delivers the next packet.
     pub fn deliver(&mut self, life: Life, packet: Packet)
-        requires room { length self.old.events < EVENT_PLACES }
+        requires room { length self.old.events < EVENTS }
         requires number { self.old.accepted + 1 < 2 ^ 64 }
         ensures { state_in self.new ≡ after_delivery (state_in self.old) life packet self.old.held }
     {
@@ -128,7 +130,7 @@ impl State {
 
     /// Delivers the packets that are held, up to the first gap.
     pub fn release(&mut self, life: Life)
-        requires room { length self.old.events + length self.old.held < EVENT_PLACES }
+        requires room { length self.old.events + length self.old.held < EVENTS }
         requires number { self.old.accepted + length self.old.held < 2 ^ 64 }
         ensures { state_in self.new ≡ after_release life (state_in self.old) self.old.held }
     {
@@ -169,7 +171,8 @@ impl State {
     /// Time has passed.
     #[tactic(auto, unfolding(crate::specs::LinkEnd::after_tick))]
     pub fn on_tick(&mut self, settings: &Settings, now: u64)
-        requires { IsEndState (settings_in settings.now) (state_in self.old) }
+        requires end { IsEndState (settings_in settings.now) (state_in self.old) }
+        requires room { HasEventPlace EVENTS (state_in self.old) }
         ensures { state_in self.new ≡ after_tick (settings_in settings.now) (state_in self.old) now }
     {
         if let Phase::Bound(life) = self.phase {
@@ -182,8 +185,9 @@ impl State {
     /// Takes a packet to the peer.
     #[tactic(auto, unfolding(crate::specs::LinkEnd::on_submit))]
     pub fn submit(&mut self, life: Life, packet: Packet) -> Result<(), SubmitError>
-        requires phase { IsPhase self.old.last_life self.old.heard self.old.events self.old.phase }
-        requires submitted { self.old.acknowledged ≤ 2 ^ 62 }
+        requires submitted { self.old.acknowledged + length self.old.queue ≤ 2 ^ 62 }
+        requires room { HasEventPlace EVENTS (state_in self.old) }
+        requires place { length self.old.queue < QUEUE_PLACES → length self.old.queue < PACKETS }
         ensures answer { result ≡ (on_submit (state_in self.old) life packet).0 }
         ensures state { state_in self.new ≡ (on_submit (state_in self.old) life packet).1 }
     {
@@ -209,7 +213,7 @@ impl State {
     /// Ends a life, where it is the bound one.
     #[tactic(auto, unfolding(crate::specs::LinkEnd::after_cut))]
     pub fn cut(&mut self, life: Life)
-        requires { IsPhase self.old.last_life self.old.heard self.old.events self.old.phase }
+        requires { HasEventPlace EVENTS (state_in self.old) }
         ensures { state_in self.new ≡ after_cut (state_in self.old) life }
     {
         if let Phase::Bound(current) = self.phase {

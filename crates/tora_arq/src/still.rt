@@ -33,7 +33,7 @@ fn earliest(first: u64, other: Option<u64>) -> u64
     }
 }
 
-impl SendQueue {
+impl<const PLACES: usize> SendQueue<PLACES> {
     /// A tick, or that from which on a packet is due within the window, or given up, where that is earlier. It looks at no more than the
     /// window.
     #[inline(always)]
@@ -50,7 +50,7 @@ impl SendQueue {
     }
 }
 
-impl State {
+impl<const EVENTS: usize, const PACKETS: usize, const EARLY: usize> State<EVENTS, PACKETS, EARLY> {
     /// Whether a HELLO is due, whatever the tick.
     fn owes_any_hello(&self) -> bool
         ensures { result ≡ self.now.owes_hello || is_old_hello_due (state_in self.now) }

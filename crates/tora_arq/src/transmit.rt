@@ -33,7 +33,7 @@ impl Settings {
     }
 }
 
-impl State {
+impl<const EVENTS: usize, const PACKETS: usize, const EARLY: usize> State<EVENTS, PACKETS, EARLY> {
     /// Whether a HELLO is owed, or it is long enough since the last one.
     fn is_hello_due(&self, settings: &Settings, now: u64) -> bool
         ensures { result ≡ is_hello_due (settings_in settings.now) (state_in self.now) now }

@@ -1,11 +1,10 @@
 use Rattle.std.proofs.Common.{◌≡◌, length}
 use Rattle.tora_arq.specs.Held.{padded}
-use Rattle.tora_arq.specs.declared.TheConstants.{WINDOW}
 use Rattle.tora_arq.proofs.held.HeldPackets.pad.Given as goal
 
 abbrev pub invariant-loop : goal.invariant-loop
-invariant-loop l = record {
+invariant-loop g l = record {
   padded_is : padded l.places l.self-inside.ring.items ≡ padded l.places l.initial.self-inside.ring.items;
   len : length l.self-inside.ring.items ≡ l.counter;
-  capacity : l.self-inside.ring.capacity ≡ WINDOW;
+  capacity : l.self-inside.ring.capacity ≡ g.row.PLACES;
 }

@@ -5,7 +5,7 @@ use Rattle.tora_arq.proofs.DueLemmas.{is_queue_due, one_more, no_more, queue_due
 use Rattle.tora_arq.proofs.queue.SendQueue.due_tick.Goals as goal
 
 pub loop-place-preserved : goal.loop-place-preserved
-loop-place-preserved c = λ tick lt.
+loop-place-preserved g c = λ tick lt.
     let times = c.args.times.now in
     let queue = c.args.self.now in
     let place = c.loop-place.place in
@@ -17,7 +17,7 @@ loop-place-preserved c = λ tick lt.
     ∙ ap (λ (n : ℕ). is_queue_due times tick n queue) one
 
 pub returns : goal.returns
-returns c = λ most number tick lt.
+returns g c = λ most number tick lt.
     let times = c.args.times.now in
     let queue = c.args.self.now in
     let all : c.loop-place.place ≡ min WINDOW (length queue) = omega (arith, c.within_window-place-end.ensures, c.loop-place-test.false, c.loop-place.auto.place-end) in

@@ -6,10 +6,10 @@ use Rattle.tora_arq.proofs.QueueLemmas.{none_due, due_at, same_run, taken_some, 
 use Rattle.tora_arq.proofs.queue.SendQueue.take_due.Goals as goal
 
 pub returns-in_default-clause-due : goal.returns-in_default-clause-due
-returns-in_default-clause-due c = λ number. none_due c.args.times.now c.args.now c.args.most number WINDOW c.args.self.now c.in_default.ensures.first
+returns-in_default-clause-due g c = λ number. none_due c.args.times.now c.args.now c.args.most number WINDOW c.args.self.now c.in_default.ensures.first
 
 pub returns-clause-due : goal.returns-clause-due
-returns-clause-due c = λ number.
+returns-clause-due g c = λ number.
     let first = c.in-Some.ensures.first in
     let end : c.min-end.result ≡ min (min WINDOW (length c.args.self.now)) (c.in-Some.place + c.args.most) = omega (arith, c.min-end.ensures, c.within_window.ensures) in
     let same = same_run c.args.times.now c.args.now c.args.most WINDOW c.in-Some.place c.min-end.result c.args.self.now end in
@@ -18,7 +18,7 @@ returns-clause-due c = λ number.
     ∙ rw (c.take_run.ensures.packets, c.take_run.ensures.queue) refl
 
 pub returns-clause-some : goal.returns-clause-some
-returns-clause-some c =
+returns-clause-some g c =
     let first = c.in-Some.ensures.first in
     let here = slice_get_within c.args.self.now c.in-Some.place c.in-Some.field-0-1 first.packet_is in
     let some = taken_some c.args.times.now c.args.now (c.min-end.result - c.in-Some.place) c.in-Some.place c.args.self.now c.in-Some.field-0-1

@@ -4,20 +4,20 @@ use Rattle.tora_arq.proofs.QueueLemmas.{Taking, taking_on, taking_stops, taking_
 use Rattle.tora_arq.proofs.queue.SendQueue.take_run.Goals as goal
 
 pub loop-at-init : goal.loop-at-init
-loop-at-init c = record { taking = record { packets_are = rw c.requires.empty refl; queue_is = refl }; taken = omega (arith, ap length c.requires.empty); len = refl }
+loop-at-init g c = record { taking = record { packets_are = rw c.requires.empty refl; queue_is = refl }; taken = omega (arith, ap length c.requires.empty); len = refl }
 
 pub returns-then-not-is_ready-clause-packets : goal.returns-then-not-is_ready-clause-packets
-returns-then-not-is_ready-clause-packets c =
+returns-then-not-is_ready-clause-packets g c =
     (taking_stops c.args.times.now c.args.now (c.args.end - c.loop-at.at) c.loop-at.at c.loop-at.packets.items c.loop-at.self _ _ c.packet_at-packet.result c.packet_at-packet.ensures
     (sym c.is_ready.ensures.ready ∙ c.if-not-is_ready.true) c.loop-at.invariant.taking).0
 
 pub returns-then-not-is_ready-clause-queue : goal.returns-then-not-is_ready-clause-queue
-returns-then-not-is_ready-clause-queue c =
+returns-then-not-is_ready-clause-queue g c =
     (taking_stops c.args.times.now c.args.now (c.args.end - c.loop-at.at) c.loop-at.at c.loop-at.packets.items c.loop-at.self _ _ c.packet_at-packet.result c.packet_at-packet.ensures
     (sym c.is_ready.ensures.ready ∙ c.if-not-is_ready.true) c.loop-at.invariant.taking).1
 
 pub loop-at-preserved : goal.loop-at-preserved
-loop-at-preserved c =
+loop-at-preserved g c =
     let run = ready_run c.args.times.now c.args.now (c.args.end - c.args.place) (drop c.args.place c.args.self.now) in
     let queue : c.set.new.self ≡ slice_set c.loop-at.self c.loop-at.at (retried c.packet_at-packet.result c.args.now) = c.set.ensures ∙ ap (slice_set c.loop-at.self c.loop-at.at) c.retried.ensures in
     let left : c.args.end - c.loop-at.at - 1 ≡ c.args.end - (c.loop-at.at + 1) = omega arith in
@@ -29,9 +29,9 @@ loop-at-preserved c =
     }
 
 pub returns-clause-packets : goal.returns-clause-packets
-returns-clause-packets c =
+returns-clause-packets g c =
     (taking_ends c.args.times.now c.args.now (c.args.end - c.loop-at.at) c.loop-at.at c.loop-at.packets.items c.loop-at.self _ _ (omega (arith, c.loop-at-test.false)) c.loop-at.invariant.taking).0
 
 pub returns-clause-queue : goal.returns-clause-queue
-returns-clause-queue c =
+returns-clause-queue g c =
     (taking_ends c.args.times.now c.args.now (c.args.end - c.loop-at.at) c.loop-at.at c.loop-at.packets.items c.loop-at.self _ _ (omega (arith, c.loop-at-test.false)) c.loop-at.invariant.taking).1

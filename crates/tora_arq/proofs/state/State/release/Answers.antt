@@ -7,7 +7,7 @@ use Rattle.tora_arq.proofs.HeldLemmas.{length_rest, released_once, released_all}
 use Rattle.tora_arq.proofs.state.State.release.Goals as goal
 
 pub loop-packet-preserved : goal.loop-packet-preserved
-loop-packet-preserved c =
+loop-packet-preserved g c =
     let first : first_held c.loop-packet.self.held ≡ Some c.in-Some.packet = sym c.take_first.ensures.packet ∙ c.in-Some.is in
     let rest : c.take_first.new.self ≡ drop 1 c.loop-packet.self.held = c.in-Some.ensures.some in
     let held = ap (λ (e : EndState). e.held) c.deliver.ensures in
@@ -18,6 +18,6 @@ loop-packet-preserved c =
     }
 
 pub returns : goal.returns
-returns c =
+returns g c =
     let none : first_held c.loop-packet.self.held ≡ None = sym c.take_first.ensures.packet ∙ c.in_default.is in
     released_all c.args.life (state_in c.loop-packet.self) c.take_first.new.self none c.in_default.ensures.none ∙ c.loop-packet.invariant.onward
