@@ -15,3 +15,4 @@ pub mod DueLemmas
 pub mod StillLemmas
 pub mod SteadyLemmas
 pub mod NearLemmas
+pub mod PlaceLemmas

@@ -1,8 +1,8 @@
 -- Two lists, one behind the other, from whose front items are taken.
-use Rattle.std.proofs.Common.{◌≡◌, ℕ, zero, suc, ◌<◌, ◌≤◌, ◌+◌, ◌-◌, min, ◌⊎◌, inl, inr, Bool, true, false, List, [], ◌∷◌, ◌++◌, length, drop, take, slice_get, slice_set, refl, sym, ap, ap₂, ◌∙◌, subst, arith, ltb}
+use Rattle.std.proofs.Common.{◌≡◌, ℕ, ◌<◌, ◌≤◌, ◌+◌, ◌-◌, min, ◌⊎◌, inl, inr, true, false, List, [], ◌++◌, length, drop, take, slice_set, refl, sym, ap, ◌∙◌, arith, ltb}
 use borrow.Author.Tests.{ltb-true, ltb-false}
 use Rattle.std.proofs.lemmas.Bool.{cases_Bool}
-use Rattle.std.proofs.lemmas.List.{length-take-le, length-drop, drop-append-le, drop-set-add, set-append_left, set-append_right}
+use Rattle.std.proofs.lemmas.List.{length-take-le, drop-append-le, drop-set-add, set-append_right}
 use Rattle.std.proofs.Math.Seq.{drop-append-add}
 use Rattle.std.proofs.Math.ListN.{drop_of_length-le}
 

@@ -16,3 +16,4 @@ pub mod WorkedHellos
 pub mod NextDue
 pub mod Still
 pub mod Steady
+pub mod Growing

@@ -1,7 +1,7 @@
 //! The events of a link end that wait to be polled.
 ghost use Rattle.std.specs.Prelude.{◌≡◌, ◌<◌, ◌≤◌, ◌-◌, [], ◌∷◌, ◌++◌, length, drop, slice_get, nat_lt, IfOk};
 
-use crate::near_queue::NearQueue;
+use crate::near_queue::{FRONT, NearQueue};
 use crate::{EVENT_PLACES, Life, LinkEvent, PLACES_OF_A_FRAME};
 use std::alloc::{AllocError, Global};
 use std::marker::Model;
@@ -79,5 +79,15 @@ impl<const PLACES: usize> EventQueue<PLACES> {
         };
         self.events.remove_first(1);
         Some(event)
+    }
+}
+
+impl EventQueue<FRONT> {
+    /// The same events, with room for all that may wait.
+    pub fn widened(&self, alloc: Global) -> Result<EventQueue<EVENT_PLACES>, AllocError>
+        ensures { IfOk result (λ q. q ≡ self.now) }
+    {
+        let events = self.events.widened(alloc)?;
+        Ok(EventQueue { events })
     }
 }

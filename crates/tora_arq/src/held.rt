@@ -2,6 +2,7 @@
 ghost use Rattle.std.specs.Prelude.{◌≡◌, ◌<◌, ◌≤◌, ◌==◌, [], length, drop, IfOk, IfNone, OnSome};
 ghost use Rattle.tora_arq.specs.Held.{hold_at, padded, first_held};
 
+use crate::HELD_PLACES;
 use crate::rings::{push, set};
 use circular_buffer::HeapCircularBuffer;
 use std::alloc::{AllocError, Global};
@@ -81,5 +82,16 @@ impl<const PLACES: usize> HeldPackets<PLACES> {
         let packet = (*self.ring.front()?)?;
         self.ring.pop_front();
         Some(packet)
+    }
+}
+
+impl HeldPackets<0> {
+    /// The same, which are none, with room for a window.
+    pub fn widened(&self, alloc: Global) -> Result<HeldPackets<HELD_PLACES>, AllocError>
+        ensures { IfOk result (λ h. h ≡ self.now) }
+    {
+        let ring = HeapCircularBuffer::with_capacity(alloc, HELD_PLACES)?;
+        let _none = self.ring.len();
+        Ok(HeldPackets { ring })
     }
 }

@@ -25,10 +25,12 @@ mod arq_error;
 mod events;
 mod facts;
 mod fifo;
+mod growing_end;
 mod held;
 mod life;
 mod link_end;
 mod link_event;
+mod near_end;
 mod near_queue;
 mod phase;
 mod queue;
@@ -52,6 +54,7 @@ pub use facts::{
     lives_are_bound_once, old_hello_comes_right_after, packets_are_submitted_in_the_bound_life,
     polls_of_a_tick_end, refused_frames_change_nothing, standard_times, updates_are_of_the_peer,
 };
+pub use growing_end::GrowingEnd;
 pub use life::Life;
 pub use link_end::LinkEnd;
 pub use link_event::LinkEvent;

@@ -10,7 +10,6 @@ ghost use Rattle.tora_frame.specs.FrameParts.{IsHeader, frame_of};
 ghost use Rattle.tora_frame.specs.declared.parts.Body.{Body};
 ghost use Rattle.tora_frame.specs.declared.parts.Version.TheVariants.{One, Two};
 
-use crate::phase::Phase;
 use crate::settings::Settings;
 use crate::state::State;
 use crate::{
@@ -41,8 +40,8 @@ use tora_packet::Packet;
 /// memory. A bound end always has a place for the event that its life ended.
 #[derive(Debug, Drop)]
 pub struct LinkEnd {
-    settings: Settings,
-    state: State<EVENT_PLACES, QUEUE_PLACES, HELD_PLACES>,
+    pub(crate) settings: Settings,
+    pub(crate) state: State<EVENT_PLACES, QUEUE_PLACES, HELD_PLACES>,
 }
 
 impl Model for LinkEnd {
@@ -119,11 +118,7 @@ impl LinkEnd {
     pub fn is_closed(&self) -> bool
         ensures { result ≡ is_closed self.now.state }
     {
-        match self.state.phase {
-            Phase::Closed => true,
-            Phase::Unbound(_) => false,
-            Phase::Bound(_) => false,
-        }
+        self.state.is_closed()
     }
 
     /// The node at the other end.
@@ -177,11 +172,7 @@ impl LinkEnd {
         // The event that it ended has a place.
         ensures room { OnSome result (length self.now.state.events < EVENT_PLACES) }
     {
-        match self.state.phase {
-            Phase::Closed => None,
-            Phase::Unbound(_) => None,
-            Phase::Bound(life) => Some(life),
-        }
+        self.state.life()
     }
 
     /// Opens a closed end with a number that is above all earlier ones, at most 2^62.
@@ -319,9 +310,7 @@ impl LinkEnd {
         requires { IsSteady steady.now self.old.settings self.old.state }
         ensures { self.new ≡ record self.old { state = resumed steady.now self.old.state } }
     {
-        self.state.last_hello = Some(steady.said);
-        self.state.last_hearing = steady.heard;
-        self.state.owes_old_hello = steady.owes_old_hello;
+        self.state.resume(steady);
     }
 
     /// Takes the first frame due, which counts as sent; `None` only where none is due.

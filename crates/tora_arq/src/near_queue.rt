@@ -6,7 +6,7 @@ use std::alloc::{AllocError, Global};
 use std::marker::Model;
 
 /// How many items stand in front.
-const FRONT: usize = 4;
+pub const FRONT: usize = 4;
 
 /// Few items, in a place that is part of what has them.
 #[derive(Debug, Drop)]
@@ -72,6 +72,16 @@ impl<T: Copy + Drop> Front<T> {
         ensures { self.new ≡ slice_set self.old place item }
     {
         set_cell(&mut self.cells, place, item);
+    }
+
+    /// The same items.
+    fn copied(&self) -> Front<T>
+        ensures { result ≡ self.now }
+    {
+        Front {
+            len: self.len,
+            cells: self.cells,
+        }
     }
 
     /// Removes the first ones, so many: those behind them move up.
@@ -219,5 +229,26 @@ impl<T: Copy + Drop, const PLACES: usize> NearQueue<T, PLACES> {
         self.front.clear();
         self.gone = 0;
         self.back.clear();
+    }
+}
+
+impl<T: Copy + Drop> NearQueue<T, FRONT> {
+    /// The same queue, with room for more items.
+    ///
+    /// # Errors
+    /// Want of memory.
+    pub fn widened<const PLACES: usize>(
+        &self,
+        alloc: Global,
+    ) -> Result<NearQueue<T, PLACES>, AllocError>
+        requires { FRONT < PLACES }
+        ensures { IfOk result (λ q. q ≡ self.now) }
+    {
+        let back = Vec::with_capacity(alloc, PLACES)?;
+        Ok(NearQueue {
+            gone: 0,
+            back,
+            front: self.front.copied(),
+        })
     }
 }

@@ -5,10 +5,10 @@ ghost use Rattle.tora_arq.specs.SendQueue.{untried, retried, is_retry_time, is_r
 ghost use Rattle.tora_arq.specs.EndRange.{AreUntried};
 ghost use Rattle.tora_arq.specs.NextDue.{has_begun, is_packet_due};
 
-use crate::near_queue::NearQueue;
+use crate::near_queue::{FRONT, NearQueue};
 use crate::queued_packet::QueuedPacket;
 use crate::settings::{earlier, tick_behind, ticks_passed};
-use crate::{Times, WINDOW};
+use crate::{QUEUE_PLACES, Times, WINDOW};
 use std::alloc::{AllocError, Global};
 use std::marker::Model;
 use tora_frame::{MOST_PACKETS, Packets};
@@ -187,5 +187,15 @@ impl<const PLACES: usize> SendQueue<PLACES> {
         packets.clear();
         self.take_run(times, now, place, end, packets);
         Some(place)
+    }
+}
+
+impl SendQueue<FRONT> {
+    /// The same packets, with room for all that may wait.
+    pub fn widened(&self, alloc: Global) -> Result<SendQueue<QUEUE_PLACES>, AllocError>
+        ensures { IfOk result (λ q. q ≡ self.now) }
+    {
+        let packets = self.packets.widened(alloc)?;
+        Ok(SendQueue { packets })
     }
 }

@@ -1,16 +1,20 @@
 //! The state of a link end, and what each call makes of it.
 ghost use Rattle.std.specs.Prelude.{◌≡◌, ◌<◌, ◌≤◌, ◌+◌, ◌^◌, length, IfOk, IsOk, MatchOption};
-ghost use Rattle.tora_arq.specs.LinkEnd.{after_open, after_end, after_bind, after_acknowledgement, after_delivery, after_release, first_end, is_silent, after_tick, on_submit, after_cut};
+ghost use Rattle.tora_arq.specs.LinkEnd.{after_open, after_end, after_bind, after_acknowledgement, after_delivery, after_release, bound_life, first_end, is_closed, is_silent, after_tick, on_submit, after_cut};
+ghost use Rattle.tora_arq.specs.Steady.{resumed};
 ghost use Rattle.tora_arq.specs.EndRange.{IsEndState};
 ghost use Rattle.tora_arq.specs.Rooms.{HasEventPlace};
 ghost use Rattle.tora_arq.specs.StateView.{settings_in, state_in};
 
 use crate::events::EventQueue;
 use crate::held::HeldPackets;
+use crate::near_queue::FRONT;
 use crate::phase::Phase;
 use crate::queue::SendQueue;
 use crate::settings::{Settings, ticks_passed};
-use crate::{Life, LinkEvent, QUEUE_PLACES, Reason, SubmitError};
+use crate::{
+    EVENT_PLACES, HELD_PLACES, Life, LinkEvent, QUEUE_PLACES, Reason, Steady, SubmitError,
+};
 use std::alloc::{AllocError, Global};
 use tora_frame::GREATEST_NUMBER;
 use tora_packet::Packet;
@@ -73,6 +77,37 @@ impl<const EVENTS: usize, const PACKETS: usize, const EARLY: usize> State<EVENTS
             last_hello: None,
             last_hearing: 0,
         })
+    }
+
+    /// Whether it has to be opened.
+    pub fn is_closed(&self) -> bool
+        ensures { result ≡ is_closed (state_in self.now) }
+    {
+        match self.phase {
+            Phase::Closed => true,
+            Phase::Unbound(_) => false,
+            Phase::Bound(_) => false,
+        }
+    }
+
+    /// The bound life.
+    pub fn life(&self) -> Option<Life>
+        ensures { result ≡ bound_life (state_in self.now) }
+    {
+        match self.phase {
+            Phase::Closed => None,
+            Phase::Unbound(_) => None,
+            Phase::Bound(life) => Some(life),
+        }
+    }
+
+    /// Takes back what was said, heard and ticked at what was kept.
+    pub fn resume(&mut self, steady: &Steady)
+        ensures { state_in self.new ≡ resumed steady.now (state_in self.old) }
+    {
+        self.last_hello = Some(steady.said);
+        self.last_hearing = steady.heard;
+        self.owes_old_hello = steady.owes_old_hello;
     }
 
     /// Ends the bound life. It stands apart, since it is seldom done where it is asked for.
@@ -221,5 +256,36 @@ impl<const EVENTS: usize, const PACKETS: usize, const EARLY: usize> State<EVENTS
                 self.end(current, Reason::Cut);
             }
         }
+    }
+}
+
+impl State<FRONT, FRONT, 0> {
+    /// The same state, with lists.
+    pub fn widened(
+        &self,
+        alloc: Global,
+    ) -> Result<State<EVENT_PLACES, QUEUE_PLACES, HELD_PLACES>, AllocError>
+        ensures { IfOk result (λ s. state_in s ≡ state_in self.now) }
+    {
+        let queue = self.queue.widened(alloc)?;
+        let held = self.held.widened(alloc)?;
+        let events = self.events.widened(alloc)?;
+        Ok(State {
+            phase: self.phase,
+            heard: self.heard,
+            last_life: self.last_life,
+            queue,
+            acknowledged: self.acknowledged,
+            transmitted: self.transmitted,
+            accepted: self.accepted,
+            held,
+            events,
+            speaks_two: self.speaks_two,
+            owes_hello: self.owes_hello,
+            owes_old_hello: self.owes_old_hello,
+            owes_ack: self.owes_ack,
+            last_hello: self.last_hello,
+            last_hearing: self.last_hearing,
+        })
     }
 }

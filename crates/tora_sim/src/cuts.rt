@@ -6,12 +6,11 @@ ghost use Rattle.tora_sim.specs.Links.{with_state};
 ghost use Rattle.tora_sim.specs.Cuts.{after_cut_at};
 ghost use Rattle.tora_sim.specs.Store.{world_of};
 
-use crate::links::{LinkParts, place};
+use crate::links::{LinkParts, cut_bound, place};
 use crate::sim::Sim;
 use crate::stills::forget;
 use tora_arq::lives_are_bound_once;
 use tora_height::Id;
-use tora_seat::cut_bound;
 
 impl LinkParts {
     /// Cuts the bound life, if there is one.

@@ -11,7 +11,7 @@ impl Sim {
     /// Lets `Deliver` of the datagram of a number happen until it is refused, and so many times at most, and answers whether it ever did.
     ///
     /// # Errors
-    /// As for any event; a delivery takes no memory.
+    /// Where there is no memory for what waits at the end that takes it in. The world is then as after the deliveries before it.
     #[inline(always)]
     pub fn deliver_all(&mut self, i: u64, most: u64) -> Result<bool, AllocError>
         ensures { Repeats self.old most (Deliver i) result self.new }

@@ -63,6 +63,14 @@ impl Lane {
         self.cargoes.len() - self.taken < MOST_CARGOES
     }
 
+    /// The first cargo that waits.
+    pub fn next(&self) -> Cargo
+        requires { self.now.pulled < length self.now.put }
+        ensures { slice_get self.now.put self.now.pulled ≡ Some result }
+    {
+        self.cargoes[self.taken]
+    }
+
     /// Takes the first cargo that waits.
     pub fn take(&mut self) -> Cargo
         requires { self.old.pulled < length self.old.put }

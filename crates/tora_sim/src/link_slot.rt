@@ -19,7 +19,7 @@ use crate::SimError;
 use crate::links::LinkParts;
 use std::alloc::{AllocError, Global};
 use std::marker::Model;
-use tora_arq::{Life, LinkEnd, LinkEvent, Steady};
+use tora_arq::{GrowingEnd, Life, LinkEvent, Steady};
 use tora_frame::{BorrowedFrame, Header, Packets};
 use tora_height::Id;
 use tora_life::DiskCall;
@@ -171,29 +171,31 @@ impl LinkSlot {
     }
 
     /// Takes a frame in, and tells whether the end is busy then, and before which tick nothing is to be done at it; 0 where something is to be
-    /// done at once.
+    /// done at once. `None` where there is no memory, and then nothing is changed.
     #[inline(always)]
-    pub fn receive_and_look(&mut self, frame: &BorrowedFrame<'_>, now: u64) -> (bool, u64)
-        ensures state { self.new ≡ with_state self.old (after_frame self.old.settings self.old.state frame.now now) }
-        ensures plain { result.0 ≡ false → IsPlain self.new }
-        ensures still { IsStillIf result.1 self.new }
+    pub fn receive_and_look(&mut self, frame: &BorrowedFrame<'_>, now: u64) -> Option<(bool, u64)>
+        ensures state { IfSome result (λ _. self.new ≡ with_state self.old (after_frame self.old.settings self.old.state frame.now now)) }
+        ensures plain { IfSome result (λ seen. seen.0 ≡ false → IsPlain self.new) }
+        ensures still { IfSome result (λ seen. IsStillIf seen.1 self.new) }
+        ensures none { IfNone result (self.new ≡ self.old) }
     {
         wake(&mut self.steady, &mut *self.parts);
-        let seen = self.parts.receive_and_look(frame, now);
+        let seen = self.parts.receive_and_look(frame, now)?;
         keep(&mut self.steady, &self.parts);
-        seen
+        Some(seen)
     }
 
     /// Takes a HELLO in, by its header, and tells the same.
     #[inline(always)]
-    pub fn receive_hello_and_look(&mut self, header: &Header, now: u64) -> (bool, u64)
+    pub fn receive_hello_and_look(&mut self, header: &Header, now: u64) -> Option<(bool, u64)>
         requires { IsHeader header.now }
-        ensures state { self.new ≡ with_state self.old (after_frame self.old.settings self.old.state (frame_of header.now Body.Hello) now) }
-        ensures plain { result.0 ≡ false → IsPlain self.new }
-        ensures still { IsStillIf result.1 self.new }
+        ensures state { IfSome result (λ _. self.new ≡ with_state self.old (after_frame self.old.settings self.old.state (frame_of header.now Body.Hello) now)) }
+        ensures plain { IfSome result (λ seen. seen.0 ≡ false → IsPlain self.new) }
+        ensures still { IfSome result (λ seen. IsStillIf seen.1 self.new) }
+        ensures none { IfNone result (self.new ≡ self.old) }
     {
         if let Some(until) = self.hear(header, now) {
-            return (false, until);
+            return Some((false, until));
         }
         self.receive_first_hello(header, now)
     }
@@ -218,16 +220,17 @@ impl LinkSlot {
 
     /// The same at an end of which nothing is kept, or where the HELLO says something new.
     #[inline(never)]
-    fn receive_first_hello(&mut self, header: &Header, now: u64) -> (bool, u64)
+    fn receive_first_hello(&mut self, header: &Header, now: u64) -> Option<(bool, u64)>
         requires { IsHeader header.now }
-        ensures state { self.new ≡ with_state self.old (after_frame self.old.settings self.old.state (frame_of header.now Body.Hello) now) }
-        ensures plain { result.0 ≡ false → IsPlain self.new }
-        ensures still { IsStillIf result.1 self.new }
+        ensures state { IfSome result (λ _. self.new ≡ with_state self.old (after_frame self.old.settings self.old.state (frame_of header.now Body.Hello) now)) }
+        ensures plain { IfSome result (λ seen. seen.0 ≡ false → IsPlain self.new) }
+        ensures still { IfSome result (λ seen. IsStillIf seen.1 self.new) }
+        ensures none { IfNone result (self.new ≡ self.old) }
     {
         wake(&mut self.steady, &mut *self.parts);
-        let seen = self.parts.receive_hello_and_look(header, now);
+        let seen = self.parts.receive_hello_and_look(header, now)?;
         keep(&mut self.steady, &self.parts);
-        seen
+        Some(seen)
     }
 
     /// Ticks the end, and tells whether it is closed then. One that isn't is as it was.
@@ -304,13 +307,15 @@ impl LinkSlot {
         self.parts.has_cargo()
     }
 
-    /// Takes a cargo of the lane, and submits its packet or cuts its life.
-    pub fn pull(&mut self)
+    /// Takes a cargo of the lane, and submits its packet or cuts its life, and says whether it did: it does not where there is no memory, and
+    /// then nothing is changed.
+    pub fn pull(&mut self) -> bool
         requires { self.old.pulled < length self.old.put }
-        ensures { self.new ≡ after_pull_at self.old (slice_get self.old.put self.old.pulled) }
+        ensures pulled { result ≡ true → self.new ≡ after_pull_at self.old (slice_get self.old.put self.old.pulled) }
+        ensures same { result ≡ false → self.new ≡ self.old }
     {
         wake(&mut self.steady, &mut *self.parts);
-        self.parts.pull();
+        self.parts.pull()
     }
 
     /// Takes the memory for all that one item of the node can put here: cargoes up to as many as a lane holds, and a packet that is stepped; and
@@ -342,7 +347,7 @@ impl LinkSlot {
     ///
     /// # Errors
     /// `Memory`.
-    pub fn new_end(&self, alloc: Global) -> Result<LinkEnd, SimError>
+    pub fn new_end(&self, alloc: Global) -> Result<GrowingEnd, SimError>
         ensures fresh { IfOk result (λ end. end ≡ link_end_of self.now.settings first_end) }
         ensures memory { IfErr result (λ e. e ≡ SimError.Memory) }
     {
@@ -351,7 +356,7 @@ impl LinkSlot {
 
     /// Takes a fresh end in place of its own, which is behind `end` then, empties the lane, and opens the life file after
     /// a crash of its disk.
-    pub fn restart(&mut self, end: &mut LinkEnd, torn: Option<[u8; 16]>)
+    pub fn restart(&mut self, end: &mut GrowingEnd, torn: Option<[u8; 16]>)
         requires { end.old ≡ link_end_of self.old.settings first_end }
         ensures { self.new ≡ restarted torn self.old }
     {

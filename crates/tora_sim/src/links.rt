@@ -1,7 +1,8 @@
 //! The link ends of all nodes, one behind the other.
 ghost use Rattle.tora_arq.specs.Settings.{IsTimes, settings_of};
 ghost use Rattle.std.specs.Prelude.{◌≡◌, ◌==◌, ◌≢◌, ◌<◌, ◌≤◌, ◌+◌, ◌++◌, ◌∷◌, [], ℕ, ⊤, true, false, IsTrue, IfSome, IfNone, OnOk, IfOk, IfErr, None, Some, MatchOption, MatchResult, find, length, map, is_some, nat_lt, slice_get};
-ghost use Rattle.tora_arq.specs.LinkEnd.{is_closed, after_frame, after_tick, frame_due, after_transmit, first_event, after_poll_event};
+ghost use Rattle.tora_seat.specs.Between.{after_cargo, after_cut_of_bound};
+ghost use Rattle.tora_arq.specs.LinkEnd.{bound_life, is_closed, after_frame, after_tick, frame_due, after_transmit, first_event, after_poll_event};
 ghost use Rattle.tora_sim.specs.Links.{with_state, after_open_at, after_arm, after_pull_at, is_at, is_key, key_of, AreRising, AreRisingKeys, AreChanged};
 ghost use Rattle.tora_arq.specs.LinkEnd.{first_end};
 ghost use Rattle.tora_frame.specs.FrameParts.{IsHeader, frame_of};
@@ -23,12 +24,12 @@ use crate::link_slot::LinkSlot;
 use std::alloc::Global;
 use std::marker::Model;
 use std::mem;
-use tora_arq::{ArqError, Life, LinkEnd, LinkEvent, Steady, Times, lives_are_bound_once};
+use tora_arq::{ArqError, GrowingEnd, Life, LinkEvent, Steady, Times, lives_are_bound_once};
 use tora_frame::{BorrowedFrame, Header, Packets, Version};
 use tora_height::Id;
 use tora_life::{DiskCall, MemDisk, Owner};
 use tora_packet::Packet;
-use tora_seat::{Cargo, hand_in};
+use tora_seat::Cargo;
 
 /// How many ends of a node are looked at one by one, before all are searched by halves.
 const MOST_TRIED: usize = 32;
@@ -45,7 +46,7 @@ pub struct LinkParts {
     pub(crate) steps: KeptCargoes,
     /// The lane from the node's core.
     pub(crate) lane: Lane,
-    pub(crate) end: LinkEnd,
+    pub(crate) end: GrowingEnd,
     /// The place of the peer among the node's neighbours.
     pub(crate) seat: usize,
 }
@@ -147,23 +148,25 @@ impl LinkParts {
         self.end.poll_hello(now)
     }
 
-    /// Takes a frame in.
+    /// Takes a frame in, and says whether it did: it does not where there is no memory, and then nothing is changed.
     #[inline(always)]
-    pub fn receive(&mut self, frame: &BorrowedFrame<'_>, now: u64)
-        ensures { self.new ≡ with_state self.old (after_frame self.old.settings self.old.state frame.now now) }
+    pub fn receive(&mut self, frame: &BorrowedFrame<'_>, now: u64) -> bool
+        ensures state { result ≡ true → self.new ≡ with_state self.old (after_frame self.old.settings self.old.state frame.now now) }
+        ensures same { result ≡ false → self.new ≡ self.old }
     {
         lives_are_bound_once();
-        self.end.on_borrowed_frame(frame, now);
+        self.end.on_borrowed_frame(frame, now).is_ok()
     }
 
-    /// Takes a HELLO in, by its header.
+    /// Takes a HELLO in, by its header, as `receive` does.
     #[inline(always)]
-    pub fn receive_hello(&mut self, header: &Header, now: u64)
+    pub fn receive_hello(&mut self, header: &Header, now: u64) -> bool
         requires { IsHeader header.now }
-        ensures { self.new ≡ with_state self.old (after_frame self.old.settings self.old.state (frame_of header.now Body.Hello) now) }
+        ensures state { result ≡ true → self.new ≡ with_state self.old (after_frame self.old.settings self.old.state (frame_of header.now Body.Hello) now) }
+        ensures same { result ≡ false → self.new ≡ self.old }
     {
         lives_are_bound_once();
-        self.end.on_hello(header, now);
+        self.end.on_hello(header, now).is_ok()
     }
 
     /// What HELLOs look at, where the end is steady and no cargo waits in its lane.
@@ -218,14 +221,20 @@ impl LinkParts {
         self.lane.has_cargo()
     }
 
-    /// Takes a cargo of the lane, and submits its packet or cuts its life.
-    pub fn pull(&mut self)
+    /// Takes a cargo of the lane, and submits its packet or cuts its life, and says whether it did: it does not where there is no memory, and
+    /// then nothing is changed.
+    pub fn pull(&mut self) -> bool
         requires { self.old.pulled < length self.old.put }
-        ensures { self.new ≡ after_pull_at self.old (slice_get self.old.put self.old.pulled) }
+        ensures pulled { result ≡ true → self.new ≡ after_pull_at self.old (slice_get self.old.put self.old.pulled) }
+        ensures same { result ≡ false → self.new ≡ self.old }
     {
         lives_are_bound_once();
-        let cargo = self.lane.take();
-        hand_in(&mut self.end, &cargo);
+        let cargo = self.lane.next();
+        if !hand_in(&mut self.end, &cargo) {
+            return false;
+        }
+        self.lane.take();
+        true
     }
 
     /// Takes the memory for all that one item of the node can put here: cargoes up to as many as a lane holds, and a packet
@@ -278,7 +287,7 @@ impl LinkParts {
     ///
     /// # Errors
     /// `Memory`.
-    pub fn new_end(&self, alloc: Global) -> Result<LinkEnd, SimError>
+    pub fn new_end(&self, alloc: Global) -> Result<GrowingEnd, SimError>
         ensures fresh { IfOk result (λ end. end ≡ link_end_of self.now.settings first_end) }
         ensures memory { IfErr result (λ e. e ≡ SimError.Memory) }
     {
@@ -292,7 +301,7 @@ impl LinkParts {
 
     /// Takes a fresh end in place of its own, which is behind `end` then, empties the lane, and opens the life file after
     /// a crash of its disk.
-    pub fn restart(&mut self, end: &mut LinkEnd, torn: Option<[u8; 16]>)
+    pub fn restart(&mut self, end: &mut GrowingEnd, torn: Option<[u8; 16]>)
         requires { end.old ≡ link_end_of self.old.settings first_end }
         ensures { self.new ≡ restarted torn self.old }
     {
@@ -315,6 +324,30 @@ impl LinkParts {
     }
 }
 
+/// Hands a cargo to the link end: submits its packet, or cuts its life, and says whether it did: it does not where there is no memory, and then
+/// nothing is changed. A packet that the end refuses is dropped: its life has ended.
+fn hand_in(end: &mut GrowingEnd, cargo: &Cargo) -> bool
+    ensures state { result ≡ true → end.new ≡ record end.old { state = after_cargo end.old.state cargo.now } }
+    ensures same { result ≡ false → end.new ≡ end.old }
+{
+    match cargo {
+        Cargo::Packet(life, packet) => end.submit(*life, *packet).is_ok(),
+        Cargo::Cut(life) => {
+            end.cut(*life);
+            true
+        }
+    }
+}
+
+/// Cuts the life that the link end is bound to, if there is one.
+pub fn cut_bound(end: &mut GrowingEnd)
+    ensures { end.new ≡ record end.old { state = after_cut_of_bound end.old.state (bound_life end.old.state) } }
+{
+    if let Some(life) = end.life() {
+        end.cut(life);
+    }
+}
+
 /// A closed end that speaks versions up to this one.
 pub fn end_of(
     alloc: Global,
@@ -322,17 +355,14 @@ pub fn end_of(
     me: Id,
     peer: Id,
     times: Times,
-) -> Result<LinkEnd, ArqError>
+) -> Result<GrowingEnd, ArqError>
     requires me { 0 < me }
     requires peer { 0 < peer }
     requires other { me ≢ peer }
     requires times { IsTimes times }
     ensures { IfOk result (λ end. end ≡ link_end_of (settings_of version me peer times) first_end) }
 {
-    match version {
-        Version::One => LinkEnd::new_v1(alloc, me, peer, times),
-        Version::Two => LinkEnd::new(alloc, me, peer, times),
-    }
+    GrowingEnd::new(alloc, version, me, peer, times)
 }
 
 /// The keys of the link ends, in their order.

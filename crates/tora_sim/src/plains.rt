@@ -1,5 +1,5 @@
 //! At which link ends nothing but a frame may be due.
-ghost use Rattle.std.specs.Prelude.{◌≡◌, ◌*◌, ◌<◌, true, false, length, slice_set};
+ghost use Rattle.std.specs.Prelude.{◌≡◌, ◌*◌, ◌<◌, true, false, length, slice_set, IfNone, IfSome};
 ghost use Rattle.tora_arq.specs.LinkEnd.{is_closed, after_frame, after_tick};
 ghost use Rattle.tora_frame.specs.FrameParts.{IsHeader, frame_of};
 ghost use Rattle.tora_frame.specs.declared.parts.Body.{Body};
@@ -105,31 +105,37 @@ impl LinkParts {
     }
 
     /// Takes a frame in, and tells whether the end is busy then, and before which tick nothing is to be done at it; 0 where something is to be
-    /// done at once.
+    /// done at once. `None` where there is no memory, and then nothing is changed.
     #[inline(always)]
-    pub fn receive_and_look(&mut self, frame: &BorrowedFrame<'_>, now: u64) -> (bool, u64)
-        ensures state { self.new ≡ with_state self.old (after_frame self.old.settings self.old.state frame.now now) }
-        ensures plain { result.0 ≡ false → IsPlain self.new }
-        ensures still { IsStillIf result.1 self.new }
+    pub fn receive_and_look(&mut self, frame: &BorrowedFrame<'_>, now: u64) -> Option<(bool, u64)>
+        ensures state { IfSome result (λ _. self.new ≡ with_state self.old (after_frame self.old.settings self.old.state frame.now now)) }
+        ensures plain { IfSome result (λ seen. seen.0 ≡ false → IsPlain self.new) }
+        ensures still { IfSome result (λ seen. IsStillIf seen.1 self.new) }
+        ensures none { IfNone result (self.new ≡ self.old) }
     {
-        self.receive(frame, now);
+        if !self.receive(frame, now) {
+            return None;
+        }
         let busy = self.is_busy();
         let until = self.still_unless(busy);
-        (busy, until)
+        Some((busy, until))
     }
 
     /// Takes a HELLO in, by its header, and tells the same.
     #[inline(always)]
-    pub fn receive_hello_and_look(&mut self, header: &Header, now: u64) -> (bool, u64)
+    pub fn receive_hello_and_look(&mut self, header: &Header, now: u64) -> Option<(bool, u64)>
         requires { IsHeader header.now }
-        ensures state { self.new ≡ with_state self.old (after_frame self.old.settings self.old.state (frame_of header.now Body.Hello) now) }
-        ensures plain { result.0 ≡ false → IsPlain self.new }
-        ensures still { IsStillIf result.1 self.new }
+        ensures state { IfSome result (λ _. self.new ≡ with_state self.old (after_frame self.old.settings self.old.state (frame_of header.now Body.Hello) now)) }
+        ensures plain { IfSome result (λ seen. seen.0 ≡ false → IsPlain self.new) }
+        ensures still { IfSome result (λ seen. IsStillIf seen.1 self.new) }
+        ensures none { IfNone result (self.new ≡ self.old) }
     {
-        self.receive_hello(header, now);
+        if !self.receive_hello(header, now) {
+            return None;
+        }
         let busy = self.is_busy();
         let until = self.still_unless(busy);
-        (busy, until)
+        Some((busy, until))
     }
 
     /// Before which tick nothing is to be done here, where it is known whether the end is busy; 0 where something is to be done at once.

@@ -6,7 +6,7 @@ ghost use Rattle.tora_sim.specs.Restarts.{AreFresh, restarted};
 use crate::SimError;
 use crate::link_slot::LinkSlot;
 use std::alloc::Global;
-use tora_arq::LinkEnd;
+use tora_arq::GrowingEnd;
 
 /// A fresh link end for each of the `count` ends from the place `first` on, in their order.
 ///
@@ -17,7 +17,7 @@ pub fn new_ends(
     links: &Vec<LinkSlot>,
     first: usize,
     count: usize,
-) -> Result<Vec<LinkEnd>, SimError>
+) -> Result<Vec<GrowingEnd>, SimError>
     requires { first + count ≤ length links.now.items }
     ensures fresh { IfOk result (λ ends. AreFresh links.now.items first count ends.items) }
     ensures as_many { IfOk result (λ ends. length ends.items ≡ count) }
@@ -41,7 +41,7 @@ pub fn new_ends(
 pub fn restart_ends(
     links: &mut Vec<LinkSlot>,
     first: usize,
-    ends: &mut Vec<LinkEnd>,
+    ends: &mut Vec<GrowingEnd>,
     torn: Option<[u8; 16]>,
 )
     requires within { first + length ends.old.items ≤ length links.old.items }

@@ -129,7 +129,9 @@ impl Sim {
             return Err(SimError::NotPossible);
         }
         self.quiet = 0;
-        self.links[at].pull();
+        if !self.links[at].pull() {
+            return Err(SimError::Memory);
+        }
         Ok(())
     }
 
@@ -271,7 +273,10 @@ impl Sim {
             return false;
         };
         self.quiet = 0;
-        let (busy, until) = self.links[at].receive_hello_and_look(&told.header, self.clock);
+        let Some((busy, until)) = self.links[at].receive_hello_and_look(&told.header, self.clock)
+        else {
+            return false;
+        };
         keep_looked(&mut self.stills, &mut self.plains, at, busy, until);
         true
     }
@@ -308,7 +313,9 @@ impl Sim {
             return Err(SimError::NoDatagram);
         };
         self.quiet = 0;
-        let (busy, until) = self.links[at].receive_and_look(&frame, self.clock);
+        let Some((busy, until)) = self.links[at].receive_and_look(&frame, self.clock) else {
+            return Err(SimError::Memory);
+        };
         keep_looked(&mut self.stills, &mut self.plains, at, busy, until);
         Ok(())
     }

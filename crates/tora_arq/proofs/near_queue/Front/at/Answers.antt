@@ -1,4 +1,4 @@
-use Rattle.std.proofs.Common.{subst, sym, List, ◌<◌, length, arith, ◌∙◌, Some, ap}
+use Rattle.std.proofs.Common.{subst, sym, List, ◌<◌, length, arith}
 use Rattle.tora_arq.proofs.NearLemmas.{within}
 use Rattle.tora_arq.proofs.near_queue.Front.at.Goals as goal
 

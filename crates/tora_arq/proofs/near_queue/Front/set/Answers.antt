@@ -1,4 +1,4 @@
-use Rattle.std.proofs.Common.{subst, sym, List, ◌<◌, length, arith, ◌∙◌, ap, slice_set, take}
+use Rattle.std.proofs.Common.{subst, sym, List, ◌<◌, length, ◌∙◌, ap, slice_set, take}
 use Rattle.std.proofs.Math.Seq.{take-set-lt}
 use Rattle.tora_arq.proofs.NearLemmas.{within}
 use Rattle.tora_arq.proofs.near_queue.Front.set.Goals as goal

@@ -1,4 +1,4 @@
-use Rattle.std.proofs.Common.{sym, List, ◌<◌, ◌≤◌, ◌-◌, ◌+◌, ◌++◌, length, arith, ◌∙◌, ap, slice_set, drop}
+use Rattle.std.proofs.Common.{sym, List, ◌<◌, ◌≤◌, ◌++◌, length, arith, ◌∙◌, ap, slice_set, drop}
 use Rattle.std.proofs.lemmas.List.{set-append_left}
 use Rattle.tora_arq.proofs.NearLemmas.{set_far}
 use Rattle.tora_arq.proofs.near_queue.NearQueue.set.Goals as goal

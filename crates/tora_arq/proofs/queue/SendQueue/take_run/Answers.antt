@@ -1,4 +1,4 @@
-use Rattle.std.proofs.Common.{◌≡◌, ◌+◌, ◌-◌, List, ◌++◌, take, drop, length, slice_set, refl, sym, ap, subst, ◌∙◌, arith, length-set}
+use Rattle.std.proofs.Common.{◌≡◌, ◌+◌, ◌-◌, ◌++◌, take, drop, length, slice_set, refl, sym, ap, subst, ◌∙◌, arith, length-set}
 use Rattle.tora_arq.specs.SendQueue.{retried, ready_run}
 use Rattle.tora_arq.proofs.QueueLemmas.{Taking, taking_on, taking_stops, taking_ends}
 use Rattle.tora_arq.proofs.queue.SendQueue.take_run.Goals as goal

@@ -32,8 +32,8 @@ pub hold-requires : goal.hold-requires
 hold-requires g c =
     let e = state_in c.args.self.now in
     let apart : e.held ≡ [] → c.args.number ≤ e.accepted + 1 → ⊥ = λ none near. elim c.else-place-eq0.branch [
-      else-place-eq0-via-then-place-eq0+else-is_empty w ↦ not_both (sym (ap (λ (xs : List (Option Packet)). length xs == 0) none) ∙ sym w.is_empty.ensures ∙ w.if-is_empty.false)
-    | else-place-eq0-via-else-place-eq0 w ↦ absurd (omega (arith, near, c.if-number-self.false, w.if-place-eq0.false))
+      | else-place-eq0-via-then-place-eq0+else-is_empty w ↦ not_both (sym (ap (λ (xs : List (Option Packet)). length xs == 0) none) ∙ sym w.is_empty.ensures ∙ w.if-is_empty.false)
+      | else-place-eq0-via-else-place-eq0 w ↦ absurd (omega (arith, near, c.if-number-self.false, w.if-place-eq0.false))
     ] in
     let r : (WINDOW ≤ g.row.EARLY) × HasRoom g.row.EVENTS WINDOW c.args.furthest e = held_room g.row.EVENTS g.row.EARLY c.args.furthest e c.args.number apart c.requires.room in
     (omega arith, (omega (arith, r.0, r.1.near, c.if-number-furthest.false), (omega (arith, r.1.near, c.if-number-furthest.false, c.if-number-self.false), (omega (arith, r.1.near, r.1.held), (omega (arith, r.1.room, r.1.held), (omega (arith, r.1.room, c.if-number-furthest.false, c.if-number-self.false), c.requires.accepted))))))

@@ -22,6 +22,10 @@ returns g c =
     ∙ c.loop-packet.invariant.onward
 
 pub on_packet-requires : goal.on_packet-requires
-on_packet-requires g c =
-    (omega arith, (room_first g.row.EVENTS g.row.EARLY (c.args.self.now.accepted + WINDOW) (state_in c.loop-packet.self) c.loop-packet.next (length c.args.packets.now - c.loop-packet.packet-index) (omega (arith, c.loop-packet-test.true)) c.loop-packet.invariant.room,
-    omega (arith, c.requires.accepted, room_ahead g.row.EVENTS g.row.EARLY (c.args.self.now.accepted + WINDOW) (state_in c.loop-packet.self) c.loop-packet.next (length c.args.packets.now - c.loop-packet.packet-index) c.loop-packet.invariant.room)))
+on_packet-requires g c = (
+  omega arith,
+  (
+    room_first g.row.EVENTS g.row.EARLY (c.args.self.now.accepted + WINDOW) (state_in c.loop-packet.self) c.loop-packet.next (length c.args.packets.now - c.loop-packet.packet-index) (omega (arith, c.loop-packet-test.true)) c.loop-packet.invariant.room,
+    omega (arith, c.requires.accepted, room_ahead g.row.EVENTS g.row.EARLY (c.args.self.now.accepted + WINDOW) (state_in c.loop-packet.self) c.loop-packet.next (length c.args.packets.now - c.loop-packet.packet-index) c.loop-packet.invariant.room),
+  ),
+)

@@ -3,14 +3,8 @@ use Rattle.std.specs.Prelude.{◌++◌, vec_capacity}
 use Rattle.std.proofs.lemmas.Option.{slice_get_read}
 use Rattle.tora_seat.specs.declared.cargo.Cargo.{Cargo}
 use Rattle.tora_sim.specs.Lane.{LaneView, lane_of}
-use Rattle.tora_sim.proofs.LaneLists.{get_behind}
+use Rattle.tora_sim.proofs.LaneLists.{get_behind, waits}
 use Rattle.tora_sim.proofs.lane.Lane.take.Goals as goal
-
--- within the second list
-waits : (l : LaneView) (past cargoes : List Cargo) (taken places : ℕ) → lane_of past cargoes taken places ≡ l → l.pulled < length l.put → taken < length cargoes
-waits l past cargoes taken places is h =
-    let w : length past + taken < length (past ++ cargoes) = subst (λ (v : LaneView). v.pulled < length v.put) (sym is) h in
-    omega (arith, w, length-append past cargoes)
 
 pub invariant_of-self : goal.invariant_of-self
 invariant_of-self c = (let l = c.self.inside in let w : l.taken < length l.cargoes.items = waits c.args.self.now l.past.items l.cargoes.items l.taken (vec_capacity l.cargoes) c.self.view_is c.requires in omega (arith, w))

@@ -4,7 +4,7 @@ pub still_unless-until-requires : goal.still_unless-until-requires
 still_unless-until-requires c = c.is_busy-busy.ensures
 
 pub returns-clause-state : goal.returns-clause-state
-returns-clause-state c = c.receive.ensures
+returns-clause-state c = c.receive.ensures.state c.if-not-receive.false
 
 pub returns-clause-plain : goal.returns-clause-plain
 returns-clause-plain c = c.is_busy-busy.ensures

@@ -1,20 +1,24 @@
-use Rattle.std.proofs.Common.{◌≡◌, true, None, refl, ap, sym, ◌∙◌, subst, find, arith}
+use Rattle.std.proofs.Common.{◌≡◌, List, true, None, inl, refl, ap, sym, ◌∙◌, subst, find, arith}
 use Rattle.std.specs.Prelude.{slice_set}
 use Rattle.tora_frame.specs.declared.parts.Header.{Header}
 use Rattle.tora_world.specs.declared.event.Event.TheVariants.{Deliver}
+use Rattle.tora_world.specs.declared.sim_error.SimError.TheVariants as Refused
 use Rattle.tora_sim.specs.Keyed.{IsFirst}
-use Rattle.tora_sim.specs.Links.{is_at}
+use Rattle.tora_arq.specs.LinkEnd.{after_frame}
+use Rattle.tora_sim.specs.Lanes.{AreReadyEach}
+use Rattle.tora_sim.specs.Plains.{ArePlainEach}
+use Rattle.tora_sim.specs.Quiet.{is_idle, AreStillEach}
+use Rattle.tora_sim.specs.Links.{LinkView, is_at, with_state}
 use Rattle.tora_sim.specs.Nodes.{NodeView, is_of}
-use Rattle.tora_sim.specs.Store.{SimState, state_of, world_of}
-use Rattle.tora_sim.specs.Steps.{IsDone}
+use Rattle.tora_sim.specs.Store.{SimState, IsStore, state_of, world_of}
+use Rattle.tora_sim.specs.Steps.{IsDone, IsRefused}
 use Rattle.tora_sim.proofs.Opens.{same_read}
 use Rattle.tora_sim.proofs.Receives.{home_is_there, failed_done, failed_store, received_done, received_store}
 use Rattle.tora_sim.proofs.StillEnds.{found_still}
 use Rattle.tora_sim.proofs.PlainEnds.{looked_plain}
 use Rattle.tora_sim.proofs.ReadyEnds.{kept_as}
 use Rattle.tora_sim.proofs.UnreadyEnds.{node_kept, same_place}
-use Rattle.tora_sim.specs.Quiet.{is_idle}
-use Rattle.tora_sim.proofs.Quiets.{idle_kept}
+use Rattle.tora_sim.proofs.Quiets.{idle_kept, set_same}
 use Rattle.tora_sim.proofs.sim.Sim.deliver_frame.Goals as goal
 
 pub place_at_or_among-requires-clause-keys : goal.place_at_or_among-requires-clause-keys
@@ -62,19 +66,57 @@ keep_looked-requires-clause-stills c = omega (arith, c.in-Some-place_at_or_among
 pub keep_looked-requires-clause-plains : goal.keep_looked-requires-clause-plains
 keep_looked-requires-clause-plains c = omega (arith, c.in-Some-place_at_or_among.ensures.first.within, c.self.invariant.4.as_many)
 
+-- ---- there is no memory
+
+module _ (c : goal.After-in_default-receive_and_look) where
+  home_first : IsFirst (is_of c.in-Some.frame.header.receiver) c.self.inside.nodes.items c.in-Some-node_place.home
+  home_first = subst (λ (hd : Header). IsFirst (is_of hd.receiver) c.self.inside.nodes.items c.in-Some-node_place.home) c.header-header.ensures.value c.in-Some-node_place.ensures.first
+
+  end_first : IsFirst (is_at c.in-Some.frame.header.receiver c.in-Some.frame.header.sender) c.self.inside.links.items c.in-Some-place_at_or_among.at
+  end_first = subst (λ (hd : Header). IsFirst (is_at hd.receiver hd.sender) c.self.inside.links.items c.in-Some-place_at_or_among.at) c.header-header.ensures.value c.in-Some-place_at_or_among.ensures.first
+
+  stays : slice_set c.self.inside.links.items c.in-Some-place_at_or_among.at c.receive_and_look.new.self ≡ c.self.inside.links.items
+  stays = set_same c.self.inside.links.items c.in-Some-place_at_or_among.at c.index_mut-2.result.now c.receive_and_look.new.self c.in-Some-place_at_or_among.ensures.first.within c.index_mut-2.ensures.value c.in_default-receive_and_look.ensures.none
+
+pub invariant_of-self-in_default-receive_and_look : goal.invariant_of-self-in_default-receive_and_look
+invariant_of-self-in_default-receive_and_look c =
+    let s = c.self.inside in (
+      subst (λ (xs : List LinkView). IsStore (state_of s.topology s.times s.clock s.nodes.items xs s.datagrams.items)) (sym (stays c)) c.self.invariant.0,
+      λ none. absurd (omega (arith, none)),
+      subst (λ (xs : List LinkView). AreStillEach s.clock s.stills xs) (sym (stays c)) c.self.invariant.2,
+      c.self.invariant.3,
+      subst (λ (xs : List LinkView). ArePlainEach s.clock s.plains xs) (sym (stays c)) c.self.invariant.4,
+      subst (λ (xs : List LinkView). AreReadyEach s.ready.items xs) (sym (stays c)) c.self.invariant.5,
+      c.self.invariant.6,
+      c.self.invariant.7,
+    )
+
+pub returns-in_default-receive_and_look : goal.returns-in_default-receive_and_look
+returns-in_default-receive_and_look c =
+    let s = c.self.inside in
+    let x = c.index_mut-2.result.now in
+    subst (λ (w : SimState). IsRefused (world_of w) (Deliver c.args.i) Refused.Memory (world_of (state_of s.topology s.times s.clock s.nodes.items (slice_set s.links.items c.in-Some-place_at_or_among.at c.receive_and_look.new.self) s.datagrams.items))) c.self.view_is (record {
+      cause = inl (refl, (received_done s.topology s.times s.clock s.nodes.items s.links.items s.datagrams.items c.self.invariant.0 c.args.i c.in-Some.frame (sym c.in-Some.ensures)
+          c.in-Some-node_place.home c.index.result.now (home_first c) c.index.ensures c.in-Some-place_at_or_among.at x (end_first c) c.index_mut-2.ensures.value
+          (with_state x (after_frame x.settings x.state c.in-Some.frame s.clock)) (sym c.receive.ensures ∙ c.if-receive.false) refl).accepted);
+      world = ap (λ (xs : List LinkView). world_of (state_of s.topology s.times s.clock s.nodes.items xs s.datagrams.items)) (stays c);
+    })
+
+-- ---- it is taken in
+
 pub invariant_of-self-2 : goal.invariant_of-self-2
 invariant_of-self-2 c =
     let s = c.self.inside in
     let home_first : IsFirst (is_of c.in-Some.frame.header.receiver) s.nodes.items c.in-Some-node_place.home = subst (λ (hd : Header). IsFirst (is_of hd.receiver) s.nodes.items c.in-Some-node_place.home) c.header-header.ensures.value c.in-Some-node_place.ensures.first in
     let end_first : IsFirst (is_at c.in-Some.frame.header.receiver c.in-Some.frame.header.sender) s.links.items c.in-Some-place_at_or_among.at = subst (λ (hd : Header). IsFirst (is_at hd.receiver hd.sender) s.links.items c.in-Some-place_at_or_among.at) c.header-header.ensures.value c.in-Some-place_at_or_among.ensures.first in (
       received_store s.topology s.times s.clock s.nodes.items s.links.items s.datagrams.items c.self.invariant.0 c.args.i c.in-Some.frame (sym c.in-Some.ensures)
-          c.in-Some-node_place.home c.index.result.now home_first c.index.ensures c.in-Some-place_at_or_among.at c.index_mut-2.result.now end_first c.index_mut-2.ensures.value c.receive_and_look-busy.new.self c.receive_and_look-busy.ensures.state,
+          c.in-Some-node_place.home c.index.result.now home_first c.index.ensures c.in-Some-place_at_or_among.at c.index_mut-2.result.now end_first c.index_mut-2.ensures.value c.receive_and_look.new.self c.in-Some-receive_and_look.ensures.state,
       λ none. absurd (omega (arith, none)),
-      found_still s.clock s.stills c.keep_looked.new.stills s.links.items c.in-Some-place_at_or_among.at c.receive_and_look-busy.result.1 c.receive_and_look-busy.new.self c.in-Some-place_at_or_among.ensures.first.within c.keep_looked.ensures.stills c.receive_and_look-busy.ensures.still c.self.invariant.2,
+      found_still s.clock s.stills c.keep_looked.new.stills s.links.items c.in-Some-place_at_or_among.at c.in-Some-receive_and_look.until c.receive_and_look.new.self c.in-Some-place_at_or_among.ensures.first.within c.keep_looked.ensures.stills c.in-Some-receive_and_look.ensures.still c.self.invariant.2,
       c.self.invariant.3,
-      looked_plain s.clock s.plains c.keep_looked.new.plains s.links.items c.in-Some-place_at_or_among.at c.index_mut-2.result.now c.receive_and_look-busy.new.self c.receive_and_look-busy.result.0 c.in-Some-place_at_or_among.ensures.first.within c.index_mut-2.ensures.value
-          (λ e _. c.receive_and_look-busy.ensures.plain e) c.keep_looked.ensures.same c.keep_looked.ensures.forgotten c.self.invariant.4,
-      kept_as s.ready.items s.links.items c.in-Some-place_at_or_among.at c.index_mut-2.result.now c.receive_and_look-busy.new.self _ c.in-Some-place_at_or_among.ensures.first.within c.index_mut-2.ensures.value c.receive_and_look-busy.ensures.state (λ h. h) c.self.invariant.5,
+      looked_plain s.clock s.plains c.keep_looked.new.plains s.links.items c.in-Some-place_at_or_among.at c.index_mut-2.result.now c.receive_and_look.new.self c.in-Some-receive_and_look.busy c.in-Some-place_at_or_among.ensures.first.within c.index_mut-2.ensures.value
+          (λ e _. c.in-Some-receive_and_look.ensures.plain e) c.keep_looked.ensures.same c.keep_looked.ensures.forgotten c.self.invariant.4,
+      kept_as s.ready.items s.links.items c.in-Some-place_at_or_among.at c.index_mut-2.result.now c.receive_and_look.new.self _ c.in-Some-place_at_or_among.ensures.first.within c.index_mut-2.ensures.value c.in-Some-receive_and_look.ensures.state (λ h. h) c.self.invariant.5,
       c.self.invariant.6,
       c.self.invariant.7,
     )
@@ -84,7 +126,7 @@ returns c =
     let s = c.self.inside in
     let home_first : IsFirst (is_of c.in-Some.frame.header.receiver) s.nodes.items c.in-Some-node_place.home = subst (λ (hd : Header). IsFirst (is_of hd.receiver) s.nodes.items c.in-Some-node_place.home) c.header-header.ensures.value c.in-Some-node_place.ensures.first in
     let end_first : IsFirst (is_at c.in-Some.frame.header.receiver c.in-Some.frame.header.sender) s.links.items c.in-Some-place_at_or_among.at = subst (λ (hd : Header). IsFirst (is_at hd.receiver hd.sender) s.links.items c.in-Some-place_at_or_among.at) c.header-header.ensures.value c.in-Some-place_at_or_among.ensures.first in
-    subst (λ (before : SimState). IsDone (world_of before) (Deliver c.args.i) (world_of (state_of s.topology s.times s.clock s.nodes.items (slice_set s.links.items c.in-Some-place_at_or_among.at c.receive_and_look-busy.new.self) s.datagrams.items))) c.self.view_is
+    subst (λ (before : SimState). IsDone (world_of before) (Deliver c.args.i) (world_of (state_of s.topology s.times s.clock s.nodes.items (slice_set s.links.items c.in-Some-place_at_or_among.at c.receive_and_look.new.self) s.datagrams.items))) c.self.view_is
     (received_done s.topology s.times s.clock s.nodes.items s.links.items s.datagrams.items c.self.invariant.0 c.args.i c.in-Some.frame (sym c.in-Some.ensures)
-    c.in-Some-node_place.home c.index.result.now home_first c.index.ensures c.in-Some-place_at_or_among.at c.index_mut-2.result.now end_first c.index_mut-2.ensures.value c.receive_and_look-busy.new.self
-    (sym c.receive.ensures ∙ c.if-receive.false) c.receive_and_look-busy.ensures.state)
+    c.in-Some-node_place.home c.index.result.now home_first c.index.ensures c.in-Some-place_at_or_among.at c.index_mut-2.result.now end_first c.index_mut-2.ensures.value c.receive_and_look.new.self
+    (sym c.receive.ensures ∙ c.if-receive.false) c.in-Some-receive_and_look.ensures.state)

@@ -1,13 +1,17 @@
-use Rattle.std.proofs.Common.{sym, ◌∙◌, subst, arith}
+use Rattle.std.proofs.Common.{◌≡◌, List, ap, sym, ◌∙◌, subst, arith}
 use Rattle.std.specs.Prelude.{slice_set}
 use Rattle.tora_frame.specs.FrameParts.{frame_of}
 use Rattle.tora_frame.specs.declared.parts.Body.TheVariants.{Hello}
 use Rattle.tora_world.specs.declared.event.Event.TheVariants.{Deliver}
 use Rattle.tora_sim.specs.Keyed.{IsFirst}
-use Rattle.tora_sim.specs.Links.{is_at}
+use Rattle.tora_sim.specs.Lanes.{AreReadyEach}
+use Rattle.tora_sim.specs.Plains.{ArePlainEach}
+use Rattle.tora_sim.specs.Quiet.{AreStillEach}
+use Rattle.tora_sim.specs.Links.{LinkView, is_at}
 use Rattle.tora_sim.specs.Nodes.{is_of}
-use Rattle.tora_sim.specs.Store.{SimState, state_of, world_of}
+use Rattle.tora_sim.specs.Store.{SimState, IsStore, state_of, world_of}
 use Rattle.tora_sim.specs.Steps.{IsDone}
+use Rattle.tora_sim.proofs.Quiets.{set_same}
 use Rattle.tora_sim.proofs.Receives.{received_done, received_store}
 use Rattle.tora_sim.proofs.StillEnds.{found_still}
 use Rattle.tora_sim.proofs.PlainEnds.{looked_plain}
@@ -23,19 +27,45 @@ keep_looked-requires-clause-stills c = omega (arith, c.in-Some-place_at_or_among
 pub keep_looked-requires-clause-plains : goal.keep_looked-requires-clause-plains
 keep_looked-requires-clause-plains c = omega (arith, c.in-Some-place_at_or_among.ensures.first.within, c.self.invariant.4.as_many)
 
+-- ---- there is no memory
+
+module _ (c : goal.After-in_default-receive_hello_and_look) where
+  stays : slice_set c.self.inside.links.items c.in-Some-place_at_or_among.at c.receive_hello_and_look.new.self ≡ c.self.inside.links.items
+  stays = set_same c.self.inside.links.items c.in-Some-place_at_or_among.at c.index_mut.result.now c.receive_hello_and_look.new.self c.in-Some-place_at_or_among.ensures.first.within c.index_mut.ensures.value c.in_default-receive_hello_and_look.ensures.none
+
 pub invariant_of-self : goal.invariant_of-self
 invariant_of-self c =
+    let s = c.self.inside in (
+      subst (λ (xs : List LinkView). IsStore (state_of s.topology s.times s.clock s.nodes.items xs s.datagrams.items)) (sym (stays c)) c.self.invariant.0,
+      λ none. absurd (omega (arith, none)),
+      subst (λ (xs : List LinkView). AreStillEach s.clock s.stills xs) (sym (stays c)) c.self.invariant.2,
+      c.self.invariant.3,
+      subst (λ (xs : List LinkView). ArePlainEach s.clock s.plains xs) (sym (stays c)) c.self.invariant.4,
+      subst (λ (xs : List LinkView). AreReadyEach s.ready.items xs) (sym (stays c)) c.self.invariant.5,
+      c.self.invariant.6,
+      c.self.invariant.7,
+    )
+
+pub returns-in_default-receive_hello_and_look-clause-same : goal.returns-in_default-receive_hello_and_look-clause-same
+returns-in_default-receive_hello_and_look-clause-same c _ =
+    let s = c.self.inside in
+    ap (λ (xs : List LinkView). state_of s.topology s.times s.clock s.nodes.items xs s.datagrams.items) (stays c) ∙ c.self.view_is
+
+-- ---- it is taken in
+
+pub invariant_of-self-2 : goal.invariant_of-self-2
+invariant_of-self-2 c =
     let s = c.self.inside in
     let home_first : IsFirst (is_of c.in-Some.told.now.header.receiver) s.nodes.items c.in-Some-node_place.home = c.in-Some-node_place.ensures.first in
     let end_first : IsFirst (is_at c.in-Some.told.now.header.receiver c.in-Some.told.now.header.sender) s.links.items c.in-Some-place_at_or_among.at = c.in-Some-place_at_or_among.ensures.first in (
       received_store s.topology s.times s.clock s.nodes.items s.links.items s.datagrams.items c.self.invariant.0 c.args.i (frame_of c.in-Some.told.now.header Hello) c.in-Some.ensures.hello
-          c.in-Some-node_place.home c.index.result.now home_first c.index.ensures c.in-Some-place_at_or_among.at c.index_mut.result.now end_first c.index_mut.ensures.value c.receive_hello_and_look-busy.new.self c.receive_hello_and_look-busy.ensures.state,
+          c.in-Some-node_place.home c.index.result.now home_first c.index.ensures c.in-Some-place_at_or_among.at c.index_mut.result.now end_first c.index_mut.ensures.value c.receive_hello_and_look.new.self c.in-Some-receive_hello_and_look.ensures.state,
       λ none. absurd (omega (arith, none)),
-      found_still s.clock s.stills c.keep_looked.new.stills s.links.items c.in-Some-place_at_or_among.at c.receive_hello_and_look-busy.result.1 c.receive_hello_and_look-busy.new.self c.in-Some-place_at_or_among.ensures.first.within c.keep_looked.ensures.stills c.receive_hello_and_look-busy.ensures.still c.self.invariant.2,
+      found_still s.clock s.stills c.keep_looked.new.stills s.links.items c.in-Some-place_at_or_among.at c.in-Some-receive_hello_and_look.until c.receive_hello_and_look.new.self c.in-Some-place_at_or_among.ensures.first.within c.keep_looked.ensures.stills c.in-Some-receive_hello_and_look.ensures.still c.self.invariant.2,
       c.self.invariant.3,
-      looked_plain s.clock s.plains c.keep_looked.new.plains s.links.items c.in-Some-place_at_or_among.at c.index_mut.result.now c.receive_hello_and_look-busy.new.self c.receive_hello_and_look-busy.result.0 c.in-Some-place_at_or_among.ensures.first.within c.index_mut.ensures.value
-          (λ e _. c.receive_hello_and_look-busy.ensures.plain e) c.keep_looked.ensures.same c.keep_looked.ensures.forgotten c.self.invariant.4,
-      kept_as s.ready.items s.links.items c.in-Some-place_at_or_among.at c.index_mut.result.now c.receive_hello_and_look-busy.new.self _ c.in-Some-place_at_or_among.ensures.first.within c.index_mut.ensures.value c.receive_hello_and_look-busy.ensures.state (λ h. h) c.self.invariant.5,
+      looked_plain s.clock s.plains c.keep_looked.new.plains s.links.items c.in-Some-place_at_or_among.at c.index_mut.result.now c.receive_hello_and_look.new.self c.in-Some-receive_hello_and_look.busy c.in-Some-place_at_or_among.ensures.first.within c.index_mut.ensures.value
+          (λ e _. c.in-Some-receive_hello_and_look.ensures.plain e) c.keep_looked.ensures.same c.keep_looked.ensures.forgotten c.self.invariant.4,
+      kept_as s.ready.items s.links.items c.in-Some-place_at_or_among.at c.index_mut.result.now c.receive_hello_and_look.new.self _ c.in-Some-place_at_or_among.ensures.first.within c.index_mut.ensures.value c.in-Some-receive_hello_and_look.ensures.state (λ h. h) c.self.invariant.5,
       c.self.invariant.6,
       c.self.invariant.7,
     )
@@ -45,7 +75,7 @@ returns-clause-done c = λ _.
     let s = c.self.inside in
     let home_first : IsFirst (is_of c.in-Some.told.now.header.receiver) s.nodes.items c.in-Some-node_place.home = c.in-Some-node_place.ensures.first in
     let end_first : IsFirst (is_at c.in-Some.told.now.header.receiver c.in-Some.told.now.header.sender) s.links.items c.in-Some-place_at_or_among.at = c.in-Some-place_at_or_among.ensures.first in
-    subst (λ (before : SimState). IsDone (world_of before) (Deliver c.args.i) (world_of (state_of s.topology s.times s.clock s.nodes.items (slice_set s.links.items c.in-Some-place_at_or_among.at c.receive_hello_and_look-busy.new.self) s.datagrams.items))) c.self.view_is
+    subst (λ (before : SimState). IsDone (world_of before) (Deliver c.args.i) (world_of (state_of s.topology s.times s.clock s.nodes.items (slice_set s.links.items c.in-Some-place_at_or_among.at c.receive_hello_and_look.new.self) s.datagrams.items))) c.self.view_is
     (received_done s.topology s.times s.clock s.nodes.items s.links.items s.datagrams.items c.self.invariant.0 c.args.i (frame_of c.in-Some.told.now.header Hello) c.in-Some.ensures.hello
-    c.in-Some-node_place.home c.index.result.now home_first c.index.ensures c.in-Some-place_at_or_among.at c.index_mut.result.now end_first c.index_mut.ensures.value c.receive_hello_and_look-busy.new.self
-    (sym c.receive.ensures ∙ c.if-receive.false) c.receive_hello_and_look-busy.ensures.state)
+    c.in-Some-node_place.home c.index.result.now home_first c.index.ensures c.in-Some-place_at_or_among.at c.index_mut.result.now end_first c.index_mut.ensures.value c.receive_hello_and_look.new.self
+    (sym c.receive.ensures ∙ c.if-receive.false) c.in-Some-receive_hello_and_look.ensures.state)
