@@ -1,7 +1,6 @@
-use Rattle.std.proofs.Common.{List, ◌≡◌, ◌<◌, ◌+◌, suc, length, slice_get, Some, ap, sym, ◌∙◌, subst, refl, arith, ℕ, length-append}
-use Rattle.std.specs.Prelude.{◌++◌, vec_capacity}
+use Rattle.std.proofs.Common.{◌≡◌, ◌<◌, ◌+◌, suc, length, slice_get, Some, ap, ◌∙◌, subst, refl, arith, ℕ}
+use Rattle.std.specs.Prelude.{vec_capacity}
 use Rattle.std.proofs.lemmas.Option.{slice_get_read}
-use Rattle.tora_seat.specs.declared.cargo.Cargo.{Cargo}
 use Rattle.tora_sim.specs.Lane.{LaneView, lane_of}
 use Rattle.tora_sim.proofs.LaneLists.{get_behind, waits}
 use Rattle.tora_sim.proofs.lane.Lane.take.Goals as goal

@@ -68,7 +68,7 @@ keep_looked-requires-clause-plains c = omega (arith, c.in-Some-place_at_or_among
 
 -- ---- there is no memory
 
-module _ (c : goal.After-in_default-receive_and_look) where
+module _ (c : goal.In_default-receive_and_look) where
   home_first : IsFirst (is_of c.in-Some.frame.header.receiver) c.self.inside.nodes.items c.in-Some-node_place.home
   home_first = subst (λ (hd : Header). IsFirst (is_of hd.receiver) c.self.inside.nodes.items c.in-Some-node_place.home) c.header-header.ensures.value c.in-Some-node_place.ensures.first
 
@@ -96,9 +96,12 @@ returns-in_default-receive_and_look c =
     let s = c.self.inside in
     let x = c.index_mut-2.result.now in
     subst (λ (w : SimState). IsRefused (world_of w) (Deliver c.args.i) Refused.Memory (world_of (state_of s.topology s.times s.clock s.nodes.items (slice_set s.links.items c.in-Some-place_at_or_among.at c.receive_and_look.new.self) s.datagrams.items))) c.self.view_is (record {
-      cause = inl (refl, (received_done s.topology s.times s.clock s.nodes.items s.links.items s.datagrams.items c.self.invariant.0 c.args.i c.in-Some.frame (sym c.in-Some.ensures)
-          c.in-Some-node_place.home c.index.result.now (home_first c) c.index.ensures c.in-Some-place_at_or_among.at x (end_first c) c.index_mut-2.ensures.value
-          (with_state x (after_frame x.settings x.state c.in-Some.frame s.clock)) (sym c.receive.ensures ∙ c.if-receive.false) refl).accepted);
+      cause = inl (
+        refl,
+        (received_done s.topology s.times s.clock s.nodes.items s.links.items s.datagrams.items c.self.invariant.0 c.args.i c.in-Some.frame (sym c.in-Some.ensures)
+            c.in-Some-node_place.home c.index.result.now (home_first c) c.index.ensures c.in-Some-place_at_or_among.at x (end_first c) c.index_mut-2.ensures.value
+            (with_state x (after_frame x.settings x.state c.in-Some.frame s.clock)) (sym c.receive.ensures ∙ c.if-receive.false) refl).accepted,
+      );
       world = ap (λ (xs : List LinkView). world_of (state_of s.topology s.times s.clock s.nodes.items xs s.datagrams.items)) (stays c);
     })
 

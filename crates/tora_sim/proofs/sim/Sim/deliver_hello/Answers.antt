@@ -29,7 +29,7 @@ keep_looked-requires-clause-plains c = omega (arith, c.in-Some-place_at_or_among
 
 -- ---- there is no memory
 
-module _ (c : goal.After-in_default-receive_hello_and_look) where
+module _ (c : goal.In_default-receive_hello_and_look) where
   stays : slice_set c.self.inside.links.items c.in-Some-place_at_or_among.at c.receive_hello_and_look.new.self ≡ c.self.inside.links.items
   stays = set_same c.self.inside.links.items c.in-Some-place_at_or_among.at c.index_mut.result.now c.receive_hello_and_look.new.self c.in-Some-place_at_or_among.ensures.first.within c.index_mut.ensures.value c.in_default-receive_hello_and_look.ensures.none
 

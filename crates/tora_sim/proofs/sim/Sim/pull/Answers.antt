@@ -1,4 +1,4 @@
-use Rattle.std.proofs.Common.{◌≡◌, ◌<◌, List, length, nat_lt, slice_get, inl, refl, ap, sym, ◌∙◌, subst, arith}
+use Rattle.std.proofs.Common.{◌≡◌, ◌<◌, List, length, nat_lt, slice_get, true, inl, refl, ap, sym, ◌∙◌, subst, arith}
 use Rattle.std.specs.Prelude.{slice_set}
 use Rattle.std.proofs.lemmas.Bool.{both_ways, lt-ltb}
 use borrow.Author.Tests.{ltb-true, ltb-false}
@@ -27,16 +27,12 @@ returns-then-not-has_cargo c =
     (pull_refused s.topology s.times s.clock s.nodes.items s.links.items s.datagrams.items c.self.invariant.0 c.args.n c.args.k c.in-Some.at c.index.result.now c.in-Some.ensures.first c.index.ensures
     (ltb-false c.index.result.now.pulled (length c.index.result.now.put) (sym c.has_cargo.ensures ∙ c.if-not-has_cargo.true)))
 
-module _ (c : goal.After-if-not-pull) where
-  waits : c.index_mut.result.now.pulled < length c.index_mut.result.now.put
-  waits =
-      subst (λ (x : LinkView). x.pulled < length x.put)
-      (same_read c.self.inside.links.items c.in-Some.at c.index.result.now c.index_mut.result.now c.in-Some.ensures.first.within c.index.ensures c.index_mut.ensures.value)
-      (ltb-true c.index.result.now.pulled (length c.index.result.now.put) (sym c.has_cargo.ensures ∙ c.if-not-has_cargo.false))
+waits : (x y : LinkView) → x ≡ y → nat_lt x.pulled (length x.put) ≡ true → y.pulled < length y.put
+waits x y same h = subst (λ (z : LinkView). z.pulled < length z.put) same (ltb-true x.pulled (length x.put) h)
 
 -- ---- there is no memory
 
-module _ (c : goal.After-then-not-pull) where
+module _ (c : goal.Then-not-pull) where
   stays : slice_set c.self.inside.links.items c.in-Some.at c.pull.new.self ≡ c.self.inside.links.items
   stays = set_same c.self.inside.links.items c.in-Some.at c.index_mut.result.now c.pull.new.self c.in-Some.ensures.first.within c.index_mut.ensures.value (c.pull.ensures.same c.if-not-pull.true)
 
@@ -58,8 +54,11 @@ returns-then-not-pull c =
     let s = c.self.inside in
     let x = c.index_mut.result.now in
     subst (λ (w : SimState). IsRefused (world_of w) (Pull c.args.n c.args.k) Refused.Memory (world_of (state_of s.topology s.times s.clock s.nodes.items (slice_set s.links.items c.in-Some.at c.pull.new.self) s.datagrams.items))) c.self.view_is (record {
-      cause = inl (refl, (pull_done s.topology s.times s.clock s.nodes.items s.links.items s.datagrams.items c.self.invariant.0 c.args.n c.args.k c.in-Some.at x c.in-Some.ensures.first c.index_mut.ensures.value
-          (after_pull_at x (slice_get x.put x.pulled)) (waits c) refl).accepted);
+      cause = inl (
+        refl,
+        (pull_done s.topology s.times s.clock s.nodes.items s.links.items s.datagrams.items c.self.invariant.0 c.args.n c.args.k c.in-Some.at x c.in-Some.ensures.first c.index_mut.ensures.value
+            (after_pull_at x (slice_get x.put x.pulled)) (waits c.index.result.now c.index_mut.result.now (same_read c.self.inside.links.items c.in-Some.at c.index.result.now c.index_mut.result.now c.in-Some.ensures.first.within c.index.ensures c.index_mut.ensures.value) (sym c.has_cargo.ensures ∙ c.if-not-has_cargo.false)) refl).accepted,
+      );
       world = ap (λ (xs : List LinkView). world_of (state_of s.topology s.times s.clock s.nodes.items xs s.datagrams.items)) (stays c);
     })
 
@@ -69,15 +68,15 @@ pub invariant_of-self-2 : goal.invariant_of-self-2
 invariant_of-self-2 c =
     let s = c.self.inside in (
       pull_store s.topology s.times s.clock s.nodes.items s.links.items s.datagrams.items c.self.invariant.0 c.args.n c.args.k c.in-Some.at c.index_mut.result.now c.in-Some.ensures.first c.index_mut.ensures.value
-          c.pull.new.self (waits c) (c.pull.ensures.pulled c.if-not-pull.false),
+          c.pull.new.self (waits c.index.result.now c.index_mut.result.now (same_read c.self.inside.links.items c.in-Some.at c.index.result.now c.index_mut.result.now c.in-Some.ensures.first.within c.index.ensures c.index_mut.ensures.value) (sym c.has_cargo.ensures ∙ c.if-not-has_cargo.false)) (c.pull.ensures.pulled c.if-not-pull.false),
       λ none. absurd (omega (arith, none)),
       possible_still s.clock s.stills s.links.items c.in-Some.at c.index_mut.result.now c.pull.new.self c.in-Some.ensures.first.within c.index_mut.ensures.value
-          (λ until lt h. both_ways (nat_lt c.index_mut.result.now.pulled (length c.index_mut.result.now.put)) h.lane (lt-ltb c.index_mut.result.now.pulled (length c.index_mut.result.now.put) (waits c))) c.self.invariant.2,
+          (λ until lt h. both_ways (nat_lt c.index_mut.result.now.pulled (length c.index_mut.result.now.put)) h.lane (lt-ltb c.index_mut.result.now.pulled (length c.index_mut.result.now.put) (waits c.index.result.now c.index_mut.result.now (same_read c.self.inside.links.items c.in-Some.at c.index.result.now c.index_mut.result.now c.in-Some.ensures.first.within c.index.ensures c.index_mut.ensures.value) (sym c.has_cargo.ensures ∙ c.if-not-has_cargo.false)))) c.self.invariant.2,
       c.self.invariant.3,
       possible_plain s.clock s.plains s.links.items c.in-Some.at c.index_mut.result.now c.pull.new.self c.in-Some.ensures.first.within c.index_mut.ensures.value
-          (λ h. both_ways (nat_lt c.index_mut.result.now.pulled (length c.index_mut.result.now.put)) h.lane (lt-ltb c.index_mut.result.now.pulled (length c.index_mut.result.now.put) (waits c))) c.self.invariant.4,
+          (λ h. both_ways (nat_lt c.index_mut.result.now.pulled (length c.index_mut.result.now.put)) h.lane (lt-ltb c.index_mut.result.now.pulled (length c.index_mut.result.now.put) (waits c.index.result.now c.index_mut.result.now (same_read c.self.inside.links.items c.in-Some.at c.index.result.now c.index_mut.result.now c.in-Some.ensures.first.within c.index.ensures c.index_mut.ensures.value) (sym c.has_cargo.ensures ∙ c.if-not-has_cargo.false)))) c.self.invariant.4,
       kept_ready s.ready.items s.links.items c.in-Some.at c.index_mut.result.now c.pull.new.self c.in-Some.ensures.first.within c.index_mut.ensures.value
-          (λ h. absurd (both_ways (nat_lt c.index_mut.result.now.pulled (length c.index_mut.result.now.put)) h.lane (lt-ltb c.index_mut.result.now.pulled (length c.index_mut.result.now.put) (waits c)))) c.self.invariant.5,
+          (λ h. absurd (both_ways (nat_lt c.index_mut.result.now.pulled (length c.index_mut.result.now.put)) h.lane (lt-ltb c.index_mut.result.now.pulled (length c.index_mut.result.now.put) (waits c.index.result.now c.index_mut.result.now (same_read c.self.inside.links.items c.in-Some.at c.index.result.now c.index_mut.result.now c.in-Some.ensures.first.within c.index.ensures c.index_mut.ensures.value) (sym c.has_cargo.ensures ∙ c.if-not-has_cargo.false))))) c.self.invariant.5,
       c.self.invariant.6,
       c.self.invariant.7,
     )
@@ -87,4 +86,4 @@ returns c =
     let s = c.self.inside in
     subst (λ (before : SimState). IsDone (world_of before) (Pull c.args.n c.args.k) (world_of (state_of s.topology s.times s.clock s.nodes.items (slice_set s.links.items c.in-Some.at c.pull.new.self) s.datagrams.items))) c.self.view_is
     (pull_done s.topology s.times s.clock s.nodes.items s.links.items s.datagrams.items c.self.invariant.0 c.args.n c.args.k c.in-Some.at c.index_mut.result.now c.in-Some.ensures.first c.index_mut.ensures.value
-    c.pull.new.self (waits c) (c.pull.ensures.pulled c.if-not-pull.false))
+    c.pull.new.self (waits c.index.result.now c.index_mut.result.now (same_read c.self.inside.links.items c.in-Some.at c.index.result.now c.index_mut.result.now c.in-Some.ensures.first.within c.index.ensures c.index_mut.ensures.value) (sym c.has_cargo.ensures ∙ c.if-not-has_cargo.false)) (c.pull.ensures.pulled c.if-not-pull.false))
