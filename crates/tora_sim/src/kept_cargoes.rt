@@ -92,8 +92,8 @@ impl KeptCargoes {
             return Err(AllocError);
         }
         self.cargoes.reserve(1)?;
-        self.lives.reserve(1)?;
-        self.apart.reserve(1)?;
+        reserve_one(&mut self.lives)?;
+        reserve_one(&mut self.apart)?;
         self.spare = true;
         Ok(())
     }
@@ -117,6 +117,18 @@ impl KeptCargoes {
             return None;
         };
         Some(cargo_of(&self.lives, &self.apart, kept))
+    }
+}
+
+/// Makes room for one more item; a first one gets no more than its own, as most lists have few lives, and nothing apart.
+fn reserve_one<T: Drop>(items: &mut Vec<T>) -> Result<(), AllocError>
+    ensures items { items.new.items ≡ items.old.items }
+    ensures room { OnOk result (vec_len items.new < vec_capacity items.new) }
+{
+    if items.is_empty() {
+        items.reserve_exact(1)
+    } else {
+        items.reserve(1)
     }
 }
 

@@ -288,7 +288,6 @@ impl LinkSlot {
     pub fn arm(&mut self, call: DiskCall)
         ensures { self.new ≡ after_arm self.old call }
     {
-        wake(&mut self.steady, &mut *self.parts);
         self.parts.arm(call);
     }
 
@@ -300,11 +299,12 @@ impl LinkSlot {
         self.parts.cut_bound();
     }
 
-    /// Whether a cargo waits in the lane.
+    /// Whether a cargo waits in the lane: at a steady end none does.
+    #[inline(always)]
     pub fn has_cargo(&self) -> bool
         ensures { result ≡ nat_lt self.now.pulled (length self.now.put) }
     {
-        self.parts.has_cargo()
+        self.steady.is_none() && self.parts.has_cargo()
     }
 
     /// Takes a cargo of the lane, and submits its packet or cuts its life, and says whether it did: it does not where there is no memory, and
@@ -329,7 +329,6 @@ impl LinkSlot {
         ensures ready { IfOk result (λ known. known ≡ true → IsReady self.new) }
         ensures memory { IfErr result (λ e. e ≡ SimError.Memory) }
     {
-        wake(&mut self.steady, &mut *self.parts);
         self.parts.make_ready()
     }
 
@@ -369,7 +368,6 @@ impl LinkSlot {
         requires { length self.old.steps < self.old.step_room }
         ensures { self.new ≡ record self.old { steps = self.old.steps ++ record { life = life; packet = packet } ∷ [] } }
     {
-        wake(&mut self.steady, &mut *self.parts);
         self.parts.note_step(life, packet);
     }
 
