@@ -15,14 +15,14 @@ use Rattle.tora_world.specs.Topology.{Topology, neighbours_of}
 use Rattle.tora_world.specs.declared.sim_error.SimError.{SimError}
 use Rattle.tora_world.specs.declared.sim_error.SimError.TheVariants as Refused
 use Rattle.tora_sim.specs.declared.unready.Unready.{Unready}
-use Rattle.tora_sim.specs.Lanes.{LanesView, lanes_of, DidOffer, HasRoom, HaveRoom, IsReady, AreReadyEach, AreReadyOutside, AreReady, AreOthersKept, after_offer_at}
+use Rattle.tora_sim.specs.Lanes.{LanesView, lanes_of, DidOffer, HasRoom, HaveRoom, HaveRoomBut, IsReady, AreReadyEach, AreReadyOutside, AreReady, AreOthersKept, after_offer_at}
 use Rattle.tora_sim.specs.Links.{LinkView}
 use Rattle.tora_sim.specs.Nodes.{NodeView, after_item}
 use Rattle.tora_sim.specs.Possible.{has_cargo}
 use Rattle.tora_sim.specs.Quiet.{AreForgottenWhere}
 use Rattle.tora_sim.specs.Store.{IsStore, state_of}
 use Rattle.tora_sim.specs.Turns.{IsServed, IsNoted, Turns}
-use Rattle.tora_sim.specs.Unready.{ends_below, IsOutside, AreMarkedOutside, IsMarkedOutside, AreMarksKept, AreUnmarked}
+use Rattle.tora_sim.specs.Unready.{ends_below, IsOutside, AreMarkedOutside, IsMarkedOutside, AreMarksKept, IsRemarked, AreRemarked}
 use Rattle.tora_sim.proofs.FreshEnds.{item_at, below_next, set_same, set_other}
 use Rattle.tora_sim.proofs.ReadyEnds.{room_of, mark_there}
 use Rattle.tora_sim.proofs.Served.{lanes_stay}
@@ -64,22 +64,27 @@ set_kept marks after at mark known within read off e = record {
     go j on (inl q) = absurd (true≢false (same_Some true false (sym on ∙ ap (slice_get marks) q ∙ mark_there marks at mark within read ∙ ap Some off)))
     go j on (inr away) = set_other marks at j known away ∙ on
 
-pub none_unmarked : (marks : List Bool) (first : ℕ) → AreUnmarked marks marks first 0
-none_unmarked marks first = record { as_many = refl; here = λ place lt. absurd (omega (arith, lt)); others = λ at away. refl }
+pub none_remarked : (links : List LinkView) (but : ℕ) (marks : List Bool) (first : ℕ) → AreRemarked links but marks marks first 0
+none_remarked links but marks first = record { as_many = refl; here = λ place link lt. absurd (omega (arith, lt)); others = λ at away. refl }
 
-pub one_more_unmarked : (before marks after : List Bool) (first place : ℕ) → first + place < length marks → after ≡ set marks (first + place) false → AreUnmarked before marks first place → AreUnmarked before after first (place + 1)
-one_more_unmarked before marks after first place within e u = record {
-  as_many = ap length e ∙ length-set marks (first + place) false ∙ u.as_many;
-  here = λ p lt. ap (λ (xs : List Bool). slice_get xs (first + p)) e ∙ unmarked_at p (below_next p place lt) (cases_eq (first + p) (first + place));
+pub one_more_remarked : (links : List LinkView) (but : ℕ) (before marks after : List Bool) (first place : ℕ) → first + place < length marks → IsRemarked links but marks after (first + place) → AreRemarked links but before marks first place
+    → AreRemarked links but before after first (place + 1)
+one_more_remarked links but before marks after first place within (mark, e, told) u = record {
+  as_many = ap length e ∙ length-set marks (first + place) mark ∙ u.as_many;
+  here = λ p link lt there on. marked_at p link (below_next p place lt) (cases_eq (first + p) (first + place)) there (sym (ap (λ (xs : List Bool). slice_get xs (first + p)) e) ∙ on);
   others = λ at away.
-      ap (λ (xs : List Bool). slice_get xs at) e ∙ set_other marks (first + place) at false (λ q. away place (omega arith) q)
+      ap (λ (xs : List Bool). slice_get xs at) e ∙ set_other marks (first + place) at mark (λ q. away place (omega arith) q)
       ∙ u.others at (λ p lt q. away p (omega (arith, lt)) q);
 }
   where
-    unmarked_at : (p : ℕ) → (p < place) ⊎ (p ≡ place) → (first + p ≡ first + place) ⊎ (first + p ≡ first + place → ⊥) → slice_get (set marks (first + place) false) (first + p) ≡ Some false
-    unmarked_at p r (inl q) = ap (slice_get (set marks (first + place) false)) q ∙ set_same marks (first + place) false within
-    unmarked_at p (inl less) (inr off) = set_other marks (first + place) (first + p) false off ∙ u.here p less
-    unmarked_at p (inr same) (inr off) = absurd (off (ap (λ (m : ℕ). first + m) same))
+    marked_at : (p : ℕ) (link : LinkView) → (p < place) ⊎ (p ≡ place) → (first + p ≡ first + place) ⊎ (first + p ≡ first + place → ⊥) → slice_get links (first + p) ≡ Some link → slice_get (set marks (first + place) mark) (first + p) ≡ Some true
+        → (has_cargo link ≡ false) × (first + p ≡ but → ⊥)
+    marked_at p link r (inl q) there on =
+        let marked : mark ≡ true = same_Some mark true (sym (set_same marks (first + place) mark within) ∙ ap (slice_get (set marks (first + place) mark)) (sym q) ∙ on) in
+        let is = told marked link (ap (slice_get links) (sym q) ∙ there) in
+        (is.0, λ at. is.1 (sym q ∙ at))
+    marked_at p link (inl less) (inr off) there on = u.here p link less there (sym (set_other marks (first + place) (first + p) mark off) ∙ on)
+    marked_at p link (inr same) (inr off) there on = absurd (off (ap (λ (m : ℕ). first + m) same))
 
 -- an end more is looked at
 pub one_more_left : (marks : List Bool) (first from at : ℕ) (before after : Unready) → ((place : ℕ) → from ≤ place → place < at → IsOutside before place → slice_get marks (first + place) ≡ Some true)
@@ -207,6 +212,21 @@ pub ready_same : (v lanes : LanesView) (links : List LinkView) (first count : �
 ready_same v lanes links first count range f n e h =
     subst (λ (m : ℕ). AreReadyOutside links m count range) (ap (λ (z : LanesView). z.first) e ∙ f) (subst (λ (m : ℕ). AreReadyOutside links lanes.first m range) (ap (λ (z : LanesView). z.count) e ∙ n) h)
 
+-- there is room at each end but one, also behind a packet that is noted there
+pub room_noted : (lanes : LanesView) (place : ℕ) (stepped : Stepped) (links : List LinkView) → IsNoted lanes place (Some stepped) links → HaveRoom lanes.links lanes.first lanes.count → HaveRoomBut links lanes.first lanes.count place
+room_noted lanes place stepped links (link, there, is) room p x lt off at =
+    room p x lt (sym (set_other lanes.links (lanes.first + place) (lanes.first + p) (record link { steps = link.steps ++ record { life = stepped.life; packet = stepped.packet } ∷ [] }) (λ q. off (omega (arith, q)))) ∙ sym (ap (λ (xs : List LinkView). slice_get xs (lanes.first + p)) is) ∙ at)
+
+pub room_turned : (before after : NodeView) (v lanes : LanesView) (item : Item) (links : List LinkView) (first count but : ℕ) → v.first ≡ first → v.count ≡ count → IsServed before v item after lanes → HaveRoomBut links lanes.first lanes.count but
+    → HaveRoomBut links first count but
+room_turned before after v lanes item links first count but f n s h =
+    let stay = lanes_stay before.seat.core.neighbours s.offers v lanes s.offered in
+    subst (λ (m : ℕ). HaveRoomBut links m count but) (stay.0 ∙ f) (subst (λ (m : ℕ). HaveRoomBut links lanes.first m but) (stay.1 ∙ n) h)
+
+pub room_same : (v lanes : LanesView) (links : List LinkView) (first count but : ℕ) → v.first ≡ first → v.count ≡ count → lanes ≡ v → HaveRoomBut links lanes.first lanes.count but → HaveRoomBut links first count but
+room_same v lanes links first count but f n e h =
+    subst (λ (m : ℕ). HaveRoomBut links m count but) (ap (λ (z : LanesView). z.first) e ∙ f) (subst (λ (m : ℕ). HaveRoomBut links lanes.first m but) (ap (λ (z : LanesView). z.count) e ∙ n) h)
+
 -- ---- a turn leaves all ends of other nodes as they are
 
 offers_leave : (ks : List ℕ) (first count : ℕ) (offers : List Offer) (lanes after : LanesView) → lanes.first ≡ first → lanes.count ≡ count → AreOffered DidOffer ks lanes offers after → AreOthersKept lanes.links after.links first count
@@ -254,9 +274,9 @@ forgotten_of_node links before stills first count range h f = record {
         ap (slice_index stills) (sym same) ∙ f.here (place - range.from) link (omega (arith, more, less)) (ap (slice_get links) same ∙ there) waits
 
 -- the ends that are marked are ready: those of the node outside the range, and those of other nodes that were
-pub ready_after : (before links : List LinkView) (was marks : List Bool) (first count : ℕ) (range : Unready) → range.behind ≤ count → length links ≡ length before → AreOthersKept before links first count → AreReadyOutside links first count range
-    → AreUnmarked was marks (first + range.from) (range.behind - range.from) → AreReadyEach was before → AreReadyEach marks links
-ready_after before links was marks first count range small many others out_ready u each = record {
+pub ready_after : (before links : List LinkView) (was marks : List Bool) (first count seat but : ℕ) (range : Unready) → ((place : ℕ) → place < count → place ≡ seat → first + place ≡ but) → HaveRoomBut links first count seat → range.behind ≤ count → length links ≡ length before → AreOthersKept before links first count → AreReadyOutside links first count range
+    → AreRemarked links but was marks (first + range.from) (range.behind - range.from) → AreReadyEach was before → AreReadyEach marks links
+ready_after before links was marks first count seat but range seated roomy small many others out_ready u each = record {
   as_many = u.as_many ∙ each.as_many ∙ sym many;
   ready = λ at link on there. from at link on there (before_or_not at first) (before_or_not (at - first) count);
 }
@@ -270,7 +290,9 @@ ready_after before links was marks first count range small many others out_ready
     own place link lt on there (inr more) (inr behind) = out_ready place link lt (λ le less'. omega (arith, behind, less')) there
     own place link lt on there (inr more) (inl less) =
         let same : first + range.from + (place - range.from) ≡ first + place = omega (arith, more) in
-        absurd (true≢false (same_Some true false (sym on ∙ ap (slice_get marks) (sym same) ∙ u.here (place - range.from) (omega (arith, more, less)))))
+        let marked = u.here (place - range.from) link (omega (arith, more, less)) (ap (slice_get links) same ∙ there) (ap (slice_get marks) same ∙ on) in
+        let room : HasRoom link = roomy place link lt (λ q. marked.1 (same ∙ seated place lt q)) there in
+        record { lane = marked.0; cargoes = room.cargoes; step = room.step }
 
     from : (at : ℕ) (link : LinkView) → slice_get marks at ≡ Some true → slice_get links at ≡ Some link → (at < first) ⊎ (first ≤ at) → (at - first < count) ⊎ (count ≤ at - first) → IsReady link
     from at link on there (inl less) r = away at link on there (λ place lt q. omega (arith, less, q))
@@ -309,9 +331,9 @@ module _ (t : Topology) (times : Times) (clock : ℕ) (nodes : List NodeView) (l
   few_ends i x e = let w = (h.each_ends i x e).within in omega (arith, w)
 
   -- the range of a node whose core took its turn
-  pub marked_after : (ranges : List Unready) (was marks : List Bool) (home : ℕ) (x y : NodeView) (range : Unready) → home < length nodes → x ≡ slice_index_or nodes home x → (y.first ≡ x.first) × (y.count ≡ x.count) → range.behind ≤ x.count
-      → IsMarkedOutside range x.first x.count was → AreUnmarked was marks (x.first + range.from) (range.behind - range.from) → AreMarkedOutside ranges nodes was → AreMarkedOutside (set ranges home range) (set nodes home y) marks
-  marked_after ranges was marks home x y range within read place_kept small own u each = record {
+  pub marked_after : (links' : List LinkView) (but : ℕ) (ranges : List Unready) (was marks : List Bool) (home : ℕ) (x y : NodeView) (range : Unready) → home < length nodes → x ≡ slice_index_or nodes home x → (y.first ≡ x.first) × (y.count ≡ x.count) → range.behind ≤ x.count
+      → IsMarkedOutside range x.first x.count was → AreRemarked links' but was marks (x.first + range.from) (range.behind - range.from) → AreMarkedOutside ranges nodes was → AreMarkedOutside (set ranges home range) (set nodes home y) marks
+  marked_after links' but ranges was marks home x y range within read place_kept small own u each = record {
     as_many = length-set ranges home range ∙ each.as_many ∙ sym (length-set nodes home y);
     marked = λ i place node r at there lt out. go i place node r (cases_eq i home) at there lt out;
   }

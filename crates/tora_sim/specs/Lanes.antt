@@ -61,6 +61,10 @@ AreReadyOutside links first count range = (place : ℕ) (link : LinkView) → pl
 abbrev pub HaveRoom : List LinkView → ℕ → ℕ → Type 0
 HaveRoom links first count = (place : ℕ) (link : LinkView) → place < count → slice_get links (first + place) ≡ Some link → HasRoom link
 
+-- but for the one at a place
+abbrev pub HaveRoomBut : List LinkView → ℕ → ℕ → ℕ → Type 0
+HaveRoomBut links first count but = (place : ℕ) (link : LinkView) → place < count → (place ≡ but → ⊥) → slice_get links (first + place) ≡ Some link → HasRoom link
+
 -- there is memory for all that one item can put into the lanes, and each end but for those of a range is ready
 pub record AreReady (lanes : LanesView) (range : Unready) : Type 0 where
   pub within : lanes.first + lanes.count ≤ length lanes.links

@@ -1,7 +1,9 @@
 -- Of each node the link ends outside which each of its ends is known to be ready.
-use Rattle.std.specs.Prelude.{◌≡◌, ℕ, ◌+◌, ◌<◌, ◌≤◌, Bool, true, false, List, length, slice_get, Some}
+use Rattle.std.specs.Prelude.{◌≡◌, ℕ, ◌+◌, ◌<◌, ◌≤◌, Bool, true, false, List, length, slice_get, slice_set, Some}
 use Rattle.tora_sim.specs.declared.unready.Unready.{Unready}
+use Rattle.tora_sim.specs.Links.{LinkView}
 use Rattle.tora_sim.specs.Nodes.{NodeView}
+use Rattle.tora_sim.specs.Possible.{has_cargo}
 
 -- all ends of a node that has no more than so many
 abbrev pub ends_below : ℕ → Unready
@@ -25,8 +27,12 @@ pub record AreMarksKept (before marks : List Bool) : Type 0 where
   pub as_many : length marks ≡ length before
   pub kept : (at : ℕ) → slice_get before at ≡ Some true → slice_get marks at ≡ Some true
 
--- so many ends from a place on are not marked any more, and each other one is marked where it was
-pub record AreUnmarked (before marks : List Bool) (first count : ℕ) : Type 0 where
+-- an end is marked anew: only where no cargo waits in its lane, and it is another one than that at a place
+abbrev pub IsRemarked : List LinkView → ℕ → List Bool → List Bool → ℕ → Type 0
+IsRemarked links but before marks at = (mark : Bool) × (marks ≡ slice_set before at mark) × (mark ≡ true → (link : LinkView) → slice_get links at ≡ Some link → (has_cargo link ≡ false) × (at ≡ but → ⊥))
+
+-- so many ends from a place on are marked anew, and each other one is marked where it was
+pub record AreRemarked (links : List LinkView) (but : ℕ) (before marks : List Bool) (first count : ℕ) : Type 0 where
   pub as_many : length marks ≡ length before
-  pub here : (place : ℕ) → place < count → slice_get marks (first + place) ≡ Some false
+  pub here : (place : ℕ) (link : LinkView) → place < count → slice_get links (first + place) ≡ Some link → slice_get marks (first + place) ≡ Some true → (has_cargo link ≡ false) × (first + place ≡ but → ⊥)
   pub others : (at : ℕ) → ((place : ℕ) → place < count → at ≡ first + place → ⊥) → slice_get marks at ≡ slice_get before at

@@ -1,6 +1,6 @@
 //! The lanes from a node's core to its neighbours.
 ghost use Rattle.std.specs.Prelude.{◌≡◌, ◌+◌, ◌<◌, ◌≤◌, ◌++◌, ◌∷◌, [], ⊤, Some, length, slice_get, slice_set, OnOk, IfErr, MatchOption};
-ghost use Rattle.tora_sim.specs.Lanes.{lanes_of, AreReady, AreReadyEach, AreReadyOutside, AreAlike, AreOthersSame, HasRoomAt, HaveRoom};
+ghost use Rattle.tora_sim.specs.Lanes.{lanes_of, AreReady, AreReadyEach, AreReadyOutside, AreAlike, AreOthersSame, HasRoomAt, HaveRoom, HaveRoomBut};
 ghost use Rattle.tora_sim.specs.Links.{LinkView};
 ghost use Rattle.tora_sim.specs.Turns.{IsNoted};
 ghost use Rattle.tora_sim.specs.Unready.{AreMarksKept};
@@ -74,6 +74,7 @@ impl NodeLanes {
         requires { MatchOption stepped ⊤ (λ _. place < self.count) }
         ensures noted { IsNoted self place stepped result.items }
         ensures ready { AreReadyOutside result.items self.first self.count unready.new }
+        ensures room { HaveRoomBut result.items self.first self.count place }
     {
         let NodeLanes {
             mut links,

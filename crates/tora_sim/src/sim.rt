@@ -349,7 +349,13 @@ impl Sim {
         }
         let before = still_unready(&self.ready, first, range);
         let mut unready = before;
-        let turned = turn(&mut self.nodes[home], &mut self.links, &mut unready);
+        let mut seat = 0;
+        let turned = turn(
+            &mut self.nodes[home],
+            &mut self.links,
+            &mut unready,
+            &mut seat,
+        );
         // what the turn changed, and what it left as it was
         let after = unready.joined(before).within(count);
         let start = first + after.from;
@@ -360,6 +366,7 @@ impl Sim {
             &mut self.plains,
             start,
             after.behind - after.from,
+            first.saturating_add(seat),
         );
         set_unready(&mut self.unready, home, after);
         turned

@@ -1,13 +1,13 @@
 use Rattle.std.proofs.Common.{◌≡◌, ℕ, subst, arith}
 use Rattle.tora_sim.specs.Quiet.{AreForgottenWhere}
-use Rattle.tora_sim.specs.Unready.{AreUnmarked}
-use Rattle.tora_sim.proofs.UnreadyEnds.{none_unmarked, one_more_unmarked}
+use Rattle.tora_sim.specs.Unready.{AreRemarked}
+use Rattle.tora_sim.proofs.UnreadyEnds.{none_remarked, one_more_remarked}
 use Rattle.tora_sim.proofs.StillEnds.{none_forgotten_where, one_more_where}
 use Rattle.tora_sim.proofs.turns.forget_waiting.Goals as goal
 
 pub loop-place-init : goal.loop-place-init
 loop-place-init c = record {
-  ready = none_unmarked c.args.ready.now.items c.args.first;
+  ready = none_remarked c.args.links.now.items c.args.but c.args.ready.now.items c.args.first;
   stills = none_forgotten_where c.args.links.now.items c.args.stills.now c.args.first;
   plains = none_forgotten_where c.args.links.now.items c.args.plains.now c.args.first;
 }
@@ -31,7 +31,7 @@ loop-place-preserved c =
     let stills = l.invariant.stills.as_many in
     let plains = l.invariant.plains.as_many in
     record {
-      ready = one_more_unmarked c.args.ready.now.items l.ready.items c.forget_if_waiting.new.ready.items c.args.first l.place (omega (arith, c.loop-place-test.true, c.requires.within, c.requires.ready, ready)) c.forget_if_waiting.ensures.ready l.invariant.ready;
+      ready = one_more_remarked c.args.links.now.items c.args.but c.args.ready.now.items l.ready.items c.forget_if_waiting.new.ready.items c.args.first l.place (omega (arith, c.loop-place-test.true, c.requires.within, c.requires.ready, ready)) c.forget_if_waiting.ensures.ready l.invariant.ready;
       stills = one_more_where c.args.links.now.items c.args.stills.now l.stills c.forget_if_waiting.new.stills c.args.first l.place (omega (arith, c.loop-place-test.true, c.requires.within, c.requires.stills, stills)) c.forget_if_waiting.ensures.stills l.invariant.stills;
       plains = one_more_where c.args.links.now.items c.args.plains.now l.plains c.forget_if_waiting.new.plains c.args.first l.place (omega (arith, c.loop-place-test.true, c.requires.within, c.requires.plains, plains)) c.forget_if_waiting.ensures.plains l.invariant.plains;
     }
@@ -40,7 +40,7 @@ pub returns-clause-ready : goal.returns-clause-ready
 returns-clause-ready c =
     let l = c.loop-place in
     let all : l.place ≡ c.args.count = omega (arith, c.loop-place-test.false, l.auto.place-end) in
-    subst (λ (n : ℕ). AreUnmarked c.args.ready.now.items l.ready.items c.args.first n) all l.invariant.ready
+    subst (λ (n : ℕ). AreRemarked c.args.links.now.items c.args.but c.args.ready.now.items l.ready.items c.args.first n) all l.invariant.ready
 
 pub returns-clause-stills : goal.returns-clause-stills
 returns-clause-stills c =

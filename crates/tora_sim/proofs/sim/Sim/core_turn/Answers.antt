@@ -6,7 +6,7 @@ use Rattle.tora_sim.specs.declared.unready.Unready.{Unready}
 use Rattle.tora_sim.specs.Lanes.{AreReadyOutside}
 use Rattle.tora_sim.specs.Nodes.{NodeView}
 use Rattle.tora_sim.specs.Quiet.{AreForgottenWhere}
-use Rattle.tora_sim.specs.Unready.{AreMarkedOutside, IsMarkedOutside, AreUnmarked}
+use Rattle.tora_sim.specs.Unready.{AreMarkedOutside, IsMarkedOutside, AreRemarked}
 use Rattle.tora_sim.specs.Store.{SimState, state_of, world_of}
 use Rattle.tora_sim.specs.Steps.{IsRefused, Does}
 use Rattle.tora_sim.proofs.Opens.{same_read}
@@ -127,12 +127,12 @@ forget_waiting-requires-clause-within c =
     c.first-first.ensures ∙ ap (λ (x : NodeView). x.first) (same_read s.nodes.items c.in-Some.home c.index-2.result.now node c.in-Some.ensures.first.within c.index-2.ensures c.index_mut.ensures.value) in
     let count : c.count-count.result ≡ node.count =
     c.count-count.ensures ∙ ap (λ (x : NodeView). x.count) (same_read s.nodes.items c.in-Some.home c.index-3.result.now node c.in-Some.ensures.first.within c.index-3.ensures c.index_mut.ensures.value) in
-    let but : AreStillBut s.clock s.stills c.turn-turned.new.links.items node.first node.count =
+    let still : AreStillBut s.clock s.stills c.turn-turned.new.links.items node.first node.count =
     turned_but s.clock s.stills node c.turn-turned.new.node c.make_room.new.links.items c.turn-turned.new.links.items c.turn-turned.result node.first node.count refl refl c.turn-turned.ensures.turned
     (alike_still s.clock s.stills s.links.items c.make_room.new.links.items c.make_room.ensures.same c.self.invariant.2) in
     let within = ends_within s.topology s.times s.clock s.nodes.items s.links.items s.datagrams.items c.self.invariant.0 c.args.n c.in-Some.home node c.in-Some.ensures.first c.index_mut.ensures.value in
     let before = c.self.invariant.2.as_many in
-    let many = but.as_many in
+    let many = still.as_many in
     omega (arith, within, first, count, before, many, c.within-after.ensures.ordered, c.within-after.ensures.within)
 
 pub forget_waiting-requires-clause-ready : goal.forget_waiting-requires-clause-ready
@@ -143,11 +143,11 @@ forget_waiting-requires-clause-ready c =
     c.first-first.ensures ∙ ap (λ (x : NodeView). x.first) (same_read s.nodes.items c.in-Some.home c.index-2.result.now node c.in-Some.ensures.first.within c.index-2.ensures c.index_mut.ensures.value) in
     let count : c.count-count.result ≡ node.count =
     c.count-count.ensures ∙ ap (λ (x : NodeView). x.count) (same_read s.nodes.items c.in-Some.home c.index-3.result.now node c.in-Some.ensures.first.within c.index-3.ensures c.index_mut.ensures.value) in
-    let but : AreStillBut s.clock s.stills c.turn-turned.new.links.items node.first node.count =
+    let still : AreStillBut s.clock s.stills c.turn-turned.new.links.items node.first node.count =
     turned_but s.clock s.stills node c.turn-turned.new.node c.make_room.new.links.items c.turn-turned.new.links.items c.turn-turned.result node.first node.count refl refl c.turn-turned.ensures.turned
     (alike_still s.clock s.stills s.links.items c.make_room.new.links.items c.make_room.ensures.same c.self.invariant.2) in
     let before = c.self.invariant.2.as_many in
-    let many = but.as_many in
+    let many = still.as_many in
     let kept = c.make_room.ensures.kept.as_many in
     let each = c.self.invariant.5.as_many in
     omega (arith, before, many, kept, each)
@@ -160,10 +160,10 @@ forget_waiting-requires-clause-stills c =
     c.first-first.ensures ∙ ap (λ (x : NodeView). x.first) (same_read s.nodes.items c.in-Some.home c.index-2.result.now node c.in-Some.ensures.first.within c.index-2.ensures c.index_mut.ensures.value) in
     let count : c.count-count.result ≡ node.count =
     c.count-count.ensures ∙ ap (λ (x : NodeView). x.count) (same_read s.nodes.items c.in-Some.home c.index-3.result.now node c.in-Some.ensures.first.within c.index-3.ensures c.index_mut.ensures.value) in
-    let but : AreStillBut s.clock s.stills c.turn-turned.new.links.items node.first node.count =
+    let still : AreStillBut s.clock s.stills c.turn-turned.new.links.items node.first node.count =
     turned_but s.clock s.stills node c.turn-turned.new.node c.make_room.new.links.items c.turn-turned.new.links.items c.turn-turned.result node.first node.count refl refl c.turn-turned.ensures.turned
     (alike_still s.clock s.stills s.links.items c.make_room.new.links.items c.make_room.ensures.same c.self.invariant.2) in
-    but.as_many
+    still.as_many
 
 pub forget_waiting-requires-clause-plains : goal.forget_waiting-requires-clause-plains
 forget_waiting-requires-clause-plains c =
@@ -194,7 +194,7 @@ invariant_of-self-2 c =
     let start =
     before_turn s.unready.items s.nodes.items s.ready.items c.make_room.new.ready.items c.make_room.new.links.items c.in-Some.home node c.unready_at.result c.within-range.result c.still_unready-before.result c.first-first.result c.count-count.result
     c.in-Some.ensures.first.within c.index_mut.ensures.value c.unready_at.ensures first count (omega (arith, within, many)) c.make_room.ensures.kept c.self.invariant.6 c.within-range.ensures.outside c.still_unready-before.ensures c.make_room.ensures.marks (ok_room c.make_room.result (sym c.is_err.ensures.value ∙ c.if-is_err.false) c.make_room.ensures.room) in
-    let but : AreStillBut s.clock s.stills c.turn-turned.new.links.items node.first node.count =
+    let still : AreStillBut s.clock s.stills c.turn-turned.new.links.items node.first node.count =
     turned_but s.clock s.stills node c.turn-turned.new.node c.make_room.new.links.items c.turn-turned.new.links.items c.turn-turned.result node.first node.count refl refl c.turn-turned.ensures.turned
     (alike_still s.clock s.stills s.links.items c.make_room.new.links.items c.make_room.ensures.same c.self.invariant.2) in
     let plain : ArePlainBut s.clock s.plains c.turn-turned.new.links.items node.first node.count =
@@ -206,22 +206,25 @@ invariant_of-self-2 c =
     let small : range.behind ≤ node.count = omega (arith, c.within-after.ensures.within, count) in
     let out : AreReadyOutside links node.first node.count range = λ place link lt off there. c.turn-turned.ensures.ready place link lt (c.joined.ensures.these place (c.within-after.ensures.outside place (inside place lt) off)) there in
     let own : IsMarkedOutside range node.first node.count c.make_room.new.ready.items = λ place lt off. start.0 place lt (c.joined.ensures.others place (c.within-after.ensures.outside place (inside place lt) off)) in
-    let unmarked = subst (λ (m : ℕ). AreUnmarked c.make_room.new.ready.items c.forget_waiting.new.ready.items (m + range.from) (range.behind - range.from)) first c.forget_waiting.ensures.ready in
+    let but = c.saturating_add.result in
+    let seat = c.turn-turned.new.seat in
+    let seated : (place : ℕ) → place < node.count → place ≡ seat → node.first + place ≡ but = λ place lt q. omega (arith, lt, q, within, many, first, c.saturating_add.ensures, s.links.small, s.links.ok) in
+    let remarked = subst (λ (m : ℕ). AreRemarked links but c.make_room.new.ready.items c.forget_waiting.new.ready.items (m + range.from) (range.behind - range.from)) first c.forget_waiting.ensures.ready in
     let stills = subst (λ (m : ℕ). AreForgottenWhere links s.stills c.forget_waiting.new.stills (m + range.from) (range.behind - range.from)) first c.forget_waiting.ensures.stills in
     let plains = subst (λ (m : ℕ). AreForgottenWhere links s.plains c.forget_waiting.new.plains (m + range.from) (range.behind - range.from)) first c.forget_waiting.ensures.plains in
     let before = c.self.invariant.2.as_many in
-    let after = but.as_many in
+    let after = still.as_many in
     let same : length links ≡ length c.make_room.new.links.items = omega (arith, before, after, many) in (
       turn_store s.topology s.times s.clock s.nodes.items s.links.items s.datagrams.items c.self.invariant.0 c.args.n c.in-Some.home c.index_mut.result.now c.in-Some.ensures.first c.index_mut.ensures.value
           c.make_room.new.links.items c.make_room.ensures.same c.turn-turned.new.node c.turn-turned.new.links.items c.turn-turned.result c.turn-turned.ensures.turned,
       λ none. absurd (omega (arith, none)),
-      where_forgotten s.clock s.stills c.forget_waiting.new.stills links node.first node.count (forgotten_of_node links s.stills c.forget_waiting.new.stills node.first node.count range out stills) but,
+      where_forgotten s.clock s.stills c.forget_waiting.new.stills links node.first node.count (forgotten_of_node links s.stills c.forget_waiting.new.stills node.first node.count range out stills) still,
       c.self.invariant.3,
       where_plain s.clock s.plains c.forget_waiting.new.plains links node.first node.count (forgotten_of_node links s.plains c.forget_waiting.new.plains node.first node.count range out plains) plain,
-      ready_after c.make_room.new.links.items links c.make_room.new.ready.items c.forget_waiting.new.ready.items node.first node.count range small same c.turn-turned.ensures.others out unmarked c.make_room.ensures.marks,
+      ready_after c.make_room.new.links.items links c.make_room.new.ready.items c.forget_waiting.new.ready.items node.first node.count seat but range seated c.turn-turned.ensures.room small same c.turn-turned.ensures.others out remarked c.make_room.ensures.marks,
       subst (λ (ranges : List Unready). AreMarkedOutside ranges (slice_set s.nodes.items c.in-Some.home c.turn-turned.new.node) c.forget_waiting.new.ready.items) (sym c.set_unready.ensures)
-          (marked_after s.topology s.times s.clock s.nodes.items s.links.items s.datagrams.items c.self.invariant.0 s.unready.items c.make_room.new.ready.items c.forget_waiting.new.ready.items c.in-Some.home node c.turn-turned.new.node range
-          c.in-Some.ensures.first.within c.index_mut.ensures.value (turned_place node c.turn-turned.new.node c.make_room.new.links.items links c.turn-turned.result c.turn-turned.ensures.turned) small own unmarked
+          (marked_after s.topology s.times s.clock s.nodes.items s.links.items s.datagrams.items c.self.invariant.0 links but s.unready.items c.make_room.new.ready.items c.forget_waiting.new.ready.items c.in-Some.home node c.turn-turned.new.node range
+          c.in-Some.ensures.first.within c.index_mut.ensures.value (turned_place node c.turn-turned.new.node c.make_room.new.links.items links c.turn-turned.result c.turn-turned.ensures.turned) small own remarked
           (marks_kept s.unready.items s.nodes.items s.ready.items c.make_room.new.ready.items c.make_room.ensures.kept c.self.invariant.6)),
       λ known. absurd cc,
     )
