@@ -5,4 +5,4 @@ use Rattle.tora_arq.specs.EndRange.{LinkEndView}
 
 abbrev pub end_in : EndKind → LinkEndView
 end_in (Near end) = end
-end_in (Whole end) = end.value
+end_in (Whole end) = end

@@ -24,7 +24,7 @@ pub enum EndKind {
     /// Few packets and events wait, which stand in it.
     Near(NearEnd),
     /// It has lists.
-    Whole(Box<LinkEnd>),
+    Whole(LinkEnd),
 }
 
 /// A link end as `LinkEnd` is one, which takes memory for its lists only once more packets or events wait at it than it has places for, or a
@@ -282,13 +282,8 @@ impl GrowingEnd {
             return Ok(());
         };
         let whole = end.widened(self.alloc)?;
-        match Box::new(self.alloc, whole) {
-            Ok(whole) => {
-                self.kind = EndKind::Whole(whole);
-                Ok(())
-            }
-            Err(_) => Err(ArqError::Memory),
-        }
+        self.kind = EndKind::Whole(whole);
+        Ok(())
     }
 
     /// Takes a frame that came, where no memory is asked for; `None` else, which changes nothing.
