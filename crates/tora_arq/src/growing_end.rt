@@ -28,7 +28,8 @@ pub enum EndKind {
 }
 
 /// A link end as `LinkEnd` is one, which takes memory for its lists only once more packets or events wait at it than it has places for, or a
-/// packet comes early. So where very many ends are kept of which most have little to do, as in a simulator, most are without 20 kB of lists.
+/// packet comes early, and can give them back (`narrow`) once nothing stands in them. So where very many ends are kept of which most have little
+/// to do, as in a simulator, most are without 20 kB of lists.
 ///
 /// Its calls do what those of `LinkEnd` do; those that may take memory may fail, and change nothing then. Own profile.
 #[derive(Debug, Drop)]
@@ -284,6 +285,18 @@ impl GrowingEnd {
         let whole = end.widened(self.alloc)?;
         self.kind = EndKind::Whole(whole);
         Ok(())
+    }
+
+    /// Gives the lists back, if there are some and nothing stands in them.
+    pub fn narrow(&mut self)
+        ensures { self.new ≡ self.old }
+    {
+        let EndKind::Whole(end) = &self.kind else {
+            return;
+        };
+        if let Some(near) = end.narrowed(self.alloc) {
+            self.kind = EndKind::Near(near);
+        }
     }
 
     /// Takes a frame that came, where no memory is asked for; `None` else, which changes nothing.

@@ -274,3 +274,14 @@ impl NearEnd {
         self.state.resume(steady);
     }
 }
+
+impl LinkEnd {
+    /// The same end without lists, where nothing stands in them.
+    pub fn narrowed(&self, alloc: Global) -> Option<NearEnd>
+        ensures { IfSome result (λ end. end ≡ self.now) }
+    {
+        let settings = self.settings;
+        let state = self.state.narrowed(alloc)?;
+        Some(NearEnd { settings, state })
+    }
+}

@@ -1,5 +1,5 @@
 //! The state of a link end, and what each call makes of it.
-ghost use Rattle.std.specs.Prelude.{◌≡◌, ◌<◌, ◌≤◌, ◌+◌, ◌^◌, length, IfOk, IsOk, MatchOption};
+ghost use Rattle.std.specs.Prelude.{◌≡◌, ◌<◌, ◌≤◌, ◌+◌, ◌^◌, length, IfOk, IfSome, IsOk, MatchOption};
 ghost use Rattle.tora_arq.specs.LinkEnd.{after_open, after_end, after_bind, after_acknowledgement, after_delivery, after_release, bound_life, first_end, is_closed, is_silent, after_tick, on_submit, after_cut};
 ghost use Rattle.tora_arq.specs.Steady.{resumed};
 ghost use Rattle.tora_arq.specs.EndRange.{IsEndState};
@@ -287,5 +287,33 @@ impl State<FRONT, FRONT, 0> {
             last_hello: self.last_hello,
             last_hearing: self.last_hearing,
         })
+    }
+}
+
+impl State<EVENT_PLACES, QUEUE_PLACES, HELD_PLACES> {
+    /// The same state without lists, where nothing stands in them.
+    pub fn narrowed(&self, alloc: Global) -> Option<State<FRONT, FRONT, 0>>
+        ensures same { IfSome result (λ s. state_in s ≡ state_in self.now) }
+        ensures events { IfSome result (λ _. length self.now.events ≡ 0) }
+    {
+        if self.queue.len() > 0 || self.events.len() > 0 || !self.held.is_empty() {
+            return None;
+        }
+        let Ok(mut near) = State::<FRONT, FRONT, 0>::new(alloc) else {
+            return None;
+        };
+        near.phase = self.phase;
+        near.heard = self.heard;
+        near.last_life = self.last_life;
+        near.acknowledged = self.acknowledged;
+        near.transmitted = self.transmitted;
+        near.accepted = self.accepted;
+        near.speaks_two = self.speaks_two;
+        near.owes_hello = self.owes_hello;
+        near.owes_old_hello = self.owes_old_hello;
+        near.owes_ack = self.owes_ack;
+        near.last_hello = self.last_hello;
+        near.last_hearing = self.last_hearing;
+        Some(near)
     }
 }

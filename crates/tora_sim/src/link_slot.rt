@@ -60,15 +60,17 @@ fn wake(steady: &mut Steady, parts: &mut LinkParts)
     steady.own = 0;
 }
 
-/// Keeps what HELLOs look at, where the end is steady.
+/// Keeps what HELLOs look at, where the end is steady, which then has no lists.
 #[inline(always)]
-fn keep(steady: &mut Steady, parts: &LinkParts)
+fn keep(steady: &mut Steady, parts: &mut LinkParts)
     requires { is_none steady.old ≡ true }
-    ensures shown { shown steady.new parts.now ≡ parts.now }
-    ensures kept { IsKept steady.new parts.now }
+    ensures same { parts.new ≡ parts.old }
+    ensures shown { shown steady.new parts.old ≡ parts.old }
+    ensures kept { IsKept steady.new parts.old }
 {
     if let Some(kept) = parts.steady() {
         *steady = kept;
+        parts.narrow();
     }
 }
 
@@ -136,7 +138,7 @@ impl LinkSlot {
     {
         wake(&mut self.steady, &mut *self.parts);
         let frame = self.parts.send(now, packets);
-        keep(&mut self.steady, &self.parts);
+        keep(&mut self.steady, &mut *self.parts);
         frame
     }
 
@@ -166,7 +168,7 @@ impl LinkSlot {
     {
         wake(&mut self.steady, &mut *self.parts);
         let header = self.parts.send_hello(now)?;
-        keep(&mut self.steady, &self.parts);
+        keep(&mut self.steady, &mut *self.parts);
         Some(header)
     }
 
@@ -181,7 +183,7 @@ impl LinkSlot {
     {
         wake(&mut self.steady, &mut *self.parts);
         let seen = self.parts.receive_and_look(frame, now)?;
-        keep(&mut self.steady, &self.parts);
+        keep(&mut self.steady, &mut *self.parts);
         Some(seen)
     }
 
@@ -229,7 +231,7 @@ impl LinkSlot {
     {
         wake(&mut self.steady, &mut *self.parts);
         let seen = self.parts.receive_hello_and_look(header, now)?;
-        keep(&mut self.steady, &self.parts);
+        keep(&mut self.steady, &mut *self.parts);
         Some(seen)
     }
 
@@ -271,7 +273,7 @@ impl LinkSlot {
     {
         wake(&mut self.steady, &mut *self.parts);
         let event = self.parts.take_event();
-        keep(&mut self.steady, &self.parts);
+        keep(&mut self.steady, &mut *self.parts);
         event
     }
 
