@@ -1,5 +1,5 @@
 //! The events of a link end that wait to be polled.
-ghost use Rattle.std.specs.Prelude.{◌≡◌, ◌<◌, ◌≤◌, ◌-◌, [], ◌∷◌, ◌++◌, length, drop, slice_get, nat_lt, IfOk};
+ghost use Rattle.std.specs.Prelude.{◌≡◌, ◌<◌, ◌≤◌, ◌-◌, [], ◌∷◌, ◌++◌, length, drop, slice_get, is_some, nat_lt, IfOk};
 
 use crate::near_queue::{FRONT, NearQueue};
 use crate::{EVENT_PLACES, Life, LinkEvent, PLACES_OF_A_FRAME};
@@ -40,6 +40,14 @@ impl<const PLACES: usize> EventQueue<PLACES> {
         ensures most { result ≤ PLACES }
     {
         self.events.len()
+    }
+
+    /// Whether one waits.
+    #[inline(always)]
+    pub fn has_first(&self) -> bool
+        ensures { result ≡ is_some (slice_get self.now 0) }
+    {
+        self.len() > 0
     }
 
     /// Whether there is too little room for what a frame may give.

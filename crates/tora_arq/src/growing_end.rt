@@ -145,6 +145,17 @@ impl GrowingEnd {
         }
     }
 
+    /// Whether an event waits to be polled.
+    #[inline(always)]
+    pub fn has_event(&self) -> bool
+        ensures { result ≡ is_some (first_event self.now.state) }
+    {
+        match &self.kind {
+            EndKind::Near(end) => end.has_event(),
+            EndKind::Whole(end) => end.state.events.has_first(),
+        }
+    }
+
     /// The next event, if one waits. It stays.
     pub fn next_event(&self) -> Option<LinkEvent>
         ensures { result ≡ first_event self.now.state }

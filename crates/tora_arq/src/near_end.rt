@@ -239,6 +239,13 @@ impl NearEnd {
         self.state.queue.len()
     }
 
+    #[inline(always)]
+    pub fn has_event(&self) -> bool
+        ensures { result ≡ is_some (first_event self.now.state) }
+    {
+        self.state.events.has_first()
+    }
+
     pub fn next_event(&self) -> Option<LinkEvent>
         ensures { result ≡ first_event self.now.state }
     {

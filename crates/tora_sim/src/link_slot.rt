@@ -113,6 +113,14 @@ impl LinkSlot {
         self.parts.is_closed()
     }
 
+    /// Whether the end has an event to give: a steady one has none.
+    #[inline(always)]
+    pub fn has_event(&self) -> bool
+        ensures { result ≡ is_some (first_event self.now.state) }
+    {
+        self.steady.is_none() && self.parts.has_event()
+    }
+
     /// The next event of the end, which stays.
     pub fn next_event(&self) -> Option<LinkEvent>
         ensures { result ≡ first_event self.now.state }

@@ -95,6 +95,14 @@ impl LinkParts {
         self.end.is_closed()
     }
 
+    /// Whether the end has an event to give.
+    #[inline(always)]
+    pub fn has_event(&self) -> bool
+        ensures { result ≡ is_some (first_event self.now.state) }
+    {
+        self.end.has_event()
+    }
+
     /// The next event of the end, which stays.
     pub fn next_event(&self) -> Option<LinkEvent>
         ensures { result ≡ first_event self.now.state }

@@ -91,7 +91,7 @@ impl LinkParts {
         if self.has_cargo() {
             return true;
         }
-        self.next_event().is_some()
+        self.has_event()
     }
 
     /// Ticks the end, and tells whether it is closed then. One that isn't is as it was.

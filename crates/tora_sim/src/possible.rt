@@ -97,7 +97,7 @@ fn may_pump(links: &[LinkSlot], place: usize, n: Id, k: Id) -> bool
     ensures { result ≡ end_may n k (λ link. is_some (first_event link.state)) (slice_get links.now place) }
 {
     match links.get(place) {
-        Some(link) => !link.is_end(n, k) || link.next_event().is_some(),
+        Some(link) => !link.is_end(n, k) || link.has_event(),
         None => true,
     }
 }

@@ -164,7 +164,7 @@ impl LinkParts {
     fn has_no_event(&self) -> bool
         ensures { result ≡ is_empty self.now.state.events }
     {
-        self.end.next_event().is_none()
+        !self.end.has_event()
     }
 
     /// Whether all packets that were submitted are acknowledged.
