@@ -4,7 +4,7 @@ use Rattle.std.proofs.lemmas.Bool.Decides.{nat_tests}
 use Rattle.tora_arq.specs.declared.life.Life.{Life}
 use Rattle.tora_seat.specs.declared.cargo.Cargo.{Cargo}
 use Rattle.tora_world.specs.Lists.{packets_of, parcels_in}
-use Rattle.tora_sim.specs.Lane.{LaneView, lane_of}
+use Rattle.tora_sim.specs.Lane.{CargoesView, LaneView, lane_of}
 use Rattle.tora_world.proofs.EndViews.{parcels-append}
 use Rattle.tora_world.proofs.PacketLists.{of-append}
 
@@ -34,7 +34,7 @@ pub packets_both : (life : Life) (past cargoes : List Cargo) → packets_of life
 packets_both life past cargoes = sym (ap (packets_of life) (parcels-append past cargoes) ∙ of-append life (parcels_in past) (parcels_in cargoes))
 
 -- the first cargo that waits is in the second list
-pub waits : (l : LaneView) (past cargoes : List Cargo) (taken places : ℕ) → lane_of past cargoes taken places ≡ l → l.pulled < length l.put → taken < length cargoes
-waits l past cargoes taken places is h =
-    let w : length past + taken < length (past ++ cargoes) = subst (λ (v : LaneView). v.pulled < length v.put) (sym is) h in
-    omega (arith, w, length-append past cargoes)
+pub waits : (l : LaneView) (past : List Cargo) (cargoes : CargoesView) (taken : ℕ) → lane_of past cargoes taken ≡ l → l.pulled < length l.put → taken < length cargoes.items
+waits l past cargoes taken is h =
+    let w : length past + taken < length (past ++ cargoes.items) = subst (λ (v : LaneView). v.pulled < length v.put) (sym is) h in
+    omega (arith, w, length-append past cargoes.items)

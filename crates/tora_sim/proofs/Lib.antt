@@ -5,6 +5,8 @@ pub mod Ticks
 pub mod Opens
 pub mod Needs
 pub mod AtNode
+pub mod Bared
+pub mod LaneRooms
 pub mod Sends
 pub mod Sendings
 pub mod Receives

@@ -18,13 +18,14 @@ use Rattle.tora_seat.specs.declared.stepped.Stepped.{Stepped}
 use Rattle.tora_seat.specs.Offers.{AreOffered, place_of}
 use Rattle.tora_seat.specs.Serving.{Offer}
 use Rattle.tora_world.specs.declared.sim_error.SimError.{SimError}
-use Rattle.tora_sim.specs.Lanes.{LanesView, after_offer_at, bare, AreAlike, DidOffer}
+use Rattle.tora_sim.specs.Lanes.{LanesView, after_offer_at, bare, bare_between, AreAlike, DidOffer}
 use Rattle.tora_sim.specs.Links.{LinkView, AreChanged}
 use Rattle.tora_sim.specs.Nodes.{NodeView}
 use Rattle.tora_sim.specs.Plains.{IsPlainEnd, IsPlain, ArePlainEach}
 use Rattle.tora_sim.specs.Possible.{has_cargo}
 use Rattle.tora_sim.specs.Quiet.{IsStill, AreStillEach, AreForgotten, AreForgottenWhere}
 use Rattle.tora_sim.specs.Turns.{IsNoted, Turns}
+use Rattle.tora_sim.proofs.Bared.{between_alike}
 use Rattle.tora_sim.proofs.FreshEnds.{item_at}
 use Rattle.tora_sim.proofs.StillEnds.{none_known, none_before}
 use Rattle.tora_sim.proofs.Stores.{set_read, map_read}
@@ -220,6 +221,29 @@ turned_plain clock plains node y links after (Ok u) first count f n d h =
     noted_but clock plains first count d.lanes d.item.seat y.seat.stepped after d.noted
     (all_offers clock plains node.seat.core.neighbours first count d.served.offers (record { links = links; first = node.first; count = node.count }) d.lanes (sym f) (sym n) d.served.offered (all_but clock plains links first count h))
 turned_plain clock plains node y links after (Err e) first count f n d h = subst (λ (xs : List LinkView). ArePlainBut clock plains xs first count) (sym d.2) (all_but clock plains links first count h)
+
+-- the same of ends that have other memory
+alike_but : (clock : ℕ) (plains : List ℕ) (links after : List LinkView) (first count : ℕ) → AreAlike links after → ArePlainBut clock plains links first count → ArePlainBut clock plains after first count
+alike_but clock plains links after first count e h = record {
+  as_many = h.as_many ∙ sym (length-map links bare) ∙ sym (ap length e) ∙ length-map after bare;
+  plain = λ at link lt there free. go at link lt free (slice_get links at) refl (sym (slice_get-map bare links at) ∙ ap (λ (xs : List LinkView). slice_get xs at) (sym e) ∙ slice_get-map bare after at ∙ ap (option_map bare) there);
+}
+  where
+    go : (at : ℕ) (link : LinkView) → clock < slice_index plains at → ((place : ℕ) → place < count → at ≡ first + place → has_cargo link ≡ false) → (o : Option LinkView) → slice_get links at ≡ o → option_map bare o ≡ Some (bare link) → IsPlain link
+    go at link lt free None read q = absurd (none-some (bare link) q)
+    go at link lt free (Some x) read q =
+        let same : bare x ≡ bare link = same_Some (bare x) (bare link) q in
+        let s : IsPlain (bare x) = h.plain at x lt read (λ place less w. ap has_cargo same ∙ free place less w) in
+        subst (λ (z : LinkView). IsPlain z) same s
+
+-- where what is said of the node's ends is said of them without the memory that they have
+pub turned_plains : (clock : ℕ) (plains : List ℕ) (node y : NodeView) (links after : List LinkView) (r : Result (Unit {0}) SimError) → Turns node (bare_between node.first node.count links) r y (bare_between node.first node.count after) → ArePlainEach clock plains links
+    → ArePlainBut clock plains after node.first node.count
+turned_plains clock plains node y links after r d h =
+    let old = bare_between node.first node.count links in
+    let new = bare_between node.first node.count after in
+    alike_but clock plains new after node.first node.count (sym (between_alike node.first node.count after))
+    (turned_plain clock plains node y old new r node.first node.count refl refl d (alike_plain clock plains links old (between_alike node.first node.count links) h))
 
 -- what was known of an end of the node is forgotten where a cargo waits in its lane
 pub where_plain : (clock : ℕ) (before plains : List ℕ) (links : List LinkView) (first count : ℕ) → AreForgottenWhere links before plains first count → ArePlainBut clock before links first count → ArePlainEach clock plains links

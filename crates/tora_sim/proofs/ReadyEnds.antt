@@ -115,8 +115,11 @@ changed_ready marks before links change first count keeps c h = record {
 pub restarted_ready : (torn : Option (List ℕ)) (x : LinkView) → IsReady x → IsReady (restarted torn x)
 restarted_ready torn x h =
     let few = ltb-false x.pulled (length x.put) h.lane in
-    let room = h.cargoes in
-    record { lane = le-ltb (length x.put) (length x.put) (omega arith); cargoes = omega (arith, few, room); step = h.step }
+    record {
+      lane = le-ltb (length x.put) (length x.put) (omega arith);
+      cargoes = elim h.cargoes [ inl near ↦ inl near | inr wide ↦ inr (omega (arith, few, wide)) ];
+      step = h.step;
+    }
 
 -- ---- one end after another has room
 

@@ -1,14 +1,19 @@
 -- Memory that is taken at the link ends of a node before an item is served.
 use Rattle.std.proofs.Common.{◌≡◌, ℕ, zero, suc, ◌<◌, ◌≤◌, ◌+◌, ◌⊎◌, inl, inr, Bool, List, [], ◌∷◌, map, length, set, slice_get, Some, refl, sym, ap, ◌∙◌, subst, arith}
 use Rattle.std.proofs.lemmas.List.{length-map, length-set}
-use Rattle.std.proofs.lemmas.Option.{slice_get_read}
+use Rattle.std.proofs.lemmas.Bool.{cases_eq}
+use Rattle.std.proofs.lemmas.Option.{same_Some, slice_get_read}
 use Rattle.std.specs.Prelude.{slice_index_or}
 use Rattle.tora_seat.specs.declared.cargo.Cargo.{Cargo}
+use Rattle.tora_seat.specs.declared.TheConstants.{MOST_CARGOES}
+use Rattle.tora_sim.specs.declared.near_cargoes.TheConstants.{NEAR}
 use Rattle.tora_sim.specs.declared.unready.Unready.{Unready}
 use Rattle.tora_sim.specs.Links.{LinkView}
 use Rattle.tora_sim.specs.Unready.{IsOutside}
-use Rattle.tora_sim.specs.Lanes.{bare, AreAlike, AreOthersSame, HasRoom, HasRoomAt, AreReady, lanes_of, after_offer_at, has_place, DidOffer}
-use Rattle.tora_sim.proofs.FreshEnds.{below_next}
+use Rattle.tora_sim.specs.Lane.{Fits, AreWhole, AreOthersAsWhole}
+use Rattle.tora_sim.specs.Lanes.{bare, bare_between, AreAlike, AreFitting, AreOthersSame, HasRoom, HasRoomAt, HaveRoom, AreReady, lanes_of, after_offer_at, has_place, DidOffer}
+use Rattle.tora_sim.proofs.Bared.{between_set, between_within}
+use Rattle.tora_sim.proofs.FreshEnds.{below_next, set_same, set_other}
 use Rattle.tora_sim.proofs.UnreadyEnds.{ready_but}
 use Rattle.tora_sim.proofs.Stores.{set_read}
 
@@ -41,22 +46,60 @@ more_room before links after first place h e room others = record { same = e ∙
 
 -- ---- an offer
 
-has_room : (x : LinkView) (cargo : Cargo) (put : Bool) → HasRoom x → HasRoom (after_offer_at x cargo put)
-has_room x cargo put h = record { cargoes = h.cargoes; step = h.step }
+-- a lane in which there is memory, or no list
+pub fits_room : (pulled room : ℕ) (spares : List ℕ) (place : ℕ) → Fits pulled room spares place → (room ≡ 0) ⊎ (pulled + MOST_CARGOES ≤ room)
+fits_room pulled room spares place (inl near) = inl near.0
+fits_room pulled room spares place (inr wide) = inr wide
+
+-- another spare list is as whole as it was
+fits_still : (pulled room : ℕ) (spares after : List ℕ) (place other : ℕ) → (other ≡ place → ⊥) → AreOthersAsWhole spares after place → Fits pulled room spares other → Fits pulled room after other
+fits_still pulled room spares after place other away others (inl near) = inl (near.0, subst (λ (n : ℕ). MOST_CARGOES + NEAR ≤ n) (sym (others other away)) near.1)
+fits_still pulled room spares after place other away others (inr wide) = inr wide
+
+-- where there is memory, or no list, and as many spare lists are whole
+pub all_fit : (links : List LinkView) (first count : ℕ) (spares : List ℕ) → HaveRoom links first count → AreWhole spares count → AreFitting links first count spares
+all_fit links first count spares room whole place link lt there = elim (room place link lt there).cargoes [ inl near ↦ inl (near, whole place lt) | inr wide ↦ inr wide ]
 
 module _ (links : List LinkView) (first count place : ℕ) (range : Unready) (ready : AreReady (lanes_of links first count) range) (lt : place < count) (x : LinkView) (read : x ≡ slice_index_or links (first + place) x) where
+  pub within : first + place < length links
+  within = let w = ready.within in omega (arith, w, lt)
+
   pub there : slice_get links (first + place) ≡ Some x
-  there = slice_get_read links (length links) (first + place) x refl (let w = ready.within in omega (arith, w, lt)) read
+  there = slice_get_read links (length links) (first + place) x refl within read
 
-  pub still_ready : (after : Unready) (y : LinkView) (cargo : Cargo) (put : Bool) → ((other : ℕ) → IsOutside after other → IsOutside range other) → (IsOutside after place → ⊥) → y ≡ after_offer_at x cargo put → AreReady (lanes_of (set links (first + place) y) first count) after
-  still_ready after y cargo put wider here e = record {
-    within = subst (λ m. first + count ≤ m) (sym (length-set links (first + place) y)) ready.within;
-    room = λ j link less at. elim (set_read links (first + place) y (first + j) link at) [
-      | inl told ↦ subst HasRoom (sym e ∙ told.1) (has_room x cargo put (ready.room place x lt there))
-      | inr was ↦ ready.room j link less was
-    ];
-    ready = ready_but links first count place range after y wider here ready.ready;
-  }
+  module _ (spares after : List ℕ) (y : LinkView) (cargo : Cargo) (put : Bool) (lane : bare y ≡ bare (after_offer_at x cargo put)) (step : y.step_room ≡ x.step_room) (fits : Fits y.pulled y.room after place) where
+    offered_room : HasRoom y
+    offered_room = record {
+      cargoes = fits_room y.pulled y.room after place fits;
+      step = let had = (ready.room place x lt there).step in let same = ap (λ (z : LinkView). length z.steps) lane in omega (arith, had, same, step);
+    }
 
-  pub did : (y : LinkView) (cargo : Cargo) (put : Bool) → put ≡ has_place x → y ≡ after_offer_at x cargo put → DidOffer (lanes_of links first count) place cargo put (lanes_of (set links (first + place) y) first count)
-  did y cargo put p e = record { link = x; within = lt; there = there; answer = p; lanes = ap (λ z. lanes_of (set links (first + place) z) first count) e }
+    pub still_ready : (range' : Unready) → ((other : ℕ) → IsOutside range' other → IsOutside range other) → (IsOutside range' place → ⊥) → AreReady (lanes_of (set links (first + place) y) first count) range'
+    still_ready range' wider here = record {
+      within = subst (λ m. first + count ≤ m) (sym (length-set links (first + place) y)) ready.within;
+      room = λ j link less at. elim (set_read links (first + place) y (first + j) link at) [
+        | inl told ↦ subst HasRoom told.1 offered_room
+        | inr was ↦ ready.room j link less was
+      ];
+      ready = ready_but links first count place range range' y wider here ready.ready;
+    }
+
+    pub still_fitting : AreOthersAsWhole spares after place → AreFitting links first count spares → AreFitting (set links (first + place) y) first count after
+    still_fitting others h j link less at = go (cases_eq j place)
+      where
+        go : (j ≡ place) ⊎ (j ≡ place → ⊥) → Fits link.pulled link.room after j
+        go (inl q) =
+            let is : y ≡ link = same_Some y link (sym (set_same links (first + place) y within) ∙ ap (λ (m : ℕ). slice_get (set links (first + place) y) (first + m)) (sym q) ∙ at) in
+            subst (λ (z : LinkView). Fits z.pulled z.room after j) is (subst (λ (m : ℕ). Fits y.pulled y.room after m) (sym q) fits)
+        go (inr away) =
+            fits_still link.pulled link.room spares after place j away others
+            (h j link less (sym (set_other links (first + place) (first + j) y (λ (q : first + j ≡ first + place). away (omega (arith, q)))) ∙ at))
+
+    pub did : put ≡ has_place x → DidOffer (lanes_of (bare_between first count links) first count) place cargo put (lanes_of (bare_between first count (set links (first + place) y)) first count)
+    did p = record {
+      link = bare x;
+      within = lt;
+      there = between_within first count links place x lt there;
+      answer = p;
+      lanes = ap (λ (xs : List LinkView). lanes_of xs first count) (between_set first count links place y lt ∙ ap (λ (z : LinkView). set (bare_between first count links) (first + place) z) lane);
+    }

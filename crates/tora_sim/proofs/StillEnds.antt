@@ -9,13 +9,14 @@ use Rattle.tora_seat.specs.declared.stepped.Stepped.{Stepped}
 use Rattle.tora_seat.specs.Offers.{AreOffered, place_of}
 use Rattle.tora_seat.specs.Serving.{Offer}
 use Rattle.tora_world.specs.declared.sim_error.SimError.{SimError}
-use Rattle.tora_sim.specs.Lanes.{LanesView, after_offer_at, bare, AreAlike, DidOffer}
+use Rattle.tora_sim.specs.Lanes.{LanesView, after_offer_at, bare, bare_between, AreAlike, DidOffer}
 use Rattle.tora_sim.specs.Links.{LinkView, ticked, AreChanged}
 use Rattle.tora_sim.specs.Nodes.{NodeView}
 use Rattle.tora_sim.specs.Possible.{has_cargo}
 use Rattle.tora_sim.specs.Quiet.{IsStill, IsStillIf, AreStillEach, AreForgotten, IsForgottenWhere, AreForgottenWhere}
 use Rattle.tora_sim.specs.Store.{EachOf}
 use Rattle.tora_sim.specs.Turns.{IsNoted, Turns}
+use Rattle.tora_sim.proofs.Bared.{between_alike}
 use Rattle.tora_sim.proofs.FreshEnds.{item_at, below_next}
 use Rattle.tora_sim.proofs.Quiets.{earlier, still_tick}
 use Rattle.tora_sim.proofs.Stores.{set_read, map_read}
@@ -275,6 +276,29 @@ turned_but clock stills node y links after (Ok u) first count f n d h =
     noted_but clock stills first count d.lanes d.item.seat y.seat.stepped after d.noted
     (all_offers clock stills node.seat.core.neighbours first count d.served.offers (record { links = links; first = node.first; count = node.count }) d.lanes (sym f) (sym n) d.served.offered (all_but clock stills links first count h))
 turned_but clock stills node y links after (Err e) first count f n d h = subst (λ (xs : List LinkView). AreStillBut clock stills xs first count) (sym d.2) (all_but clock stills links first count h)
+
+-- the same of ends that have other memory
+alike_but : (clock : ℕ) (stills : List ℕ) (links after : List LinkView) (first count : ℕ) → AreAlike links after → AreStillBut clock stills links first count → AreStillBut clock stills after first count
+alike_but clock stills links after first count e h = record {
+  as_many = h.as_many ∙ sym (length-map links bare) ∙ sym (ap length e) ∙ length-map after bare;
+  still = λ at link lt there free. go at link lt free (slice_get links at) refl (sym (slice_get-map bare links at) ∙ ap (λ (xs : List LinkView). slice_get xs at) (sym e) ∙ slice_get-map bare after at ∙ ap (option_map bare) there);
+}
+  where
+    go : (at : ℕ) (link : LinkView) → clock < slice_index stills at → ((place : ℕ) → place < count → at ≡ first + place → has_cargo link ≡ false) → (o : Option LinkView) → slice_get links at ≡ o → option_map bare o ≡ Some (bare link) → IsStill (slice_index stills at) link
+    go at link lt free None read q = absurd (none-some (bare link) q)
+    go at link lt free (Some x) read q =
+        let same : bare x ≡ bare link = same_Some (bare x) (bare link) q in
+        let s : IsStill (slice_index stills at) (bare x) = h.still at x lt read (λ place less w. ap has_cargo same ∙ free place less w) in
+        subst (λ (z : LinkView). IsStill (slice_index stills at) z) same s
+
+-- where what is said of the node's ends is said of them without the memory that they have
+pub turned_still : (clock : ℕ) (stills : List ℕ) (node y : NodeView) (links after : List LinkView) (r : Result (Unit {0}) SimError) → Turns node (bare_between node.first node.count links) r y (bare_between node.first node.count after) → AreStillEach clock stills links
+    → AreStillBut clock stills after node.first node.count
+turned_still clock stills node y links after r d h =
+    let old = bare_between node.first node.count links in
+    let new = bare_between node.first node.count after in
+    alike_but clock stills new after node.first node.count (sym (between_alike node.first node.count after))
+    (turned_but clock stills node y old new r node.first node.count refl refl d (alike_still clock stills links old (between_alike node.first node.count links) h))
 
 -- ---- ends of a node in whose lane a cargo waits
 

@@ -1,5 +1,5 @@
 -- A node's core serves the first item of its lane.
-use Rattle.std.proofs.Common.{◌≡◌, ℕ, zero, suc, ◌<◌, ◌≤◌, ◌+◌, ◌⊎◌, ◌||◌, inl, inr, Bool, true, false, true≢false, not, nat_eq, eqb-true, eq-eqb, List, [], ◌∷◌, ◌++◌, map, length, set, slice_get, Option, Some, None, refl, sym, ap, ◌∙◌, subst, arith, is_some, if◌then◌else◌, Result, Ok, Err}
+use Rattle.std.proofs.Common.{◌≡◌, ℕ, zero, suc, ◌<◌, ◌≤◌, ◌+◌, ◌⊎◌, ◌||◌, inl, inr, Bool, true, false, true≢false, not, nat_eq, eqb-true, eq-eqb, List, [], ◌∷◌, ◌++◌, map, length, set, slice_get, Option, Some, None, refl, sym, ap, ◌∙◌, subst, arith, is_some, if◌then◌else◌, Result, Ok, Err, MatchResult}
 use Rattle.std.proofs.lemmas.List.{drop-append-le}
 use Rattle.std.proofs.lemmas.Bool.{cases_Bool}
 use Rattle.tora_core.specs.Numbers.{has_number}
@@ -21,10 +21,11 @@ use Rattle.tora_world.specs.World.{World, refusal_of, effect_by, world_after, ow
 use Rattle.tora_sim.specs.Keyed.{IsFirst}
 use Rattle.tora_sim.specs.Links.{LinkView}
 use Rattle.tora_sim.specs.Nodes.{NodeView, is_of}
-use Rattle.tora_sim.specs.Lanes.{LanesView, lanes_of, DidOffer, AreAlike, bare}
+use Rattle.tora_sim.specs.Lanes.{LanesView, lanes_of, DidOffer, AreAlike, bare, bare_between}
 use Rattle.tora_sim.specs.Turns.{IsServed, IsTurned, Turns, IsNoted}
 use Rattle.tora_sim.specs.Store.{state_of, world_of, IsStore, link_at, end_in, file_in, lane_in, put_in, steps_in, node_at, seat_in, items_in, inputs_in, counts_in, arms_in}
 use Rattle.tora_sim.specs.Steps.{IsDone, IsRefused, Does}
+use Rattle.tora_sim.proofs.Bared.{between_alike}
 use Rattle.tora_sim.proofs.Stores.{each_at, IsSameNode, node_changes, node_changes_by, node_stays, store_set_node}
 use Rattle.tora_sim.proofs.SameLinks.{same_alike, store_same, world_alike}
 use Rattle.tora_sim.proofs.Opens.{effect_is, refused_for, links_same}
@@ -208,3 +209,26 @@ module _ (t : Topology) (times : Times) (clock : ℕ) (nodes : List NodeView) (l
   turn_store y links' (Err e) d =
       subst (λ (zs : List NodeView). IsStore (state_of t times clock zs links' ds)) (sym (same_nodes t times clock nodes links ds h n i x first read y d.1))
       (subst (λ (xs : List LinkView). IsStore (state_of t times clock nodes xs ds)) (sym d.2) roomy_store)
+
+-- ---- where what is said of the node's ends is said of them without the memory that they have
+
+module _ (t : Topology) (times : Times) (clock : ℕ) (nodes : List NodeView) (links : List LinkView) (ds : List FrameParts) (h : IsStore (state_of t times clock nodes links ds))
+    (n i : ℕ) (x : NodeView) (first : IsFirst (is_of n) nodes i) (read : x ≡ slice_index_or nodes i x) (roomy : List LinkView) (alike : AreAlike links roomy) where
+  abbrev bared : List LinkView → List LinkView
+  bared xs = bare_between x.first x.count xs
+
+  both : AreAlike links (bared roomy)
+  both = between_alike x.first x.count roomy ∙ alike
+
+  pub between_does : (y : NodeView) (links' : List LinkView) (r : Result (Unit {0}) SimError) → 0 < length x.items → Turns x (bared roomy) r y (bared links') →
+      Does (state_of t times clock nodes links ds) (CoreTurn n) r (state_of t times clock (set nodes i y) links' ds)
+  between_does y links' r lt d =
+      let before = world_of (state_of t times clock nodes links ds) in
+      subst (λ (w : World). MatchResult r (λ _. IsDone before (CoreTurn n) w) (λ error. IsRefused before (CoreTurn n) error w))
+      (sym (world_alike t times clock (set nodes i y) (bared links') links' ds (sym (between_alike x.first x.count links'))))
+      (turn_does t times clock nodes links ds h n i x first read (bared roomy) both y (bared links') r lt d)
+
+  pub between_store : (y : NodeView) (links' : List LinkView) (r : Result (Unit {0}) SimError) → Turns x (bared roomy) r y (bared links') → IsStore (state_of t times clock (set nodes i y) links' ds)
+  between_store y links' r d =
+      store_same t times clock (set nodes i y) (bared links') links' ds (same_alike (bared links') links' (sym (between_alike x.first x.count links')))
+      (turn_store t times clock nodes links ds h n i x first read (bared roomy) both y (bared links') r d)

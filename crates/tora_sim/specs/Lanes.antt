@@ -1,10 +1,11 @@
 -- The lanes from a node's core to its neighbours: the ends of the node's links stand one behind the other among all ends.
-use Rattle.std.specs.Prelude.{◌≡◌, ℕ, ◌+◌, ◌<◌, ◌≤◌, nat_lt, Bool, true, false, List, [], ◌∷◌, ◌++◌, length, map, slice_get, slice_set, Some, if◌then◌else◌}
+use Rattle.std.specs.Prelude.{◌≡◌, ℕ, zero, suc, ◌+◌, ◌<◌, ◌≤◌, ◌⊎◌, nat_lt, Bool, true, false, List, [], ◌∷◌, ◌++◌, length, map, slice_get, slice_set, Some, if◌then◌else◌}
 use Rattle.tora_seat.specs.declared.cargo.Cargo.{Cargo}
 use Rattle.tora_seat.specs.declared.TheConstants.{MOST_CARGOES}
 use Rattle.tora_seat.specs.Serving.{Parcel}
 use Rattle.tora_sim.specs.declared.unready.Unready.{Unready}
 use Rattle.tora_sim.specs.Links.{LinkView, waiting}
+use Rattle.tora_sim.specs.Lane.{Fits}
 use Rattle.tora_sim.specs.Unready.{IsOutside}
 
 pub record LanesView : Type 0 where
@@ -31,9 +32,9 @@ pub record DidOffer (before : LanesView) (place : ℕ) (cargo : Cargo) (put : Bo
   pub answer : put ≡ has_place link
   pub lanes : after ≡ record before { links = slice_set before.links (before.first + place) (after_offer_at link cargo put) }
 
--- there is memory for as many cargoes as one item can put, and for the packet that it steps
+-- there is memory for as many cargoes as one item can put, or no list for them yet, and memory for the packet that it steps
 pub record HasRoom (link : LinkView) : Type 0 where
-  pub cargoes : link.pulled + MOST_CARGOES ≤ link.room
+  pub cargoes : (link.room ≡ 0) ⊎ (link.pulled + MOST_CARGOES ≤ link.room)
   pub step : length link.steps < link.step_room
 
 abbrev pub HasRoomAt : List LinkView → ℕ → Type 0
@@ -42,7 +43,7 @@ HasRoomAt links at = (link : LinkView) → slice_get links at ≡ Some link → 
 -- no cargo waits in a lane, and there is that memory
 pub record IsReadyLane (put : List Cargo) (pulled room : ℕ) (steps : List Parcel) (step_room : ℕ) : Type 0 where
   pub lane : nat_lt pulled (length put) ≡ false
-  pub cargoes : pulled + MOST_CARGOES ≤ room
+  pub cargoes : (room ≡ 0) ⊎ (pulled + MOST_CARGOES ≤ room)
   pub step : length steps < step_room
 
 abbrev pub IsReady : LinkView → Type 0
@@ -71,9 +72,25 @@ pub record AreReady (lanes : LanesView) (range : Unready) : Type 0 where
   pub room : HaveRoom lanes.links lanes.first lanes.count
   pub ready : AreReadyOutside lanes.links lanes.first lanes.count range
 
+-- at each of so many ends from a place on, in whose lane there is no list, the spare list of its place is whole
+abbrev pub AreFitting : List LinkView → ℕ → ℕ → List ℕ → Type 0
+AreFitting links first count spares = (place : ℕ) (link : LinkView) → place < count → slice_get links (first + place) ≡ Some link → Fits link.pulled link.room spares place
+
 -- a link end but for the memory that it has
 abbrev pub bare : LinkView → LinkView
 bare link = record link { room = 0; step_room = 0 }
+
+-- the first so many ends but for the memory that they have, and the others
+unfoldable pub bare_first : ℕ → List LinkView → List LinkView
+bare_first zero links = links
+bare_first (suc count) [] = []
+bare_first (suc count) (link ∷ links) = bare link ∷ bare_first count links
+
+-- so many ends from a place on but for the memory that they have, and the others
+unfoldable pub bare_between : ℕ → ℕ → List LinkView → List LinkView
+bare_between zero count links = bare_first count links
+bare_between (suc first) count [] = []
+bare_between (suc first) count (link ∷ links) = link ∷ bare_between first count links
 
 -- the same ends but for the memory that they have
 abbrev pub AreAlike : List LinkView → List LinkView → Type 0

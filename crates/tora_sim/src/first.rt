@@ -22,6 +22,7 @@ use crate::links_by_bits::{LinkLists, links_by_bits};
 use crate::nodes::{NodeSlot, Sending, no_counts};
 use crate::ready::none_ready;
 use crate::sim::Sim;
+use crate::spares::Spares;
 use crate::stills::no_stills;
 use crate::topology::Topology;
 use crate::unready::all_unready;
@@ -96,6 +97,7 @@ impl Sim {
             plains,
             ready,
             unready,
+            spares: Spares::new(alloc),
             idle: false,
             packets: Packets::new(),
         })

@@ -1,11 +1,13 @@
 //! The lane from a core to a link end, and what was ever put into it.
-ghost use Rattle.std.specs.Prelude.{◌≡◌, ◌<◌, ◌≤◌, ◌+◌, ◌++◌, ◌∷◌, [], true, suc, Some, length, nat_lt, slice_get, take, OnOk, IfOk};
+ghost use Rattle.std.specs.Prelude.{◌≡◌, ◌<◌, ◌≤◌, ◌⊎◌, ◌+◌, ◌++◌, ◌∷◌, [], true, suc, Some, length, nat_lt, slice_get, take, OnOk, IfOk};
 ghost use Rattle.tora_seat.specs.declared.TheConstants.{MOST_CARGOES};
 ghost use Rattle.tora_world.specs.Lists.{packets_of, parcels_in};
-ghost use Rattle.tora_sim.specs.Lane.{has_place_in};
+ghost use Rattle.tora_sim.specs.Lane.{AreOthersAsWhole, Fits, has_place_in};
 
-use crate::kept_cargoes::{KeptCargoes, append};
+use crate::kept_cargoes::KeptCargoes;
+use crate::near_cargoes::NearCargoes;
 use crate::readers::{count_kept, count_put, list_kept, list_put};
+use crate::spares::Spares;
 use std::alloc::{AllocError, Global};
 use std::marker::Model;
 use tora_arq::Life;
@@ -14,24 +16,25 @@ use tora_seat::{Cargo, MOST_CARGOES};
 
 /// The lane from a core to a link end, with all cargoes that were ever put into it.
 ///
-/// What left the lane is kept in less, but not at once: before the next turn of the node's core, when memory may be asked for.
+/// What left the lane is kept in less, but not at once: before the next turn of the node's core, when memory may be asked for. What waits stands near
+/// where few cargoes do, so that only lanes of which more waited at a time have a list.
 #[derive(Drop)]
 pub struct Lane {
     /// The cargoes before the others, which left the lane.
     past: KeptCargoes,
     /// The cargoes that were put last, in front those that left the lane.
-    cargoes: Vec<Cargo>,
+    cargoes: NearCargoes,
     /// How many of these left the lane.
     taken: usize,
 }
 
 impl Model for Lane {
-    ghost use Rattle.std.specs.Prelude.{◌≤◌, length, vec_capacity};
+    ghost use Rattle.std.specs.Prelude.{◌≤◌, length};
     ghost use Rattle.tora_sim.specs.Lane.{LaneView, lane_of};
 
     ghost Value = { LaneView };
 
-    ghost view = { λ l. lane_of l.past.items l.cargoes.items l.taken (vec_capacity l.cargoes) };
+    ghost view = { λ l. lane_of l.past.items l.cargoes l.taken };
 
     ghost invariant = { λ l. l.taken ≤ length l.cargoes.items };
 }
@@ -44,7 +47,7 @@ impl Lane {
     {
         Lane {
             past: KeptCargoes::new(alloc),
-            cargoes: Vec::new(alloc),
+            cargoes: NearCargoes::new(alloc),
             taken: 0,
         }
     }
@@ -68,7 +71,7 @@ impl Lane {
         requires { self.now.pulled < length self.now.put }
         ensures { slice_get self.now.put self.now.pulled ≡ Some result }
     {
-        self.cargoes[self.taken]
+        self.cargoes.at(self.taken)
     }
 
     /// Takes the first cargo that waits.
@@ -77,7 +80,7 @@ impl Lane {
         ensures cargo { slice_get self.old.put self.old.pulled ≡ Some result }
         ensures lane { self.new ≡ record self.old { pulled = suc self.old.pulled } }
     {
-        let cargo = self.cargoes[self.taken];
+        let cargo = self.cargoes.at(self.taken);
         self.taken += 1;
         cargo
     }
@@ -89,34 +92,37 @@ impl Lane {
         self.taken = self.cargoes.len();
     }
 
-    /// Takes the memory for cargoes up to as many as the lane holds, and keeps those that left it in less.
+    /// Keeps the cargoes that left the lane in less, and takes the memory for as many as it holds, where it has a list.
     ///
     /// # Errors
     /// Want of memory.
     pub fn make_room(&mut self) -> Result<(), AllocError>
         ensures put { self.new.put ≡ self.old.put }
         ensures pulled { self.new.pulled ≡ self.old.pulled }
-        ensures room { OnOk result (self.new.pulled + MOST_CARGOES ≤ self.new.room) }
+        ensures room { OnOk result ((self.new.room ≡ 0) ⊎ (self.new.pulled + MOST_CARGOES ≤ self.new.room)) }
     {
         keep_taken(&mut self.past, &mut self.cargoes, &mut self.taken)?;
-        let needed = MOST_CARGOES.saturating_sub(self.cargoes.len());
-        self.cargoes.reserve(needed)
+        self.cargoes.reserve()
     }
 
-    /// Puts a cargo at the back. There must be a place and room for it.
-    pub fn put(&mut self, cargo: Cargo)
-        requires room { self.old.pulled + MOST_CARGOES ≤ self.old.room }
+    /// Puts a cargo at the back. There must be a place for it, and room, or the spare list of the place `spare`, which it takes then.
+    #[inline(always)]
+    pub fn put(&mut self, cargo: Cargo, spares: &mut Spares, spare: usize)
+        requires room { Fits self.old.pulled self.old.room spares.old spare }
         requires place { has_place_in self.old ≡ true }
-        ensures { self.new ≡ record self.old { put = self.old.put ++ cargo ∷ [] } }
+        ensures put { self.new.put ≡ self.old.put ++ cargo ∷ [] }
+        ensures pulled { self.new.pulled ≡ self.old.pulled }
+        ensures room { Fits self.new.pulled self.new.room spares.new spare }
+        ensures others { AreOthersAsWhole spares.old spares.new spare }
     {
-        append(&mut self.cargoes, &cargo);
+        self.cargoes.push(&cargo, spares, spare);
     }
 
     /// How many packets were put in a life.
     pub fn sent_count(&self, life: Life) -> usize
         ensures { result ≡ length (packets_of life (parcels_in self.now.put)) }
     {
-        count_kept(&self.past, life) + count_put(&self.cargoes, life)
+        count_kept(&self.past, life) + count_put(self.cargoes.as_slice(), life)
     }
 
     /// The packets that were put in a life.
@@ -128,7 +134,7 @@ impl Lane {
     {
         let mut packets = Vec::new(alloc);
         list_kept(&mut packets, &self.past, life)?;
-        list_put(&mut packets, &self.cargoes, life)?;
+        list_put(&mut packets, self.cargoes.as_slice(), life)?;
         Ok(packets)
     }
 }
@@ -136,10 +142,11 @@ impl Lane {
 /// Keeps the cargoes that left a lane in less: all of them, or those before the first for which there is no memory.
 fn keep_taken(
     past: &mut KeptCargoes,
-    cargoes: &mut Vec<Cargo>,
+    cargoes: &mut NearCargoes,
     taken: &mut usize,
 ) -> Result<(), AllocError>
     requires { taken.old ≤ length cargoes.old.items }
+    ensures near { cargoes.old.places ≡ 0 → cargoes.new.places ≡ 0 }
     ensures all { past.new.items ++ cargoes.new.items ≡ past.old.items ++ cargoes.old.items }
     ensures pulled { length past.new.items + taken.new ≡ length past.old.items + taken.old }
     ensures within { taken.new ≤ length cargoes.new.items }
@@ -148,8 +155,8 @@ fn keep_taken(
     if *taken == 0 {
         return Ok(());
     }
-    let kept = keep_first(past, &cargoes[..*taken]);
-    cargoes.drain(..kept);
+    let kept = keep_first(past, &cargoes.as_slice()[..*taken]);
+    cargoes.drop_first(kept);
     *taken -= kept;
     if *taken == 0 { Ok(()) } else { Err(AllocError) }
 }

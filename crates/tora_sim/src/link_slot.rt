@@ -5,8 +5,8 @@ ghost use Rattle.tora_arq.specs.LinkEnd.{after_frame, after_poll_event, after_ti
 ghost use Rattle.tora_frame.specs.FrameParts.{IsHeader, frame_of};
 ghost use Rattle.tora_frame.specs.declared.parts.Body.{Body};
 ghost use Rattle.tora_seat.specs.Between.{after_cut_of_bound};
-ghost use Rattle.tora_seat.specs.declared.TheConstants.{MOST_CARGOES};
 ghost use Rattle.tora_world.specs.Lists.{packets_of, parcels_in};
+ghost use Rattle.tora_sim.specs.Lane.{AreOthersAsWhole, Fits};
 ghost use Rattle.tora_sim.specs.Lanes.{HasRoom, IsReady, after_offer_at, bare, has_place};
 ghost use Rattle.tora_sim.specs.Links.{after_arm, after_open_at, after_pull_at, is_at, with_state};
 ghost use Rattle.tora_sim.specs.Plains.{IsPlain};
@@ -17,6 +17,7 @@ ghost use Rattle.tora_sim.specs.SteadyLinks.{IsKept, is_none, shown};
 
 use crate::SimError;
 use crate::links::LinkParts;
+use crate::spares::Spares;
 use std::alloc::{AllocError, Global};
 use std::marker::Model;
 use tora_arq::{GrowingEnd, Life, LinkEvent, Steady};
@@ -328,8 +329,8 @@ impl LinkSlot {
         self.parts.pull()
     }
 
-    /// Takes the memory for all that one item of the node can put here: cargoes up to as many as a lane holds, and a packet that is stepped; and
-    /// answers whether no cargo waits in the lane.
+    /// Takes the memory for all that one item of the node can put here: cargoes up to as many as a lane holds, where the lane has a list, and a
+    /// packet that is stepped; and answers whether no cargo waits in the lane.
     ///
     /// # Errors
     /// `Memory`. The end is as it was either way.
@@ -342,14 +343,18 @@ impl LinkSlot {
         self.parts.make_ready()
     }
 
-    /// Puts a cargo at the back of the lane, where fewer wait than it holds, and answers whether it was put.
-    pub fn offer(&mut self, cargo: Cargo) -> bool
-        requires { self.old.pulled + MOST_CARGOES ≤ self.old.room }
+    /// Puts a cargo at the back of the lane, where fewer wait than it holds, and answers whether it was put. A lane that has no place left takes
+    /// the spare list of the place `spare`.
+    pub fn offer(&mut self, cargo: Cargo, spares: &mut Spares, spare: usize) -> bool
+        requires { Fits self.old.pulled self.old.room spares.old spare }
         ensures put { result ≡ has_place self.old }
-        ensures lane { self.new ≡ after_offer_at self.old cargo result }
+        ensures lane { bare self.new ≡ bare (after_offer_at self.old cargo result) }
+        ensures step { self.new.step_room ≡ self.old.step_room }
+        ensures room { Fits self.new.pulled self.new.room spares.new spare }
+        ensures others { AreOthersAsWhole spares.old spares.new spare }
     {
         wake(&mut self.steady, &mut *self.parts);
-        self.parts.offer(cargo)
+        self.parts.offer(cargo, spares, spare)
     }
 
     /// A fresh end of the same link.

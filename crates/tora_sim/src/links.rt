@@ -8,11 +8,11 @@ ghost use Rattle.tora_arq.specs.LinkEnd.{first_end};
 ghost use Rattle.tora_frame.specs.FrameParts.{IsHeader, frame_of};
 ghost use Rattle.tora_frame.specs.declared.parts.Body.{Body};
 ghost use Rattle.tora_arq.specs.EndRange.{link_end_of};
-ghost use Rattle.tora_seat.specs.declared.TheConstants.{MOST_CARGOES};
 ghost use Rattle.tora_sim.specs.Keyed.{IsFirst};
 ghost use Rattle.tora_sim.specs.Restarts.{restarted};
 ghost use Rattle.tora_sim.specs.SteadyLinks.{IsSteadyLink};
 ghost use Rattle.tora_arq.specs.Steady.{resumed};
+ghost use Rattle.tora_sim.specs.Lane.{AreOthersAsWhole, Fits};
 ghost use Rattle.tora_sim.specs.Lanes.{after_offer_at, has_place, bare, HasRoom, IsReady};
 
 use crate::SimError;
@@ -21,6 +21,7 @@ use crate::hints::Hints;
 use crate::kept_cargoes::KeptCargoes;
 use crate::lane::Lane;
 use crate::link_slot::LinkSlot;
+use crate::spares::Spares;
 use std::alloc::Global;
 use std::marker::Model;
 use std::mem;
@@ -252,8 +253,8 @@ impl LinkParts {
         true
     }
 
-    /// Takes the memory for all that one item of the node can put here: cargoes up to as many as a lane holds, and a packet
-    /// that is stepped.
+    /// Takes the memory for all that one item of the node can put here: cargoes up to as many as a lane holds, where the lane has a list, and a
+    /// packet that is stepped.
     ///
     /// # Errors
     /// `Memory`. The end is as it was either way.
@@ -285,16 +286,21 @@ impl LinkParts {
         Ok(!self.has_cargo())
     }
 
-    /// Puts a cargo at the back of the lane, where fewer wait than it holds, and answers whether it was put.
-    pub fn offer(&mut self, cargo: Cargo) -> bool
-        requires { self.old.pulled + MOST_CARGOES ≤ self.old.room }
+    /// Puts a cargo at the back of the lane, where fewer wait than it holds, and answers whether it was put. A lane that has no place left takes
+    /// the spare list of the place `spare`.
+    #[inline(always)]
+    pub fn offer(&mut self, cargo: Cargo, spares: &mut Spares, spare: usize) -> bool
+        requires { Fits self.old.pulled self.old.room spares.old spare }
         ensures put { result ≡ has_place self.old }
-        ensures lane { self.new ≡ after_offer_at self.old cargo result }
+        ensures lane { bare self.new ≡ bare (after_offer_at self.old cargo result) }
+        ensures step { self.new.step_room ≡ self.old.step_room }
+        ensures room { Fits self.new.pulled self.new.room spares.new spare }
+        ensures others { AreOthersAsWhole spares.old spares.new spare }
     {
         if !self.lane.has_place() {
             return false;
         }
-        self.lane.put(cargo);
+        self.lane.put(cargo, spares, spare);
         true
     }
 

@@ -20,6 +20,7 @@ use crate::nodes::{NodeSlot, Sending, place as node_place};
 use crate::plains::keep_looked;
 use crate::recents::RecentFrame;
 use crate::restarts::{new_ends, restart_ends};
+use crate::spares::Spares;
 use crate::stills::{Stills, forget};
 use crate::ticking::tick;
 use crate::topology::Topology;
@@ -62,6 +63,8 @@ pub struct Sim {
     pub(crate) ready: Vec<bool>,
     /// Of each node ends of it outside which that is known of each. A turn of its core looks at no other end.
     pub(crate) unready: Vec<Unready>,
+    /// Lists for lanes that have no place left.
+    pub(crate) spares: Spares,
     /// Whether it is known that no item waits for any core.
     pub(crate) idle: bool,
     /// Where the packets of a frame stand while it is sent.
@@ -340,8 +343,10 @@ impl Sim {
         if make_room(
             &mut self.links,
             &mut self.ready,
+            &mut self.spares,
             start,
             range.behind - range.from,
+            count,
         )
         .is_err()
         {
@@ -355,6 +360,7 @@ impl Sim {
             &mut self.links,
             &mut unready,
             &mut seat,
+            &mut self.spares,
         );
         // what the turn changed, and what it left as it was
         let after = unready.joined(before).within(count);

@@ -1,6 +1,7 @@
 //! Turns of a node's core.
 ghost use Rattle.std.specs.Prelude.{◌≡◌, ◌+◌, ◌<◌, ◌≤◌, length};
-ghost use Rattle.tora_sim.specs.Lanes.{lanes_of, AreReady, AreReadyOutside, AreOthersKept, HaveRoomBut};
+ghost use Rattle.tora_sim.specs.Lane.{AreWhole};
+ghost use Rattle.tora_sim.specs.Lanes.{lanes_of, bare_between, AreReady, AreReadyOutside, AreOthersKept, HaveRoomBut};
 ghost use Rattle.tora_sim.specs.Quiet.{AreForgottenWhere, IsForgottenWhere};
 ghost use Rattle.tora_sim.specs.Turns.{Turns};
 ghost use Rattle.tora_sim.specs.Unready.{AreRemarked, IsRemarked};
@@ -10,13 +11,15 @@ use crate::lanes::NodeLanes;
 use crate::link_slot::LinkSlot;
 use crate::nodes::NodeSlot;
 use crate::ready::set_ready;
+use crate::spares::Spares;
 use crate::stills::{Stills, keep_still};
 use crate::unready::Unready;
 use std::mem;
 use tora_seat::offers_are_their_own_answers;
 
-/// Serves the first item of a node's lane. There is memory for all that it can put at the node's link ends. Each of those ends but for
-/// those in `unready` is ready, before the turn and after it; and at each but the one at `seat` there is memory for another one then.
+/// Serves the first item of a node's lane. There is memory for all that it can put at the node's link ends, and as many spare lists are whole. Each of
+/// those ends but for those in `unready` is ready, before the turn and after it; and at each but the one at `seat` there is memory for another one
+/// then. What is said of the node's ends is said of them without the memory that they have.
 ///
 /// # Errors
 /// `Memory`, which changes nothing but `unready` and `seat`.
@@ -25,28 +28,31 @@ pub fn turn(
     links: &mut Vec<LinkSlot>,
     unready: &mut Unready,
     seat: &mut usize,
+    spares: &mut Spares,
 ) -> Result<(), SimError>
+    requires whole { AreWhole spares.old node.old.count }
     requires room { AreReady (lanes_of links.old.items node.old.first node.old.count) unready.old }
     requires waits { 0 < length node.old.items }
     requires neighbours { length node.old.seat.core.neighbours ≡ node.old.count }
-    ensures turned { Turns node.old links.old.items result node.new links.new.items }
+    ensures turned { Turns node.old (bare_between node.old.first node.old.count links.old.items) result node.new (bare_between node.old.first node.old.count links.new.items) }
     ensures ready { AreReadyOutside links.new.items node.old.first node.old.count unready.new }
     ensures others { AreOthersKept links.old.items links.new.items node.old.first node.old.count }
     ensures room { HaveRoomBut links.new.items node.old.first node.old.count seat.new }
 {
     let alloc = *links.allocator();
     let ends = mem::replace(links, Vec::new(alloc));
-    let mut lanes = NodeLanes::new(ends, node.first(), node.count(), *unready);
+    let lists = mem::replace(spares, Spares::new(alloc));
+    let mut lanes = NodeLanes::new(ends, node.first(), node.count(), *unready, lists);
     match node.serve(&mut lanes) {
         Ok(item) => {
             offers_are_their_own_answers();
             *seat = item.seat;
-            *links = lanes.into_links(item.seat, node.stepped(), unready);
+            *links = lanes.into_links(item.seat, node.stepped(), unready, spares);
             Ok(())
         }
         Err(error) => {
             *seat = 0;
-            *links = lanes.into_links(0, None, unready);
+            *links = lanes.into_links(0, None, unready, spares);
             Err(error)
         }
     }

@@ -8,7 +8,7 @@ use Rattle.tora_sim.proofs.lane.Lane.has_place.Goals as goal
 pub returns : goal.returns
 returns c =
     let l = c.self.inside in
-    let few : c.len.result - l.taken ≡ length (drop l.taken l.cargoes.items) = omega (arith, c.len.ensures, length-drop l.taken l.cargoes.items) in
+    let few : c.len.result - l.taken ≡ length (drop l.taken l.cargoes.items) = omega (arith, c.len.ensures.len, length-drop l.taken l.cargoes.items) in
     ap (λ n. nat_lt n MOST_CARGOES) few
     ∙ sym (ap (λ (cs : List Cargo). nat_lt (length cs) MOST_CARGOES) (drop_behind l.past.items l.cargoes.items l.taken))
     ∙ ap has_place_in c.self.view_is

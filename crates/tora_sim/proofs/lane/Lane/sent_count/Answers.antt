@@ -8,14 +8,13 @@ use Rattle.tora_sim.proofs.lane.Lane.sent_count.Goals as goal
 
 pub overflow_add-result : goal.overflow_add-result
 overflow_add-result c =
-    let cargoes = c.self.inside.cargoes in
-    omega (arith, c.count_kept.ensures.few, c.count_put.ensures.few, ap (λ (cs : List Cargo). length cs) c.deref.ensures.value, cargoes.small, cargoes.ok)
+    omega (arith, c.count_kept.ensures.few, c.count_put.ensures.few, c.as_slice.ensures.most)
 
 pub returns : goal.returns
 returns c =
     let l = c.self.inside in
     let life = c.args.life in
-    let last = ap (λ (cs : List Cargo). length (packets_of life (parcels_in cs))) c.deref.ensures.value in
+    let last = ap (λ (cs : List Cargo). length (packets_of life (parcels_in cs))) c.as_slice.ensures.items in
     let sum : c.count_kept.result + c.count_put.result ≡ length (packets_of life (parcels_in l.past.items)) + length (packets_of life (parcels_in l.cargoes.items)) =
     omega (arith, c.count_kept.ensures.count, c.count_put.ensures.count, last) in
     sum ∙ sym (length-append (packets_of life (parcels_in l.past.items)) (packets_of life (parcels_in l.cargoes.items)))

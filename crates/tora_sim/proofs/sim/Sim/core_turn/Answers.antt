@@ -1,9 +1,10 @@
-use Rattle.std.proofs.Common.{◌≡◌, ◌<◌, ◌≤◌, ◌+◌, ◌-◌, ℕ, List, length, refl, sym, ap, ◌∙◌, subst, arith}
+use Rattle.std.proofs.Common.{◌≡◌, ◌<◌, ◌≤◌, ◌+◌, ◌-◌, ℕ, List, length, sym, ap, ◌∙◌, subst, arith}
 use Rattle.std.specs.Prelude.{slice_set, slice_index_or}
 use Rattle.tora_world.specs.declared.event.Event.TheVariants.{CoreTurn}
 use Rattle.tora_world.specs.declared.sim_error.SimError.TheVariants as Refused
 use Rattle.tora_sim.specs.declared.unready.Unready.{Unready}
-use Rattle.tora_sim.specs.Lanes.{AreReadyOutside}
+use Rattle.tora_sim.specs.Lane.{AreWhole}
+use Rattle.tora_sim.specs.Lanes.{AreReadyOutside, bare_between}
 use Rattle.tora_sim.specs.Nodes.{NodeView}
 use Rattle.tora_sim.specs.Quiet.{AreForgottenWhere}
 use Rattle.tora_sim.specs.Unready.{AreMarkedOutside, IsMarkedOutside, AreRemarked}
@@ -11,9 +12,9 @@ use Rattle.tora_sim.specs.Store.{SimState, state_of, world_of}
 use Rattle.tora_sim.specs.Steps.{IsRefused, Does}
 use Rattle.tora_sim.proofs.Opens.{same_read}
 use Rattle.tora_sim.proofs.SameLinks.{same_alike, store_same}
-use Rattle.tora_sim.proofs.Turning.{turn_refused, turn_starved, ends_within, as_many, turn_does, turn_store}
-use Rattle.tora_sim.proofs.StillEnds.{AreStillBut, alike_still, turned_but, where_forgotten}
-use Rattle.tora_sim.proofs.PlainEnds.{ArePlainBut, alike_plain, turned_plain, where_plain}
+use Rattle.tora_sim.proofs.Turning.{turn_refused, turn_starved, ends_within, as_many, between_does, between_store}
+use Rattle.tora_sim.proofs.StillEnds.{AreStillBut, alike_still, turned_still, where_forgotten}
+use Rattle.tora_sim.proofs.PlainEnds.{ArePlainBut, alike_plain, turned_plains, where_plain}
 use Rattle.tora_sim.proofs.Rooms.{same_length}
 use Rattle.tora_sim.proofs.UnreadyEnds.{ok_room, marks_kept, before_turn, forgotten_of_node, ready_after, marked_after, turned_place}
 use Rattle.tora_sim.proofs.sim.Sim.core_turn.Goals as goal
@@ -114,6 +115,14 @@ turn-turned-requires-clause-room c =
     c.in-Some.ensures.first.within c.index_mut.ensures.value c.unready_at.ensures first count (omega (arith, within, many)) c.make_room.ensures.kept c.self.invariant.6 c.within-range.ensures.outside c.still_unready-before.ensures c.make_room.ensures.marks (ok_room c.make_room.result (sym c.is_err.ensures.value ∙ c.if-is_err.false) c.make_room.ensures.room) in
     start.1
 
+pub turn-turned-requires-clause-whole : goal.turn-turned-requires-clause-whole
+turn-turned-requires-clause-whole c =
+    let s = c.self.inside in
+    let node = c.index_mut.result.now in
+    let count : c.count-count.result ≡ node.count =
+    c.count-count.ensures ∙ ap (λ (x : NodeView). x.count) (same_read s.nodes.items c.in-Some.home c.index-3.result.now node c.in-Some.ensures.first.within c.index-3.ensures c.index_mut.ensures.value) in
+    subst (λ (n : ℕ). AreWhole c.make_room.new.spares n) count (ok_room c.make_room.result (sym c.is_err.ensures.value ∙ c.if-is_err.false) c.make_room.ensures.whole)
+
 pub turn-turned-requires-clause-neighbours : goal.turn-turned-requires-clause-neighbours
 turn-turned-requires-clause-neighbours c =
     let s = c.self.inside in
@@ -128,7 +137,7 @@ forget_waiting-requires-clause-within c =
     let count : c.count-count.result ≡ node.count =
     c.count-count.ensures ∙ ap (λ (x : NodeView). x.count) (same_read s.nodes.items c.in-Some.home c.index-3.result.now node c.in-Some.ensures.first.within c.index-3.ensures c.index_mut.ensures.value) in
     let still : AreStillBut s.clock s.stills c.turn-turned.new.links.items node.first node.count =
-    turned_but s.clock s.stills node c.turn-turned.new.node c.make_room.new.links.items c.turn-turned.new.links.items c.turn-turned.result node.first node.count refl refl c.turn-turned.ensures.turned
+    turned_still s.clock s.stills node c.turn-turned.new.node c.make_room.new.links.items c.turn-turned.new.links.items c.turn-turned.result c.turn-turned.ensures.turned
     (alike_still s.clock s.stills s.links.items c.make_room.new.links.items c.make_room.ensures.same c.self.invariant.2) in
     let within = ends_within s.topology s.times s.clock s.nodes.items s.links.items s.datagrams.items c.self.invariant.0 c.args.n c.in-Some.home node c.in-Some.ensures.first c.index_mut.ensures.value in
     let before = c.self.invariant.2.as_many in
@@ -144,7 +153,7 @@ forget_waiting-requires-clause-ready c =
     let count : c.count-count.result ≡ node.count =
     c.count-count.ensures ∙ ap (λ (x : NodeView). x.count) (same_read s.nodes.items c.in-Some.home c.index-3.result.now node c.in-Some.ensures.first.within c.index-3.ensures c.index_mut.ensures.value) in
     let still : AreStillBut s.clock s.stills c.turn-turned.new.links.items node.first node.count =
-    turned_but s.clock s.stills node c.turn-turned.new.node c.make_room.new.links.items c.turn-turned.new.links.items c.turn-turned.result node.first node.count refl refl c.turn-turned.ensures.turned
+    turned_still s.clock s.stills node c.turn-turned.new.node c.make_room.new.links.items c.turn-turned.new.links.items c.turn-turned.result c.turn-turned.ensures.turned
     (alike_still s.clock s.stills s.links.items c.make_room.new.links.items c.make_room.ensures.same c.self.invariant.2) in
     let before = c.self.invariant.2.as_many in
     let many = still.as_many in
@@ -161,7 +170,7 @@ forget_waiting-requires-clause-stills c =
     let count : c.count-count.result ≡ node.count =
     c.count-count.ensures ∙ ap (λ (x : NodeView). x.count) (same_read s.nodes.items c.in-Some.home c.index-3.result.now node c.in-Some.ensures.first.within c.index-3.ensures c.index_mut.ensures.value) in
     let still : AreStillBut s.clock s.stills c.turn-turned.new.links.items node.first node.count =
-    turned_but s.clock s.stills node c.turn-turned.new.node c.make_room.new.links.items c.turn-turned.new.links.items c.turn-turned.result node.first node.count refl refl c.turn-turned.ensures.turned
+    turned_still s.clock s.stills node c.turn-turned.new.node c.make_room.new.links.items c.turn-turned.new.links.items c.turn-turned.result c.turn-turned.ensures.turned
     (alike_still s.clock s.stills s.links.items c.make_room.new.links.items c.make_room.ensures.same c.self.invariant.2) in
     still.as_many
 
@@ -174,7 +183,7 @@ forget_waiting-requires-clause-plains c =
     let count : c.count-count.result ≡ node.count =
     c.count-count.ensures ∙ ap (λ (x : NodeView). x.count) (same_read s.nodes.items c.in-Some.home c.index-3.result.now node c.in-Some.ensures.first.within c.index-3.ensures c.index_mut.ensures.value) in
     let plain : ArePlainBut s.clock s.plains c.turn-turned.new.links.items node.first node.count =
-    turned_plain s.clock s.plains node c.turn-turned.new.node c.make_room.new.links.items c.turn-turned.new.links.items c.turn-turned.result node.first node.count refl refl c.turn-turned.ensures.turned
+    turned_plains s.clock s.plains node c.turn-turned.new.node c.make_room.new.links.items c.turn-turned.new.links.items c.turn-turned.result c.turn-turned.ensures.turned
     (alike_plain s.clock s.plains s.links.items c.make_room.new.links.items c.make_room.ensures.same c.self.invariant.4) in
     plain.as_many
 
@@ -195,10 +204,10 @@ invariant_of-self-2 c =
     before_turn s.unready.items s.nodes.items s.ready.items c.make_room.new.ready.items c.make_room.new.links.items c.in-Some.home node c.unready_at.result c.within-range.result c.still_unready-before.result c.first-first.result c.count-count.result
     c.in-Some.ensures.first.within c.index_mut.ensures.value c.unready_at.ensures first count (omega (arith, within, many)) c.make_room.ensures.kept c.self.invariant.6 c.within-range.ensures.outside c.still_unready-before.ensures c.make_room.ensures.marks (ok_room c.make_room.result (sym c.is_err.ensures.value ∙ c.if-is_err.false) c.make_room.ensures.room) in
     let still : AreStillBut s.clock s.stills c.turn-turned.new.links.items node.first node.count =
-    turned_but s.clock s.stills node c.turn-turned.new.node c.make_room.new.links.items c.turn-turned.new.links.items c.turn-turned.result node.first node.count refl refl c.turn-turned.ensures.turned
+    turned_still s.clock s.stills node c.turn-turned.new.node c.make_room.new.links.items c.turn-turned.new.links.items c.turn-turned.result c.turn-turned.ensures.turned
     (alike_still s.clock s.stills s.links.items c.make_room.new.links.items c.make_room.ensures.same c.self.invariant.2) in
     let plain : ArePlainBut s.clock s.plains c.turn-turned.new.links.items node.first node.count =
-    turned_plain s.clock s.plains node c.turn-turned.new.node c.make_room.new.links.items c.turn-turned.new.links.items c.turn-turned.result node.first node.count refl refl c.turn-turned.ensures.turned
+    turned_plains s.clock s.plains node c.turn-turned.new.node c.make_room.new.links.items c.turn-turned.new.links.items c.turn-turned.result c.turn-turned.ensures.turned
     (alike_plain s.clock s.plains s.links.items c.make_room.new.links.items c.make_room.ensures.same c.self.invariant.4) in
     let links = c.turn-turned.new.links.items in
     let range = c.within-after.result in
@@ -215,7 +224,7 @@ invariant_of-self-2 c =
     let before = c.self.invariant.2.as_many in
     let after = still.as_many in
     let same : length links ≡ length c.make_room.new.links.items = omega (arith, before, after, many) in (
-      turn_store s.topology s.times s.clock s.nodes.items s.links.items s.datagrams.items c.self.invariant.0 c.args.n c.in-Some.home c.index_mut.result.now c.in-Some.ensures.first c.index_mut.ensures.value
+      between_store s.topology s.times s.clock s.nodes.items s.links.items s.datagrams.items c.self.invariant.0 c.args.n c.in-Some.home c.index_mut.result.now c.in-Some.ensures.first c.index_mut.ensures.value
           c.make_room.new.links.items c.make_room.ensures.same c.turn-turned.new.node c.turn-turned.new.links.items c.turn-turned.result c.turn-turned.ensures.turned,
       λ none. absurd (omega (arith, none)),
       where_forgotten s.clock s.stills c.forget_waiting.new.stills links node.first node.count (forgotten_of_node links s.stills c.forget_waiting.new.stills node.first node.count range out stills) still,
@@ -224,7 +233,7 @@ invariant_of-self-2 c =
       ready_after c.make_room.new.links.items links c.make_room.new.ready.items c.forget_waiting.new.ready.items node.first node.count seat but range seated c.turn-turned.ensures.room small same c.turn-turned.ensures.others out remarked c.make_room.ensures.marks,
       subst (λ (ranges : List Unready). AreMarkedOutside ranges (slice_set s.nodes.items c.in-Some.home c.turn-turned.new.node) c.forget_waiting.new.ready.items) (sym c.set_unready.ensures)
           (marked_after s.topology s.times s.clock s.nodes.items s.links.items s.datagrams.items c.self.invariant.0 links but s.unready.items c.make_room.new.ready.items c.forget_waiting.new.ready.items c.in-Some.home node c.turn-turned.new.node range
-          c.in-Some.ensures.first.within c.index_mut.ensures.value (turned_place node c.turn-turned.new.node c.make_room.new.links.items links c.turn-turned.result c.turn-turned.ensures.turned) small own remarked
+          c.in-Some.ensures.first.within c.index_mut.ensures.value (turned_place node c.turn-turned.new.node (bare_between node.first node.count c.make_room.new.links.items) (bare_between node.first node.count links) c.turn-turned.result c.turn-turned.ensures.turned) small own remarked
           (marks_kept s.unready.items s.nodes.items s.ready.items c.make_room.new.ready.items c.make_room.ensures.kept c.self.invariant.6)),
       λ known. absurd cc,
     )
@@ -233,6 +242,6 @@ pub returns : goal.returns
 returns c =
     let s = c.self.inside in
     subst (λ (before : SimState). Does before (CoreTurn c.args.n) c.turn-turned.result (state_of s.topology s.times s.clock (slice_set s.nodes.items c.in-Some.home c.turn-turned.new.node) c.turn-turned.new.links.items s.datagrams.items)) c.self.view_is
-    (turn_does s.topology s.times s.clock s.nodes.items s.links.items s.datagrams.items c.self.invariant.0 c.args.n c.in-Some.home c.index_mut.result.now c.in-Some.ensures.first c.index_mut.ensures.value
+    (between_does s.topology s.times s.clock s.nodes.items s.links.items s.datagrams.items c.self.invariant.0 c.args.n c.in-Some.home c.index_mut.result.now c.in-Some.ensures.first c.index_mut.ensures.value
     c.make_room.new.links.items c.make_room.ensures.same c.turn-turned.new.node c.turn-turned.new.links.items c.turn-turned.result
     (waits s.nodes.items c.in-Some.home c.index.result.now c.index_mut.result.now c.waiting.result c.in-Some.ensures.first.within c.index.ensures c.index_mut.ensures.value c.waiting.ensures (omega (arith, c.if-waiting-eq0.false))) c.turn-turned.ensures.turned)
