@@ -298,3 +298,73 @@ fn want_of_memory_in_a_world_of_200_nodes(rt: HostRuntime) {
         sees_last_meet(&rt, alloc, Sim::new(alloc, &topology));
     }
 }
+
+/// The events by which five queries go over one link at once: more than stand in a lane and in a link end that have no lists, so that both take
+/// theirs, and so does the link end that takes the frame in.
+const ASKING: &[Event] = &[
+    Event::Open(1, 2),
+    Event::Open(2, 1),
+    Event::Transmit(1, 2),
+    Event::Deliver(1),
+    Event::Transmit(2, 1),
+    Event::Deliver(2),
+    Event::Transmit(1, 2),
+    Event::Deliver(3),
+    Event::Pump(1, 2),
+    Event::Pump(2, 1),
+    Event::CoreTurn(1),
+    Event::CoreTurn(2),
+    Event::Need(1, 3),
+    Event::CoreTurn(1),
+    Event::Need(1, 4),
+    Event::CoreTurn(1),
+    Event::Need(1, 5),
+    Event::CoreTurn(1),
+    Event::Need(1, 6),
+    Event::CoreTurn(1),
+    Event::Need(1, 7),
+    Event::CoreTurn(1),
+    Event::Pull(1, 2),
+    Event::Pull(1, 2),
+    Event::Pull(1, 2),
+    Event::Pull(1, 2),
+    Event::Pull(1, 2),
+    Event::Transmit(1, 2),
+    Event::Deliver(4),
+    Event::Pump(2, 1),
+    Event::Pump(2, 1),
+    Event::Pump(2, 1),
+    Event::Pump(2, 1),
+    Event::Pump(2, 1),
+    Event::CoreTurn(2),
+    Event::CoreTurn(2),
+    Event::CoreTurn(2),
+    Event::CoreTurn(2),
+    Event::CoreTurn(2),
+];
+
+/// Sees that all of them are taken, where each event happens at last.
+fn sees_asked(rt: &impl Abort, found: Result<Sim, SimError>) {
+    match found {
+        Err(error) => same(rt, &error, &SimError::Memory, "the error"),
+        Ok(mut sim) => {
+            for event in ASKING {
+                happens_at_last(rt, &mut sim, event);
+            }
+            same(rt, &sim.datagrams(), &4, "the datagrams");
+            same(rt, &sim.sent_count(1, 2, LIFE), &5, "what was sent");
+            same(rt, &sim.taken_count(2, 1, LIFE), &5, "what was taken");
+        }
+    }
+}
+
+/// Where memory is refused for the lists of a lane or a link end, that is answered, and nothing is lost: the event may happen then.
+#[test]
+fn want_of_memory_for_lists(rt: HostRuntime) {
+    let alloc = rt.alloc();
+    let links = [(1, 2), (2, 3), (3, 4), (4, 5), (5, 6), (6, 7)];
+    let destinations = [3, 4, 5, 6, 7];
+    if let Some(topology) = made_or_refused(&rt, alloc, &links, &destinations) {
+        sees_asked(&rt, Sim::new(alloc, &topology));
+    }
+}
