@@ -7,6 +7,7 @@ pub mod Needs
 pub mod AtNode
 pub mod Bared
 pub mod LaneRooms
+pub mod Unchanged
 pub mod Sends
 pub mod Sendings
 pub mod Receives

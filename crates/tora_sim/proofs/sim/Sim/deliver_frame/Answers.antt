@@ -5,12 +5,10 @@ use Rattle.tora_world.specs.declared.event.Event.TheVariants.{Deliver}
 use Rattle.tora_world.specs.declared.sim_error.SimError.TheVariants as Refused
 use Rattle.tora_sim.specs.Keyed.{IsFirst}
 use Rattle.tora_arq.specs.LinkEnd.{after_frame}
-use Rattle.tora_sim.specs.Lanes.{AreReadyEach}
-use Rattle.tora_sim.specs.Plains.{ArePlainEach}
-use Rattle.tora_sim.specs.Quiet.{is_idle, AreStillEach}
+use Rattle.tora_sim.specs.Quiet.{is_idle}
 use Rattle.tora_sim.specs.Links.{LinkView, is_at, with_state}
 use Rattle.tora_sim.specs.Nodes.{NodeView, is_of}
-use Rattle.tora_sim.specs.Store.{SimState, IsStore, state_of, world_of}
+use Rattle.tora_sim.specs.Store.{SimState, state_of, world_of}
 use Rattle.tora_sim.specs.Steps.{IsDone, IsRefused}
 use Rattle.tora_sim.proofs.Opens.{same_read}
 use Rattle.tora_sim.proofs.Receives.{home_is_there, failed_done, failed_store, received_done, received_store}
@@ -19,6 +17,7 @@ use Rattle.tora_sim.proofs.PlainEnds.{looked_plain}
 use Rattle.tora_sim.proofs.ReadyEnds.{kept_as}
 use Rattle.tora_sim.proofs.UnreadyEnds.{node_kept, same_place}
 use Rattle.tora_sim.proofs.Quiets.{idle_kept, set_same}
+use Rattle.tora_sim.proofs.Unchanged.{links_stay, nothing_known}
 use Rattle.tora_sim.proofs.sim.Sim.deliver_frame.Goals as goal
 
 pub place_at_or_among-requires-clause-keys : goal.place_at_or_among-requires-clause-keys
@@ -80,16 +79,9 @@ module _ (c : goal.In_default-receive_and_look) where
 
 pub invariant_of-self-in_default-receive_and_look : goal.invariant_of-self-in_default-receive_and_look
 invariant_of-self-in_default-receive_and_look c =
-    let s = c.self.inside in (
-      subst (λ (xs : List LinkView). IsStore (state_of s.topology s.times s.clock s.nodes.items xs s.datagrams.items)) (sym (stays c)) c.self.invariant.0,
-      λ none. absurd (omega (arith, none)),
-      subst (λ (xs : List LinkView). AreStillEach s.clock s.stills xs) (sym (stays c)) c.self.invariant.2,
-      c.self.invariant.3,
-      subst (λ (xs : List LinkView). ArePlainEach s.clock s.plains xs) (sym (stays c)) c.self.invariant.4,
-      subst (λ (xs : List LinkView). AreReadyEach s.ready.items xs) (sym (stays c)) c.self.invariant.5,
-      c.self.invariant.6,
-      c.self.invariant.7,
-    )
+    let s = c.self.inside in
+    links_stay s.topology s.times s.clock s.nodes.items s.links.items s.datagrams.items 0 s.keys.items s.stills s.plains s.ready.items s.unready.items s.idle
+    (nothing_known s.topology s.times s.clock s.nodes.items s.links.items s.datagrams.items s.quiet s.keys.items s.stills s.plains s.ready.items s.unready.items s.idle c.self.invariant) (slice_set s.links.items c.in-Some-place_at_or_among.at c.receive_and_look.new.self) (stays c)
 
 pub returns-in_default-receive_and_look : goal.returns-in_default-receive_and_look
 returns-in_default-receive_and_look c =

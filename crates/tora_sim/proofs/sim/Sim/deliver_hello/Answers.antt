@@ -4,18 +4,16 @@ use Rattle.tora_frame.specs.FrameParts.{frame_of}
 use Rattle.tora_frame.specs.declared.parts.Body.TheVariants.{Hello}
 use Rattle.tora_world.specs.declared.event.Event.TheVariants.{Deliver}
 use Rattle.tora_sim.specs.Keyed.{IsFirst}
-use Rattle.tora_sim.specs.Lanes.{AreReadyEach}
-use Rattle.tora_sim.specs.Plains.{ArePlainEach}
-use Rattle.tora_sim.specs.Quiet.{AreStillEach}
 use Rattle.tora_sim.specs.Links.{LinkView, is_at}
 use Rattle.tora_sim.specs.Nodes.{is_of}
-use Rattle.tora_sim.specs.Store.{SimState, IsStore, state_of, world_of}
+use Rattle.tora_sim.specs.Store.{SimState, state_of, world_of}
 use Rattle.tora_sim.specs.Steps.{IsDone}
 use Rattle.tora_sim.proofs.Quiets.{set_same}
 use Rattle.tora_sim.proofs.Receives.{received_done, received_store}
 use Rattle.tora_sim.proofs.StillEnds.{found_still}
 use Rattle.tora_sim.proofs.PlainEnds.{looked_plain}
 use Rattle.tora_sim.proofs.ReadyEnds.{kept_as}
+use Rattle.tora_sim.proofs.Unchanged.{links_stay, nothing_known}
 use Rattle.tora_sim.proofs.sim.Sim.deliver_hello.Goals as goal
 
 pub place_at_or_among-requires-clause-keys : goal.place_at_or_among-requires-clause-keys
@@ -35,16 +33,9 @@ module _ (c : goal.In_default-receive_hello_and_look) where
 
 pub invariant_of-self : goal.invariant_of-self
 invariant_of-self c =
-    let s = c.self.inside in (
-      subst (λ (xs : List LinkView). IsStore (state_of s.topology s.times s.clock s.nodes.items xs s.datagrams.items)) (sym (stays c)) c.self.invariant.0,
-      λ none. absurd (omega (arith, none)),
-      subst (λ (xs : List LinkView). AreStillEach s.clock s.stills xs) (sym (stays c)) c.self.invariant.2,
-      c.self.invariant.3,
-      subst (λ (xs : List LinkView). ArePlainEach s.clock s.plains xs) (sym (stays c)) c.self.invariant.4,
-      subst (λ (xs : List LinkView). AreReadyEach s.ready.items xs) (sym (stays c)) c.self.invariant.5,
-      c.self.invariant.6,
-      c.self.invariant.7,
-    )
+    let s = c.self.inside in
+    links_stay s.topology s.times s.clock s.nodes.items s.links.items s.datagrams.items 0 s.keys.items s.stills s.plains s.ready.items s.unready.items s.idle
+    (nothing_known s.topology s.times s.clock s.nodes.items s.links.items s.datagrams.items s.quiet s.keys.items s.stills s.plains s.ready.items s.unready.items s.idle c.self.invariant) (slice_set s.links.items c.in-Some-place_at_or_among.at c.receive_hello_and_look.new.self) (stays c)
 
 pub returns-in_default-receive_hello_and_look-clause-same : goal.returns-in_default-receive_hello_and_look-clause-same
 returns-in_default-receive_hello_and_look-clause-same c _ =

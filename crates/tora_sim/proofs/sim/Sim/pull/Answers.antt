@@ -4,17 +4,15 @@ use Rattle.std.proofs.lemmas.Bool.{both_ways, lt-ltb}
 use borrow.Author.Tests.{ltb-true, ltb-false}
 use Rattle.tora_world.specs.declared.event.Event.TheVariants.{Pull}
 use Rattle.tora_world.specs.declared.sim_error.SimError.TheVariants as Refused
-use Rattle.tora_sim.specs.Lanes.{AreReadyEach}
 use Rattle.tora_sim.specs.Links.{LinkView, after_pull_at}
-use Rattle.tora_sim.specs.Plains.{ArePlainEach}
-use Rattle.tora_sim.specs.Quiet.{AreStillEach}
-use Rattle.tora_sim.specs.Store.{SimState, IsStore, state_of, world_of}
+use Rattle.tora_sim.specs.Store.{SimState, state_of, world_of}
 use Rattle.tora_sim.specs.Steps.{IsDone, IsRefused}
 use Rattle.tora_sim.proofs.Opens.{pull_refused, pull_done, pull_store, same_read}
 use Rattle.tora_sim.proofs.Quiets.{set_same}
 use Rattle.tora_sim.proofs.StillEnds.{possible_still}
 use Rattle.tora_sim.proofs.PlainEnds.{possible_plain}
 use Rattle.tora_sim.proofs.ReadyEnds.{kept_ready}
+use Rattle.tora_sim.proofs.Unchanged.{links_stay, nothing_known}
 use Rattle.tora_sim.proofs.sim.Sim.pull.Goals as goal
 
 pub place-requires-clause-keys : goal.place-requires-clause-keys
@@ -38,16 +36,9 @@ module _ (c : goal.Then-not-pull) where
 
 pub invariant_of-self : goal.invariant_of-self
 invariant_of-self c =
-    let s = c.self.inside in (
-      subst (λ (xs : List LinkView). IsStore (state_of s.topology s.times s.clock s.nodes.items xs s.datagrams.items)) (sym (stays c)) c.self.invariant.0,
-      λ none. absurd (omega (arith, none)),
-      subst (λ (xs : List LinkView). AreStillEach s.clock s.stills xs) (sym (stays c)) c.self.invariant.2,
-      c.self.invariant.3,
-      subst (λ (xs : List LinkView). ArePlainEach s.clock s.plains xs) (sym (stays c)) c.self.invariant.4,
-      subst (λ (xs : List LinkView). AreReadyEach s.ready.items xs) (sym (stays c)) c.self.invariant.5,
-      c.self.invariant.6,
-      c.self.invariant.7,
-    )
+    let s = c.self.inside in
+    links_stay s.topology s.times s.clock s.nodes.items s.links.items s.datagrams.items 0 s.keys.items s.stills s.plains s.ready.items s.unready.items s.idle
+    (nothing_known s.topology s.times s.clock s.nodes.items s.links.items s.datagrams.items s.quiet s.keys.items s.stills s.plains s.ready.items s.unready.items s.idle c.self.invariant) (slice_set s.links.items c.in-Some.at c.pull.new.self) (stays c)
 
 pub returns-then-not-pull : goal.returns-then-not-pull
 returns-then-not-pull c =

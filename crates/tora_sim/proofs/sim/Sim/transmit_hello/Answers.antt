@@ -1,5 +1,5 @@
-use Rattle.std.proofs.Common.{◌≡◌, ℕ, ◌<◌, List, Some, length, is_some, refl, ap, sym, ◌∙◌, subst, arith}
-use Rattle.std.specs.Prelude.{slice_set, slice_index_or}
+use Rattle.std.proofs.Common.{◌≡◌, List, Some, length, is_some, refl, ap, sym, ◌∙◌, subst, arith}
+use Rattle.std.specs.Prelude.{slice_set}
 use Rattle.std.proofs.lemmas.Bool.{both_ways}
 use Rattle.std.proofs.lemmas.Option.{slice_get_read}
 use Rattle.tora_frame.specs.FrameParts.{FrameParts, frame_of}
@@ -7,14 +7,13 @@ use Rattle.tora_frame.specs.declared.parts.Body.TheVariants.{Hello}
 use Rattle.tora_arq.specs.LinkEnd.{frame_due}
 use Rattle.tora_world.specs.declared.event.Event.TheVariants.{Transmit}
 use Rattle.tora_world.specs.World.{with_datagram}
-use Rattle.tora_sim.specs.Lanes.{AreReadyEach}
 use Rattle.tora_sim.specs.Keyed.{IsFirst}
 use Rattle.tora_sim.specs.Links.{LinkView, is_at}
 use Rattle.tora_sim.specs.Nodes.{sending_of}
-use Rattle.tora_sim.specs.Plains.{IsPlain, ArePlainEach}
+use Rattle.tora_sim.specs.Plains.{IsPlain}
 use Rattle.tora_sim.specs.Possible.{has_cargo}
-use Rattle.tora_sim.specs.Quiet.{is_idle, AreStill, AreStillEach}
-use Rattle.tora_sim.specs.Store.{SimState, IsStore, state_of, world_of}
+use Rattle.tora_sim.specs.Quiet.{is_idle}
+use Rattle.tora_sim.specs.Store.{SimState, state_of, world_of}
 use Rattle.tora_sim.specs.Steps.{IsDone}
 use Rattle.tora_sim.proofs.Quiets.{set_same}
 use Rattle.tora_sim.proofs.Sendings.{end_of, node_of, still_end, still_node}
@@ -24,22 +23,15 @@ use Rattle.tora_sim.proofs.PlainEnds.{same_plain, transmit_plain}
 use Rattle.tora_sim.proofs.ReadyEnds.{kept_as}
 use Rattle.tora_sim.proofs.UnreadyEnds.{node_kept, same_place}
 use Rattle.tora_sim.proofs.Quiets.{idle_kept}
+use Rattle.tora_sim.proofs.Unchanged.{datagrams_stay, links_stay}
 use Rattle.tora_sim.proofs.sim.Sim.transmit_hello.Goals as goal
 
 -- ---- there is no memory, or no HELLO is due first
 
 pub invariant_of-self : goal.invariant_of-self
 invariant_of-self c =
-    let s = c.self.inside in (
-      subst (λ (ds : List FrameParts). IsStore (state_of s.topology s.times s.clock s.nodes.items s.links.items ds)) (sym c.reserve.ensures.items) c.self.invariant.0,
-      c.self.invariant.1,
-      c.self.invariant.2,
-      c.self.invariant.3,
-      c.self.invariant.4,
-      c.self.invariant.5,
-      c.self.invariant.6,
-      c.self.invariant.7,
-    )
+    let s = c.self.inside in
+    datagrams_stay s.topology s.times s.clock s.nodes.items s.links.items s.datagrams.items s.quiet s.keys.items s.stills s.plains s.ready.items s.unready.items s.idle c.self.invariant c.reserve.new.self.items c.reserve.ensures.items
 
 pub returns-then-is_err-clause-same : goal.returns-then-is_err-clause-same
 returns-then-is_err-clause-same c told =
@@ -53,32 +45,26 @@ pub returns-then-is_err-clause-node : goal.returns-then-is_err-clause-node
 returns-then-is_err-clause-node c = node_of c.args._n c.args.home c.self.view_is c.requires.node
 
 -- an end of which no HELLO is due first stays as it is
-same : (links : List LinkView) (at : ℕ) (x new : LinkView) → at < length links → x ≡ slice_index_or links at x → new ≡ x → slice_set links at new ≡ links
-same links at x new within read e = set_same links at x new within read e
+module _ (c : goal.In_default) where
+  stays : slice_set c.self.inside.links.items c.args.at c.send_hello.new.self ≡ c.self.inside.links.items
+  stays = set_same c.self.inside.links.items c.args.at c.index_mut.result.now c.send_hello.new.self (end_of c.args._n c.args._k c.args.at c.self.view_is c.requires.end).within c.index_mut.ensures.value c.in_default.ensures.none
 
 pub invariant_of-self-in_default : goal.invariant_of-self-in_default
 invariant_of-self-in_default c =
-    let s = c.self.inside in (
-      subst (λ (ds : List FrameParts). IsStore (state_of s.topology s.times s.clock s.nodes.items (slice_set s.links.items c.args.at c.send_hello.new.self) ds)) (sym c.reserve.ensures.items)
-          (subst (λ (xs : List LinkView). IsStore (state_of s.topology s.times s.clock s.nodes.items xs s.datagrams.items)) (sym (same c.self.inside.links.items c.args.at c.index_mut.result.now c.send_hello.new.self (end_of c.args._n c.args._k c.args.at c.self.view_is c.requires.end).within c.index_mut.ensures.value c.in_default.ensures.none)) c.self.invariant.0),
-      subst (λ (xs : List LinkView). AreStill s.quiet s.nodes.items xs) (sym (same c.self.inside.links.items c.args.at c.index_mut.result.now c.send_hello.new.self (end_of c.args._n c.args._k c.args.at c.self.view_is c.requires.end).within c.index_mut.ensures.value c.in_default.ensures.none)) c.self.invariant.1,
-      subst (λ (xs : List LinkView). AreStillEach s.clock s.stills xs) (sym (same c.self.inside.links.items c.args.at c.index_mut.result.now c.send_hello.new.self (end_of c.args._n c.args._k c.args.at c.self.view_is c.requires.end).within c.index_mut.ensures.value c.in_default.ensures.none)) c.self.invariant.2,
-      c.self.invariant.3,
-      subst (λ (xs : List LinkView). ArePlainEach s.clock s.plains xs) (sym (same c.self.inside.links.items c.args.at c.index_mut.result.now c.send_hello.new.self (end_of c.args._n c.args._k c.args.at c.self.view_is c.requires.end).within c.index_mut.ensures.value c.in_default.ensures.none)) c.self.invariant.4,
-      subst (λ (xs : List LinkView). AreReadyEach s.ready.items xs) (sym (same c.self.inside.links.items c.args.at c.index_mut.result.now c.send_hello.new.self (end_of c.args._n c.args._k c.args.at c.self.view_is c.requires.end).within c.index_mut.ensures.value c.in_default.ensures.none)) c.self.invariant.5,
-      c.self.invariant.6,
-      c.self.invariant.7,
-    )
+    let s = c.self.inside in
+    let links = slice_set s.links.items c.args.at c.send_hello.new.self in
+    datagrams_stay s.topology s.times s.clock s.nodes.items links s.datagrams.items s.quiet s.keys.items s.stills s.plains s.ready.items s.unready.items s.idle
+    (links_stay s.topology s.times s.clock s.nodes.items s.links.items s.datagrams.items s.quiet s.keys.items s.stills s.plains s.ready.items s.unready.items s.idle c.self.invariant links (stays c)) c.reserve.new.self.items c.reserve.ensures.items
 
 pub returns-in_default-clause-same : goal.returns-in_default-clause-same
 returns-in_default-clause-same c told =
     let s = c.self.inside in
     ap (λ (ds : List FrameParts). state_of s.topology s.times s.clock s.nodes.items (slice_set s.links.items c.args.at c.send_hello.new.self) ds) c.reserve.ensures.items
-    ∙ ap (λ (xs : List LinkView). state_of s.topology s.times s.clock s.nodes.items xs s.datagrams.items) (same c.self.inside.links.items c.args.at c.index_mut.result.now c.send_hello.new.self (end_of c.args._n c.args._k c.args.at c.self.view_is c.requires.end).within c.index_mut.ensures.value c.in_default.ensures.none) ∙ c.self.view_is
+    ∙ ap (λ (xs : List LinkView). state_of s.topology s.times s.clock s.nodes.items xs s.datagrams.items) (stays c) ∙ c.self.view_is
 
 pub returns-in_default-clause-end : goal.returns-in_default-clause-end
 returns-in_default-clause-end c =
-    subst (λ (xs : List LinkView). IsFirst (is_at c.args._n c.args._k) xs c.args.at) (sym (same c.self.inside.links.items c.args.at c.index_mut.result.now c.send_hello.new.self (end_of c.args._n c.args._k c.args.at c.self.view_is c.requires.end).within c.index_mut.ensures.value c.in_default.ensures.none)) (end_of c.args._n c.args._k c.args.at c.self.view_is c.requires.end)
+    subst (λ (xs : List LinkView). IsFirst (is_at c.args._n c.args._k) xs c.args.at) (sym (stays c)) (end_of c.args._n c.args._k c.args.at c.self.view_is c.requires.end)
 
 pub returns-in_default-clause-node : goal.returns-in_default-clause-node
 returns-in_default-clause-node c = node_of c.args._n c.args.home c.self.view_is c.requires.node
