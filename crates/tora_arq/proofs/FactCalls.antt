@@ -1,5 +1,5 @@
 -- What holds of each call of a link end.
-use Rattle.std.proofs.Common.{◌≡◌, ◌≢◌, ℕ, zero, suc, ◌+◌, ◌-◌, ◌^◌, ◌<◌, ◌≤◌, false, true≢false, not, ◌⊎◌, inl, inr, ⊎_elim, List, [], ◌∷◌, ◌++◌, map, length, drop, Option, Some, None, Result, Ok, Err, slice_get, nat_le, if◌then◌else◌, refl, sym, ap, ◌∙◌, subst, arith, append_assoc, append-nil, length-append, length-drop}
+use Rattle.std.proofs.Common.{◌≡◌, ◌≢◌, ℕ, zero, suc, ◌+◌, ◌-◌, ◌^◌, ◌<◌, ◌≤◌, false, true≢false, not, ◌⊎◌, inl, inr, ⊎_elim, List, [], ◌∷◌, ◌++◌, map, length, drop, Option, Some, None, IfNone, Result, Ok, Err, slice_get, nat_le, if◌then◌else◌, refl, sym, ap, ◌∙◌, subst, arith, append_assoc, append-nil, length-append, length-drop}
 use Rattle.std.proofs.lemmas.Bool.{cond_both, and_right, or_from, not-false, not-true, cases_lt, lt-leb}
 use Rattle.std.proofs.lemmas.List.{length-map, map-append, nil_from_length, drop-drop, drop-append-le}
 use Rattle.std.proofs.Math.Seq.{drop-append_seam}
@@ -26,6 +26,10 @@ use Rattle.tora_arq.specs.LinkFacts.{LinkCall, after_call, IsPossible, frame_sen
 use Rattle.tora_arq.specs.LinkFacts.LinkCall.{Open, Frame, Tick, Submit, PollEvent, Transmit, Cut}
 use Rattle.tora_arq.proofs.FactSteps.{is_same_life-refl, is_same_life-true, Step, Stays, transmit_sends, call_step}
 use Rattle.tora_arq.proofs.FactSteps.Step.{stays, opens, ends, submits, binds, goes_on}
+
+pub if_none : {A : Type 0} (o : Option A) (P : Type 0) → (o ≡ None → P) → IfNone o P
+if_none None P h = h refl
+if_none (Some x) P h = tt
 
 -- nothing is said of packets
 abbrev pub Any : ℕ → Packet → Type 0

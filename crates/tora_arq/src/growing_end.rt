@@ -1,10 +1,10 @@
 //! A link end that takes memory only where much waits at it.
 ghost use Rattle.std.specs.Prelude.{◌≡◌, ◌≢◌, ◌<◌, ◌≤◌, ◌^◌, ℕ, false, IfErr, IfNone, IfOk, IfSome, IsTrue, OnErr, is_some, length};
 ghost use Rattle.tora_arq.specs.Settings.{IsTimes, settings_of};
-ghost use Rattle.tora_arq.specs.LinkEnd.{first_end, is_closed, bound_life, after_open, verdict_of, after_frame, after_tick, submit_answer, after_submit, after_cut, first_event, after_poll_event, frame_due, after_transmit};
+ghost use Rattle.tora_arq.specs.LinkEnd.{first_end, is_closed, bound_life, after_open, verdict_of, after_frame, after_tick, submit_answer, after_submit, after_cut, first_event, after_poll_event, is_hello, frame_due, after_transmit};
 ghost use Rattle.tora_arq.specs.EndRange.{IsEndState, link_end_of};
 ghost use Rattle.tora_arq.specs.Still.{IsStillUntil};
-ghost use Rattle.tora_arq.specs.Steady.{IsSteady, resumed};
+ghost use Rattle.tora_arq.specs.Steady.{IsSteady, resumed, steady_of};
 ghost use Rattle.tora_arq.specs.StateView.{settings_in};
 ghost use Rattle.tora_frame.specs.FrameParts.{IsHeader, frame_of};
 ghost use Rattle.tora_frame.specs.declared.parts.Body.{Body};
@@ -191,6 +191,7 @@ impl GrowingEnd {
 
     /// As `LinkEnd::steady`.
     pub fn steady(&self) -> Option<Steady>
+        ensures given { result ≡ steady_of self.now.settings self.now.state }
         ensures steady { IfSome result (λ steady. IsSteady steady self.now.settings self.now.state) }
         ensures same { IfSome result (λ steady. resumed steady self.now.state ≡ self.now.state) }
     {
@@ -263,6 +264,7 @@ impl GrowingEnd {
     ) -> Option<BorrowedFrame<'a>>
         ensures frame { result ≡ frame_due self.old.settings self.old.state now }
         ensures state { self.new ≡ record self.old { state = after_transmit self.old.settings self.old.state now } }
+        ensures none { IfNone result (self.new ≡ self.old) }
     {
         match &mut self.kind {
             EndKind::Near(end) => end.poll_transmit_into(now, packets),
@@ -275,27 +277,13 @@ impl GrowingEnd {
         ensures frame { IfSome result (λ header. frame_due self.old.settings self.old.state now ≡ Some (frame_of header Body.Hello)) }
         ensures state { IfSome result (λ _. self.new ≡ record self.old { state = after_transmit self.old.settings self.old.state now }) }
         ensures valid { IfSome result (λ header. IsHeader header) }
+        ensures given { is_some result ≡ is_hello (frame_due self.old.settings self.old.state now) }
         ensures none { IfNone result (self.new ≡ self.old) }
     {
         match &mut self.kind {
             EndKind::Near(end) => end.poll_hello(now),
             EndKind::Whole(end) => end.poll_hello(now),
         }
-    }
-
-    /// Takes the memory for lists, if there are none.
-    ///
-    /// # Errors
-    /// `Memory`. The end is the same either way.
-    fn widen(&mut self) -> Result<(), ArqError>
-        ensures { self.new ≡ self.old }
-    {
-        let EndKind::Near(end) = &self.kind else {
-            return Ok(());
-        };
-        let whole = end.widened(self.alloc)?;
-        self.kind = EndKind::Whole(whole);
-        Ok(())
     }
 
     /// Gives the lists back, if there are some and nothing stands in them.
@@ -307,18 +295,6 @@ impl GrowingEnd {
         };
         if let Some(near) = end.narrowed(self.alloc) {
             self.kind = EndKind::Near(near);
-        }
-    }
-
-    /// Takes a frame that came, where no memory is asked for; `None` else, which changes nothing.
-    fn try_frame(&mut self, frame: &BorrowedFrame<'_>, now: u64) -> Option<Verdict>
-        ensures verdict { IfSome result (λ verdict. verdict ≡ verdict_of self.old.settings self.old.state frame.now now) }
-        ensures state { IfSome result (λ _. self.new ≡ record self.old { state = after_frame self.old.settings self.old.state frame.now now }) }
-        ensures none { IfNone result (self.new ≡ self.old) }
-    {
-        match &mut self.kind {
-            EndKind::Near(end) => end.on_frame(frame, now),
-            EndKind::Whole(end) => Some(end.on_borrowed_frame(frame, now)),
         }
     }
 
@@ -335,27 +311,17 @@ impl GrowingEnd {
         ensures state { IfOk result (λ _. self.new ≡ record self.old { state = after_frame self.old.settings self.old.state frame.now now }) }
         ensures same { OnErr result (self.new ≡ self.old) }
     {
-        if let Some(verdict) = self.try_frame(frame, now) {
-            return Ok(verdict);
-        }
-        self.widen()?;
-        match self.try_frame(frame, now) {
-            Some(verdict) => Ok(verdict),
-            None => Err(ArqError::Memory),
-        }
-    }
-
-    /// As `try_frame`, for a HELLO.
-    #[inline(always)]
-    fn try_hello(&mut self, header: &Header, now: u64) -> Option<Verdict>
-        requires { IsHeader header.now }
-        ensures verdict { IfSome result (λ verdict. verdict ≡ verdict_of self.old.settings self.old.state (frame_of header.now Body.Hello) now) }
-        ensures state { IfSome result (λ _. self.new ≡ record self.old { state = after_frame self.old.settings self.old.state (frame_of header.now Body.Hello) now }) }
-        ensures none { IfNone result (self.new ≡ self.old) }
-    {
         match &mut self.kind {
-            EndKind::Near(end) => end.on_hello(header, now),
-            EndKind::Whole(end) => Some(end.on_hello(header, now)),
+            EndKind::Near(end) => {
+                if let Some(verdict) = end.on_frame(frame, now) {
+                    return Ok(verdict);
+                }
+                let mut whole = end.widened(self.alloc)?;
+                let verdict = whole.on_borrowed_frame(frame, now);
+                self.kind = EndKind::Whole(whole);
+                Ok(verdict)
+            }
+            EndKind::Whole(end) => Ok(end.on_borrowed_frame(frame, now)),
         }
     }
 
@@ -370,33 +336,17 @@ impl GrowingEnd {
         ensures state { IfOk result (λ _. self.new ≡ record self.old { state = after_frame self.old.settings self.old.state (frame_of header.now Body.Hello) now }) }
         ensures same { OnErr result (self.new ≡ self.old) }
     {
-        if let Some(verdict) = self.try_hello(header, now) {
-            return Ok(verdict);
-        }
-        self.widen()?;
-        match self.try_hello(header, now) {
-            Some(verdict) => Ok(verdict),
-            None => Err(ArqError::Memory),
-        }
-    }
-
-    /// Takes a packet to be sent in a life, where no memory is asked for; `None` else, which changes nothing.
-    fn try_submit(&mut self, life: Life, packet: Packet) -> Option<Result<(), SubmitError>>
-        ensures answer { IfSome result (λ answer. answer ≡ submit_answer self.old.state life packet) }
-        ensures state { IfSome result (λ _. self.new ≡ record self.old { state = after_submit self.old.state life packet }) }
-        ensures none { IfNone result (self.new ≡ self.old) }
-    {
         match &mut self.kind {
-            EndKind::Near(end) => end.submit(life, packet),
-            EndKind::Whole(end) => Some(end.submit(life, packet)),
-        }
-    }
-
-    /// Whether a packet can be submitted with no memory.
-    fn has_packet_place(&self) -> bool {
-        match &self.kind {
-            EndKind::Near(end) => end.has_packet_place(),
-            EndKind::Whole(_) => true,
+            EndKind::Near(end) => {
+                if let Some(verdict) = end.on_hello(header, now) {
+                    return Ok(verdict);
+                }
+                let mut whole = end.widened(self.alloc)?;
+                let verdict = whole.on_hello(header, now);
+                self.kind = EndKind::Whole(whole);
+                Ok(verdict)
+            }
+            EndKind::Whole(end) => Ok(end.on_hello(header, now)),
         }
     }
 
@@ -413,12 +363,18 @@ impl GrowingEnd {
         ensures state { IfOk result (λ _. self.new ≡ record self.old { state = after_submit self.old.state life packet }) }
         ensures same { OnErr result (self.new ≡ self.old) }
     {
-        if !self.has_packet_place() {
-            self.widen()?;
-        }
-        match self.try_submit(life, packet) {
-            Some(answer) => Ok(answer),
-            None => Err(ArqError::Memory),
+        let again = packet;
+        match &mut self.kind {
+            EndKind::Near(end) => {
+                if let Some(answer) = end.submit(life, packet) {
+                    return Ok(answer);
+                }
+                let mut whole = end.widened(self.alloc)?;
+                let answer = whole.submit(life, again);
+                self.kind = EndKind::Whole(whole);
+                Ok(answer)
+            }
+            EndKind::Whole(end) => Ok(end.submit(life, packet)),
         }
     }
 }

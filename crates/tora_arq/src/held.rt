@@ -91,6 +91,7 @@ impl HeldPackets<0> {
         ensures { IfOk result (λ h. h ≡ self.now) }
     {
         let ring = HeapCircularBuffer::with_capacity(alloc, HELD_PLACES)?;
+        // that its places are none is what the prover sees of the ring by its length
         let _none = self.ring.len();
         Ok(HeldPackets { ring })
     }

@@ -112,7 +112,7 @@ impl NearEnd {
     }
 
     /// Whether there is a place for another packet.
-    pub fn has_packet_place(&self) -> bool
+    fn has_packet_place(&self) -> bool
         ensures { result ≡ true → length self.now.state.queue < FRONT }
     {
         self.state.queue.len() < FRONT
@@ -125,6 +125,7 @@ impl NearEnd {
     ) -> Option<BorrowedFrame<'a>>
         ensures frame { result ≡ frame_due self.old.settings self.old.state now }
         ensures state { self.new ≡ record self.old { state = after_transmit self.old.settings self.old.state now } }
+        ensures none { IfNone result (self.new ≡ self.old) }
     {
         self.state.poll_transmit(&self.settings, now, packets)
     }
@@ -133,6 +134,7 @@ impl NearEnd {
         ensures frame { IfSome result (λ header. frame_due self.old.settings self.old.state now ≡ Some (frame_of header Body.Hello)) }
         ensures state { IfSome result (λ _. self.new ≡ record self.old { state = after_transmit self.old.settings self.old.state now }) }
         ensures valid { IfSome result (λ header. IsHeader header) }
+        ensures given { is_some result ≡ is_hello (frame_due self.old.settings self.old.state now) }
         ensures none { IfNone result (self.new ≡ self.old) }
     {
         self.state.poll_first_hello(&self.settings, now)

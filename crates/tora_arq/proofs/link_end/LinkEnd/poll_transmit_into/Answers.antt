@@ -1,13 +1,9 @@
-use Rattle.std.proofs.Common.{◌≡◌, Option, Some, None, IfNone, refl, sym, subst, ap, ◌∙◌}
+use Rattle.std.proofs.Common.{sym, subst, ap, ◌∙◌}
 use Rattle.tora_arq.specs.EndRange.{IsEndState, link_end_of}
 use Rattle.tora_arq.specs.StateView.{settings_in, state_in}
-use Rattle.tora_arq.proofs.FactCalls.{transmit-idle}
+use Rattle.tora_arq.proofs.FactCalls.{if_none, transmit-idle}
 use Rattle.tora_arq.proofs.RangeLemmas.{transmit_kept}
 use Rattle.tora_arq.proofs.link_end.LinkEnd.poll_transmit_into.Goals as goal
-
-if_none : {A : Type 0} (o : Option A) (P : Type 0) → (o ≡ None → P) → IfNone o P
-if_none None P h = h refl
-if_none (Some x) P h = tt
 
 pub invariant_of-self : goal.invariant_of-self
 invariant_of-self c =
