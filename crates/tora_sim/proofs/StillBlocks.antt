@@ -35,6 +35,17 @@ all_later now until blocks ends h all at within = go (block_at at)
         let less = here.0 in
         let le = here.1 in (omega (arith, less, least), omega (arith, le, least))
 
+-- the blocks whose ticks are still to come, and their ends
+pub later_below : (now from to : ℕ) (blocks ends : List ℕ) → AreBlocks blocks ends → AreLater now from to blocks → AreLater now (16 * from) (16 * to) ends
+later_below now from to blocks ends h later at le lt within = go (block_at at)
+  where
+    go : ((block : ℕ) × ((16 * block ≤ at) × (at < 16 * block + 16))) → now < slice_index ends at
+    go (block, (begin, end)) =
+        let many = h.enough in
+        let least = h.least block at begin end within in
+        let here = later block (omega (arith, le, end)) (omega (arith, lt, begin)) (omega (arith, begin, within, many)) in
+        omega (arith, least, here)
+
 -- ---- the least tick of a block
 
 -- one end more, of which a tick is kept

@@ -9,7 +9,9 @@ ghost use Rattle.tora_sim.specs.Quiet.{IsStillIf};
 
 use crate::link_slot::LinkSlot;
 use crate::links::LinkParts;
-use crate::stills::{Stills, block_count, ends_of, keep_block, keep_still, next_block, still_at};
+use crate::stills::{
+    Stills, block_count, ends_of, keep_block, keep_still, keep_tops, next_block, still_at,
+};
 use tora_frame::{BorrowedFrame, Header};
 
 /// Looks at each link end that is not known to be plain, whether it is. The ends stay as they are.
@@ -22,6 +24,7 @@ pub fn mark_ends(links: &Vec<LinkSlot>, plains: &mut Stills, now: u64)
         mark_block(links, plains, block, now);
         block = next_block(plains, block + 1, now);
     }
+    keep_tops(plains, now);
 }
 
 /// Looks at each such end of a block, and keeps the tick of the block anew.

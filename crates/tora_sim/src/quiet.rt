@@ -12,7 +12,8 @@ use crate::nodes::NodeSlot;
 use crate::plains::mark_ends;
 use crate::sim::Sim;
 use crate::stills::{
-    Stills, block_count, ends_of, keep_least, keep_still, next_block, still_at, still_until,
+    Stills, block_count, ends_of, keep_least, keep_still, keep_tops, next_block, still_at,
+    still_until,
 };
 
 impl Sim {
@@ -86,6 +87,7 @@ fn settle_ends(links: &Vec<LinkSlot>, stills: &mut Stills, now: u64)
         settle_block(links, stills, block, now);
         block = next_block(stills, block + 1, now);
     }
+    keep_tops(stills, now);
 }
 
 /// Looks at each such end of a block, and keeps the tick of the block anew.

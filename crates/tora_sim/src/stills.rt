@@ -1,8 +1,8 @@
 //! Of each link end a tick before which something holds of it, as that nothing is to be done at it, and of each block of ends one for them
-//! all.
-ghost use Rattle.std.specs.Prelude.{◌≡◌, ◌+◌, ◌*◌, ◌-◌, ◌^◌, ◌<◌, ◌≤◌, ℕ, true, MatchResult, length, min, replicate, slice_index, slice_set};
+//! all, and likewise of each block of blocks.
+ghost use Rattle.std.specs.Prelude.{◌≡◌, ◌+◌, ◌*◌, ◌-◌, ◌^◌, ◌<◌, ◌≤◌, ℕ, true, IfNone, IfSome, MatchResult, length, min, replicate, slice_index, slice_set};
 ghost use Rattle.tora_sim.specs.Quiet.{AreForgotten};
-ghost use Rattle.tora_sim.specs.Stills.{AreLater};
+ghost use Rattle.tora_sim.specs.Stills.{AreBlocks, AreLater};
 
 use crate::SimError;
 use std::alloc::Global;
@@ -14,12 +14,14 @@ const BLOCK: usize = 16;
 /// Of each link end the tick before which nothing is to be done at it, in the order of the ends; or likewise that before which it is plain.
 ///
 /// The ends stand in blocks of 16, and each block has a tick, too, so that a block at whose ends nothing is to be done is passed over by
-/// one look.
+/// one look; and so do the blocks, of which 16 are passed over by one look.
 #[derive(Drop)]
 pub struct Stills {
     ends: Vec<u64>,
     /// Of each block a tick that none of the ticks of its ends is before; 0 where nothing is known.
     blocks: Vec<u64>,
+    /// Of each 16 blocks a tick that none of theirs is before.
+    tops: Vec<u64>,
 }
 
 impl Model for Stills {
@@ -30,16 +32,18 @@ impl Model for Stills {
 
     ghost view = { λ s. s.ends.items };
 
-    ghost invariant = { λ s. AreBlocks s.blocks.items s.ends.items };
+    ghost invariant = { λ s. AreBlocks s.blocks.items s.ends.items × AreBlocks s.tops.items s.blocks.items };
 }
 
 /// Nothing is known of so many ends.
 pub fn no_stills(alloc: Global, count: usize) -> Result<Stills, SimError>
     ensures { MatchResult result (λ stills. stills ≡ replicate count 0) (λ e. e ≡ SimError.Memory) }
 {
+    let many = blocks_of(count);
     let ends = zeros(alloc, count)?;
-    let blocks = zeros(alloc, blocks_of(count))?;
-    Ok(Stills { ends, blocks })
+    let blocks = zeros(alloc, many)?;
+    let tops = zeros(alloc, blocks_of(many))?;
+    Ok(Stills { ends, blocks, tops })
 }
 
 fn zeros(alloc: Global, count: usize) -> Result<Vec<u64>, SimError>
@@ -127,12 +131,85 @@ pub fn next_block(stills: &Stills, block: usize, now: u64) -> usize
     ensures onward { block ≤ result }
     ensures passed { AreLater now (16 * block) (16 * result) stills.now }
 {
-    for next in block..stills.blocks.len() {
-        if stills.blocks[next] <= now {
-            return next;
+    next_in(&stills.tops, &stills.blocks, block, now)
+}
+
+/// The first place from `from` on at which a tick is not still to come, where each 16 ticks have one that none of them is before.
+fn next_in(firsts: &Vec<u64>, ticks: &Vec<u64>, from: usize, now: u64) -> usize
+    requires { AreBlocks firsts.now.items ticks.now.items }
+    ensures onward { from ≤ result }
+    ensures passed { AreLater now from result ticks.now.items }
+{
+    let mut next = from;
+    while next < ticks.len() {
+        let first = block_of(next);
+        let behind = first * BLOCK + BLOCK;
+        if firsts[first] <= now {
+            if let Some(at) = first_due(ticks, now, next, behind.min(ticks.len())) {
+                return at;
+            }
+        }
+        next = behind;
+    }
+    next
+}
+
+/// The first place from one on and before another at which a tick is not still to come.
+fn first_due(ticks: &Vec<u64>, now: u64, from: usize, to: usize) -> Option<usize>
+    requires { to ≤ length ticks.now.items }
+    ensures none { IfNone result (AreLater now from to ticks.now.items) }
+    ensures onward { IfSome result (λ at. from ≤ at) }
+    ensures passed { IfSome result (λ at. AreLater now from at ticks.now.items) }
+{
+    for at in from..to {
+        if ticks[at] <= now {
+            return Some(at);
         }
     }
-    block.max(stills.blocks.len())
+    None
+}
+
+/// Keeps the tick of a block; those of 16 blocks is no later then.
+#[inline(always)]
+fn set_block(blocks: &mut Vec<u64>, tops: &mut Vec<u64>, block: usize, tick: u64)
+    requires within { block < length blocks.old.items }
+    requires tops { AreBlocks tops.old.items blocks.old.items }
+    ensures blocks { blocks.new.items ≡ slice_set blocks.old.items block tick }
+    ensures tops { AreBlocks tops.new.items blocks.new.items }
+{
+    let top = block_of(block);
+    tops[top] = tops[top].min(tick);
+    blocks[block] = tick;
+}
+
+/// Looks for the tick of each 16 blocks where it is not still to come: the first of theirs.
+pub fn keep_tops(stills: &mut Stills, now: u64)
+    ensures { stills.new ≡ stills.old }
+{
+    keep_firsts(&mut stills.tops, &stills.blocks, now);
+}
+
+fn keep_firsts(tops: &mut Vec<u64>, blocks: &Vec<u64>, now: u64)
+    requires { AreBlocks tops.old.items blocks.now.items }
+    ensures { AreBlocks tops.new.items blocks.now.items }
+{
+    for top in 0..tops.len() {
+        if tops[top] <= now {
+            keep_first(tops, blocks, top);
+        }
+    }
+}
+
+/// The same at one place.
+fn keep_first(tops: &mut Vec<u64>, blocks: &Vec<u64>, top: usize)
+    requires within { top < length tops.old.items }
+    requires tops { AreBlocks tops.old.items blocks.now.items }
+    ensures many { length tops.new.items ≡ length tops.old.items }
+    ensures tops { AreBlocks tops.new.items blocks.now.items }
+{
+    let first = top.saturating_mul(BLOCK).min(blocks.len());
+    let count = (blocks.len() - first).min(BLOCK);
+    tops[top] = first_tick(blocks, first, count);
 }
 
 /// Keeps the tick of an end; most often it is the one that is kept. That of its block is no later then.
@@ -145,7 +222,8 @@ pub fn keep_still(stills: &mut Stills, at: usize, until: u64)
         return;
     }
     let block = block_of(at);
-    stills.blocks[block] = stills.blocks[block].min(until);
+    let tick = stills.blocks[block].min(until);
+    set_block(&mut stills.blocks, &mut stills.tops, block, tick);
     stills.ends[at] = until;
 }
 
@@ -157,7 +235,7 @@ pub fn keep_block(stills: &mut Stills, block: usize)
 {
     let (first, count) = ends_of(stills, block);
     let until = first_tick(&stills.ends, first, count);
-    stills.blocks[block] = until;
+    set_block(&mut stills.blocks, &mut stills.tops, block, until);
 }
 
 /// Keeps a tick of a block that none of the ticks of its ends is before.
@@ -167,7 +245,7 @@ pub fn keep_least(stills: &mut Stills, block: usize, least: u64)
     requires least { (at : ℕ) → 16 * block ≤ at → at < 16 * block + 16 → at < length stills.old → least ≤ slice_index stills.old at }
     ensures { stills.new ≡ stills.old }
 {
-    stills.blocks[block] = least;
+    set_block(&mut stills.blocks, &mut stills.tops, block, least);
 }
 
 /// The first of the ticks of the `count` ends from the place `first` on.
@@ -194,12 +272,12 @@ pub fn forget(stills: &mut Stills, first: usize, count: usize)
     }
 }
 
-/// Before which tick nothing is to be done at any of the ends; 0 where something may be to be done at once. It looks at the ticks of the
-/// blocks alone.
+/// Before which tick nothing is to be done at any of the ends; 0 where something may be to be done at once. It looks at the ticks of 16 blocks
+/// each alone.
 pub fn still_until(stills: &Stills, now: u64) -> u64
     ensures { 0 < result → (at : ℕ) → at < length stills.now → (now < slice_index stills.now at) × (result ≤ slice_index stills.now at) }
 {
-    first_after(&stills.blocks, now)
+    first_after(&stills.tops, now)
 }
 
 /// The first of these ticks, where all are still to come; else 0.

@@ -8,4 +8,4 @@ returns c some =
     let s = c.stills.inside in
     let until = c.first_after.result in
     subst (λ (ends : List ℕ). (at : ℕ) → at < length ends → (c.args.now < slice_index ends at) × (until ≤ slice_index ends at)) c.stills.view_is
-    (all_later c.args.now until s.blocks.items s.ends.items c.stills.invariant (c.first_after.ensures some))
+    (all_later c.args.now until s.blocks.items s.ends.items c.stills.invariant.0 (all_later c.args.now until s.tops.items s.blocks.items c.stills.invariant.1 (c.first_after.ensures some)))
