@@ -1,6 +1,7 @@
 -- Of which link ends it is known until which tick nothing is to be done at them, as ends change.
 use Rattle.std.proofs.Common.{◌≡◌, ℕ, zero, suc, ◌+◌, ◌<◌, ◌≤◌, ◌⊎◌, inl, inr, Bool, true, false, true≢false, nat_lt, if◌then◌else◌, List, [], ◌∷◌, ◌++◌, map, length, set, slice_get, Option, Some, None, Result, Ok, Err, refl, sym, ap, ◌∙◌, subst, arith, option_map}
 use Rattle.std.specs.Prelude.{replicate, slice_index, slice_index_or}
+use Rattle.std.proofs.Math.Nat.{min-le_left}
 use Rattle.std.proofs.lemmas.Bool.{cases_Bool, cases_eq, ltb-false, le-ltb}
 use Rattle.std.proofs.lemmas.List.{length-append, length-map, length-replicate, length-set, get_or-set_same, get_or-set_other}
 use Rattle.std.proofs.lemmas.Option.{none-some, same_Some, slice_get_read, slice_get_within, slice_get-map}
@@ -14,12 +15,18 @@ use Rattle.tora_sim.specs.Links.{LinkView, ticked, AreChanged}
 use Rattle.tora_sim.specs.Nodes.{NodeView}
 use Rattle.tora_sim.specs.Possible.{has_cargo}
 use Rattle.tora_sim.specs.Quiet.{IsStill, IsStillIf, AreStillEach, AreForgotten, IsForgottenWhere, AreForgottenWhere}
+use Rattle.tora_sim.specs.Stills.{short}
 use Rattle.tora_sim.specs.Store.{EachOf}
 use Rattle.tora_sim.specs.Turns.{IsNoted, Turns}
 use Rattle.tora_sim.proofs.Bared.{between_alike}
 use Rattle.tora_sim.proofs.FreshEnds.{item_at, below_next}
 use Rattle.tora_sim.proofs.Quiets.{earlier, still_tick}
 use Rattle.tora_sim.proofs.Stores.{set_read, map_read}
+
+-- ---- a tick as it is kept
+
+pub short_still : (until : ℕ) (link : LinkView) → IsStillIf until link → IsStillIf (short until) link
+short_still until link s some = let le = min-le_left until 4294967295 in earlier until (short until) link le (s (omega (arith, some, le)))
 
 -- ---- at the start
 

@@ -1,5 +1,9 @@
 -- Ticks of link ends, in blocks of sixteen that have a tick each.
-use Rattle.std.specs.Prelude.{ℕ, ◌+◌, ◌*◌, ◌<◌, ◌≤◌, List, length, slice_index}
+use Rattle.std.specs.Prelude.{ℕ, ◌+◌, ◌*◌, ◌<◌, ◌≤◌, List, length, min, slice_index}
+
+-- a tick as it is kept: the last number of four bytes stands for any later one
+abbrev pub short : ℕ → ℕ
+short tick = min tick 4294967295
 
 -- the ticks of the ends from a place up to another are still to come
 abbrev pub AreLater : ℕ → ℕ → ℕ → List ℕ → Type 0

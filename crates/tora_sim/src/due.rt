@@ -60,22 +60,21 @@ fn are_ends(keys: &[(Id, Id)], ends: &[(Id, Id)]) -> bool
     true
 }
 
-/// The first place from `place` on at which a tick is not still to come.
+/// The first place from `place` on at which a tick is not still to come: it is looked for in the rest of its block first.
 #[inline(always)]
 fn next_due(stills: &Stills, now: u64, place: usize) -> usize
     ensures onward { place ≤ result }
     ensures passed { (at : ℕ) → place ≤ at → at < result → now < slice_index stills.now at }
 {
-    if is_due(stills, now, place) {
+    if place >= end_count(stills) {
         return place;
     }
-    due_from(stills, now, place)
-}
-
-/// Whether there is an end at this place, and its tick is not still to come.
-#[inline(always)]
-fn is_due(stills: &Stills, now: u64, place: usize) -> bool {
-    place < end_count(stills) && still_at(stills, place) <= now
+    let (first, count) = ends_of(stills, block_of(place));
+    let behind = first + count;
+    if let Some(at) = due_within(stills, now, place, behind) {
+        return at;
+    }
+    due_from(stills, now, behind)
 }
 
 /// The first such place, with the blocks passed over whose ticks tell that there is none in them.

@@ -6,11 +6,12 @@ ghost use Rattle.tora_frame.specs.declared.parts.Body.{Body};
 ghost use Rattle.tora_sim.specs.Links.{with_state};
 ghost use Rattle.tora_sim.specs.Plains.{IsPlain, ArePlainEach};
 ghost use Rattle.tora_sim.specs.Quiet.{IsStillIf};
+ghost use Rattle.tora_sim.specs.Stills.{short};
 
 use crate::link_slot::LinkSlot;
 use crate::links::LinkParts;
 use crate::stills::{
-    Stills, block_count, ends_of, keep_block, keep_still, keep_tops, next_block, still_at,
+    Stills, block_count, ends_of, keep_block, keep_still, keep_tops, next_block, short, still_at,
 };
 use tora_frame::{BorrowedFrame, Header};
 
@@ -53,7 +54,7 @@ fn mark_end(links: &Vec<LinkSlot>, plains: &mut Stills, place: usize, now: u64)
     if links[place].is_busy() {
         return;
     }
-    keep_still(plains, place, u64::MAX);
+    keep_still(plains, place, u32::MAX);
 }
 
 /// Nothing is known any more of the end at a place, where it is busy after what happened at it; else what was known stays.
@@ -74,11 +75,11 @@ pub fn forget_busy(plains: &mut Stills, place: usize, busy: bool)
 pub fn keep_looked(stills: &mut Stills, plains: &mut Stills, at: usize, busy: bool, until: u64)
     requires stills { at < length stills.old }
     requires plains { at < length plains.old }
-    ensures stills { stills.new ≡ slice_set stills.old at until }
+    ensures stills { stills.new ≡ slice_set stills.old at (short until) }
     ensures same { busy ≡ false → plains.new ≡ plains.old }
     ensures forgotten { busy ≡ true → plains.new ≡ slice_set plains.old at 0 }
 {
-    keep_still(stills, at, until);
+    keep_still(stills, at, short(until));
     forget_busy(plains, at, busy);
 }
 

@@ -12,8 +12,8 @@ use crate::nodes::NodeSlot;
 use crate::plains::mark_ends;
 use crate::sim::Sim;
 use crate::stills::{
-    Stills, block_count, ends_of, keep_least, keep_still, keep_tops, next_block, still_at,
-    still_until,
+    Stills, block_count, ends_of, is_still_block, keep_block, keep_least, keep_still, keep_tops,
+    next_block, short, still_at, still_until,
 };
 
 impl Sim {
@@ -90,12 +90,17 @@ fn settle_ends(links: &Vec<LinkSlot>, stills: &mut Stills, now: u64)
     keep_tops(stills, now);
 }
 
-/// Looks at each such end of a block, and keeps the tick of the block anew.
+/// Looks at each such end of a block, and keeps the tick of the block anew. Most often the ticks of all ends are still to come: they sent, and their
+/// ticks were kept.
 fn settle_block(links: &Vec<LinkSlot>, stills: &mut Stills, block: usize, now: u64)
     requires within { 16 * block < length stills.old }
     requires still { AreStillEach now stills.old links.now.items }
     ensures { AreStillEach now stills.new links.now.items }
 {
+    keep_block(stills, block);
+    if is_still_block(stills, block, now) {
+        return;
+    }
     let (first, count) = ends_of(stills, block);
     let mut least = u64::MAX;
     for place in 0..count {
@@ -117,9 +122,9 @@ fn settle_end(links: &Vec<LinkSlot>, stills: &mut Stills, place: usize, now: u64
     if now < known {
         return known;
     }
-    let until = links[place].still_until();
+    let until = short(links[place].still_until());
     keep_still(stills, place, until);
-    until
+    u64::from(until)
 }
 
 /// Whether no item waits for any core. The nodes are looked at where that is not known.

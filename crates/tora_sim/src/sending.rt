@@ -12,7 +12,7 @@ use crate::SimError;
 use crate::links::{far_end_at, place_near};
 use crate::nodes::place as node_place;
 use crate::sim::{Sim, note_hello};
-use crate::stills::keep_still;
+use crate::stills::{keep_still, short};
 use std::alloc::AllocError;
 use tora_arq::data_frames_are_what_was_submitted;
 use tora_height::Id;
@@ -59,7 +59,7 @@ impl Sim {
         if self.clock >= until {
             return false;
         }
-        keep_still(&mut self.stills, at, until);
+        keep_still(&mut self.stills, at, short(until));
         true
     }
 

@@ -1,8 +1,11 @@
 //! Of each link end a tick before which something holds of it, as that nothing is to be done at it, and of each block of ends one for them
 //! all, and likewise of each block of blocks.
+//!
+//! Ticks are kept in four bytes: sixteen of them are one line of the cache. One that is later than the last such number is kept as that number,
+//! so that from there on, after more than four thousand million rounds, all ends are looked at in each round.
 ghost use Rattle.std.specs.Prelude.{◌≡◌, ◌+◌, ◌*◌, ◌-◌, ◌^◌, ◌<◌, ◌≤◌, ℕ, true, IfNone, IfSome, MatchResult, length, min, replicate, slice_index, slice_set};
 ghost use Rattle.tora_sim.specs.Quiet.{AreForgotten};
-ghost use Rattle.tora_sim.specs.Stills.{AreBlocks, AreLater};
+ghost use Rattle.tora_sim.specs.Stills.{AreBlocks, AreLater, short};
 
 use crate::SimError;
 use std::alloc::Global;
@@ -17,11 +20,11 @@ const BLOCK: usize = 16;
 /// one look; and so do the blocks, of which 16 are passed over by one look.
 #[derive(Drop)]
 pub struct Stills {
-    ends: Vec<u64>,
+    ends: Vec<u32>,
     /// Of each block a tick that none of the ticks of its ends is before; 0 where nothing is known.
-    blocks: Vec<u64>,
+    blocks: Vec<u32>,
     /// Of each 16 blocks a tick that none of theirs is before.
-    tops: Vec<u64>,
+    tops: Vec<u32>,
 }
 
 impl Model for Stills {
@@ -35,6 +38,14 @@ impl Model for Stills {
     ghost invariant = { λ s. AreBlocks s.blocks.items s.ends.items × AreBlocks s.tops.items s.blocks.items };
 }
 
+/// A tick as it is kept: the last one of four bytes in the place of any later one.
+#[inline(always)]
+pub fn short(tick: u64) -> u32
+    ensures { result ≡ short tick }
+{
+    u32::try_from(tick).unwrap_or(u32::MAX)
+}
+
 /// Nothing is known of so many ends.
 pub fn no_stills(alloc: Global, count: usize) -> Result<Stills, SimError>
     ensures { MatchResult result (λ stills. stills ≡ replicate count 0) (λ e. e ≡ SimError.Memory) }
@@ -46,7 +57,7 @@ pub fn no_stills(alloc: Global, count: usize) -> Result<Stills, SimError>
     Ok(Stills { ends, blocks, tops })
 }
 
-fn zeros(alloc: Global, count: usize) -> Result<Vec<u64>, SimError>
+fn zeros(alloc: Global, count: usize) -> Result<Vec<u32>, SimError>
     ensures { MatchResult result (λ zeros. zeros.items ≡ replicate count 0) (λ e. e ≡ SimError.Memory) }
 {
     let mut zeros = Vec::new(alloc);
@@ -113,7 +124,7 @@ pub fn still_at(stills: &Stills, at: usize) -> u64
     requires { at < length stills.now }
     ensures { result ≡ slice_index stills.now at }
 {
-    stills.ends[at]
+    u64::from(stills.ends[at])
 }
 
 /// Whether the tick of a block tells that the ticks of its ends are still to come.
@@ -122,7 +133,7 @@ pub fn is_still_block(stills: &Stills, block: usize, now: u64) -> bool
     requires { 16 * block < length stills.now }
     ensures { result ≡ true → AreLater now (16 * block) (16 * block + 16) stills.now }
 {
-    now < stills.blocks[block]
+    now < u64::from(stills.blocks[block])
 }
 
 /// The first block from `block` on whose tick is not still to come: the ticks of the ends of those before it are.
@@ -135,7 +146,7 @@ pub fn next_block(stills: &Stills, block: usize, now: u64) -> usize
 }
 
 /// The first place from `from` on at which a tick is not still to come, where each 16 ticks have one that none of them is before.
-fn next_in(firsts: &Vec<u64>, ticks: &Vec<u64>, from: usize, now: u64) -> usize
+fn next_in(firsts: &Vec<u32>, ticks: &Vec<u32>, from: usize, now: u64) -> usize
     requires { AreBlocks firsts.now.items ticks.now.items }
     ensures onward { from ≤ result }
     ensures passed { AreLater now from result ticks.now.items }
@@ -144,7 +155,7 @@ fn next_in(firsts: &Vec<u64>, ticks: &Vec<u64>, from: usize, now: u64) -> usize
     while next < ticks.len() {
         let first = block_of(next);
         let behind = first * BLOCK + BLOCK;
-        if firsts[first] <= now {
+        if u64::from(firsts[first]) <= now {
             if let Some(at) = first_due(ticks, now, next, behind.min(ticks.len())) {
                 return at;
             }
@@ -155,14 +166,14 @@ fn next_in(firsts: &Vec<u64>, ticks: &Vec<u64>, from: usize, now: u64) -> usize
 }
 
 /// The first place from one on and before another at which a tick is not still to come.
-fn first_due(ticks: &Vec<u64>, now: u64, from: usize, to: usize) -> Option<usize>
+fn first_due(ticks: &Vec<u32>, now: u64, from: usize, to: usize) -> Option<usize>
     requires { to ≤ length ticks.now.items }
     ensures none { IfNone result (AreLater now from to ticks.now.items) }
     ensures onward { IfSome result (λ at. from ≤ at) }
     ensures passed { IfSome result (λ at. AreLater now from at ticks.now.items) }
 {
     for at in from..to {
-        if ticks[at] <= now {
+        if u64::from(ticks[at]) <= now {
             return Some(at);
         }
     }
@@ -171,7 +182,7 @@ fn first_due(ticks: &Vec<u64>, now: u64, from: usize, to: usize) -> Option<usize
 
 /// Keeps the tick of a block; those of 16 blocks is no later then.
 #[inline(always)]
-fn set_block(blocks: &mut Vec<u64>, tops: &mut Vec<u64>, block: usize, tick: u64)
+fn set_block(blocks: &mut Vec<u32>, tops: &mut Vec<u32>, block: usize, tick: u32)
     requires within { block < length blocks.old.items }
     requires tops { AreBlocks tops.old.items blocks.old.items }
     ensures blocks { blocks.new.items ≡ slice_set blocks.old.items block tick }
@@ -189,19 +200,19 @@ pub fn keep_tops(stills: &mut Stills, now: u64)
     keep_firsts(&mut stills.tops, &stills.blocks, now);
 }
 
-fn keep_firsts(tops: &mut Vec<u64>, blocks: &Vec<u64>, now: u64)
+fn keep_firsts(tops: &mut Vec<u32>, blocks: &Vec<u32>, now: u64)
     requires { AreBlocks tops.old.items blocks.now.items }
     ensures { AreBlocks tops.new.items blocks.now.items }
 {
     for top in 0..tops.len() {
-        if tops[top] <= now {
+        if u64::from(tops[top]) <= now {
             keep_first(tops, blocks, top);
         }
     }
 }
 
 /// The same at one place.
-fn keep_first(tops: &mut Vec<u64>, blocks: &Vec<u64>, top: usize)
+fn keep_first(tops: &mut Vec<u32>, blocks: &Vec<u32>, top: usize)
     requires within { top < length tops.old.items }
     requires tops { AreBlocks tops.old.items blocks.now.items }
     ensures many { length tops.new.items ≡ length tops.old.items }
@@ -214,7 +225,7 @@ fn keep_first(tops: &mut Vec<u64>, blocks: &Vec<u64>, top: usize)
 
 /// Keeps the tick of an end; most often it is the one that is kept. That of its block is no later then.
 #[inline(always)]
-pub fn keep_still(stills: &mut Stills, at: usize, until: u64)
+pub fn keep_still(stills: &mut Stills, at: usize, until: u32)
     requires { at < length stills.old }
     ensures { stills.new ≡ slice_set stills.old at until }
 {
@@ -222,8 +233,9 @@ pub fn keep_still(stills: &mut Stills, at: usize, until: u64)
         return;
     }
     let block = block_of(at);
-    let tick = stills.blocks[block].min(until);
-    set_block(&mut stills.blocks, &mut stills.tops, block, tick);
+    if until < stills.blocks[block] {
+        set_block(&mut stills.blocks, &mut stills.tops, block, until);
+    }
     stills.ends[at] = until;
 }
 
@@ -245,16 +257,32 @@ pub fn keep_least(stills: &mut Stills, block: usize, least: u64)
     requires least { (at : ℕ) → 16 * block ≤ at → at < 16 * block + 16 → at < length stills.old → least ≤ slice_index stills.old at }
     ensures { stills.new ≡ stills.old }
 {
-    set_block(&mut stills.blocks, &mut stills.tops, block, least);
+    set_block(&mut stills.blocks, &mut stills.tops, block, short(least));
 }
 
 /// The first of the ticks of the `count` ends from the place `first` on.
-fn first_tick(ends: &Vec<u64>, first: usize, count: usize) -> u64
+fn first_tick(ends: &Vec<u32>, first: usize, count: usize) -> u32
     requires { first + count ≤ length ends.now.items }
     ensures { (at : ℕ) → first ≤ at → at < first + count → result ≤ slice_index ends.now.items at }
 {
-    let mut until = u64::MAX;
+    if count == BLOCK {
+        return first_of_block(ends, first);
+    }
+    let mut until = u32::MAX;
     for place in 0..count {
+        until = until.min(ends[first + place]);
+    }
+    until
+}
+
+/// The same of the ends of a whole block: it is known how many they are, so that several are looked at at once.
+#[inline(always)]
+fn first_of_block(ends: &Vec<u32>, first: usize) -> u32
+    requires { first + 16 ≤ length ends.now.items }
+    ensures { (at : ℕ) → first ≤ at → at < first + 16 → result ≤ slice_index ends.now.items at }
+{
+    let mut until = u32::MAX;
+    for place in 0..BLOCK {
         until = until.min(ends[first + place]);
     }
     until
@@ -281,12 +309,12 @@ pub fn still_until(stills: &Stills, now: u64) -> u64
 }
 
 /// The first of these ticks, where all are still to come; else 0.
-fn first_after(ticks: &Vec<u64>, now: u64) -> u64
+fn first_after(ticks: &Vec<u32>, now: u64) -> u64
     ensures { 0 < result → (at : ℕ) → at < length ticks.now.items → (now < slice_index ticks.now.items at) × (result ≤ slice_index ticks.now.items at) }
 {
     let mut until = u64::MAX;
     for at in 0..ticks.len() {
-        let here = ticks[at];
+        let here = u64::from(ticks[at]);
         if here <= now {
             return 0;
         }

@@ -12,7 +12,8 @@ use Rattle.tora_sim.specs.Store.{SimState, state_of, world_of}
 use Rattle.tora_sim.specs.Steps.{IsDone, IsRefused}
 use Rattle.tora_sim.proofs.Opens.{same_read}
 use Rattle.tora_sim.proofs.Receives.{home_is_there, failed_done, failed_store, received_done, received_store}
-use Rattle.tora_sim.proofs.StillEnds.{found_still}
+use Rattle.tora_sim.specs.Stills.{short}
+use Rattle.tora_sim.proofs.StillEnds.{found_still, short_still}
 use Rattle.tora_sim.proofs.PlainEnds.{looked_plain}
 use Rattle.tora_sim.proofs.ReadyEnds.{kept_as}
 use Rattle.tora_sim.proofs.UnreadyEnds.{node_kept, same_place}
@@ -107,7 +108,8 @@ invariant_of-self-2 c =
       received_store s.topology s.times s.clock s.nodes.items s.links.items s.datagrams.items c.self.invariant.0 c.args.i c.in-Some.frame (sym c.in-Some.ensures)
           c.in-Some-node_place.home c.index.result.now home_first c.index.ensures c.in-Some-place_at_or_among.at c.index_mut-2.result.now end_first c.index_mut-2.ensures.value c.receive_and_look.new.self c.in-Some-receive_and_look.ensures.state,
       λ none. absurd (omega (arith, none)),
-      found_still s.clock s.stills c.keep_looked.new.stills s.links.items c.in-Some-place_at_or_among.at c.in-Some-receive_and_look.until c.receive_and_look.new.self c.in-Some-place_at_or_among.ensures.first.within c.keep_looked.ensures.stills c.in-Some-receive_and_look.ensures.still c.self.invariant.2,
+      found_still s.clock s.stills c.keep_looked.new.stills s.links.items c.in-Some-place_at_or_among.at (short c.in-Some-receive_and_look.until) c.receive_and_look.new.self c.in-Some-place_at_or_among.ensures.first.within c.keep_looked.ensures.stills
+          (short_still c.in-Some-receive_and_look.until c.receive_and_look.new.self c.in-Some-receive_and_look.ensures.still) c.self.invariant.2,
       c.self.invariant.3,
       looked_plain s.clock s.plains c.keep_looked.new.plains s.links.items c.in-Some-place_at_or_among.at c.index_mut-2.result.now c.receive_and_look.new.self c.in-Some-receive_and_look.busy c.in-Some-place_at_or_among.ensures.first.within c.index_mut-2.ensures.value
           (λ e _. c.in-Some-receive_and_look.ensures.plain e) c.keep_looked.ensures.same c.keep_looked.ensures.forgotten c.self.invariant.4,

@@ -1,4 +1,4 @@
-use Rattle.std.proofs.Common.{◌≡◌, ◌<◌, true, refl, length, is_some, sym, subst, arith}
+use Rattle.std.proofs.Common.{◌≡◌, ℕ, ◌<◌, true, refl, length, is_some, sym, subst, arith}
 use Rattle.std.proofs.lemmas.Option.{slice_get_read}
 use Rattle.tora_world.specs.declared.event.Event.TheVariants.{Transmit}
 use Rattle.tora_world.specs.World.{refusal_of}
@@ -6,7 +6,8 @@ use Rattle.tora_sim.specs.Store.{SimState, world_of}
 use Rattle.tora_sim.proofs.Possibles.{is_impossible}
 use Rattle.tora_sim.proofs.Sends.{transmit_refused}
 use Rattle.tora_sim.proofs.Sendings.{end_of}
-use Rattle.tora_sim.proofs.StillEnds.{known_here}
+use Rattle.tora_sim.specs.Quiet.{IsStillIf}
+use Rattle.tora_sim.proofs.StillEnds.{known_here, short_still}
 use Rattle.tora_sim.proofs.sim.Sim.is_over.Goals as goal
 
 pub keep_still-requires : goal.keep_still-requires
@@ -18,8 +19,9 @@ invariant_of-self c =
     let within : c.args.at < length s.links.items = subst (λ (v : SimState). c.args.at < length v.links) (sym c.self.view_is) c.requires in (
       c.self.invariant.0,
       c.self.invariant.1,
-      known_here s.clock s.stills c.keep_still.new.stills s.links.items c.args.at c.still_until-until.result c.index.result.now c.keep_still.ensures (omega (arith, within, c.self.invariant.2.as_many))
-          (slice_get_read s.links.items (length s.links.items) c.args.at c.index.result.now refl within c.index.ensures) c.still_until-until.ensures c.self.invariant.2,
+      known_here s.clock s.stills c.keep_still.new.stills s.links.items c.args.at c.short.result c.index.result.now c.keep_still.ensures (omega (arith, within, c.self.invariant.2.as_many))
+          (slice_get_read s.links.items (length s.links.items) c.args.at c.index.result.now refl within c.index.ensures)
+          (subst (λ (n : ℕ). IsStillIf n c.index.result.now) (sym c.short.ensures) (short_still c.still_until-until.result c.index.result.now c.still_until-until.ensures)) c.self.invariant.2,
       c.self.invariant.3,
       c.self.invariant.4,
       c.self.invariant.5,
