@@ -1,12 +1,14 @@
 //! Which events may be possible now, told by what is stored at a place.
-ghost use Rattle.std.specs.Prelude.{◌≡◌, true, false, is_some, nat_lt, length, slice_get};
+ghost use Rattle.std.specs.Prelude.{◌≡◌, ◌<◌, Some, true, false, is_some, nat_lt, length, map, slice_get};
 ghost use Rattle.tora_arq.specs.LinkEnd.{is_closed, first_event, frame_due};
 ghost use Rattle.tora_world.specs.World.{refusal_of};
+ghost use Rattle.tora_sim.specs.Links.{LinkView, is_at, key_of};
 ghost use Rattle.tora_sim.specs.Store.{world_of};
 ghost use Rattle.tora_sim.specs.Possible.{end_may, node_may, may_happen, has_cargo};
 
 use crate::Event;
 use crate::link_slot::LinkSlot;
+use crate::links::is_key;
 use crate::nodes::NodeSlot;
 use crate::sim::Sim;
 use tora_height::Id;
@@ -24,7 +26,14 @@ impl Sim {
         // No event that is possible is left out.
         ensures refused { result ≡ false → is_some (refusal_of (world_of self.now) event.now) ≡ true }
     {
-        may_be(&self.nodes, &self.links, self.clock, place, event)
+        may_be(
+            &self.nodes,
+            &self.links,
+            &self.keys,
+            self.clock,
+            place,
+            event,
+        )
     }
 }
 
@@ -32,20 +41,22 @@ impl Sim {
 fn may_be(
     nodes: &Vec<NodeSlot>,
     links: &Vec<LinkSlot>,
+    keys: &Vec<(Id, Id)>,
     clock: u64,
     place: usize,
     event: &Event,
 ) -> bool
+    requires { keys.now.items ≡ map key_of links.now.items }
     ensures { result ≡ may_happen nodes.now.items links.now.items clock place event.now }
 {
     match event {
         Event::Need(_, _) => true,
         Event::Tick => true,
-        Event::Open(n, k) => may_open(links, place, *n, *k),
-        Event::Pull(n, k) => may_pull(links, place, *n, *k),
-        Event::Transmit(n, k) => may_transmit(links, clock, place, *n, *k),
+        Event::Open(n, k) => may_open(links, keys, place, *n, *k),
+        Event::Pull(n, k) => may_pull(links, keys, place, *n, *k),
+        Event::Transmit(n, k) => may_transmit(links, keys, clock, place, *n, *k),
         Event::Deliver(_) => true,
-        Event::Pump(n, k) => may_pump(links, place, *n, *k),
+        Event::Pump(n, k) => may_pump(links, keys, place, *n, *k),
         Event::CoreTurn(n) => may_turn(nodes, place, *n),
         Event::Arm(_, _) => true,
         Event::Restart(_, _) => true,
@@ -62,42 +73,63 @@ fn may_turn(nodes: &[NodeSlot], place: usize, n: Id) -> bool
     }
 }
 
+/// Whether the end at a place is that of node `n` towards `k`, by the keys of the ends: the end itself is not looked at.
 #[inline(always)]
-fn may_open(links: &[LinkSlot], place: usize, n: Id, k: Id) -> bool
+fn stands_there(_links: &[LinkSlot], keys: &[(Id, Id)], place: usize, n: Id, k: Id) -> bool
+    requires keys { keys.now ≡ map key_of _links.now }
+    requires within { place < length _links.now }
+    ensures { (link : LinkView) → slice_get _links.now place ≡ Some link → result ≡ is_at n k link }
+{
+    is_key(keys[place], n, k)
+}
+
+#[inline(always)]
+fn may_open(links: &[LinkSlot], keys: &[(Id, Id)], place: usize, n: Id, k: Id) -> bool
+    requires { keys.now ≡ map key_of links.now }
     ensures { result ≡ end_may n k (λ link. is_closed link.state) (slice_get links.now place) }
 {
     match links.get(place) {
-        Some(link) => !link.is_end(n, k) || link.is_closed(),
+        Some(link) => !stands_there(links, keys, place, n, k) || link.is_closed(),
         None => true,
     }
 }
 
 #[inline(always)]
-fn may_pull(links: &[LinkSlot], place: usize, n: Id, k: Id) -> bool
+fn may_pull(links: &[LinkSlot], keys: &[(Id, Id)], place: usize, n: Id, k: Id) -> bool
+    requires { keys.now ≡ map key_of links.now }
     ensures { result ≡ end_may n k has_cargo (slice_get links.now place) }
 {
     match links.get(place) {
-        Some(link) => !link.is_end(n, k) || link.has_cargo(),
+        Some(link) => !stands_there(links, keys, place, n, k) || link.has_cargo(),
         None => true,
     }
 }
 
 #[inline(always)]
-fn may_transmit(links: &[LinkSlot], clock: u64, place: usize, n: Id, k: Id) -> bool
+fn may_transmit(
+    links: &[LinkSlot],
+    keys: &[(Id, Id)],
+    clock: u64,
+    place: usize,
+    n: Id,
+    k: Id,
+) -> bool
+    requires { keys.now ≡ map key_of links.now }
     ensures { result ≡ end_may n k (λ link. is_some (frame_due link.settings link.state clock)) (slice_get links.now place) }
 {
     match links.get(place) {
-        Some(link) => !link.is_end(n, k) || link.has_frame_due(clock),
+        Some(link) => !stands_there(links, keys, place, n, k) || link.has_frame_due(clock),
         None => true,
     }
 }
 
 #[inline(always)]
-fn may_pump(links: &[LinkSlot], place: usize, n: Id, k: Id) -> bool
+fn may_pump(links: &[LinkSlot], keys: &[(Id, Id)], place: usize, n: Id, k: Id) -> bool
+    requires { keys.now ≡ map key_of links.now }
     ensures { result ≡ end_may n k (λ link. is_some (first_event link.state)) (slice_get links.now place) }
 {
     match links.get(place) {
-        Some(link) => !link.is_end(n, k) || link.has_event(),
+        Some(link) => !stands_there(links, keys, place, n, k) || link.has_event(),
         None => true,
     }
 }
