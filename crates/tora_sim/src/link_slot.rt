@@ -8,7 +8,7 @@ ghost use Rattle.tora_seat.specs.Between.{after_cut_of_bound};
 ghost use Rattle.tora_world.specs.Lists.{packets_of, parcels_in};
 ghost use Rattle.tora_sim.specs.Lane.{AreOthersAsWhole, Fits};
 ghost use Rattle.tora_sim.specs.Lanes.{HasRoom, IsReady, after_offer_at, bare, has_place};
-ghost use Rattle.tora_sim.specs.Links.{after_arm, after_open_at, after_pull_at, is_at, with_state};
+ghost use Rattle.tora_sim.specs.Links.{after_arm, after_open_at, after_pull_at, with_state};
 ghost use Rattle.tora_sim.specs.Plains.{IsPlain};
 ghost use Rattle.tora_sim.specs.Quiet.{IsStillIf};
 ghost use Rattle.tora_sim.specs.Resting.{is_idle};
@@ -91,13 +91,6 @@ impl LinkSlot {
         ensures { result ≡ (self.now.node, self.now.peer) }
     {
         self.parts.key()
-    }
-
-    /// Whether it is the end of node `n` towards `k`.
-    pub fn is_end(&self, n: Id, k: Id) -> bool
-        ensures { result ≡ is_at n k self.now }
-    {
-        self.parts.is_end(n, k)
     }
 
     /// The place of the peer among the node's neighbours.

@@ -75,13 +75,6 @@ impl LinkParts {
         (self.end.me(), self.end.peer())
     }
 
-    /// Whether it is the end of node `n` towards `k`.
-    pub fn is_end(&self, n: Id, k: Id) -> bool
-        ensures { result ≡ is_at n k self.now }
-    {
-        self.end.me() == n && self.end.peer() == k
-    }
-
     /// The place of the peer among the node's neighbours.
     pub fn seat(&self) -> usize
         ensures { result ≡ self.now.seat }
