@@ -1,14 +1,14 @@
 -- What is kept of the last datagrams, as one more comes.
-use Rattle.std.proofs.Common.{◌≡◌, ℕ, ◌+◌, ◌<◌, ◌≤◌, ◌⊎◌, inl, inr, List, [], ◌∷◌, ◌++◌, length, slice_get, Option, Some, refl, sym, ap, ◌∙◌, subst, arith, length-append}
-use Rattle.std.specs.Prelude.{slice_set}
+use Rattle.std.proofs.Common.{◌≡◌, ℕ, zero, suc, ◌+◌, ◌<◌, ◌≤◌, ◌⊎◌, inl, inr, List, [], ◌∷◌, ◌++◌, length, slice_get, Option, Some, refl, sym, ap, ◌∙◌, subst, arith, length-append}
+use Rattle.std.specs.Prelude.{replicate, slice_set}
 use Rattle.std.proofs.lemmas.Bool.{cases_lt, cases_eq}
-use Rattle.tora_frame.specs.declared.parts.Header.{Header}
-use Rattle.tora_frame.specs.declared.parts.Body.TheVariants.{Hello}
-use Rattle.tora_frame.specs.FrameParts.{FrameParts, IsHeader, frame_of}
+use Rattle.std.proofs.lemmas.Option.{none-some}
+use Rattle.tora_frame.specs.declared.parts.Version.TheVariants.{One, Two}
+use Rattle.tora_frame.specs.FrameParts.{FrameParts}
 use Rattle.tora_sim.specs.declared.recents.RecentFrame.{RecentFrame}
 use Rattle.tora_sim.specs.declared.recents.LastHello.{LastHello}
 use Rattle.tora_sim.specs.Datagrams.{IsMore}
-use Rattle.tora_sim.specs.Recents.{IsTold, AreRecent, IsLastHello, AreHellos}
+use Rattle.tora_sim.specs.Recents.{IsTold, AreRecent, IsLastHello, AreHellos, hello_as}
 use Rattle.tora_sim.proofs.FreshEnds.{set_same, set_other}
 use Rattle.tora_sim.specs.SentFrames.{AreWithin, sent_frames}
 use Rattle.tora_sim.proofs.SentFrames.{within, stays_at, as_many}
@@ -45,15 +45,21 @@ one_more first recents after frame items datagram e h told = subst (λ (xs : Lis
 
 -- as frames come behind those that are kept
 pub hellos_stay : (hellos : List LastHello) (frames after : List FrameParts) → IsMore frames after → AreHellos hellos frames → AreHellos hellos after
-hellos_stay hellos frames after more h k last there valid =
-    let old = h k last there valid in
-    ap (λ (xs : List FrameParts). slice_get xs last.place) more.1 ∙ stays_at frames more.0 last.place (within frames last.place (frame_of last.header Hello) old) ∙ old
+hellos_stay hellos frames after more h k last there = record { one = λ known. still last.one (hello_as last One) (old.one known); two = λ known. still last.two (hello_as last Two) (old.two known) }
+  where
+    old : IsLastHello last frames
+    old = h k last there
 
--- one that is found
-pub hello_found : (hellos : List LastHello) (frames : List FrameParts) (at : ℕ) (last : LastHello) (header : Header) → slice_get hellos at ≡ Some last → last.header ≡ header → IsHeader header → AreHellos hellos frames
-    → slice_get frames last.place ≡ Some (frame_of header Hello)
-hello_found hellos frames at last header there same valid h =
-    h at last there (subst (λ (x : Header). IsHeader x) (sym same) valid) ∙ ap (λ (x : Header). Some (frame_of x Hello)) same
+    still : (place : ℕ) (frame : FrameParts) → slice_get frames place ≡ Some frame → slice_get after place ≡ Some frame
+    still place frame e = ap (λ (xs : List FrameParts). slice_get xs place) more.1 ∙ stays_at frames more.0 place (within frames place frame e) ∙ e
+
+-- as places are made for more link ends
+pub hellos_made : (hellos : List LastHello) (frames : List FrameParts) (last : LastHello) (n : ℕ) → IsLastHello last frames → AreHellos hellos frames → AreHellos (hellos ++ replicate n last) frames
+hellos_made [] frames last zero is h k x there = absurd (none-some x there)
+hellos_made [] frames last (suc n) is h zero x there = subst (λ (y : LastHello). IsLastHello y frames) (same_some last x there) is
+hellos_made [] frames last (suc n) is h (suc k) x there = hellos_made [] frames last n is (λ j z e. absurd (none-some z e)) k x there
+hellos_made (y ∷ hellos) frames last n is h zero x there = h zero x there
+hellos_made (y ∷ hellos) frames last n is h (suc k) x there = hellos_made hellos frames last n is (λ j z e. h (suc j) z e) k x there
 
 -- one that is kept
 pub hello_kept : (hellos : List LastHello) (frames : List FrameParts) (at : ℕ) (new : LastHello) → at < length hellos → IsLastHello new frames → AreHellos hellos frames → AreHellos (slice_set hellos at new) frames

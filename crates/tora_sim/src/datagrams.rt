@@ -37,7 +37,7 @@ pub struct Datagrams {
     frames: KeptFrames,
     places: Places,
     guesses: Vec<u32>,
-    /// Of each link end the HELLOs that it sent last, one of either version: they are compared here, as a frame and its header lie elsewhere.
+    /// Of each link end the HELLOs that it sent last, one of either version: they are compared here, as frames and their headers lie elsewhere.
     hellos: Vec<LastHello>,
     /// The headers of the datagrams that were sent last, which are the ones that are delivered.
     recents: Recents,
@@ -264,12 +264,6 @@ impl Datagrams {
     }
 }
 
-/// Where the HELLOs of a link end begin.
-#[inline(always)]
-fn first_hello(end: usize) -> usize {
-    end.saturating_mul(2)
-}
-
 /// Makes places for the HELLOs of a link end.
 ///
 /// # Errors
@@ -283,21 +277,11 @@ fn make_hellos(
     requires { AreHellos hellos.old.items _frames.now.items }
     ensures { AreHellos hellos.new.items _frames.now.items }
 {
-    let behind = first_hello(end).saturating_add(2);
+    let behind = end.saturating_add(1);
     if hellos.len() < behind {
         hellos.resize(behind, LastHello::none())?;
     }
     Ok(())
-}
-
-/// Where the HELLO of a link end of this version stands.
-#[inline(always)]
-fn hello_at(end: usize, version: Version) -> usize {
-    let form = match version {
-        Version::One => 0,
-        Version::Two => 1,
-    };
-    first_hello(end).saturating_add(form)
 }
 
 /// The place of a HELLO that is known to be kept.
@@ -305,21 +289,19 @@ fn hello_at(end: usize, version: Version) -> usize {
 fn found_hello(
     hellos: &[LastHello],
     _frames: &KeptFrames,
-    at: usize,
+    end: usize,
     header: &Header,
 ) -> Option<u32>
-    requires valid { IsHeader header.now }
-    requires hellos { AreHellos hellos.now _frames.now.items }
+    requires { AreHellos hellos.now _frames.now.items }
     ensures { IfSome result (λ place. slice_get _frames.now.items place ≡ Some (frame_of header.now Body.Hello)) }
 {
-    let Some(last) = hellos.get(at) else {
+    let Some(last) = hellos.get(end) else {
         return None;
     };
-    let is_same = last.header == *header;
-    if is_same { Some(last.place) } else { None }
+    last.place(header)
 }
 
-/// The place of a HELLO of this header, whose frame is kept now if it was not the last one of its link end.
+/// The place of a HELLO of this header, whose frame is kept now if it was not the last one of its version that its link end sent.
 #[inline(always)]
 fn hello_place(
     frames: &mut KeptFrames,
@@ -335,11 +317,10 @@ fn hello_place(
     ensures more { IsMore frames.old.items frames.new.items }
     ensures hellos { AreHellos hellos.new.items frames.new.items }
 {
-    let at = hello_at(end, header.version);
-    if let Some(place) = found_hello(hellos, frames, at, header) {
+    if let Some(place) = found_hello(hellos, frames, end, header) {
         return place;
     }
-    keep_hello(frames, hellos, at, header)
+    keep_hello(frames, hellos, end, header)
 }
 
 /// Keeps the frame of a HELLO of this header, and that it is the last one.
@@ -347,7 +328,7 @@ fn hello_place(
 fn keep_hello(
     frames: &mut KeptFrames,
     hellos: &mut Vec<LastHello>,
-    at: usize,
+    end: usize,
     header: &Header,
 ) -> u32
     requires room { HasRoom frames.old }
@@ -361,11 +342,8 @@ fn keep_hello(
     let place = frames.len() as u32;
     let frame = BorrowedFrame::hello(*header);
     frames.push(&frame, None);
-    if at < hellos.len() {
-        hellos[at] = LastHello {
-            header: *header,
-            place,
-        };
+    if end < hellos.len() {
+        hellos[end] = hellos[end].with_hello(header, place);
     }
     place
 }

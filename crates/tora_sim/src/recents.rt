@@ -1,13 +1,15 @@
 //! What the datagrams say that were sent last, and the HELLO that each link end sent last.
 //!
 //! They stand close together, in the order in which they are asked for, where frames and headers of many ends lie far apart.
-ghost use Rattle.std.specs.Prelude.{◌≡◌, ◌+◌, ◌<◌, ◌∷◌, ◌++◌, [], List, IfSome, length, slice_get, Some};
+ghost use Rattle.std.specs.Prelude.{◌≡◌, ◌≢◌, ◌+◌, ◌<◌, ◌∷◌, ◌++◌, [], true, List, IfSome, length, slice_get, Some};
 ghost use Rattle.tora_frame.specs.FrameParts.{FrameParts, IsHeader, frame_of};
 ghost use Rattle.tora_frame.specs.declared.parts.Body.{Body};
-ghost use Rattle.tora_sim.specs.Recents.{IsTold, AreRecent};
+ghost use Rattle.tora_sim.specs.Recents.{IsTold, AreRecent, IsLastHello, hello_as};
+ghost use Rattle.tora_sim.specs.declared.recents.TheConstants.{NONE};
 
 use std::alloc::{AllocError, Global};
 use tora_frame::{BorrowedBody, BorrowedFrame, Header, Version};
+use tora_height::Id;
 
 /// Of so many datagrams at most the headers are kept; then those before them are let go. In a pass of 1,024 nodes with 8,000 links each end
 /// may send two HELLOs.
@@ -22,29 +24,101 @@ pub struct RecentFrame {
     pub far_end: u32,
 }
 
-/// The header of the HELLO of a version that a link end sent last, and the place of its frame.
+/// No place of a frame.
+const NONE: u32 = 0xffff_ffff;
+
+/// What the headers of the HELLOs say that a link end sent last, and the places of their frames, one of either version: it has 32 bytes.
 #[derive(Clone, Copy, Debug, PartialEq, Eq)]
 pub struct LastHello {
-    pub header: Header,
-    pub place: u32,
+    life: u64,
+    heard: u64,
+    sender: Id,
+    receiver: Id,
+    /// The place of the one of version 1; `NONE` where it is not known.
+    one: u32,
+    /// The same of version 2.
+    two: u32,
 }
 
 impl LastHello {
-    /// No HELLO: no header has the life 0.
+    /// No HELLO.
     pub fn none() -> LastHello
-        ensures { result.header.life ≡ 0 }
+        ensures one { result.one ≡ NONE }
+        ensures two { result.two ≡ NONE }
     {
         LastHello {
-            header: Header {
-                version: Version::One,
-                sender: 0,
-                receiver: 0,
-                life: 0,
-                heard: 0,
-            },
-            place: 0,
+            life: 0,
+            heard: 0,
+            sender: 0,
+            receiver: 0,
+            one: NONE,
+            two: NONE,
         }
     }
+
+    /// Whether a HELLO of this header says the same, whatever the version.
+    #[inline(always)]
+    fn is_of(&self, header: &Header) -> bool
+        ensures { result ≡ true → hello_as self.now header.now.version ≡ frame_of header.now Body.Hello }
+    {
+        header.life == self.life
+            && header.heard == self.heard
+            && header.sender == self.sender
+            && header.receiver == self.receiver
+    }
+
+    /// The place of the HELLO of this header, where it is known.
+    #[inline(always)]
+    pub fn place(&self, header: &Header) -> Option<u32>
+        ensures { IfSome result (λ place. (frames : List FrameParts) → IsLastHello self.now frames → slice_get frames place ≡ Some (frame_of header.now Body.Hello)) }
+    {
+        if !self.is_of(header) {
+            return None;
+        }
+        match header.version {
+            Version::One => known(self.one),
+            Version::Two => known(self.two),
+        }
+    }
+
+    /// The last ones with that of this header, which stands at this place.
+    pub fn with_hello(&self, header: &Header, place: u32) -> LastHello
+        ensures { (frames : List FrameParts) → IsLastHello self.now frames → slice_get frames place ≡ Some (frame_of header.now Body.Hello) → IsLastHello result frames }
+    {
+        let (one, two) = if self.is_of(header) {
+            (self.one, self.two)
+        } else {
+            (NONE, NONE)
+        };
+        let (life, heard) = (header.life, header.heard);
+        let (sender, receiver) = (header.sender, header.receiver);
+        match header.version {
+            Version::One => LastHello {
+                life,
+                heard,
+                sender,
+                receiver,
+                one: place,
+                two,
+            },
+            Version::Two => LastHello {
+                life,
+                heard,
+                sender,
+                receiver,
+                one,
+                two: place,
+            },
+        }
+    }
+}
+
+/// A place, where it is one.
+#[inline(always)]
+fn known(place: u32) -> Option<u32>
+    ensures { IfSome result (λ known. (known ≡ place) × (place ≢ NONE)) }
+{
+    if place == NONE { None } else { Some(place) }
 }
 
 /// The headers of the last datagrams, in their order.
