@@ -14,6 +14,11 @@ pub record CargoList : Type 0 where
   pub items : List Cargo
   pub places : ℕ
 
+-- the same as they are kept, and for how many more there is room near
+pub record KeptItems : Type 0 where
+  pub items : List KeptCargo
+  pub places : ℕ
+
 -- the life of a number; where there is none, one of no link
 abbrev pub life_in : Option Life → Life
 life_in None = record { own = 0; peer = 0 }

@@ -5,6 +5,7 @@ ghost use Rattle.tora_height.specs.Height.{IsHeight, quintuple};
 ghost use Rattle.tora_sim.specs.Datagrams.{IsMore};
 ghost use Rattle.tora_sim.specs.KeptCargoes.{IsKeptCargo, IsLastLife, IsShort, apart_in, cargo_in, life_at, life_of};
 
+use crate::kept_list::KeptList;
 use std::alloc::{AllocError, Global};
 use std::marker::Model;
 use tora_arq::Life;
@@ -32,7 +33,7 @@ pub enum KeptCargo {
 /// Cargoes in the order in which they came.
 #[derive(Drop)]
 pub struct KeptCargoes {
-    cargoes: Vec<KeptCargo>,
+    cargoes: KeptList,
     lives: Vec<Life>,
     apart: Vec<Cargo>,
     /// Whether there is room for one more.
@@ -54,7 +55,7 @@ impl Model for KeptCargoes {
     } };
 
     ghost invariant = { λ s. AllByRecursion (IsKeptCargo s.lives.items s.apart.items) s.cargoes.items
-        × (s.spare ≡ true → (vec_len s.cargoes < vec_capacity s.cargoes) × (vec_len s.lives < vec_capacity s.lives) × (vec_len s.apart < vec_capacity s.apart) × (vec_len s.apart < 2 ^ 32))
+        × (s.spare ≡ true → (0 < s.cargoes.places) × (vec_len s.lives < vec_capacity s.lives) × (vec_len s.apart < vec_capacity s.apart) × (vec_len s.apart < 2 ^ 32))
         × IsLastLife s.last s.lives.items };
 }
 
@@ -64,7 +65,7 @@ impl KeptCargoes {
         ensures { result.items ≡ [] }
     {
         KeptCargoes {
-            cargoes: Vec::new(alloc),
+            cargoes: KeptList::new(alloc),
             lives: Vec::new(alloc),
             apart: Vec::new(alloc),
             spare: false,
@@ -91,7 +92,7 @@ impl KeptCargoes {
         if self.apart.len() >= MOST_APART {
             return Err(AllocError);
         }
-        self.cargoes.reserve(1)?;
+        self.cargoes.reserve()?;
         reserve_one(&mut self.lives)?;
         reserve_one(&mut self.apart)?;
         self.spare = true;
@@ -106,7 +107,7 @@ impl KeptCargoes {
         self.spare = false;
         let number = number_of(&mut self.lives, &mut self.last, cargo);
         let kept = keep(&mut self.apart, number, cargo);
-        self.cargoes.push_reserved(kept);
+        self.cargoes.push(kept);
     }
 
     /// The cargo that stands behind so many others.
@@ -116,7 +117,7 @@ impl KeptCargoes {
         let Some(kept) = self.cargoes.get(place) else {
             return None;
         };
-        Some(cargo_of(&self.lives, &self.apart, kept))
+        Some(cargo_of(&self.lives, &self.apart, &kept))
     }
 }
 

@@ -26,6 +26,7 @@ mod gone_datagrams;
 mod hints;
 mod kept_cargoes;
 mod kept_frames;
+mod kept_list;
 mod lane;
 mod lanes;
 mod link_keys;

@@ -10,9 +10,9 @@ pub invariant_of-self : goal.invariant_of-self
 invariant_of-self c =
     let s = c.self.inside in
     let lives = c.number_of-number.new.lives.items in (
-      pushed_kept s.lives.items lives s.apart.items c.keep-kept.new.apart.items s.cargoes.items c.push_reserved.new.self.items c.keep-kept.result c.args.cargo.now
+      pushed_kept s.lives.items lives s.apart.items c.keep-kept.new.apart.items s.cargoes.items c.push.new.self.items c.keep-kept.result c.args.cargo.now
           c.number_of-number.ensures.more c.keep-kept.ensures.more (c.keep-kept.ensures.value lives c.number_of-number.ensures.is)
-          (c.keep-kept.ensures.within lives (within lives c.number_of-number.result (life_of c.args.cargo.now) c.number_of-number.ensures.is)) c.push_reserved.ensures.items c.self.invariant.0,
+          (c.keep-kept.ensures.within lives (within lives c.number_of-number.result (life_of c.args.cargo.now) c.number_of-number.ensures.is)) c.push.ensures c.self.invariant.0,
       (λ none. absurd cc),
       c.number_of-number.ensures.last,
     )
@@ -27,8 +27,8 @@ returns c =
     let s = c.self.inside in
     let lives = c.number_of-number.new.lives.items in
     ap₂ (λ (items : List Cargo) (n : ℕ). record { items = items; places = n })
-    (pushed s.lives.items lives s.apart.items c.keep-kept.new.apart.items s.cargoes.items c.push_reserved.new.self.items c.keep-kept.result c.args.cargo.now
+    (pushed s.lives.items lives s.apart.items c.keep-kept.new.apart.items s.cargoes.items c.push.new.self.items c.keep-kept.result c.args.cargo.now
     c.number_of-number.ensures.more c.keep-kept.ensures.more (c.keep-kept.ensures.value lives c.number_of-number.ensures.is)
-    (c.keep-kept.ensures.within lives (within lives c.number_of-number.result (life_of c.args.cargo.now) c.number_of-number.ensures.is)) c.push_reserved.ensures.items c.self.invariant.0)
+    (c.keep-kept.ensures.within lives (within lives c.number_of-number.result (life_of c.args.cargo.now) c.number_of-number.ensures.is)) c.push.ensures c.self.invariant.0)
     (none_left s.spare)
     ∙ ap (λ (v : CargoList). record { items = v.items ++ c.args.cargo.now ∷ []; places = v.places - 1 }) c.self.view_is
