@@ -26,6 +26,26 @@ const MOST_UNUSED: usize = 1024;
 /// So many headers of datagrams are let go behind a pass.
 const MANY_RECENTS: usize = 256;
 
+/// What is guessed of the next frame of a form that a link end sends, by the last one: the place of its frame, where it has the same mark, and the
+/// number of its header.
+#[derive(Clone, Copy)]
+pub struct Guess {
+    place: u32,
+    header: u32,
+    mark: u32,
+}
+
+impl Guess {
+    /// Of no frame.
+    fn none() -> Guess {
+        Guess {
+            place: 0,
+            header: 0,
+            mark: 0,
+        }
+    }
+}
+
 /// All datagrams that were ever sent, in order, but for the first ones that were let go.
 ///
 /// Most of them say what one before them said, as every HELLO does but the first of a life, and every DATA frame that is sent again: such a
@@ -36,7 +56,8 @@ const MANY_RECENTS: usize = 256;
 pub struct Datagrams {
     frames: KeptFrames,
     places: Places,
-    guesses: Vec<u32>,
+    /// Of each link end a guess for each form of frames.
+    guesses: Vec<Guess>,
     /// Of each link end the HELLOs that it sent last, one of either version: they are compared here, as frames and their headers lie elsewhere.
     hellos: Vec<LastHello>,
     /// The headers of the datagrams that were sent last, which are the ones that are delivered.
@@ -108,7 +129,7 @@ impl Datagrams {
     {
         let guesses = first_guess(end).saturating_add(FORMS);
         if self.guesses.len() < guesses {
-            self.guesses.resize(guesses, 0)?;
+            self.guesses.resize(guesses, Guess::none())?;
         }
         make_hellos(&mut self.hellos, &self.frames, end)?;
         self.ends = end.saturating_add(1);
@@ -354,37 +375,56 @@ fn first_guess(end: usize) -> usize {
     end.saturating_mul(FORMS)
 }
 
-/// Where the guess for a frame of a link end stands.
+/// Where the guess for a frame of a link end stands. Those for DATA frames and ACKs stand in front.
 #[inline(always)]
 fn guess_of(end: usize, frame: &BorrowedFrame<'_>) -> usize {
     let form = match frame.body() {
+        BorrowedBody::Data(..) => 0,
+        BorrowedBody::Ack(_) => 1,
         BorrowedBody::Hello => match frame.header().version {
-            Version::One => 0,
-            Version::Two => 1,
+            Version::One => 2,
+            Version::Two => 3,
         },
-        BorrowedBody::Data(..) => 2,
-        BorrowedBody::Ack(_) => 3,
     };
     first_guess(end).saturating_add(form)
 }
 
-/// The place of a frame that is kept, if the guess is right.
+/// The mark of a frame: the last bits of the number of a DATA frame and of the count of an ACK.
 #[inline(always)]
-fn found(frames: &KeptFrames, guess: Option<u32>, frame: &BorrowedFrame<'_>) -> Option<u32>
+fn mark_of(frame: &BorrowedFrame<'_>) -> u32 {
+    let number = match frame.body() {
+        BorrowedBody::Data(number, _, _) => number,
+        BorrowedBody::Ack(count) => count,
+        BorrowedBody::Hello => 0,
+    };
+    (number % 0x1_0000_0000) as u32
+}
+
+/// The place of a frame that is kept, if the guess is right. A frame of another mark is another, so that what is kept isn't looked at for it.
+#[inline(always)]
+fn found(
+    frames: &KeptFrames,
+    guess: Option<Guess>,
+    mark: u32,
+    frame: &BorrowedFrame<'_>,
+) -> Option<u32>
     ensures { IfSome result (λ place. slice_get frames.now.items place ≡ Some frame.now) }
 {
-    let Some(place) = guess else {
+    let Some(last) = guess else {
         return None;
     };
-    let is_same = frames.is_at(place as usize, frame);
-    if is_same { Some(place) } else { None }
+    if last.mark != mark {
+        return None;
+    }
+    let is_same = frames.is_at(last.place as usize, frame);
+    if is_same { Some(last.place) } else { None }
 }
 
 /// The place of a frame, which is kept now if it was not.
 #[inline(always)]
 fn place_of(
     frames: &mut KeptFrames,
-    guesses: &mut [u32],
+    guesses: &mut [Guess],
     end: usize,
     frame: &BorrowedFrame<'_>,
 ) -> u32
@@ -394,14 +434,19 @@ fn place_of(
     ensures more { IsMore frames.old.items frames.new.items }
 {
     let at = guess_of(end, frame);
+    let mark = mark_of(frame);
     let guess = guesses.get(at).copied();
-    if let Some(place) = found(frames, guess, frame) {
+    if let Some(place) = found(frames, guess, mark, frame) {
         return place;
     }
     let place = frames.len() as u32;
-    frames.push(frame, guess);
-    if let Some(guess) = guesses.get_mut(at) {
-        *guess = place;
+    let header = frames.push(frame, guess.map(|last| last.header));
+    if let Some(last) = guesses.get_mut(at) {
+        *last = Guess {
+            place,
+            header,
+            mark,
+        };
     }
     place
 }

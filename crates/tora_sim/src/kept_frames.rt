@@ -118,18 +118,18 @@ impl KeptFrames {
         Ok(())
     }
 
-    /// Appends a frame. There must be room for it. Its header may be that of the frame that stands at the guess: a wrong guess
-    /// costs memory and nothing else.
+    /// Appends a frame, and answers the number of its header. There must be room for it. Its header may be the one of the number that is guessed: a
+    /// wrong guess costs memory and nothing else.
     #[inline(never)]
-    pub fn push(&mut self, frame: &BorrowedFrame<'_>, guess: Option<u32>)
+    pub fn push(&mut self, frame: &BorrowedFrame<'_>, guess: Option<u32>) -> u32
         requires { HasRoom self.old }
         ensures { self.new.items ≡ self.old.items ++ frame.now ∷ [] }
     {
-        let guess = header_guess(&self.frames, guess);
         let header = number_of(&mut self.headers, guess, frame);
         let body = keep_body(&mut self.packets, frame);
         self.frames.push_reserved(KeptFrame { header, body });
         self.is_ready = false;
+        header
     }
 
     /// The frame that stands behind so many others, with its packets where they stand.
@@ -164,17 +164,6 @@ impl KeptFrames {
         };
         let header = header_at(&self.headers, kept.header);
         Some((header.sender, header.receiver))
-    }
-}
-
-/// The number of the header of the frame at a place.
-fn header_guess(frames: &[KeptFrame], guess: Option<u32>) -> Option<u32> {
-    let Some(place) = guess else {
-        return None;
-    };
-    match frames.get(place as usize) {
-        Some(kept) => Some(kept.header),
-        None => None,
     }
 }
 
