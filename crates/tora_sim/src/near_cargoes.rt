@@ -8,13 +8,15 @@ use crate::kept_cargoes::append;
 use crate::spares::Spares;
 use std::alloc::{AllocError, Global};
 use std::marker::Model;
+use std::mem;
 use tora_arq::Life;
 use tora_seat::{Cargo, MOST_CARGOES};
 
 /// How many cargoes stand near.
 pub const NEAR: usize = 4;
 
-/// Cargoes in the order in which they were put: a few where this stands itself, or all in a list. Once there is a list, it stays.
+/// Cargoes in the order in which they were put: a few where this stands itself, or all in a list. Once there is a list, its memory stays; but where it
+/// is empty before a turn, the next few stand near again.
 #[derive(Drop)]
 pub struct NearCargoes {
     /// How many stand near, where there is no list.
@@ -26,7 +28,7 @@ pub struct NearCargoes {
 }
 
 impl Model for NearCargoes {
-    ghost use Rattle.std.specs.Prelude.{◌≡◌, ◌<◌, ◌≤◌, true, length, vec_capacity};
+    ghost use Rattle.std.specs.Prelude.{◌≡◌, ◌<◌, ◌≤◌, [], true, false, length, vec_capacity};
     ghost use Rattle.tora_sim.specs.declared.near_cargoes.TheConstants.{NEAR};
     ghost use Rattle.tora_sim.specs.Lane.{CargoesView, cargoes_in};
 
@@ -34,7 +36,7 @@ impl Model for NearCargoes {
 
     ghost view = { λ c. cargoes_in c.is_wide c.count c.cells c.list.items (vec_capacity c.list) };
 
-    ghost invariant = { λ c. (c.count ≤ NEAR) × (length c.cells ≡ NEAR) × (c.is_wide ≡ true → 0 < vec_capacity c.list) };
+    ghost invariant = { λ c. (c.count ≤ NEAR) × (length c.cells ≡ NEAR) × (c.is_wide ≡ true → 0 < vec_capacity c.list) × (c.is_wide ≡ false → c.list.items ≡ []) };
 }
 
 impl NearCargoes {
@@ -99,7 +101,7 @@ impl NearCargoes {
         self.count -= count;
     }
 
-    /// Takes the memory for cargoes up to as many as a lane holds, where they stand in a list.
+    /// Takes the memory for cargoes up to as many as a lane holds, where they stand in a list. Where none does, the next few stand near.
     ///
     /// # Errors
     /// Want of memory.
@@ -111,12 +113,17 @@ impl NearCargoes {
         if !self.is_wide {
             return Ok(());
         }
+        if self.list.is_empty() {
+            self.count = 0;
+            self.is_wide = false;
+            return Ok(());
+        }
         let needed = MOST_CARGOES.saturating_sub(self.list.len());
         self.list.reserve(needed)
     }
 
-    /// Puts a cargo behind the others: near, in the list, or, where no place near is left, in a list that it takes from the spare ones, that of a
-    /// place, for good.
+    /// Puts a cargo behind the others: near, in the list, or, where no place near is left, in the list that it had, or in one that it takes from the
+    /// spare ones, that of a place, for good.
     #[inline(always)]
     pub fn push(&mut self, cargo: &Cargo, spares: &mut Spares, place: usize)
         requires { ((self.old.places ≡ 0) × IsWhole spares.old place) ⊎ (length self.old.items < self.old.places) }
@@ -133,7 +140,7 @@ impl NearCargoes {
             self.count += 1;
             return;
         }
-        self.list = listed(&self.cells, spares, place);
+        self.list = listed(&self.cells, &mut self.list, spares, place);
         self.is_wide = true;
         append(&mut self.list, cargo);
     }
@@ -160,17 +167,38 @@ fn drop_cells(cells: &mut [Cargo; NEAR], count: usize, first: usize)
     }
 }
 
-/// All that stand near, in the spare list of a place.
+/// All that stand near, in the list that had been theirs where that has memory, else in the spare list of a place.
 #[inline(never)]
-fn listed(cells: &[Cargo; NEAR], spares: &mut Spares, place: usize) -> Vec<Cargo>
-    requires { IsWhole spares.old place }
+fn listed(
+    cells: &[Cargo; NEAR],
+    own: &mut Vec<Cargo>,
+    spares: &mut Spares,
+    place: usize,
+) -> Vec<Cargo>
+    requires whole { IsWhole spares.old place }
+    requires empty { own.old.items ≡ [] }
     ensures items { result.items ≡ cells.now }
     ensures places { MOST_CARGOES + NEAR ≤ vec_capacity result }
     ensures others { AreOthersAsWhole spares.old spares.new place }
 {
-    let mut list = spares.take(place);
+    let mut list = list_of(own, spares, place);
     for at in 0..NEAR {
         append(&mut list, &cells[at]);
     }
     list
+}
+
+/// That list.
+fn list_of(own: &mut Vec<Cargo>, spares: &mut Spares, place: usize) -> Vec<Cargo>
+    requires whole { IsWhole spares.old place }
+    requires empty { own.old.items ≡ [] }
+    ensures items { result.items ≡ [] }
+    ensures places { MOST_CARGOES + NEAR ≤ vec_capacity result }
+    ensures others { AreOthersAsWhole spares.old spares.new place }
+{
+    if own.capacity() < MOST_CARGOES + NEAR {
+        return spares.take(place);
+    }
+    let alloc = *own.allocator();
+    mem::replace(own, Vec::new(alloc))
 }
