@@ -316,6 +316,26 @@ impl GrowingEnd {
                 if let Some(verdict) = end.on_frame(frame, now) {
                     return Ok(verdict);
                 }
+            }
+            EndKind::Whole(end) => return Ok(end.on_borrowed_frame(frame, now)),
+        }
+        self.on_frame_with_lists(frame, now)
+    }
+
+    /// The same with lists, which are taken first where there are none. It stands apart: the room for an end on the stack is made ready at each
+    /// call.
+    #[inline(never)]
+    fn on_frame_with_lists(
+        &mut self,
+        frame: &BorrowedFrame<'_>,
+        now: u64,
+    ) -> Result<Verdict, ArqError>
+        ensures verdict { IfOk result (λ verdict. verdict ≡ verdict_of self.old.settings self.old.state frame.now now) }
+        ensures state { IfOk result (λ _. self.new ≡ record self.old { state = after_frame self.old.settings self.old.state frame.now now }) }
+        ensures same { OnErr result (self.new ≡ self.old) }
+    {
+        match &mut self.kind {
+            EndKind::Near(end) => {
                 let mut whole = end.widened(self.alloc)?;
                 let verdict = whole.on_borrowed_frame(frame, now);
                 self.kind = EndKind::Whole(whole);
@@ -341,6 +361,22 @@ impl GrowingEnd {
                 if let Some(verdict) = end.on_hello(header, now) {
                     return Ok(verdict);
                 }
+            }
+            EndKind::Whole(end) => return Ok(end.on_hello(header, now)),
+        }
+        self.on_hello_with_lists(header, now)
+    }
+
+    /// The same with lists, as `on_frame_with_lists`.
+    #[inline(never)]
+    fn on_hello_with_lists(&mut self, header: &Header, now: u64) -> Result<Verdict, ArqError>
+        requires { IsHeader header.now }
+        ensures verdict { IfOk result (λ verdict. verdict ≡ verdict_of self.old.settings self.old.state (frame_of header.now Body.Hello) now) }
+        ensures state { IfOk result (λ _. self.new ≡ record self.old { state = after_frame self.old.settings self.old.state (frame_of header.now Body.Hello) now }) }
+        ensures same { OnErr result (self.new ≡ self.old) }
+    {
+        match &mut self.kind {
+            EndKind::Near(end) => {
                 let mut whole = end.widened(self.alloc)?;
                 let verdict = whole.on_hello(header, now);
                 self.kind = EndKind::Whole(whole);
@@ -369,8 +405,27 @@ impl GrowingEnd {
                 if let Some(answer) = end.submit(life, packet) {
                     return Ok(answer);
                 }
+            }
+            EndKind::Whole(end) => return Ok(end.submit(life, packet)),
+        }
+        self.submit_with_lists(life, again)
+    }
+
+    /// The same with lists, as `on_frame_with_lists`.
+    #[inline(never)]
+    fn submit_with_lists(
+        &mut self,
+        life: Life,
+        packet: Packet,
+    ) -> Result<Result<(), SubmitError>, ArqError>
+        ensures answer { IfOk result (λ answer. answer ≡ submit_answer self.old.state life packet) }
+        ensures state { IfOk result (λ _. self.new ≡ record self.old { state = after_submit self.old.state life packet }) }
+        ensures same { OnErr result (self.new ≡ self.old) }
+    {
+        match &mut self.kind {
+            EndKind::Near(end) => {
                 let mut whole = end.widened(self.alloc)?;
-                let answer = whole.submit(life, again);
+                let answer = whole.submit(life, packet);
                 self.kind = EndKind::Whole(whole);
                 Ok(answer)
             }
