@@ -10,6 +10,10 @@ use Rattle.tora_sim.specs.declared.nodes.Sending.{Sending}
 use Rattle.tora_sim.specs.declared.nodes.Sending.TheVariants as Sends
 use Rattle.tora_sim.specs.Keyed.{IsOrdered}
 
+-- items in order
+pub record ItemList (A : Type 0) : Type 0 where
+  pub items : List A
+
 pub record NodeView : Type 0 where
   pub node : ℕ
   pub first : ℕ  -- the place of its first link end among all link ends

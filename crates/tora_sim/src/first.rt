@@ -20,6 +20,7 @@ use crate::link_slot::LinkSlot;
 use crate::links::{LinkParts, end_of, far_ends_of, keys_of};
 use crate::links_by_bits::{LinkLists, links_by_bits};
 use crate::nodes::{NodeSlot, Sending, no_counts};
+use crate::queue::Queue;
 use crate::ready::none_ready;
 use crate::sim::Sim;
 use crate::spares::Spares;
@@ -27,7 +28,6 @@ use crate::stills::no_stills;
 use crate::topology::Topology;
 use crate::unready::all_unready;
 use std::alloc::Global;
-use std::collections::VecDeque;
 use tora_arq::{Times, standard_times};
 use tora_core::{Core, CoreLimits, numbers_are_put_in_order, numbers_come_and_go};
 use tora_frame::{Packets, Version};
@@ -127,6 +127,9 @@ fn add_node(
         return Err(SimError::Memory);
     };
     let counts = no_counts(alloc, count + 1)?;
+    let Ok(items) = Queue::new(alloc) else {
+        return Err(SimError::Memory);
+    };
     add_links(alloc, topology, times, n, neighbours.as_slice(), links)?;
     let node = NodeSlot {
         node: n,
@@ -134,7 +137,7 @@ fn add_node(
         count,
         seat,
         inputs: Vec::new(alloc),
-        items: VecDeque::new(alloc),
+        items,
         counts,
         sending: Sending::Goes,
         receive: false,

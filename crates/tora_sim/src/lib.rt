@@ -39,6 +39,7 @@ mod nodes;
 mod places;
 mod plains;
 mod possible;
+mod queue;
 mod quiet;
 mod readers;
 mod ready;

@@ -12,8 +12,8 @@ ghost use Rattle.tora_sim.specs.Nodes.{NodeView, is_of, AreRising, after_item};
 use crate::SimError;
 use crate::hints::Hints;
 use crate::lanes::NodeLanes;
+use crate::queue::Queue;
 use std::alloc::Global;
-use std::collections::VecDeque;
 use std::marker::Model;
 use tora_core::{Core, CoreLimits, Input, tables_stay};
 use tora_height::Id;
@@ -38,7 +38,7 @@ pub struct NodeSlot {
     /// Whether the next datagram for it is not handed over.
     pub(crate) receive: bool,
     /// The lane into its core.
-    pub(crate) items: VecDeque<Item>,
+    pub(crate) items: Queue<Item>,
     /// The place of its first link end among all link ends.
     pub(crate) first: usize,
     /// How many neighbours it has.
@@ -140,7 +140,7 @@ impl NodeSlot {
             now,
             what,
         };
-        if self.items.push_back(item).is_err() {
+        if self.items.push(item).is_err() {
             return Err(SimError::Memory);
         }
         self.counts[seat] = number;
@@ -215,7 +215,7 @@ impl NodeSlot {
         if self.inputs.reserve(most).is_err() {
             return Err(SimError::Memory);
         }
-        match self.items.pop_front() {
+        match self.items.pop() {
             Some(item) => {
                 items_step_few_inputs();
                 offers_are_their_own_answers();

@@ -58,7 +58,7 @@ impl NodeSlot {
     fn first_item(&self) -> Option<Item>
         ensures { result ≡ slice_get self.now.items 0 }
     {
-        self.items.front().copied()
+        self.items.first()
     }
 
     /// Whether its core requires a route to a destination.

@@ -7,7 +7,7 @@ use Rattle.tora_sim.proofs.first.add_node.Goals as goal
 
 pub returns : goal.returns
 returns c =
-    let node : NodeView = node_of c.args.n c.len-first.result c.len-count.result c.in-Ok.seat.value c.new-2.result.items c.new-3.result.items c.in_ok-counts.counts.items Goes false in
+    let node : NodeView = node_of c.args.n c.len-first.result c.len-count.result c.in-Ok.seat.value c.new-3.result.items c.in-Ok-new.items.items c.in_ok-counts.counts.items Goes false in
     let put : c.push.new.self.items ≡ c.args.nodes.now.items ++ node ∷ [] =
     c.push.ensures.items ∙ ap (λ b. if b then c.args.nodes.now.items ++ node ∷ [] else c.args.nodes.now.items) c.if-is_err.ensures.negation in
     let first : c.len-first.result ≡ length c.args.links.now.items = omega (arith, c.len-first.ensures, c.args.links.now.ok.0) in
@@ -15,8 +15,8 @@ returns c =
     let made : IsFirstNode c.args.topology.now node = record {
       count = c.len-count.ensures.value ∙ ap length c.neighbours-neighbours.ensures.items;
       seat = c.in-Ok.ensures.ok ∙ c.in_ok-seat.ensures;
-      inputs = c.new-2.ensures.items;
-      items = c.new-3.ensures.items;
+      inputs = c.new-3.ensures.items;
+      items = c.in-Ok-new.ensures;
       counts = c.in_ok-counts.ensures ∙ ap (λ m. replicate m 0) next;
       sending = refl;
       receive = refl;

@@ -26,7 +26,7 @@ returns-clause-served c =
     let noted : c.note_inputs.new.inputs.items ≡ s.inputs.items ++ map (λ input. (input, c.in-Some.item.now)) c.serve.new.self.inputs =
     c.note_inputs.ensures
     ∙ ap₂ (λ (a : List (Input × ℕ)) (b : List Input). a ++ map (λ input. (input, c.in-Some.item.now)) b) c.reserve.ensures.items (c.inputs.ensures ∙ ap (λ (s : SeatView). s.inputs) c.deref-in-Some.ensures) in
-    subst (λ (v : NodeView). IsServed v c.args.lanes.now c.in-Some.item (node_of s.node s.first s.count c.serve.new.self c.note_inputs.new.inputs.items c.pop_front.new.self.items s.counts.items s.sending s.receive) c.serve.new.outs) (ap (λ (seat : SeatView). node_of s.node s.first s.count seat s.inputs.items s.items.items s.counts.items s.sending s.receive) c.deref_mut.ensures.value ∙ c.self.view_is)
+    subst (λ (v : NodeView). IsServed v c.args.lanes.now c.in-Some.item (node_of s.node s.first s.count c.serve.new.self c.note_inputs.new.inputs.items c.pop.new.self.items s.counts.items s.sending s.receive) c.serve.new.outs) (ap (λ (seat : SeatView). node_of s.node s.first s.count seat s.inputs.items s.items.items s.counts.items s.sending s.receive) c.deref_mut.ensures.value ∙ c.self.view_is)
     (record {
       items = c.in-Some.ensures.items;
       offers = c.serve.ensures.served.0;
@@ -35,5 +35,5 @@ returns-clause-served c =
       me = stays_served (λ (core : CoreView). core.me) c.tables_stay.ensures.node c.accepted_inputs_make_the_core.ensures.runs c.offers_are_their_own_answers.ensures c.deref_mut.result.now c.serve.new.self c.in-Some.item c.serve.ensures.served.0 c.serve.ensures.served.2;
       neighbours = c.serve.ensures.neighbours;
       destinations = stays_served (λ (core : CoreView). destinations_of core.views) c.tables_stay.ensures.destinations c.accepted_inputs_make_the_core.ensures.runs c.offers_are_their_own_answers.ensures c.deref_mut.result.now c.serve.new.self c.in-Some.item c.serve.ensures.served.0 c.serve.ensures.served.2;
-      node = ap (λ (inputs : List (Input × ℕ)). record before { seat = c.serve.new.self; inputs = inputs; items = c.pop_front.new.self.items }) noted;
+      node = ap (λ (inputs : List (Input × ℕ)). record before { seat = c.serve.new.self; inputs = inputs; items = c.pop.new.self.items }) noted;
     })

@@ -1,0 +1,107 @@
+//! Queues that begin at their first place again.
+ghost use Rattle.std.specs.Prelude.{◌≡◌, ◌<◌, ◌≤◌, ◌+◌, ◌++◌, ◌∷◌, [], drop, length, option_to_list, slice_get, MatchResult, IfOk, IfNone};
+
+use std::alloc::{AllocError, Global};
+use std::marker::Model;
+
+/// For so many items there is room from the beginning, beside what else stands of a node.
+const FIRST_ROOM: usize = 8;
+
+/// Items in the order in which they came. Where none is left, it begins at its first place again: a core takes all in each pass, so the same few
+/// places are written, and lie where memory is at hand.
+#[derive(Drop)]
+pub struct Queue<T> {
+    list: Vec<T>,
+    /// How many of the first ones were taken.
+    taken: usize,
+}
+
+impl<T> Model for Queue<T> {
+    ghost use Rattle.std.specs.Prelude.{◌≤◌, drop, length};
+    ghost use Rattle.tora_sim.specs.Nodes.{ItemList};
+
+    ghost Value = { ItemList T };
+
+    ghost view = { λ q. record { items = drop q.taken q.list.items } };
+
+    ghost invariant = { λ q. q.taken ≤ length q.list.items };
+}
+
+impl<T: Copy + Drop> Queue<T> {
+    /// No items.
+    ///
+    /// # Errors
+    /// Want of memory.
+    pub fn new(alloc: Global) -> Result<Queue<T>, AllocError>
+        ensures { IfOk result (λ queue. queue.items ≡ []) }
+    {
+        let list = Vec::with_capacity(alloc, FIRST_ROOM)?;
+        Ok(Queue { list, taken: 0 })
+    }
+
+    /// How many there are.
+    #[inline(always)]
+    pub fn len(&self) -> usize
+        ensures { result ≡ length self.now.items }
+    {
+        self.list.len() - self.taken
+    }
+
+    /// The first one, which stays.
+    pub fn first(&self) -> Option<T>
+        ensures { result ≡ slice_get self.now.items 0 }
+    {
+        self.list.get(self.taken).copied()
+    }
+
+    /// Appends an item.
+    ///
+    /// # Errors
+    /// Want of memory, which changes nothing.
+    pub fn push(&mut self, item: T) -> Result<(), AllocError>
+        ensures { MatchResult result (λ _. self.new.items ≡ self.old.items ++ item ∷ []) (λ _. self.new ≡ self.old) }
+    {
+        if self.list.len() == self.list.capacity() {
+            self.list.drain(..self.taken);
+            self.taken = 0;
+        }
+        self.list.reserve(1)?;
+        self.list.push_reserved(item);
+        Ok(())
+    }
+
+    /// Takes the first item.
+    #[inline(always)]
+    pub fn pop(&mut self) -> Option<T>
+        ensures items { self.old.items ≡ option_to_list result ++ self.new.items }
+        ensures none { IfNone result (self.old.items ≡ []) }
+    {
+        let Some(item) = self.first() else {
+            return None;
+        };
+        let_go(&mut self.list, &mut self.taken);
+        Some(item)
+    }
+
+    /// Removes all.
+    pub fn clear(&mut self)
+        ensures { self.new.items ≡ [] }
+    {
+        self.list.clear();
+        self.taken = 0;
+    }
+}
+
+/// Lets the first item go that was not taken yet; where none is left, all go.
+#[inline(always)]
+fn let_go<T: Drop>(list: &mut Vec<T>, taken: &mut usize)
+    requires { taken.old < length list.old.items }
+    ensures rest { drop taken.new list.new.items ≡ drop (taken.old + 1) list.old.items }
+    ensures within { taken.new ≤ length list.new.items }
+{
+    *taken += 1;
+    if *taken == list.len() {
+        list.clear();
+        *taken = 0;
+    }
+}
