@@ -34,6 +34,7 @@ pub mod KeyLists
 pub mod FirstStore
 pub mod FreshEnds
 pub mod Guesses
+pub mod EachItem
 pub mod Restarting
 pub mod Possibles
 pub mod NodeEnds

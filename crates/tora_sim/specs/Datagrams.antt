@@ -1,5 +1,5 @@
 -- Datagrams as they are kept: the headers of all frames stand in one list, and the packets of all DATA frames in another.
-use Rattle.std.specs.Prelude.{◌≡◌, ℕ, ◌+◌, ◌≤◌, ◌<◌, ◌++◌, List, Option, None, Some, length, slice_get, slice_range}
+use Rattle.std.specs.Prelude.{◌≡◌, ◌≢◌, ℕ, ◌+◌, ◌≤◌, ◌<◌, ◌++◌, List, Option, None, Some, length, slice_get, slice_range}
 use Rattle.tora_packet.specs.declared.Packet.{Packet}
 use Rattle.tora_frame.specs.declared.parts.Version.TheVariants.{One}
 use Rattle.tora_frame.specs.declared.parts.Header.{Header}
@@ -9,6 +9,8 @@ use Rattle.tora_frame.specs.FrameParts.{FrameParts, IsFrame, batch, frame_of}
 use Rattle.tora_sim.specs.declared.kept_frames.KeptBody.{KeptBody}
 use Rattle.tora_sim.specs.declared.kept_frames.KeptBody.TheVariants.{Hello, Data, Ack}
 use Rattle.tora_sim.specs.declared.kept_frames.KeptFrame.{KeptFrame}
+use Rattle.tora_sim.specs.declared.kept_frames.LastFrames.{LastFrames}
+use Rattle.tora_sim.specs.declared.kept_frames.TheConstants.{NO_HEADER}
 
 -- the frames in order, and for how many more frames and packets there is room
 pub record DatagramList : Type 0 where
@@ -50,6 +52,13 @@ pub record IsKept (headers : List Header) (packets : List Packet) (kept : KeptFr
   pub header : kept.header < length headers
   pub within : IsWithin packets kept.body
   pub frame : IsFrame (frame_in headers packets kept)
+
+-- where the number of its header is known, the header stands there
+abbrev pub IsLast : LastFrames → List Header → Type 0
+IsLast last headers = last.number ≢ NO_HEADER → slice_get headers last.number ≡ Some last.header
+
+abbrev pub AreLasts : List LastFrames → List Header → Type 0
+AreLasts lasts headers = (k : ℕ) (last : LastFrames) → slice_get lasts k ≡ Some last → IsLast last headers
 
 -- items may have come behind those that were there
 abbrev pub IsMore : {A : Type 0} → List A → List A → Type 0

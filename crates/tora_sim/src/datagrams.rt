@@ -6,16 +6,13 @@ ghost use Rattle.tora_sim.specs.Datagrams.{DatagramList, HasRoom, IsMore};
 ghost use Rattle.tora_sim.specs.Readers.{way_of};
 ghost use Rattle.tora_sim.specs.Recents.{AreHellos};
 
-use crate::kept_frames::KeptFrames;
+use crate::kept_frames::{Guess, KeptFrames};
 use crate::places::Places;
 use crate::recents::{LastHello, RecentFrame, Recents, recent_hello, recent_of};
 use std::alloc::{AllocError, Global};
 use std::marker::Model;
 use tora_frame::{BorrowedBody, BorrowedFrame, Header, Version};
 use tora_height::Id;
-
-/// How many forms of frames there are: HELLOs of either version, DATA frames, and ACKs.
-const FORMS: usize = 4;
 
 /// The most frames that are kept: the place of each fits 32 bits.
 const MOST_FRAMES: usize = 0xffff_ffff;
@@ -25,26 +22,6 @@ const MOST_UNUSED: usize = 1024;
 
 /// So many headers of datagrams are let go behind a pass.
 const MANY_RECENTS: usize = 256;
-
-/// What is guessed of the next frame of a form that a link end sends, by the last one: the place of its frame, where it has the same mark, and the
-/// number of its header.
-#[derive(Clone, Copy)]
-pub struct Guess {
-    place: u32,
-    header: u32,
-    mark: u32,
-}
-
-impl Guess {
-    /// Of no frame.
-    fn none() -> Guess {
-        Guess {
-            place: 0,
-            header: 0,
-            mark: 0,
-        }
-    }
-}
 
 /// All datagrams that were ever sent, in order, but for the first ones that were let go.
 ///
@@ -56,13 +33,11 @@ impl Guess {
 pub struct Datagrams {
     frames: KeptFrames,
     places: Places,
-    /// Of each link end a guess for each form of frames.
-    guesses: Vec<Guess>,
     /// Of each link end the HELLOs that it sent last, one of either version: they are compared here, as frames and their headers lie elsewhere.
     hellos: Vec<LastHello>,
     /// The headers of the datagrams that were sent last, which are the ones that are delivered.
     recents: Recents,
-    /// Of so many link ends, the first ones, guesses and HELLOs have their places.
+    /// Of so many link ends, the first ones, what they sent last has its places.
     ends: usize,
 }
 
@@ -88,7 +63,6 @@ impl Datagrams {
         Datagrams {
             frames: KeptFrames::new(alloc),
             places: Places::new(alloc),
-            guesses: Vec::new(alloc),
             hellos: Vec::new(alloc),
             recents: Recents::new(alloc),
             ends: 0,
@@ -119,7 +93,7 @@ impl Datagrams {
         self.recents.reserve()
     }
 
-    /// Makes places for the guesses and the HELLOs of a link end, and of those before it.
+    /// Makes places for what a link end sends last, and those before it.
     ///
     /// # Errors
     /// Want of memory.
@@ -127,10 +101,7 @@ impl Datagrams {
     fn make_ends(&mut self, end: usize) -> Result<(), AllocError>
         ensures { self.new.items ≡ self.old.items }
     {
-        let guesses = first_guess(end).saturating_add(FORMS);
-        if self.guesses.len() < guesses {
-            self.guesses.resize(guesses, Guess::none())?;
-        }
+        self.frames.make_ends(end)?;
         make_hellos(&mut self.hellos, &self.frames, end)?;
         self.ends = end.saturating_add(1);
         Ok(())
@@ -142,7 +113,20 @@ impl Datagrams {
         requires { HasRoom self.old }
         ensures { self.new.items ≡ self.old.items ++ frame.now ∷ [] }
     {
-        let place = place_of(&mut self.frames, &mut self.guesses, end, frame);
+        match frame.body() {
+            BorrowedBody::Hello => self.push_hello(end, far_end, frame.header()),
+            BorrowedBody::Data(..) => self.push_frame(end, far_end, frame),
+            BorrowedBody::Ack(_) => self.push_frame(end, far_end, frame),
+        }
+    }
+
+    /// Appends any datagram so.
+    #[inline(always)]
+    fn push_frame(&mut self, end: usize, far_end: u32, frame: &BorrowedFrame<'_>)
+        requires { HasRoom self.old }
+        ensures { self.new.items ≡ self.old.items ++ frame.now ∷ [] }
+    {
+        let place = place_of(&mut self.frames, end, frame);
         self.places.push(place);
         self.recents
             .push(self.places.len(), recent_of(frame, far_end));
@@ -264,7 +248,7 @@ impl Datagrams {
     fn renewed(&self) -> Result<Datagrams, AllocError>
         ensures { IfOk result (λ renewed. renewed.items ≡ self.now.items) }
     {
-        let alloc = *self.guesses.allocator();
+        let alloc = *self.hellos.allocator();
         let mut renewed = Datagrams::new(alloc);
         for place in 0..self.len() {
             renewed.push_from(self, place)?;
@@ -341,7 +325,8 @@ fn hello_place(
     if let Some(place) = found_hello(hellos, frames, end, header) {
         return place;
     }
-    keep_hello(frames, hellos, end, header)
+    // By value: where it lies in memory for a call, each HELLO is written there and read from there.
+    keep_hello(frames, hellos, end, *header)
 }
 
 /// Keeps the frame of a HELLO of this header, and that it is the last one.
@@ -350,43 +335,23 @@ fn keep_hello(
     frames: &mut KeptFrames,
     hellos: &mut Vec<LastHello>,
     end: usize,
-    header: &Header,
+    header: Header,
 ) -> u32
     requires room { HasRoom frames.old }
     requires places { length frames.old.items < 2 ^ 32 }
-    requires valid { IsHeader header.now }
+    requires valid { IsHeader header }
     requires hellos { AreHellos hellos.old.items frames.old.items }
-    ensures is { slice_get frames.new.items result ≡ Some (frame_of header.now Body.Hello) }
+    ensures is { slice_get frames.new.items result ≡ Some (frame_of header Body.Hello) }
     ensures more { IsMore frames.old.items frames.new.items }
     ensures hellos { AreHellos hellos.new.items frames.new.items }
 {
     let place = frames.len() as u32;
-    let frame = BorrowedFrame::hello(*header);
-    frames.push(&frame, None);
+    let frame = BorrowedFrame::hello(header);
+    frames.push(end, &frame);
     if end < hellos.len() {
-        hellos[end] = hellos[end].with_hello(header, place);
+        hellos[end] = hellos[end].with_hello(&header, place);
     }
     place
-}
-
-/// Where the guesses of a link end begin.
-#[inline(always)]
-fn first_guess(end: usize) -> usize {
-    end.saturating_mul(FORMS)
-}
-
-/// Where the guess for a frame of a link end stands. Those for DATA frames and ACKs stand in front.
-#[inline(always)]
-fn guess_of(end: usize, frame: &BorrowedFrame<'_>) -> usize {
-    let form = match frame.body() {
-        BorrowedBody::Data(..) => 0,
-        BorrowedBody::Ack(_) => 1,
-        BorrowedBody::Hello => match frame.header().version {
-            Version::One => 2,
-            Version::Two => 3,
-        },
-    };
-    first_guess(end).saturating_add(form)
 }
 
 /// The mark of a frame: the last bits of the number of a DATA frame and of the count of an ACK.
@@ -402,15 +367,10 @@ fn mark_of(frame: &BorrowedFrame<'_>) -> u32 {
 
 /// The place of a frame that is kept, if the guess is right. A frame of another mark is another, so that what is kept isn't looked at for it.
 #[inline(always)]
-fn found(
-    frames: &KeptFrames,
-    guess: Option<Guess>,
-    mark: u32,
-    frame: &BorrowedFrame<'_>,
-) -> Option<u32>
+fn found(frames: &KeptFrames, end: usize, mark: u32, frame: &BorrowedFrame<'_>) -> Option<u32>
     ensures { IfSome result (λ place. slice_get frames.now.items place ≡ Some frame.now) }
 {
-    let Some(last) = guess else {
+    let Some(last) = frames.guess(end, frame) else {
         return None;
     };
     if last.mark != mark {
@@ -420,33 +380,20 @@ fn found(
     if is_same { Some(last.place) } else { None }
 }
 
-/// The place of a frame, which is kept now if it was not.
+/// The place of a frame that a link end sends, which is kept now if it was not.
 #[inline(always)]
-fn place_of(
-    frames: &mut KeptFrames,
-    guesses: &mut [Guess],
-    end: usize,
-    frame: &BorrowedFrame<'_>,
-) -> u32
+fn place_of(frames: &mut KeptFrames, end: usize, frame: &BorrowedFrame<'_>) -> u32
     requires room { HasRoom frames.old }
     requires places { length frames.old.items < 2 ^ 32 }
     ensures is { slice_get frames.new.items result ≡ Some frame.now }
     ensures more { IsMore frames.old.items frames.new.items }
 {
-    let at = guess_of(end, frame);
     let mark = mark_of(frame);
-    let guess = guesses.get(at).copied();
-    if let Some(place) = found(frames, guess, mark, frame) {
+    if let Some(place) = found(frames, end, mark, frame) {
         return place;
     }
     let place = frames.len() as u32;
-    let header = frames.push(frame, guess.map(|last| last.header));
-    if let Some(last) = guesses.get_mut(at) {
-        *last = Guess {
-            place,
-            header,
-            mark,
-        };
-    }
+    frames.push(end, frame);
+    frames.note_guess(end, frame, Guess { place, mark });
     place
 }

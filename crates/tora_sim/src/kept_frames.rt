@@ -3,8 +3,9 @@ ghost use Rattle.std.specs.Prelude.{◌≡◌, ◌<◌, ◌≤◌, ◌+◌, ◌^
 ghost use Rattle.std.specs.List.{AllByRecursion};
 ghost use Rattle.tora_frame.specs.FrameParts.{IsFrame, IsHeader, batch, frame_of};
 ghost use Rattle.tora_frame.specs.declared.parts.Body.TheVariants as Carries;
-ghost use Rattle.tora_sim.specs.Datagrams.{DatagramList, HasRoom, IsKept, IsMore, IsWithin, body_in, frame_in, header_at};
+ghost use Rattle.tora_sim.specs.Datagrams.{AreLasts, DatagramList, HasRoom, IsKept, IsMore, IsWithin, body_in, frame_in, header_at};
 ghost use Rattle.tora_sim.specs.Readers.{way_of};
+ghost use Rattle.tora_sim.specs.declared.kept_frames.TheConstants.{NO_HEADER};
 
 use crate::same_frames::is_kept_frame;
 use crate::same_packets::are_same_packets;
@@ -39,6 +40,59 @@ pub struct KeptFrame {
     pub body: KeptBody,
 }
 
+/// No number of a header.
+const NO_HEADER: u32 = 0xffff_ffff;
+
+/// What is guessed of a frame by the last one of its form: the place where it stands if it has the same mark.
+#[derive(Clone, Copy, Debug, PartialEq, Eq)]
+pub struct Guess {
+    pub place: u32,
+    pub mark: u32,
+}
+
+/// What a link end sent last: a header with its number, and guesses for its DATA frames and its ACKs. It has 56 bytes.
+#[derive(Clone, Copy, Debug, PartialEq, Eq)]
+pub struct LastFrames {
+    header: Header,
+    /// The number of the header; `NO_HEADER` where none is known.
+    number: u32,
+    data: Guess,
+    ack: Guess,
+}
+
+impl LastFrames {
+    /// Nothing.
+    fn none() -> LastFrames
+        ensures { result.number ≡ NO_HEADER }
+    {
+        LastFrames {
+            header: Header {
+                version: Version::One,
+                sender: 0,
+                receiver: 0,
+                life: 0,
+                heard: 0,
+            },
+            number: NO_HEADER,
+            data: Guess { place: 0, mark: 0 },
+            ack: Guess { place: 0, mark: 0 },
+        }
+    }
+
+    /// The same with this header, which has this number.
+    fn with_header(self, header: &Header, number: u32) -> LastFrames
+        ensures header { result.header ≡ header.now }
+        ensures number { result.number ≡ number }
+    {
+        LastFrames {
+            header: *header,
+            number,
+            data: self.data,
+            ack: self.ack,
+        }
+    }
+}
+
 /// Frames in the order in which they came.
 #[derive(Drop)]
 pub struct KeptFrames {
@@ -47,12 +101,15 @@ pub struct KeptFrames {
     packets: Vec<Packet>,
     /// Whether it is known that there is room for one more: most datagrams say what one before them said, and take none.
     is_ready: bool,
+    /// Of each link end what it sent last, by which the header of the next frame is found and a frame that goes out again: frames and headers lie
+    /// elsewhere for each end.
+    lasts: Vec<LastFrames>,
 }
 
 impl Model for KeptFrames {
     ghost use Rattle.std.specs.Prelude.{◌-◌, ◌^◌, ◌≡◌, true, map, min, length, vec_capacity};
     ghost use Rattle.std.specs.List.{AllByRecursion};
-    ghost use Rattle.tora_sim.specs.Datagrams.{DatagramList, IsKept, IsRoom, frame_in};
+    ghost use Rattle.tora_sim.specs.Datagrams.{AreLasts, DatagramList, IsKept, IsRoom, frame_in};
 
     ghost Value = { DatagramList };
 
@@ -62,7 +119,7 @@ impl Model for KeptFrames {
       packet_places = min (vec_capacity d.packets - length d.packets.items) (2 ^ 32 - length d.packets.items);
     } };
 
-    ghost invariant = { λ d. AllByRecursion (IsKept d.headers.items d.packets.items) d.frames.items × (d.is_ready ≡ true → IsRoom (min (vec_capacity d.frames - length d.frames.items) (min (vec_capacity d.headers - length d.headers.items) (2 ^ 32 - length d.headers.items))) (min (vec_capacity d.packets - length d.packets.items) (2 ^ 32 - length d.packets.items))) };
+    ghost invariant = { λ d. AllByRecursion (IsKept d.headers.items d.packets.items) d.frames.items × (d.is_ready ≡ true → IsRoom (min (vec_capacity d.frames - length d.frames.items) (min (vec_capacity d.headers - length d.headers.items) (2 ^ 32 - length d.headers.items))) (min (vec_capacity d.packets - length d.packets.items) (2 ^ 32 - length d.packets.items))) × AreLasts d.lasts.items d.headers.items };
 }
 
 impl KeptFrames {
@@ -75,6 +132,7 @@ impl KeptFrames {
             frames: Vec::new(alloc),
             packets: Vec::new(alloc),
             is_ready: false,
+            lasts: Vec::new(alloc),
         }
     }
 
@@ -118,18 +176,48 @@ impl KeptFrames {
         Ok(())
     }
 
-    /// Appends a frame, and answers the number of its header. There must be room for it. Its header may be the one of the number that is guessed: a
-    /// wrong guess costs memory and nothing else.
+    /// Makes a place for what a link end sends last, and for those before it.
+    ///
+    /// # Errors
+    /// Want of memory.
+    pub fn make_ends(&mut self, end: usize) -> Result<(), AllocError>
+        ensures { self.new ≡ self.old }
+    {
+        make_lasts(&mut self.lasts, &self.headers, end)
+    }
+
+    /// The guess for a frame that a link end sends.
+    #[inline(always)]
+    pub fn guess(&self, end: usize, frame: &BorrowedFrame<'_>) -> Option<Guess> {
+        let Some(last) = self.lasts.get(end) else {
+            return None;
+        };
+        match frame.body() {
+            BorrowedBody::Hello => None,
+            BorrowedBody::Data(..) => Some(last.data),
+            BorrowedBody::Ack(_) => Some(last.ack),
+        }
+    }
+
+    /// Notes the guess for the next frame of the same form that a link end sends.
+    #[inline(always)]
+    pub fn note_guess(&mut self, end: usize, frame: &BorrowedFrame<'_>, guess: Guess)
+        ensures { self.new ≡ self.old }
+    {
+        note_guess(&mut self.lasts, &self.headers, end, frame, guess);
+    }
+
+    /// Appends a frame that a link end sends. There must be room for it. Its header is the one that stands with that link end already, or one more:
+    /// that costs memory and nothing else.
     #[inline(never)]
-    pub fn push(&mut self, frame: &BorrowedFrame<'_>, guess: Option<u32>) -> u32
+    pub fn push(&mut self, end: usize, frame: &BorrowedFrame<'_>)
         requires { HasRoom self.old }
         ensures { self.new.items ≡ self.old.items ++ frame.now ∷ [] }
     {
-        let header = number_of(&mut self.headers, guess, frame);
+        let header = number_of(&mut self.headers, &mut self.lasts, end, frame);
         let body = keep_body(&mut self.packets, frame);
         self.frames.push_reserved(KeptFrame { header, body });
         self.is_ready = false;
-        header
     }
 
     /// The frame that stands behind so many others, with its packets where they stand.
@@ -167,32 +255,89 @@ impl KeptFrames {
     }
 }
 
-/// The number of a frame's header that is kept, if the guess is right.
-fn found_header(headers: &[Header], guess: Option<u32>, frame: &BorrowedFrame<'_>) -> Option<u32>
-    ensures { IfSome result (λ number. slice_get headers.now number ≡ Some frame.now.header) }
+/// Makes a place for what a link end sends last.
+///
+/// # Errors
+/// Want of memory.
+fn make_lasts(
+    lasts: &mut Vec<LastFrames>,
+    _headers: &Vec<Header>,
+    end: usize,
+) -> Result<(), AllocError>
+    requires { AreLasts lasts.old.items _headers.now.items }
+    ensures { AreLasts lasts.new.items _headers.now.items }
 {
-    let Some(number) = guess else {
-        return None;
-    };
-    let Some(other) = headers.get(number as usize) else {
-        return None;
-    };
-    let is_same = *other == *frame.header();
-    if is_same { Some(number) } else { None }
+    let behind = end.saturating_add(1);
+    if lasts.len() < behind {
+        lasts.resize(behind, LastFrames::none())?;
+    }
+    Ok(())
 }
 
-/// The number of a frame's header, which is kept now if it was not.
-fn number_of(headers: &mut Vec<Header>, guess: Option<u32>, frame: &BorrowedFrame<'_>) -> u32
+/// Puts a guess in the place of the one of the same form.
+#[inline(always)]
+fn note_guess(
+    lasts: &mut Vec<LastFrames>,
+    _headers: &Vec<Header>,
+    end: usize,
+    frame: &BorrowedFrame<'_>,
+    guess: Guess,
+)
+    requires { AreLasts lasts.old.items _headers.now.items }
+    ensures { AreLasts lasts.new.items _headers.now.items }
+{
+    if end >= lasts.len() {
+        return;
+    }
+    match frame.body() {
+        BorrowedBody::Hello => {}
+        BorrowedBody::Data(..) => lasts[end].data = guess,
+        BorrowedBody::Ack(_) => lasts[end].ack = guess,
+    }
+}
+
+/// The number of a header, where it is the last one of a link end.
+fn known_header(
+    lasts: &[LastFrames],
+    _headers: &Vec<Header>,
+    end: usize,
+    header: &Header,
+) -> Option<u32>
+    requires { AreLasts lasts.now _headers.now.items }
+    ensures { IfSome result (λ number. slice_get _headers.now.items number ≡ Some header.now) }
+{
+    let Some(last) = lasts.get(end) else {
+        return None;
+    };
+    if last.number == NO_HEADER {
+        return None;
+    }
+    let is_same = last.header == *header;
+    if is_same { Some(last.number) } else { None }
+}
+
+/// The number of the header of a frame that a link end sends, which is kept now if it was not its last one.
+fn number_of(
+    headers: &mut Vec<Header>,
+    lasts: &mut Vec<LastFrames>,
+    end: usize,
+    frame: &BorrowedFrame<'_>,
+) -> u32
     requires places { vec_len headers.old < vec_capacity headers.old }
     requires numbers { vec_len headers.old < 2 ^ 32 }
+    requires lasts { AreLasts lasts.old.items headers.old.items }
     ensures is { slice_get headers.new.items result ≡ Some frame.now.header }
     ensures more { IsMore headers.old.items headers.new.items }
+    ensures lasts { AreLasts lasts.new.items headers.new.items }
 {
-    if let Some(number) = found_header(headers, guess, frame) {
+    if let Some(number) = known_header(lasts, headers, end, frame.header()) {
         return number;
     }
     let number = headers.len() as u32;
     headers.push_reserved(*frame.header());
+    if end < lasts.len() {
+        lasts[end] = lasts[end].with_header(frame.header(), number);
+    }
     number
 }
 

@@ -185,7 +185,10 @@ impl LinkSlot {
     {
         wake(&mut self.steady, &mut *self.parts);
         let seen = self.parts.receive_and_look(frame, now)?;
-        keep(&mut self.steady, &mut *self.parts);
+        // one that is busy isn't steady
+        if !seen.0 {
+            keep(&mut self.steady, &mut *self.parts);
+        }
         Some(seen)
     }
 
@@ -233,7 +236,10 @@ impl LinkSlot {
     {
         wake(&mut self.steady, &mut *self.parts);
         let seen = self.parts.receive_hello_and_look(header, now)?;
-        keep(&mut self.steady, &mut *self.parts);
+        // one that is busy isn't steady
+        if !seen.0 {
+            keep(&mut self.steady, &mut *self.parts);
+        }
         Some(seen)
     }
 

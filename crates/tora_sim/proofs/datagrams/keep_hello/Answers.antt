@@ -3,7 +3,10 @@ use Rattle.std.proofs.lemmas.Option.{slice_get_read}
 use Rattle.tora_frame.specs.FrameParts.{frame_of}
 use Rattle.tora_frame.specs.declared.parts.Body.TheVariants.{Hello}
 use Rattle.tora_sim.specs.Datagrams.{IsMore}
-use Rattle.tora_sim.proofs.RecentLaws.{hellos_stay, hello_kept, kept_last}
+use Rattle.tora_sim.specs.declared.recents.LastHello.{LastHello}
+use Rattle.tora_sim.specs.Recents.{IsLastHello}
+use Rattle.tora_sim.proofs.EachItem.{each_set, kept_last}
+use Rattle.tora_sim.proofs.RecentLaws.{hellos_stay}
 use Rattle.tora_sim.proofs.datagrams.keep_hello.Goals as goal
 
 pub returns-then-end-len-clause-is : goal.returns-then-end-len-clause-is
@@ -16,8 +19,8 @@ returns-then-end-len-clause-hellos c =
     let more : IsMore c.args.frames.now.items after = (c.hello-frame.result ∷ [], c.push.ensures) in
     let within : c.args.end < length hellos = omega (arith, c.if-end-len.true, c.len.ensures, c.args.hellos.now.ok.0) in
     let stay = hellos_stay hellos c.args.frames.now.items after more c.requires.hellos in
-    let here : slice_get after c.len-place.result ≡ Some (frame_of c.args.header.now Hello) = kept_last c.args.frames.now.items after c.hello-frame.result c.len-place.result c.push.ensures c.len-place.ensures ∙ ap Some c.hello-frame.ensures in
-    hello_kept hellos after c.args.end _ within
+    let here : slice_get after c.len-place.result ≡ Some (frame_of c.args.header Hello) = kept_last c.args.frames.now.items after c.hello-frame.result c.len-place.result c.push.ensures c.len-place.ensures ∙ ap Some c.hello-frame.ensures in
+    each_set (λ (last : LastHello). IsLastHello last after) hellos c.args.end _ within
     (c.with_hello.ensures after (stay c.args.end c.index.result.now (slice_get_read hellos (length hellos) c.args.end c.index.result.now refl within c.index.ensures)) here)
     stay
 

@@ -11,6 +11,7 @@ invariant_of-self c =
           c.number_of-header.ensures.more c.keep_body-body.ensures.more c.number_of-header.ensures.is c.keep_body-body.ensures.body c.push_reserved.ensures.items c.self.invariant.0
           c.keep_body-body.ensures.within c.keep_body-body.ensures.valid,
       λ ready. absurd (true≢false (sym ready)),
+      c.number_of-header.ensures.lasts,
     )
 
 pub returns : goal.returns

@@ -5,7 +5,7 @@ use Rattle.tora_sim.proofs.RecentLaws.{hellos_stay, next_count}
 use Rattle.tora_sim.specs.Datagrams.{DatagramList}
 use Rattle.tora_sim.specs.SentFrames.{AreWithin, sent_frames}
 use Rattle.tora_sim.proofs.SentFrames.{one_more, all_within}
-use Rattle.tora_sim.proofs.datagrams.Datagrams.push.Goals as goal
+use Rattle.tora_sim.proofs.datagrams.Datagrams.push_frame.Goals as goal
 
 pub returns : goal.returns
 returns c =

@@ -1,0 +1,27 @@
+-- What holds of each item of a list where one is put in the place of another, and what stands at a place where more come behind.
+use Rattle.std.proofs.Common.{◌≡◌, ℕ, ◌<◌, ◌⊎◌, inl, inr, List, [], ◌∷◌, ◌++◌, length, slice_get, Some, refl, sym, ap, ◌∙◌, subst}
+use Rattle.std.specs.Prelude.{slice_set}
+use Rattle.std.proofs.lemmas.Bool.{cases_eq}
+use Rattle.std.proofs.lemmas.Option.{same_Some}
+use Rattle.tora_sim.specs.Datagrams.{IsMore}
+use Rattle.tora_sim.proofs.FreshEnds.{set_same, set_other}
+use Rattle.tora_sim.proofs.SentFrames.{within, stays_at}
+
+pub each_set : {A : Type 0} (P : A → Type 0) (xs : List A) (at : ℕ) (new : A) → at < length xs → P new → ((k : ℕ) (x : A) → slice_get xs k ≡ Some x → P x) → (k : ℕ) (x : A) → slice_get (slice_set xs at new) k ≡ Some x → P x
+each_set {A} P xs at new lt is h k x there = go (cases_eq k at)
+  where
+    go : (k ≡ at) ⊎ (k ≡ at → ⊥) → P x
+    go (inl e) = subst P (same_Some new x (sym (set_same xs at new lt) ∙ ap (slice_get (slice_set xs at new)) (sym e) ∙ there)) is
+    go (inr apart) = h k x (sym (set_other xs at k new apart) ∙ there)
+
+-- what stood at a place stays there
+pub stays : {A : Type 0} (xs after : List A) → IsMore xs after → (place : ℕ) (x : A) → slice_get xs place ≡ Some x → slice_get after place ≡ Some x
+stays xs after more place x e = ap (λ ys. slice_get ys place) more.1 ∙ stays_at xs more.0 place (within xs place x e) ∙ e
+
+pub last_at : {A : Type 0} (xs : List A) (x : A) → slice_get (xs ++ x ∷ []) (length xs) ≡ Some x
+last_at [] x = refl
+last_at (y ∷ xs) x = last_at xs x
+
+-- what came last
+pub kept_last : {A : Type 0} (xs after : List A) (x : A) (place : ℕ) → after ≡ xs ++ x ∷ [] → place ≡ length xs → slice_get after place ≡ Some x
+kept_last xs after x place e q = ap (λ ys. slice_get ys place) e ∙ ap (slice_get (xs ++ x ∷ [])) q ∙ last_at xs x
