@@ -36,20 +36,20 @@ pub struct State<const EVENTS: usize, const PACKETS: usize, const EARLY: usize> 
     pub last_hearing: u64,
     /// The greatest life of the peer that was noted, 0 for none.
     pub heard: u64,
-    /// The packets submitted and not acknowledged.
-    pub queue: SendQueue<PACKETS>,
-    /// The events that were not polled.
-    pub events: EventQueue<EVENTS>,
     /// The greatest number of a packet that was transmitted.
     pub transmitted: u64,
     /// How many packets the peer has accepted, as far as it told.
     pub acknowledged: u64,
     /// How many packets of the peer were delivered.
     pub accepted: u64,
-    /// The packets of the peer that came early.
-    pub held: HeldPackets<EARLY>,
     /// The number of the last life, 0 before the first.
     pub last_life: u64,
+    /// The packets submitted and not acknowledged.
+    pub queue: SendQueue<PACKETS>,
+    /// The events that were not polled.
+    pub events: EventQueue<EVENTS>,
+    /// The packets of the peer that came early.
+    pub held: HeldPackets<EARLY>,
 }
 
 impl<const EVENTS: usize, const PACKETS: usize, const EARLY: usize> State<EVENTS, PACKETS, EARLY> {

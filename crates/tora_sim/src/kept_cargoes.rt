@@ -33,13 +33,13 @@ pub enum KeptCargo {
 /// Cargoes in the order in which they came.
 #[derive(Drop)]
 pub struct KeptCargoes {
-    cargoes: KeptList,
-    lives: Vec<Life>,
-    apart: Vec<Cargo>,
     /// Whether there is room for one more.
     spare: bool,
     /// The last of the lives, which is that of most cargoes that come: where the lives stand is not looked at for it.
     last: Life,
+    lives: Vec<Life>,
+    cargoes: KeptList,
+    apart: Vec<Cargo>,
 }
 
 impl Model for KeptCargoes {

@@ -16,10 +16,10 @@ const MOST_LISTED: usize = 0x4000_0000_0000_0000;
 /// where memory is at hand, and the list, which lies elsewhere for each link end, is looked at for every fourth.
 #[derive(Drop)]
 pub struct KeptList {
-    list: Vec<KeptCargo>,
     /// How many stand near.
     count: usize,
     near: [KeptCargo; NEAR_KEPT],
+    list: Vec<KeptCargo>,
 }
 
 impl Model for KeptList {

@@ -20,12 +20,12 @@ use tora_seat::{Cargo, MOST_CARGOES};
 /// where few cargoes do, so that only lanes of which more waited at a time have a list.
 #[derive(Drop)]
 pub struct Lane {
-    /// The cargoes before the others, which left the lane.
-    past: KeptCargoes,
+    /// How many of the cargoes left the lane.
+    taken: usize,
     /// The cargoes that were put last, in front those that left the lane.
     cargoes: NearCargoes,
-    /// How many of these left the lane.
-    taken: usize,
+    /// The cargoes before these, which left the lane.
+    past: KeptCargoes,
 }
 
 impl Model for Lane {

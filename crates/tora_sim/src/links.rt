@@ -43,13 +43,13 @@ const FEW: usize = 8;
 pub struct LinkParts {
     /// In a place of its own, since it is seldom looked at.
     pub(crate) file: Box<FileSlot>,
-    /// The packets of the peer that the node's core ever stepped, each with its life.
-    pub(crate) steps: KeptCargoes,
-    /// The lane from the node's core.
-    pub(crate) lane: Lane,
-    pub(crate) end: GrowingEnd,
     /// The place of the peer among the node's neighbours.
     pub(crate) seat: usize,
+    pub(crate) end: GrowingEnd,
+    /// The lane from the node's core.
+    pub(crate) lane: Lane,
+    /// The packets of the peer that the node's core ever stepped, each with its life.
+    pub(crate) steps: KeptCargoes,
 }
 
 impl Model for LinkParts {

@@ -19,12 +19,12 @@ pub const NEAR: usize = 4;
 /// is empty before a turn, the next few stand near again.
 #[derive(Drop)]
 pub struct NearCargoes {
-    /// How many stand near, where there is no list.
-    count: usize,
-    cells: [Cargo; NEAR],
     /// Whether they stand in the list.
     is_wide: bool,
+    /// How many stand near, where there is no list.
+    count: usize,
     list: Vec<Cargo>,
+    cells: [Cargo; NEAR],
 }
 
 impl Model for NearCargoes {

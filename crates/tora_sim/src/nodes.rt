@@ -1,5 +1,5 @@
 //! The nodes: the core of each, and the lane into it.
-ghost use Rattle.std.specs.Prelude.{◌≡◌, ◌<◌, ◌≤◌, ◌+◌, ◌++◌, ℕ, None, Some, IfSome, IfNone, IfOk, IfErr, OnErr, MatchResult, find, length, map, replicate, slice_index, vec_len, vec_capacity};
+ghost use Rattle.std.specs.Prelude.{◌≡◌, ◌<◌, ◌≤◌, ◌+◌, ◌++◌, ℕ, None, Some, IfSome, IfNone, IfOk, IfErr, OnErr, OnOk, MatchResult, find, length, map, replicate, slice_index, vec_len, vec_capacity};
 ghost use Rattle.tora_core.specs.CoreRun.{core_refusal_within};
 ghost use Rattle.tora_core.specs.declared.TheConstants.{GREATEST_NEIGHBOURS, MOST_DESTINATIONS};
 ghost use Rattle.tora_core.specs.Kept.{IsCore, destinations_of};
@@ -13,7 +13,7 @@ use crate::SimError;
 use crate::hints::Hints;
 use crate::lanes::NodeLanes;
 use crate::queue::Queue;
-use std::alloc::Global;
+use std::alloc::{AllocError, Global};
 use std::marker::Model;
 use tora_core::{Core, CoreLimits, Input, tables_stay};
 use tora_height::Id;
@@ -212,7 +212,7 @@ impl NodeSlot {
         let core = self.seat.core();
         let _me = core.me();
         let most = core.neighbours().len() + 2;
-        if self.inputs.reserve(most).is_err() {
+        if make_room(&mut self.inputs, most).is_err() {
             return Err(SimError::Memory);
         }
         match self.items.pop() {
@@ -239,6 +239,22 @@ pub fn no_counts(alloc: Global, seats: usize) -> Result<Vec<u64>, SimError>
         Ok(()) => Ok(counts),
         Err(_) => Err(SimError::Memory),
     }
+}
+
+/// Makes room for so many more inputs. Where memory is taken, it is taken for three times as many as there are: so they are seldom moved.
+///
+/// # Errors
+/// Want of memory.
+#[inline(always)]
+fn make_room(inputs: &mut Vec<(Input, u64)>, most: usize) -> Result<(), AllocError>
+    ensures items { inputs.new.items ≡ inputs.old.items }
+    ensures room { OnOk result (vec_len inputs.new + most ≤ vec_capacity inputs.new) }
+{
+    if most <= inputs.capacity() - inputs.len() {
+        return Ok(());
+    }
+    let more = inputs.len().saturating_mul(3);
+    inputs.reserve(most.max(more))
 }
 
 /// Notes the inputs that a core accepted at a tick.

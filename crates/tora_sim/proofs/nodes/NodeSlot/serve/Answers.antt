@@ -15,7 +15,7 @@ note_inputs-requires c =
     let few = few_inputs c.deref_mut.result.now c.serve.new.self c.in-Some.item c.serve.ensures.served.0 c.items_step_few_inputs.ensures c.offers_are_their_own_answers.ensures
     (subst (λ (core : CoreView). IsAscending core.neighbours) (c.core-core.ensures ∙ ap (λ (s : SeatView). s.core) (c.deref.ensures ∙ sym c.deref_mut.ensures.value)) c.me-me.ensures.kept.ascending_neighbours) c.serve.ensures.served.2 in
     let ks : length c.neighbours.result.now ≡ length c.deref_mut.result.now.core.neighbours = ap length c.neighbours.ensures ∙ ap (λ (core : CoreView). length core.neighbours) (c.core-core.ensures ∙ ap (λ (s : SeatView). s.core) (c.deref.ensures ∙ sym c.deref_mut.ensures.value)) in
-    let room : vec_len c.reserve.new.self + (length c.neighbours.result.now + 2) ≤ vec_capacity c.reserve.new.self = search rules in
+    let room : vec_len c.make_room.new.inputs + (length c.neighbours.result.now + 2) ≤ vec_capacity c.make_room.new.inputs = search rules in
     let same : length c.inputs.result.now ≡ length c.serve.new.self.inputs = ap length (c.inputs.ensures ∙ ap (λ (s : SeatView). s.inputs) c.deref-in-Some.ensures) in
     omega (arith, few, same, room, ks)
 
@@ -25,7 +25,7 @@ returns-clause-served c =
     let before : NodeView = node_of s.node s.first s.count c.deref_mut.result.now s.inputs.items s.items.items s.counts.items s.sending s.receive in
     let noted : c.note_inputs.new.inputs.items ≡ s.inputs.items ++ map (λ input. (input, c.in-Some.item.now)) c.serve.new.self.inputs =
     c.note_inputs.ensures
-    ∙ ap₂ (λ (a : List (Input × ℕ)) (b : List Input). a ++ map (λ input. (input, c.in-Some.item.now)) b) c.reserve.ensures.items (c.inputs.ensures ∙ ap (λ (s : SeatView). s.inputs) c.deref-in-Some.ensures) in
+    ∙ ap₂ (λ (a : List (Input × ℕ)) (b : List Input). a ++ map (λ input. (input, c.in-Some.item.now)) b) c.make_room.ensures.items (c.inputs.ensures ∙ ap (λ (s : SeatView). s.inputs) c.deref-in-Some.ensures) in
     subst (λ (v : NodeView). IsServed v c.args.lanes.now c.in-Some.item (node_of s.node s.first s.count c.serve.new.self c.note_inputs.new.inputs.items c.pop.new.self.items s.counts.items s.sending s.receive) c.serve.new.outs) (ap (λ (seat : SeatView). node_of s.node s.first s.count seat s.inputs.items s.items.items s.counts.items s.sending s.receive) c.deref_mut.ensures.value ∙ c.self.view_is)
     (record {
       items = c.in-Some.ensures.items;
