@@ -8,15 +8,14 @@ use crate::kept_cargoes::append;
 use crate::spares::Spares;
 use std::alloc::{AllocError, Global};
 use std::marker::Model;
-use std::mem;
 use tora_arq::Life;
 use tora_seat::{Cargo, MOST_CARGOES};
 
 /// How many cargoes stand near.
 pub const NEAR: usize = 4;
 
-/// Cargoes in the order in which they were put: a few where this stands itself, or all in a list. Once there is a list, its memory stays; but where it
-/// is empty before a turn, the next few stand near again.
+/// Cargoes in the order in which they were put: a few where this stands itself, or all in a list. Where it is empty before a turn, its memory is given
+/// back, and the next few stand near again.
 #[derive(Drop)]
 pub struct NearCargoes {
     /// Whether they stand in the list.
@@ -101,7 +100,8 @@ impl NearCargoes {
         self.count -= count;
     }
 
-    /// Takes the memory for cargoes up to as many as a lane holds, where they stand in a list. Where none does, the next few stand near.
+    /// Takes the memory for cargoes up to as many as a lane holds, where they stand in a list. Where none does, the list goes, and the next few stand
+    /// near.
     ///
     /// # Errors
     /// Want of memory.
@@ -114,16 +114,17 @@ impl NearCargoes {
             return Ok(());
         }
         if self.list.is_empty() {
+            let alloc = *self.list.allocator();
             self.count = 0;
             self.is_wide = false;
+            self.list = Vec::new(alloc);
             return Ok(());
         }
         let needed = MOST_CARGOES.saturating_sub(self.list.len());
         self.list.reserve(needed)
     }
 
-    /// Puts a cargo behind the others: near, in the list, or, where no place near is left, in the list that it had, or in one that it takes from the
-    /// spare ones, that of a place, for good.
+    /// Puts a cargo behind the others: near, in the list, or, where no place near is left, in one that it takes from the spare ones, that of a place.
     #[inline(always)]
     pub fn push(&mut self, cargo: &Cargo, spares: &mut Spares, place: usize)
         requires { ((self.old.places ≡ 0) × IsWhole spares.old place) ⊎ (length self.old.items < self.old.places) }
@@ -140,7 +141,7 @@ impl NearCargoes {
             self.count += 1;
             return;
         }
-        self.list = listed(&self.cells, &mut self.list, spares, place);
+        self.list = listed(&self.cells, spares, place);
         self.is_wide = true;
         append(&mut self.list, cargo);
     }
@@ -167,38 +168,17 @@ fn drop_cells(cells: &mut [Cargo; NEAR], count: usize, first: usize)
     }
 }
 
-/// All that stand near, in the list that had been theirs where that has memory, else in the spare list of a place.
+/// All that stand near, in the spare list of a place.
 #[inline(never)]
-fn listed(
-    cells: &[Cargo; NEAR],
-    own: &mut Vec<Cargo>,
-    spares: &mut Spares,
-    place: usize,
-) -> Vec<Cargo>
-    requires whole { IsWhole spares.old place }
-    requires empty { own.old.items ≡ [] }
+fn listed(cells: &[Cargo; NEAR], spares: &mut Spares, place: usize) -> Vec<Cargo>
+    requires { IsWhole spares.old place }
     ensures items { result.items ≡ cells.now }
     ensures places { MOST_CARGOES + NEAR ≤ vec_capacity result }
     ensures others { AreOthersAsWhole spares.old spares.new place }
 {
-    let mut list = list_of(own, spares, place);
+    let mut list = spares.take(place);
     for at in 0..NEAR {
         append(&mut list, &cells[at]);
     }
     list
-}
-
-/// That list.
-fn list_of(own: &mut Vec<Cargo>, spares: &mut Spares, place: usize) -> Vec<Cargo>
-    requires whole { IsWhole spares.old place }
-    requires empty { own.old.items ≡ [] }
-    ensures items { result.items ≡ [] }
-    ensures places { MOST_CARGOES + NEAR ≤ vec_capacity result }
-    ensures others { AreOthersAsWhole spares.old spares.new place }
-{
-    if own.capacity() < MOST_CARGOES + NEAR {
-        return spares.take(place);
-    }
-    let alloc = *own.allocator();
-    mem::replace(own, Vec::new(alloc))
 }
