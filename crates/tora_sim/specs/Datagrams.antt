@@ -9,6 +9,8 @@ use Rattle.tora_frame.specs.FrameParts.{FrameParts, IsFrame, batch, frame_of}
 use Rattle.tora_sim.specs.declared.kept_frames.KeptBody.{KeptBody}
 use Rattle.tora_sim.specs.declared.kept_frames.KeptBody.TheVariants.{Hello, Data, Ack}
 use Rattle.tora_sim.specs.declared.kept_frames.KeptFrame.{KeptFrame}
+use Rattle.tora_sim.specs.declared.kept_frames.KeptFrame.TheVariants as Keeps
+use Rattle.tora_sim.specs.declared.kept_frames.WideFrame.{WideFrame}
 use Rattle.tora_sim.specs.declared.kept_frames.LastFrames.{LastFrames}
 use Rattle.tora_sim.specs.declared.kept_frames.TheConstants.{NO_HEADER}
 
@@ -39,8 +41,24 @@ header_in (Some header) = header
 abbrev pub header_at : List Header → ℕ → Header
 header_at headers number = header_in (slice_get headers number)
 
-abbrev pub frame_in : List Header → List Packet → KeptFrame → FrameParts
-frame_in headers packets kept = frame_of (header_at headers kept.header) (body_in packets kept.body)
+-- a frame of such a header and body
+abbrev pub wide_of : ℕ → KeptBody → WideFrame
+wide_of header body = record { header = header; body = body }
+
+-- the frame at a place of those apart; where there is none, a HELLO
+abbrev pub apart_in : Option WideFrame → WideFrame
+apart_in None = wide_of 0 Hello
+apart_in (Some wide) = wide
+
+-- the header's number and the body of a frame that is kept so
+abbrev pub wide_in : List WideFrame → KeptFrame → WideFrame
+wide_in apart (Keeps.Hello header) = wide_of header Hello
+wide_in apart (Keeps.Data header many from number count) = wide_of header (Data many from number count)
+wide_in apart (Keeps.Ack header count) = wide_of header (Ack count)
+wide_in apart (Keeps.Apart place) = apart_in (slice_get apart place)
+
+abbrev pub frame_in : List Header → List Packet → List WideFrame → KeptFrame → FrameParts
+frame_in headers packets apart kept = frame_of (header_at headers (wide_in apart kept).header) (body_in packets (wide_in apart kept).body)
 
 -- its packets are among those that are kept
 abbrev pub IsWithin : List Packet → KeptBody → Type 0
@@ -48,10 +66,23 @@ IsWithin packets Hello = Unit {0}
 IsWithin packets (Data many from number count) = from + many ≤ length packets
 IsWithin packets (Ack count) = Unit {0}
 
-pub record IsKept (headers : List Header) (packets : List Packet) (kept : KeptFrame) : Type 0 where
-  pub header : kept.header < length headers
-  pub within : IsWithin packets kept.body
-  pub frame : IsFrame (frame_in headers packets kept)
+-- its place is among those of the frames apart
+abbrev pub IsThere : List WideFrame → KeptFrame → Type 0
+IsThere apart (Keeps.Hello header) = Unit {0}
+IsThere apart (Keeps.Data header many from number count) = Unit {0}
+IsThere apart (Keeps.Ack header count) = Unit {0}
+IsThere apart (Keeps.Apart place) = place < length apart
+
+pub record IsKept (headers : List Header) (packets : List Packet) (apart : List WideFrame) (kept : KeptFrame) : Type 0 where
+  pub there : IsThere apart kept
+  pub header : (wide_in apart kept).header < length headers
+  pub within : IsWithin packets (wide_in apart kept).body
+  pub frame : IsFrame (frame_in headers packets apart kept)
+
+-- how a frame of such a header and body is kept, whatever frames stand apart
+pub record IsShort (header : ℕ) (body : KeptBody) (kept : KeptFrame) : Type 0 where
+  pub value : (apart : List WideFrame) → wide_in apart kept ≡ wide_of header body
+  pub there : (apart : List WideFrame) → IsThere apart kept
 
 -- where the number of its header is known, the header stands there
 abbrev pub IsLast : LastFrames → List Header → Type 0

@@ -122,7 +122,7 @@ impl KeptCargoes {
 }
 
 /// Makes room for one more item; a first one gets no more than its own, as most lists have few lives, and nothing apart.
-fn reserve_one<T: Drop>(items: &mut Vec<T>) -> Result<(), AllocError>
+pub fn reserve_one<T: Drop>(items: &mut Vec<T>) -> Result<(), AllocError>
     ensures items { items.new.items ≡ items.old.items }
     ensures room { OnOk result (vec_len items.new < vec_capacity items.new) }
 {

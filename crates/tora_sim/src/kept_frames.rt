@@ -3,12 +3,14 @@ ghost use Rattle.std.specs.Prelude.{◌≡◌, ◌<◌, ◌≤◌, ◌+◌, ◌^
 ghost use Rattle.std.specs.List.{AllByRecursion};
 ghost use Rattle.tora_frame.specs.FrameParts.{IsFrame, IsHeader, batch, frame_of};
 ghost use Rattle.tora_frame.specs.declared.parts.Body.TheVariants as Carries;
-ghost use Rattle.tora_sim.specs.Datagrams.{AreLasts, DatagramList, HasRoom, IsKept, IsMore, IsWithin, body_in, frame_in, header_at};
+ghost use Rattle.tora_sim.specs.Datagrams.{AreLasts, DatagramList, HasRoom, IsKept, IsMore, IsShort, IsThere, IsWithin, body_in, frame_in, header_at, wide_in, wide_of};
 ghost use Rattle.tora_sim.specs.Readers.{way_of};
 ghost use Rattle.tora_sim.specs.declared.kept_frames.TheConstants.{NO_HEADER};
 
+use crate::kept_cargoes::reserve_one;
 use crate::same_frames::is_kept_frame;
 use crate::same_packets::are_same_packets;
+use crate::short_place::ShortPlace;
 use crate::split_number::SplitNumber;
 use std::alloc::{AllocError, Global};
 use std::marker::Model;
@@ -16,10 +18,33 @@ use tora_frame::{BorrowedBody, BorrowedFrame, Header, MOST_PACKETS, Version};
 use tora_height::Id;
 use tora_packet::Packet;
 
-/// The most headers and the most packets that are kept: the place of each fits 32 bits.
+/// The most headers, packets and frames apart that are kept: the place of each fits 32 bits.
 const MOST_KEPT: usize = 0x1_0000_0000;
 
-/// What a frame carries, but for the packets of a DATA frame.
+/// The first number that has more than three bytes.
+const FIRST_LONG: u32 = 0x100_0000;
+
+/// The first number that has more than two bytes.
+const FIRST_WIDE: u64 = 0x1_0000;
+
+/// A frame whose header and packets stand apart, in 12 bytes: the frames of a life have few headers, and one of few packets takes
+/// no room for sixteen. The number of the header stands first, at the same place in each form.
+#[derive(Drop)]
+pub enum KeptFrame {
+    /// A HELLO: the number of its header.
+    Hello(ShortPlace),
+    /// A DATA frame: the number of its header, how many packets there are, the place of the first among all that are kept, its
+    /// number, and the count of packets accepted.
+    Data(ShortPlace, u8, ShortPlace, u16, u16),
+    /// An ACK: the number of its header, and the count of packets accepted.
+    Ack(ShortPlace, u16),
+    /// The place among the frames that are kept apart: those of greater numbers.
+    Apart(u32),
+}
+
+const _: () = prove!(size_of::<KeptFrame>() == 12);
+
+/// What a frame carries, but for the packets of a DATA frame, whatever its numbers are.
 #[derive(Drop)]
 pub enum KeptBody {
     /// A HELLO.
@@ -31,10 +56,9 @@ pub enum KeptBody {
     Ack(SplitNumber),
 }
 
-/// A frame whose header and packets stand apart: the frames of a life have few headers, and one of few packets takes no room
-/// for sixteen.
+/// The same as a frame that is kept, whatever its numbers are. It has 28 bytes.
 #[derive(Drop)]
-pub struct KeptFrame {
+pub struct WideFrame {
     /// The number of its header.
     pub header: u32,
     pub body: KeptBody,
@@ -99,6 +123,8 @@ pub struct KeptFrames {
     headers: Vec<Header>,
     frames: Vec<KeptFrame>,
     packets: Vec<Packet>,
+    /// The frames that are kept apart.
+    apart: Vec<WideFrame>,
     /// Whether it is known that there is room for one more: most datagrams say what one before them said, and take none.
     is_ready: bool,
     /// Of each link end what it sent last, by which the header of the next frame is found and a frame that goes out again: frames and headers lie
@@ -114,12 +140,12 @@ impl Model for KeptFrames {
     ghost Value = { DatagramList };
 
     ghost view = { λ d. record {
-      items = map (frame_in d.headers.items d.packets.items) d.frames.items;
-      places = min (vec_capacity d.frames - length d.frames.items) (min (vec_capacity d.headers - length d.headers.items) (2 ^ 32 - length d.headers.items));
+      items = map (frame_in d.headers.items d.packets.items d.apart.items) d.frames.items;
+      places = min (min (vec_capacity d.frames - length d.frames.items) (min (vec_capacity d.headers - length d.headers.items) (2 ^ 32 - length d.headers.items))) (min (vec_capacity d.apart - length d.apart.items) (2 ^ 32 - length d.apart.items));
       packet_places = min (vec_capacity d.packets - length d.packets.items) (2 ^ 32 - length d.packets.items);
     } };
 
-    ghost invariant = { λ d. AllByRecursion (IsKept d.headers.items d.packets.items) d.frames.items × (d.is_ready ≡ true → IsRoom (min (vec_capacity d.frames - length d.frames.items) (min (vec_capacity d.headers - length d.headers.items) (2 ^ 32 - length d.headers.items))) (min (vec_capacity d.packets - length d.packets.items) (2 ^ 32 - length d.packets.items))) × AreLasts d.lasts.items d.headers.items };
+    ghost invariant = { λ d. AllByRecursion (IsKept d.headers.items d.packets.items d.apart.items) d.frames.items × (d.is_ready ≡ true → IsRoom (min (min (vec_capacity d.frames - length d.frames.items) (min (vec_capacity d.headers - length d.headers.items) (2 ^ 32 - length d.headers.items))) (min (vec_capacity d.apart - length d.apart.items) (2 ^ 32 - length d.apart.items))) (min (vec_capacity d.packets - length d.packets.items) (2 ^ 32 - length d.packets.items))) × AreLasts d.lasts.items d.headers.items };
 }
 
 impl KeptFrames {
@@ -131,6 +157,7 @@ impl KeptFrames {
             headers: Vec::new(alloc),
             frames: Vec::new(alloc),
             packets: Vec::new(alloc),
+            apart: Vec::new(alloc),
             is_ready: false,
             lasts: Vec::new(alloc),
         }
@@ -169,9 +196,13 @@ impl KeptFrames {
         if self.packets.len() > MOST_KEPT - MOST_PACKETS {
             return Err(AllocError);
         }
+        if self.apart.len() >= MOST_KEPT {
+            return Err(AllocError);
+        }
         self.headers.reserve(1)?;
         self.frames.reserve(1)?;
         self.packets.reserve(MOST_PACKETS)?;
+        reserve_one(&mut self.apart)?;
         self.is_ready = true;
         Ok(())
     }
@@ -216,7 +247,8 @@ impl KeptFrames {
     {
         let header = number_of(&mut self.headers, &mut self.lasts, end, frame);
         let body = keep_body(&mut self.packets, frame);
-        self.frames.push_reserved(KeptFrame { header, body });
+        let kept = keep(&mut self.apart, header, body);
+        self.frames.push_reserved(kept);
         self.is_ready = false;
     }
 
@@ -228,7 +260,7 @@ impl KeptFrames {
         let Some(kept) = self.frames.get(place) else {
             return None;
         };
-        Some(frame_of(&self.headers, &self.packets, kept))
+        Some(frame_of(&self.headers, &self.packets, &self.apart, kept))
     }
 
     /// Whether the frame that stands behind so many others is seen to be this one: it is compared where it stands.
@@ -239,7 +271,7 @@ impl KeptFrames {
         let Some(kept) = self.frames.get(place) else {
             return false;
         };
-        is_kept_frame(&self.headers, &self.packets, kept, frame)
+        is_kept_frame(&self.headers, &self.packets, &self.apart, kept, frame)
     }
 
     /// From which node to which the frame goes that stands behind so many others: only its header is looked at.
@@ -250,7 +282,7 @@ impl KeptFrames {
         let Some(kept) = self.frames.get(place) else {
             return None;
         };
-        let header = header_at(&self.headers, kept.header);
+        let header = header_at(&self.headers, header_number(&self.apart, kept));
         Some((header.sender, header.receiver))
     }
 }
@@ -416,6 +448,60 @@ fn append(packets: &mut Vec<Packet>, carried: &[Packet])
     }
 }
 
+/// Keeps a frame of such a header and body, in few bytes or apart.
+fn keep(apart: &mut Vec<WideFrame>, header: u32, body: KeptBody) -> KeptFrame
+    requires places { vec_len apart.old < vec_capacity apart.old }
+    requires numbers { vec_len apart.old < 2 ^ 32 }
+    ensures value { wide_in apart.new.items result ≡ wide_of header body }
+    ensures there { IsThere apart.new.items result }
+    ensures more { IsMore apart.old.items apart.new.items }
+{
+    if let Some(kept) = short(header, &body) {
+        return kept;
+    }
+    let place = apart.len() as u32;
+    apart.push_reserved(WideFrame { header, body });
+    KeptFrame::Apart(place)
+}
+
+/// A frame in few bytes, if its numbers are small.
+fn short(header: u32, body: &KeptBody) -> Option<KeptFrame>
+    ensures { IfSome result (IsShort header body.now) }
+{
+    let header = short_place(header)?;
+    match body {
+        KeptBody::Hello => Some(KeptFrame::Hello(header)),
+        KeptBody::Data(many, from, number, count) => {
+            let from = short_place(*from)?;
+            let number = short_number(number)?;
+            let count = short_number(count)?;
+            Some(KeptFrame::Data(header, *many, from, number, count))
+        }
+        KeptBody::Ack(count) => Some(KeptFrame::Ack(header, short_number(count)?)),
+    }
+}
+
+/// A number in three bytes, if it has no more.
+fn short_place(number: u32) -> Option<ShortPlace>
+    ensures { IfSome result (λ short. short ≡ number) }
+{
+    if number >= FIRST_LONG {
+        return None;
+    }
+    Some(ShortPlace::new(number))
+}
+
+/// A number in two bytes, if it has no more.
+fn short_number(number: &SplitNumber) -> Option<u16>
+    ensures { IfSome result (λ short. short ≡ number.now) }
+{
+    let number = number.get();
+    if number >= FIRST_WIDE {
+        return None;
+    }
+    Some(number as u16)
+}
+
 /// The header of a number.
 #[inline(always)]
 fn header_at(headers: &[Header], number: u32) -> Header
@@ -433,18 +519,64 @@ fn header_at(headers: &[Header], number: u32) -> Header
     }
 }
 
-/// The frame that is kept so.
+/// The number of the header of a frame that is kept so.
 #[inline(always)]
-fn frame_of<'a>(headers: &[Header], packets: &'a [Packet], kept: &KeptFrame) -> BorrowedFrame<'a>
-    requires { IsKept headers.now packets.now kept.now }
-    ensures { result ≡ frame_in headers.now packets.now kept.now }
+pub fn header_number(apart: &[WideFrame], kept: &KeptFrame) -> u32
+    requires { IsThere apart.now kept.now }
+    ensures { result ≡ (wide_in apart.now kept.now).header }
 {
-    frame_with(header_at(headers, kept.header), packets, &kept.body)
+    match kept {
+        KeptFrame::Hello(header) => header.get(),
+        KeptFrame::Data(header, _, _, _, _) => header.get(),
+        KeptFrame::Ack(header, _) => header.get(),
+        KeptFrame::Apart(place) => apart[*place as usize].header,
+    }
 }
 
-/// The frame of a header and of a body that is kept so.
+/// The frame that is kept so.
 #[inline(always)]
-fn frame_with<'a>(header: Header, packets: &'a [Packet], body: &KeptBody) -> BorrowedFrame<'a>
+fn frame_of<'a>(
+    headers: &[Header],
+    packets: &'a [Packet],
+    apart: &[WideFrame],
+    kept: &KeptFrame,
+) -> BorrowedFrame<'a>
+    requires { IsKept headers.now packets.now apart.now kept.now }
+    ensures { result ≡ frame_in headers.now packets.now apart.now kept.now }
+{
+    let header = header_at(headers, header_number(apart, kept));
+    frame_with(header, packets, apart, kept)
+}
+
+/// The frame of a header and of what is kept so.
+#[inline(always)]
+fn frame_with<'a>(
+    header: Header,
+    packets: &'a [Packet],
+    apart: &[WideFrame],
+    kept: &KeptFrame,
+) -> BorrowedFrame<'a>
+    requires there { IsThere apart.now kept.now }
+    requires within { IsWithin packets.now (wide_in apart.now kept.now).body }
+    requires frame { IsFrame (frame_of header (body_in packets.now (wide_in apart.now kept.now).body)) }
+    ensures { result ≡ frame_of header (body_in packets.now (wide_in apart.now kept.now).body) }
+{
+    match kept {
+        KeptFrame::Hello(_) => BorrowedFrame::hello(header),
+        KeptFrame::Data(_, many, from, number, count) => {
+            let from = from.get() as usize;
+            let many = usize::from(*many);
+            let packets = &packets[from..from + many];
+            BorrowedFrame::data(header, u64::from(*number), u64::from(*count), packets)
+        }
+        KeptFrame::Ack(_, count) => BorrowedFrame::ack(header, u64::from(*count)),
+        KeptFrame::Apart(place) => wide_with(header, packets, &apart[*place as usize].body),
+    }
+}
+
+/// The frame of a header and of a body that is kept apart.
+#[inline(never)]
+fn wide_with<'a>(header: Header, packets: &'a [Packet], body: &KeptBody) -> BorrowedFrame<'a>
     requires within { IsWithin packets.now body.now }
     requires frame { IsFrame (frame_of header (body_in packets.now body.now)) }
     ensures { result ≡ frame_of header (body_in packets.now body.now) }

@@ -49,6 +49,7 @@ mod restarts;
 mod same_frames;
 mod same_packets;
 mod sending;
+mod short_place;
 mod sim;
 mod spares;
 mod split_number;

@@ -3,9 +3,9 @@ ghost use Rattle.std.specs.Prelude.{◌≡◌, IsTrue};
 ghost use Rattle.tora_frame.specs.BorrowedFrames.{body_of};
 ghost use Rattle.tora_frame.specs.FrameParts.{batch};
 ghost use Rattle.tora_frame.specs.declared.parts.Body.TheVariants as Carries;
-ghost use Rattle.tora_sim.specs.Datagrams.{IsKept, IsWithin, body_in, frame_in, header_at};
+ghost use Rattle.tora_sim.specs.Datagrams.{IsKept, IsThere, IsWithin, body_in, frame_in, header_at, wide_in};
 
-use crate::kept_frames::{KeptBody, KeptFrame};
+use crate::kept_frames::{KeptBody, KeptFrame, WideFrame, header_number};
 use crate::same_packets::are_same_packets;
 use tora_frame::{BorrowedBody, BorrowedFrame, Header};
 use tora_packet::Packet;
@@ -30,9 +30,41 @@ fn is_same_data(
     are_same_packets(packets, others)
 }
 
-/// Whether a body that is kept is seen to be this one.
+/// Whether what a frame that is kept carries is seen to be this.
 #[inline(always)]
-fn is_kept_body(packets: &[Packet], kept: &KeptBody, body: BorrowedBody<'_>) -> bool
+fn is_kept_body(
+    packets: &[Packet],
+    apart: &[WideFrame],
+    kept: &KeptFrame,
+    body: BorrowedBody<'_>,
+) -> bool
+    requires there { IsThere apart.now kept.now }
+    requires within { IsWithin packets.now (wide_in apart.now kept.now).body }
+    ensures { IsTrue result → body_in packets.now (wide_in apart.now kept.now).body ≡ body_of body.entry }
+{
+    match kept {
+        KeptFrame::Hello(_) => matches!(body, BorrowedBody::Hello),
+        KeptFrame::Data(_, many, from, first, accepted) => match body {
+            BorrowedBody::Data(number, count, others) => {
+                let from = from.get() as usize;
+                let many = usize::from(*many);
+                let packets = &packets[from..from + many];
+                let (first, accepted) = (u64::from(*first), u64::from(*accepted));
+                is_same_data(first, accepted, packets, number, count, others)
+            }
+            _ => false,
+        },
+        KeptFrame::Ack(_, accepted) => match body {
+            BorrowedBody::Ack(count) => u64::from(*accepted) == count,
+            _ => false,
+        },
+        KeptFrame::Apart(place) => is_wide_body(packets, &apart[*place as usize].body, body),
+    }
+}
+
+/// Whether a body that is kept apart is seen to be this one.
+#[inline(never)]
+fn is_wide_body(packets: &[Packet], kept: &KeptBody, body: BorrowedBody<'_>) -> bool
     requires { IsWithin packets.now kept.now }
     ensures { IsTrue result → body_in packets.now kept.now ≡ body_of body.entry }
 {
@@ -70,14 +102,15 @@ fn is_kept_header(headers: &[Header], number: u32, header: &Header) -> bool
 pub fn is_kept_frame(
     headers: &[Header],
     packets: &[Packet],
+    apart: &[WideFrame],
     kept: &KeptFrame,
     frame: &BorrowedFrame<'_>,
 ) -> bool
-    requires { IsKept headers.now packets.now kept.now }
-    ensures { IsTrue result → frame_in headers.now packets.now kept.now ≡ frame.now }
+    requires { IsKept headers.now packets.now apart.now kept.now }
+    ensures { IsTrue result → frame_in headers.now packets.now apart.now kept.now ≡ frame.now }
 {
-    if !is_kept_header(headers, kept.header, frame.header()) {
+    if !is_kept_header(headers, header_number(apart, kept), frame.header()) {
         return false;
     }
-    is_kept_body(packets, &kept.body, frame.body())
+    is_kept_body(packets, apart, kept, frame.body())
 }

@@ -6,10 +6,10 @@ use Rattle.tora_sim.proofs.kept_frames.KeptFrames.push.Goals as goal
 pub invariant_of-self : goal.invariant_of-self
 invariant_of-self c =
     let s = c.self.inside in (
-      pushed_kept s.headers.items c.number_of-header.new.headers.items s.packets.items c.keep_body-body.new.packets.items s.frames.items c.push_reserved.new.self.items
-          (record { header = c.number_of-header.result; body = c.keep_body-body.result }) c.args.frame.now
-          c.number_of-header.ensures.more c.keep_body-body.ensures.more c.number_of-header.ensures.is c.keep_body-body.ensures.body c.push_reserved.ensures.items c.self.invariant.0
-          c.keep_body-body.ensures.within c.keep_body-body.ensures.valid,
+      pushed_kept s.headers.items c.number_of-header.new.headers.items s.packets.items c.keep_body-body.new.packets.items s.apart.items c.keep-kept.new.apart.items s.frames.items c.push_reserved.new.self.items
+          c.keep-kept.result c.number_of-header.result c.keep_body-body.result c.args.frame.now
+          c.number_of-header.ensures.more c.keep_body-body.ensures.more c.keep-kept.ensures.more c.keep-kept.ensures.value c.number_of-header.ensures.is c.keep_body-body.ensures.body c.push_reserved.ensures.items c.self.invariant.0
+          c.keep-kept.ensures.there c.keep_body-body.ensures.within c.keep_body-body.ensures.valid,
       λ ready. absurd (true≢false (sym ready)),
       c.number_of-header.ensures.lasts,
     )
@@ -17,7 +17,7 @@ invariant_of-self c =
 pub returns : goal.returns
 returns c =
     let s = c.self.inside in
-    pushed s.headers.items c.number_of-header.new.headers.items s.packets.items c.keep_body-body.new.packets.items s.frames.items c.push_reserved.new.self.items
-    (record { header = c.number_of-header.result; body = c.keep_body-body.result }) c.args.frame.now
-    c.number_of-header.ensures.more c.keep_body-body.ensures.more c.number_of-header.ensures.is c.keep_body-body.ensures.body c.push_reserved.ensures.items c.self.invariant.0
+    pushed s.headers.items c.number_of-header.new.headers.items s.packets.items c.keep_body-body.new.packets.items s.apart.items c.keep-kept.new.apart.items s.frames.items c.push_reserved.new.self.items
+    c.keep-kept.result c.number_of-header.result c.keep_body-body.result c.args.frame.now
+    c.number_of-header.ensures.more c.keep_body-body.ensures.more c.keep-kept.ensures.more c.keep-kept.ensures.value c.number_of-header.ensures.is c.keep_body-body.ensures.body c.push_reserved.ensures.items c.self.invariant.0
     ∙ ap (λ (d : DatagramList). d.items ++ c.args.frame.now ∷ []) c.self.view_is
