@@ -10,7 +10,7 @@ ghost use Rattle.tora_sim.specs.declared.kept_frames.TheConstants.{NO_HEADER};
 use crate::kept_cargoes::reserve_one;
 use crate::same_frames::is_kept_frame;
 use crate::same_packets::are_same_packets;
-use crate::short_place::ShortPlace;
+use crate::short_place::{FIRST_LONG, ShortPlace};
 use crate::split_number::SplitNumber;
 use std::alloc::{AllocError, Global};
 use std::marker::Model;
@@ -20,9 +20,6 @@ use tora_packet::Packet;
 
 /// The most headers, packets and frames apart that are kept: the place of each fits 32 bits.
 const MOST_KEPT: usize = 0x1_0000_0000;
-
-/// The first number that has more than three bytes.
-const FIRST_LONG: u32 = 0x100_0000;
 
 /// The first number that has more than two bytes.
 const FIRST_WIDE: u64 = 0x1_0000;

@@ -1,7 +1,10 @@
-//! Places below 2^24.
+//! Places in three bytes.
 ghost use Rattle.std.specs.Prelude.{◌≡◌, ◌<◌, ◌^◌};
 
 use std::marker::Model;
+
+/// The first place that has more than three bytes.
+pub const FIRST_LONG: u32 = 0x100_0000;
 
 /// A place below 2^24.
 #[derive(Drop)]
@@ -20,6 +23,7 @@ impl Model for ShortPlace {
 }
 
 impl ShortPlace {
+    /// The three bytes of a place, which is below `FIRST_LONG`.
     #[inline(always)]
     pub fn new(place: u32) -> ShortPlace
         requires { place < 2 ^ 24 }
@@ -32,6 +36,7 @@ impl ShortPlace {
         }
     }
 
+    /// The place of its three bytes.
     #[inline(always)]
     pub fn get(&self) -> u32
         ensures { result ≡ self.now }

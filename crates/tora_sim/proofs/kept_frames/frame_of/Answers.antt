@@ -1,4 +1,4 @@
-use Rattle.std.proofs.Common.{sym, ap, ◌∙◌, subst, ℕ}
+use Rattle.std.proofs.Common.{sym, ap, ◌∙◌, subst}
 use Rattle.tora_frame.specs.declared.parts.Header.{Header}
 use Rattle.tora_frame.specs.FrameParts.{IsFrame, frame_of}
 use Rattle.tora_sim.specs.Datagrams.{body_in, header_at, wide_in}
