@@ -1,11 +1,13 @@
 //! Cargoes as a simulator keeps them.
-ghost use Rattle.std.specs.Prelude.{◌≡◌, ◌<◌, ◌-◌, ◌^◌, ◌∷◌, ◌++◌, [], List, length, slice_get, vec_len, vec_capacity, Some, IfOk, IfSome, OnOk};
+ghost use Rattle.std.specs.Prelude.{◌≡◌, ◌<◌, ◌-◌, ◌^◌, ◌∷◌, ◌++◌, [], List, slice_get, length, vec_len, vec_capacity, IfOk, IfSome, OnOk, IsTrue, ◌↔◌};
 ghost use Rattle.tora_arq.specs.declared.life.Life.{Life as AnyLife};
+ghost use Rattle.tora_sim.specs.declared.kept_cargoes.Origin.{Origin as AnyOrigin};
 ghost use Rattle.tora_height.specs.Height.{IsHeight, quintuple};
 ghost use Rattle.tora_sim.specs.Datagrams.{IsMore};
-ghost use Rattle.tora_sim.specs.KeptCargoes.{IsKeptCargo, IsLastLife, IsShort, apart_in, cargo_in, life_at, life_of};
+ghost use Rattle.tora_sim.specs.KeptCargoes.{HasOrigin, IsKeptCargo, IsLastOrigin, IsOrigin, IsShort, apart_in, cargo_in, origin_at};
 
 use crate::kept_list::KeptList;
+use crate::short_tau::ShortTau;
 use std::alloc::{AllocError, Global};
 use std::marker::Model;
 use tora_arq::Life;
@@ -16,28 +18,44 @@ use tora_seat::Cargo;
 /// The most cargoes that are kept apart: the place of each fits 32 bits.
 const MOST_APART: usize = 0x1_0000_0000;
 
-/// A cargo, in 16 bytes.
+/// What stands for an origin where there is none.
+const NO_ORIGIN: Origin = Origin {
+    life: Life { own: 0, peer: 0 },
+    id: 0,
+};
+
+/// The life of a cargo, and the node whose height an update tells.
+#[derive(Clone, Copy)]
+pub struct Origin {
+    life: Life,
+    /// For a cut and a query this may be any node.
+    id: Id,
+}
+
+/// A cargo, in 12 bytes.
 #[derive(Clone, Copy)]
 pub enum KeptCargo {
-    /// The number of the life that is cut.
+    /// The number of the origin, whose life is cut.
     Cut(u16),
-    /// The number of the life, and the destination of the query.
+    /// The number of the origin, and the destination of the query.
     Qry(u16, u32),
-    /// The reflection bit, the number of the life, the destination, the node that defined the level, the time tag in ticks of
-    /// 100 ms, the order within the level, and the node whose height it is.
-    Upd(u8, u16, u16, u16, u32, i16, u16),
+    /// The reflection bit, the number of the origin, the destination, the node that defined the level, the time tag, and the order within
+    /// the level. The node whose height it is stands with the origin.
+    Upd(u8, u16, u16, u16, ShortTau, i8),
     /// The place among the cargoes that are kept apart: those with a clear, and those of greater numbers.
     Apart(u32),
 }
+
+const _: () = prove!(size_of::<KeptCargo>() == 12);
 
 /// Cargoes in the order in which they came.
 #[derive(Drop)]
 pub struct KeptCargoes {
     /// Whether there is room for one more.
     spare: bool,
-    /// The last of the lives, which is that of most cargoes that come: where the lives stand is not looked at for it.
-    last: Life,
-    lives: Vec<Life>,
+    /// The last of the origins, which is that of most cargoes that come: where the origins stand is not looked at for it.
+    last: Origin,
+    origins: Vec<Origin>,
     cargoes: KeptList,
     apart: Vec<Cargo>,
 }
@@ -45,18 +63,18 @@ pub struct KeptCargoes {
 impl Model for KeptCargoes {
     ghost use Rattle.std.specs.Prelude.{◌≡◌, ◌<◌, ◌^◌, true, map, vec_len, vec_capacity};
     ghost use Rattle.std.specs.List.{AllByRecursion};
-    ghost use Rattle.tora_sim.specs.KeptCargoes.{CargoList, IsKeptCargo, IsLastLife, cargo_in, one_if};
+    ghost use Rattle.tora_sim.specs.KeptCargoes.{CargoList, IsKeptCargo, IsLastOrigin, cargo_in, one_if};
 
     ghost Value = { CargoList };
 
     ghost view = { λ s. record {
-      items = map (cargo_in s.lives.items s.apart.items) s.cargoes.items;
+      items = map (cargo_in s.origins.items s.apart.items) s.cargoes.items;
       places = one_if s.spare;
     } };
 
-    ghost invariant = { λ s. AllByRecursion (IsKeptCargo s.lives.items s.apart.items) s.cargoes.items
-        × (s.spare ≡ true → (0 < s.cargoes.places) × (vec_len s.lives < vec_capacity s.lives) × (vec_len s.apart < vec_capacity s.apart) × (vec_len s.apart < 2 ^ 32))
-        × IsLastLife s.last s.lives.items };
+    ghost invariant = { λ s. AllByRecursion (IsKeptCargo s.origins.items s.apart.items) s.cargoes.items
+        × (s.spare ≡ true → (0 < s.cargoes.places) × (vec_len s.origins < vec_capacity s.origins) × (vec_len s.apart < vec_capacity s.apart) × (vec_len s.apart < 2 ^ 32))
+        × IsLastOrigin s.last s.origins.items };
 }
 
 impl KeptCargoes {
@@ -66,10 +84,10 @@ impl KeptCargoes {
     {
         KeptCargoes {
             cargoes: KeptList::new(alloc),
-            lives: Vec::new(alloc),
+            origins: Vec::new(alloc),
             apart: Vec::new(alloc),
             spare: false,
-            last: Life { own: 0, peer: 0 },
+            last: NO_ORIGIN,
         }
     }
 
@@ -93,7 +111,7 @@ impl KeptCargoes {
             return Err(AllocError);
         }
         self.cargoes.reserve()?;
-        reserve_one(&mut self.lives)?;
+        reserve_one(&mut self.origins)?;
         reserve_one(&mut self.apart)?;
         self.spare = true;
         Ok(())
@@ -105,7 +123,7 @@ impl KeptCargoes {
         ensures { self.new ≡ record self.old { items = self.old.items ++ cargo.now ∷ []; places = self.old.places - 1 } }
     {
         self.spare = false;
-        let number = number_of(&mut self.lives, &mut self.last, cargo);
+        let number = number_of(&mut self.origins, &mut self.last, cargo);
         let kept = keep(&mut self.apart, number, cargo);
         self.cargoes.push(kept);
     }
@@ -117,11 +135,11 @@ impl KeptCargoes {
         let Some(kept) = self.cargoes.get(place) else {
             return None;
         };
-        Some(cargo_of(&self.lives, &self.apart, &kept))
+        Some(cargo_of(&self.origins, &self.apart, &kept))
     }
 }
 
-/// Makes room for one more item; a first one gets no more than its own, as most lists have few lives, and nothing apart.
+/// Makes room for one more item; a first one gets no more than its own, as most lists have few origins, and nothing apart.
 pub fn reserve_one<T: Drop>(items: &mut Vec<T>) -> Result<(), AllocError>
     ensures items { items.new.items ≡ items.old.items }
     ensures room { OnOk result (vec_len items.new < vec_capacity items.new) }
@@ -133,51 +151,67 @@ pub fn reserve_one<T: Drop>(items: &mut Vec<T>) -> Result<(), AllocError>
     }
 }
 
-fn life_of(cargo: &Cargo) -> Life
-    ensures { result ≡ life_of cargo.now }
+/// Whether a cargo has this origin.
+fn has_origin(cargo: &Cargo, origin: &Origin) -> bool
+    ensures { IsTrue result ↔ IsOrigin cargo.now origin.now }
 {
     match cargo {
-        Cargo::Packet(life, _) => *life,
-        Cargo::Cut(life) => *life,
+        Cargo::Packet(life, Packet::Upd(update)) => {
+            origin.id == update.height().id() && origin.life == *life
+        }
+        Cargo::Packet(life, _) => origin.life == *life,
+        Cargo::Cut(life) => origin.life == *life,
     }
 }
 
-/// The number of the life of a cargo, if it is the last that is kept.
-fn last_number(lives: &[Life], last: &Life, cargo: &Cargo) -> Option<usize>
-    requires { IsLastLife last.now lives.now }
-    ensures { IfSome result (λ number. slice_get lives.now number ≡ Some (life_of cargo.now)) }
+/// An origin of a cargo, with the node of the last one where the cargo tells no height.
+fn origin_of(cargo: &Cargo, last: &Origin) -> Origin
+    ensures { IsOrigin cargo.now result }
 {
-    let Some(number) = lives.len().checked_sub(1) else {
+    let (life, id) = match cargo {
+        Cargo::Packet(life, Packet::Upd(update)) => (*life, update.height().id()),
+        Cargo::Packet(life, _) => (*life, last.id),
+        Cargo::Cut(life) => (*life, last.id),
+    };
+    Origin { life, id }
+}
+
+/// The number of the origin of a cargo, if it is the last that is kept.
+fn last_number(origins: &[Origin], last: &Origin, cargo: &Cargo) -> Option<usize>
+    requires { IsLastOrigin last.now origins.now }
+    ensures { IfSome result (λ number. HasOrigin origins.now number cargo.now) }
+{
+    let Some(number) = origins.len().checked_sub(1) else {
         return None;
     };
-    let is_same = *last == life_of(cargo);
+    let is_same = has_origin(cargo, last);
     if is_same { Some(number) } else { None }
 }
 
-/// The number of the life of a cargo, which is kept now if it was not the last.
-fn number_of(lives: &mut Vec<Life>, last: &mut Life, cargo: &Cargo) -> usize
-    requires places { vec_len lives.old < vec_capacity lives.old }
-    requires last { IsLastLife last.old lives.old.items }
-    ensures is { slice_get lives.new.items result ≡ Some (life_of cargo.now) }
-    ensures more { IsMore lives.old.items lives.new.items }
-    ensures last { IsLastLife last.new lives.new.items }
+/// The number of the origin of a cargo, which is kept now if it was not the last.
+fn number_of(origins: &mut Vec<Origin>, last: &mut Origin, cargo: &Cargo) -> usize
+    requires places { vec_len origins.old < vec_capacity origins.old }
+    requires last { IsLastOrigin last.old origins.old.items }
+    ensures is { HasOrigin origins.new.items result cargo.now }
+    ensures more { IsMore origins.old.items origins.new.items }
+    ensures last { IsLastOrigin last.new origins.new.items }
 {
-    if let Some(number) = last_number(lives, last, cargo) {
+    if let Some(number) = last_number(origins, last, cargo) {
         return number;
     }
-    let number = lives.len();
-    let life = life_of(cargo);
-    lives.push_reserved(life);
-    *last = life;
+    let number = origins.len();
+    let origin = origin_of(cargo, last);
+    origins.push_reserved(origin);
+    *last = origin;
     number
 }
 
-/// Keeps a cargo whose life has this number, in few bytes or apart.
+/// Keeps a cargo whose origin has this number, in few bytes or apart.
 fn keep(apart: &mut Vec<Cargo>, number: usize, cargo: &Cargo) -> KeptCargo
     requires places { vec_len apart.old < vec_capacity apart.old }
     requires numbers { vec_len apart.old < 2 ^ 32 }
-    ensures value { (lives : List AnyLife) → slice_get lives number ≡ Some (life_of cargo.now) → cargo_in lives apart.new.items result ≡ cargo.now }
-    ensures within { (lives : List AnyLife) → number < length lives → IsKeptCargo lives apart.new.items result }
+    ensures value { (origins : List AnyOrigin) → HasOrigin origins number cargo.now → cargo_in origins apart.new.items result ≡ cargo.now }
+    ensures within { (origins : List AnyOrigin) → HasOrigin origins number cargo.now → IsKeptCargo origins apart.new.items result }
     ensures more { IsMore apart.old.items apart.new.items }
 {
     if let Some(kept) = short(number, cargo) {
@@ -192,34 +226,33 @@ fn keep(apart: &mut Vec<Cargo>, number: usize, cargo: &Cargo) -> KeptCargo
 fn short(number: usize, cargo: &Cargo) -> Option<KeptCargo>
     ensures { IfSome result (IsShort number cargo.now) }
 {
-    let life = u16::try_from(number).ok()?;
+    let origin = u16::try_from(number).ok()?;
     match cargo {
-        Cargo::Packet(_, Packet::Qry(query)) => Some(KeptCargo::Qry(life, query.destination())),
-        Cargo::Packet(_, Packet::Upd(update)) => short_update(life, update),
+        Cargo::Packet(_, Packet::Qry(query)) => Some(KeptCargo::Qry(origin, query.destination())),
+        Cargo::Packet(_, Packet::Upd(update)) => short_update(origin, update),
         Cargo::Packet(_, Packet::Clr(_)) => None,
-        Cargo::Cut(_) => Some(KeptCargo::Cut(life)),
+        Cargo::Cut(_) => Some(KeptCargo::Cut(origin)),
     }
 }
 
-fn short_update(life: u16, update: &Update) -> Option<KeptCargo>
-    ensures { IfSome result (λ kept. (other : AnyLife) → IsShort life (Cargo.Packet other (Packet.Upd update.now)) kept) }
+fn short_update(origin: u16, update: &Update) -> Option<KeptCargo>
+    ensures { IfSome result (λ kept. (life : AnyLife) → IsShort origin (Cargo.Packet life (Packet.Upd update.now)) kept) }
 {
     let destination = u16::try_from(update.destination()).ok()?;
     let height = update.height();
-    let tau = u32::try_from(height.tau()).ok()?;
+    let tau = ShortTau::new(height.tau())?;
     let oid = u16::try_from(height.oid()).ok()?;
-    let delta = i16::try_from(height.delta()).ok()?;
-    let id = u16::try_from(height.id()).ok()?;
-    Some(KeptCargo::Upd(height.r(), life, destination, oid, tau, delta, id))
+    let delta = i8::try_from(height.delta()).ok()?;
+    Some(KeptCargo::Upd(height.r(), origin, destination, oid, tau, delta))
 }
 
-/// The life of a number.
-fn life_at(lives: &[Life], number: u16) -> Life
-    ensures { result ≡ life_at lives.now number }
+/// The origin of a number.
+fn origin_at(origins: &[Origin], number: u16) -> Origin
+    ensures { result ≡ origin_at origins.now number }
 {
-    match lives.get(usize::from(number)) {
-        Some(life) => *life,
-        None => Life { own: 0, peer: 0 },
+    match origins.get(usize::from(number)) {
+        Some(origin) => *origin,
+        None => NO_ORIGIN,
     }
 }
 
@@ -234,20 +267,21 @@ fn apart_at(apart: &[Cargo], place: u32) -> Cargo
 }
 
 /// The cargo that is kept so.
-fn cargo_of(lives: &[Life], apart: &[Cargo], kept: &KeptCargo) -> Cargo
-    requires { IsKeptCargo lives.now apart.now kept.now }
-    ensures { result ≡ cargo_in lives.now apart.now kept.now }
+fn cargo_of(origins: &[Origin], apart: &[Cargo], kept: &KeptCargo) -> Cargo
+    requires { IsKeptCargo origins.now apart.now kept.now }
+    ensures { result ≡ cargo_in origins.now apart.now kept.now }
 {
     match kept {
-        KeptCargo::Cut(life) => Cargo::Cut(life_at(lives, *life)),
-        KeptCargo::Qry(life, destination) => {
-            Cargo::Packet(life_at(lives, *life), Packet::Qry(Query::of(*destination)))
+        KeptCargo::Cut(origin) => Cargo::Cut(origin_at(origins, *origin).life),
+        KeptCargo::Qry(origin, destination) => {
+            let life = origin_at(origins, *origin).life;
+            Cargo::Packet(life, Packet::Qry(Query::of(*destination)))
         }
-        KeptCargo::Upd(r, life, destination, oid, tau, delta, id) => {
-            let (tau, oid, id) = (u64::from(*tau), u32::from(*oid), u32::from(*id));
-            let height = height_of(tau, oid, *r, i32::from(*delta), id);
+        KeptCargo::Upd(r, origin, destination, oid, tau, delta) => {
+            let origin = origin_at(origins, *origin);
+            let height = height_of(tau.get(), u32::from(*oid), *r, i32::from(*delta), origin.id);
             let update = Update::of(u32::from(*destination), height);
-            Cargo::Packet(life_at(lives, *life), Packet::Upd(update))
+            Cargo::Packet(origin.life, Packet::Upd(update))
         }
         KeptCargo::Apart(place) => apart_at(apart, *place),
     }

@@ -50,6 +50,7 @@ mod same_frames;
 mod same_packets;
 mod sending;
 mod short_place;
+mod short_tau;
 mod sim;
 mod spares;
 mod split_number;
