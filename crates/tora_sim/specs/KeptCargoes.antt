@@ -3,7 +3,6 @@ use Rattle.std.specs.Prelude.{◌≡◌, ℕ, suc, ◌<◌, Bool, List, Option, 
 use Rattle.tora_height.specs.Height.{quintuple}
 use Rattle.tora_packet.specs.PacketParts.{IsId, IsUpdate, update_of}
 use Rattle.tora_packet.specs.declared.Packet.TheVariants.{Qry, Upd, Clr}
-use Rattle.tora_arq.specs.declared.life.Life.{Life}
 use Rattle.tora_seat.specs.declared.cargo.Cargo.{Cargo}
 use Rattle.tora_seat.specs.declared.cargo.Cargo.TheVariants as Gives
 use Rattle.tora_sim.specs.declared.kept_cargoes.KeptCargo.{KeptCargo}
