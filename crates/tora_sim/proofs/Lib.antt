@@ -42,6 +42,9 @@ pub mod Olds
 pub mod KeptFrames
 pub mod SentFrames
 pub mod PlaceLists
+pub mod Unpacking
+pub mod Packings
+pub mod PackedLists
 pub mod SamePackets
 pub mod RecentLaws
 pub mod KeptCargoes

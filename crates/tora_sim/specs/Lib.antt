@@ -3,6 +3,8 @@ pub mod Files
 pub mod Cuts
 pub mod Datagrams
 pub mod Places
+pub mod Words
+pub mod Packing
 pub mod SentFrames
 pub mod Links
 pub mod Nodes

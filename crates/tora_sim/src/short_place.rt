@@ -39,7 +39,8 @@ impl ShortPlace {
     /// The place of its three bytes.
     #[inline(always)]
     pub fn get(&self) -> u32
-        ensures { result ≡ self.now }
+        ensures value { result ≡ self.now }
+        ensures small { result < 2 ^ 24 }
     {
         65536 * u32::from(self.high) + 256 * u32::from(self.middle) + u32::from(self.low)
     }
