@@ -16,8 +16,7 @@ use Rattle.tora_sim.specs.declared.kept_cargoes.KeptCargo.{KeptCargo}
 use Rattle.tora_sim.specs.declared.kept_cargoes.KeptCargo.TheVariants as Keeps
 use Rattle.tora_sim.specs.Datagrams.{IsMore}
 use Rattle.tora_sim.specs.declared.kept_cargoes.Origin.{Origin}
-use Rattle.tora_sim.specs.ShortTaus.{tau_of}
-use Rattle.tora_sim.specs.KeptCargoes.{origin_in, apart_in, cargo_in, IsKeptCargo}
+use Rattle.tora_sim.specs.KeptCargoes.{origin_in, tau_of, apart_in, cargo_in, IsKeptCargo}
 use Rattle.tora_sim.proofs.SentFrames.{item_at, stays_at}
 use Rattle.tora_sim.proofs.Lookups.{turn, put_in_turn}
 
@@ -25,16 +24,16 @@ module _ (origins : List Origin) (apart : List Cargo) (omore : List Origin) (amo
   cargo_stays : (kept : KeptCargo) → IsKeptCargo origins apart kept → cargo_in (origins ++ omore) (apart ++ amore) kept ≡ cargo_in origins apart kept
   cargo_stays (Keeps.Cut origin) h = ap (λ (o : Option Origin). Gives.Cut (origin_in o).life) (stays_at origins omore origin h)
   cargo_stays (Keeps.Qry origin destination) h = ap (λ (o : Option Origin). Gives.Packet (origin_in o).life (Qry destination)) (stays_at origins omore origin h.0)
-  cargo_stays (Keeps.Upd r origin destination oid tau delta) h =
-      ap (λ (o : Option Origin). Gives.Packet (origin_in o).life (Upd (update_of destination (quintuple (tau_of tau) oid r delta (origin_in o).id)))) (stays_at origins omore origin h.0)
+  cargo_stays (Keeps.Upd r origin destination oid low high delta) h =
+      ap (λ (o : Option Origin). Gives.Packet (origin_in o).life (Upd (update_of destination (quintuple (tau_of low high) oid r delta (origin_in o).id)))) (stays_at origins omore origin h.0)
   cargo_stays (Keeps.Apart place) h = ap apart_in (stays_at apart amore place h)
 
   kept_stays : (kept : KeptCargo) → IsKeptCargo origins apart kept → IsKeptCargo (origins ++ omore) (apart ++ amore) kept
   kept_stays (Keeps.Cut origin) h = omega (arith, h, length-append origins omore)
   kept_stays (Keeps.Qry origin destination) h = (omega (arith, h.0, length-append origins omore), h.1)
-  kept_stays (Keeps.Upd r origin destination oid tau delta) h = (
+  kept_stays (Keeps.Upd r origin destination oid low high delta) h = (
     omega (arith, h.0, length-append origins omore),
-    subst (λ (o : Option Origin). IsUpdate (update_of destination (quintuple (tau_of tau) oid r delta (origin_in o).id))) (sym (stays_at origins omore origin h.0)) h.1,
+    subst (λ (o : Option Origin). IsUpdate (update_of destination (quintuple (tau_of low high) oid r delta (origin_in o).id))) (sym (stays_at origins omore origin h.0)) h.1,
   )
   kept_stays (Keeps.Apart place) h = omega (arith, h, length-append apart amore)
 

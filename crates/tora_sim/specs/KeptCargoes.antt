@@ -1,5 +1,5 @@
 -- Cargoes as a simulator keeps them: their lives, and the nodes whose heights they tell, stand once, and cargoes whose numbers are great stand apart.
-use Rattle.std.specs.Prelude.{◌≡◌, ℕ, suc, ◌<◌, Bool, List, Option, None, Some, length, slice_get, if◌then◌else◌}
+use Rattle.std.specs.Prelude.{◌≡◌, ℕ, suc, ◌+◌, ◌*◌, ◌<◌, Bool, List, Option, None, Some, length, slice_get, if◌then◌else◌}
 use Rattle.tora_height.specs.Height.{quintuple}
 use Rattle.tora_packet.specs.PacketParts.{IsId, IsUpdate, update_of}
 use Rattle.tora_packet.specs.declared.Packet.TheVariants.{Qry, Upd, Clr}
@@ -8,7 +8,6 @@ use Rattle.tora_seat.specs.declared.cargo.Cargo.TheVariants as Gives
 use Rattle.tora_sim.specs.declared.kept_cargoes.KeptCargo.{KeptCargo}
 use Rattle.tora_sim.specs.declared.kept_cargoes.KeptCargo.TheVariants as Keeps
 use Rattle.tora_sim.specs.declared.kept_cargoes.Origin.{Origin}
-use Rattle.tora_sim.specs.ShortTaus.{tau_of}
 
 -- the cargoes in order, and for how many more there is room: one or none
 pub record CargoList : Type 0 where
@@ -44,20 +43,24 @@ IsOrigin (Gives.Cut life) origin = origin.life ≡ life
 abbrev pub HasOrigin : List Origin → ℕ → Cargo → Type 0
 HasOrigin origins number cargo = (number < length origins) × IsOrigin cargo (origin_at origins number)
 
+-- the time tag of the low 16 bits and the high 8
+abbrev pub tau_of : ℕ → ℕ → ℕ
+tau_of low high = 65536 * high + low
+
 -- the cargo that is kept so
 abbrev pub cargo_in : List Origin → List Cargo → KeptCargo → Cargo
 cargo_in origins apart (Keeps.Cut origin) = Gives.Cut (origin_at origins origin).life
 cargo_in origins apart (Keeps.Qry origin destination) = Gives.Packet (origin_at origins origin).life (Qry destination)
-cargo_in origins apart (Keeps.Upd r origin destination oid tau delta) =
-    Gives.Packet (origin_at origins origin).life (Upd (update_of destination (quintuple (tau_of tau) oid r delta (origin_at origins origin).id)))
+cargo_in origins apart (Keeps.Upd r origin destination oid low high delta) =
+    Gives.Packet (origin_at origins origin).life (Upd (update_of destination (quintuple (tau_of low high) oid r delta (origin_at origins origin).id)))
 cargo_in origins apart (Keeps.Apart place) = apart_in (slice_get apart place)
 
 -- its origin or its place is among those that are kept, and its packet is in its ranges
 abbrev pub IsKeptCargo : List Origin → List Cargo → KeptCargo → Type 0
 IsKeptCargo origins apart (Keeps.Cut origin) = origin < length origins
 IsKeptCargo origins apart (Keeps.Qry origin destination) = (origin < length origins) × IsId destination
-IsKeptCargo origins apart (Keeps.Upd r origin destination oid tau delta) =
-    (origin < length origins) × IsUpdate (update_of destination (quintuple (tau_of tau) oid r delta (origin_at origins origin).id))
+IsKeptCargo origins apart (Keeps.Upd r origin destination oid low high delta) =
+    (origin < length origins) × IsUpdate (update_of destination (quintuple (tau_of low high) oid r delta (origin_at origins origin).id))
 IsKeptCargo origins apart (Keeps.Apart place) = place < length apart
 
 -- how a cargo is kept whose origin has this number, wherever origins and cargoes apart are kept

@@ -28,7 +28,6 @@ pub mod Resting
 pub mod Quiet
 pub mod Plains
 pub mod Stills
-pub mod ShortTaus
 pub mod KeptCargoes
 pub mod Lane
 pub mod SteadyLinks

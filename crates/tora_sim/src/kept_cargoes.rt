@@ -4,10 +4,9 @@ ghost use Rattle.tora_arq.specs.declared.life.Life.{Life as AnyLife};
 ghost use Rattle.tora_sim.specs.declared.kept_cargoes.Origin.{Origin as AnyOrigin};
 ghost use Rattle.tora_height.specs.Height.{IsHeight, quintuple};
 ghost use Rattle.tora_sim.specs.Datagrams.{IsMore};
-ghost use Rattle.tora_sim.specs.KeptCargoes.{HasOrigin, IsKeptCargo, IsLastOrigin, IsOrigin, IsShort, apart_in, cargo_in, origin_at};
+ghost use Rattle.tora_sim.specs.KeptCargoes.{HasOrigin, IsKeptCargo, IsLastOrigin, IsOrigin, IsShort, apart_in, cargo_in, origin_at, tau_of};
 
 use crate::kept_list::KeptList;
-use crate::short_tau::ShortTau;
 use std::alloc::{AllocError, Global};
 use std::marker::Model;
 use tora_arq::Life;
@@ -17,6 +16,9 @@ use tora_seat::Cargo;
 
 /// The most cargoes that are kept apart: the place of each fits 32 bits.
 const MOST_APART: usize = 0x1_0000_0000;
+
+/// The first time tag that has more than 24 bits.
+const FIRST_LONG: u64 = 0x100_0000;
 
 /// What stands for an origin where there is none.
 const NO_ORIGIN: Origin = Origin {
@@ -39,9 +41,9 @@ pub enum KeptCargo {
     Cut(u16),
     /// The number of the origin, and the destination of the query.
     Qry(u16, u32),
-    /// The reflection bit, the number of the origin, the destination, the node that defined the level, the time tag, and the order within
-    /// the level. The node whose height it is stands with the origin.
-    Upd(u8, u16, u16, u16, ShortTau, i8),
+    /// The reflection bit, the number of the origin, the destination, the node that defined the level, the low 16 bits and the high 8 of the
+    /// time tag in ticks of 100 ms, and the order within the level. The node whose height it is stands with the origin.
+    Upd(u8, u16, u16, u16, u16, u8, i8),
     /// The place among the cargoes that are kept apart: those with a clear, and those of greater numbers.
     Apart(u32),
 }
@@ -240,10 +242,27 @@ fn short_update(origin: u16, update: &Update) -> Option<KeptCargo>
 {
     let destination = u16::try_from(update.destination()).ok()?;
     let height = update.height();
-    let tau = ShortTau::new(height.tau())?;
+    let (low, high) = short_tau(height.tau())?;
     let oid = u16::try_from(height.oid()).ok()?;
     let delta = i8::try_from(height.delta()).ok()?;
-    Some(KeptCargo::Upd(height.r(), origin, destination, oid, tau, delta))
+    Some(KeptCargo::Upd(height.r(), origin, destination, oid, low, high, delta))
+}
+
+/// The low 16 bits and the high 8 of a time tag, if it has no more.
+fn short_tau(tau: u64) -> Option<(u16, u8)>
+    ensures { IfSome result (λ parts. tau_of parts.0 parts.1 ≡ tau) }
+{
+    if tau >= FIRST_LONG {
+        return None;
+    }
+    Some(((tau % 65536) as u16, (tau / 65536) as u8))
+}
+
+/// The time tag of these low 16 bits and high 8.
+fn long_tau(low: u16, high: u8) -> u64
+    ensures { result ≡ tau_of low high }
+{
+    65536 * u64::from(high) + u64::from(low)
 }
 
 /// The origin of a number.
@@ -277,9 +296,15 @@ fn cargo_of(origins: &[Origin], apart: &[Cargo], kept: &KeptCargo) -> Cargo
             let life = origin_at(origins, *origin).life;
             Cargo::Packet(life, Packet::Qry(Query::of(*destination)))
         }
-        KeptCargo::Upd(r, origin, destination, oid, tau, delta) => {
+        KeptCargo::Upd(r, origin, destination, oid, low, high, delta) => {
             let origin = origin_at(origins, *origin);
-            let height = height_of(tau.get(), u32::from(*oid), *r, i32::from(*delta), origin.id);
+            let height = height_of(
+                long_tau(*low, *high),
+                u32::from(*oid),
+                *r,
+                i32::from(*delta),
+                origin.id,
+            );
             let update = Update::of(u32::from(*destination), height);
             Cargo::Packet(origin.life, Packet::Upd(update))
         }

@@ -54,7 +54,6 @@ mod same_frames;
 mod same_packets;
 mod sending;
 mod short_place;
-mod short_tau;
 mod sim;
 mod spares;
 mod split_number;

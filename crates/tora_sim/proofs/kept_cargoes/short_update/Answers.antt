@@ -6,8 +6,7 @@ use Rattle.tora_packet.specs.PacketParts.{UpdateParts, IsUpdate, update_of}
 use Rattle.tora_packet.specs.declared.Packet.TheVariants.{Upd}
 use Rattle.tora_arq.specs.declared.life.Life.{Life}
 use Rattle.tora_seat.specs.declared.cargo.Cargo.TheVariants as Gives
-use Rattle.tora_sim.specs.KeptCargoes.{origin_at}
-use Rattle.tora_sim.specs.ShortTaus.{tau_of}
+use Rattle.tora_sim.specs.KeptCargoes.{origin_at, tau_of}
 use Rattle.tora_sim.proofs.kept_cargoes.short_update.Goals as goal
 
 -- a number that fits is the same
@@ -33,11 +32,11 @@ returns c life =
     let destination = fitting _ c.try_from.result _ c.in_ok-destination.destination c.try_from.ensures c.in_ok-destination.ensures.value in
     let oid = fitting _ c.try_from-2.result _ c.in_ok-oid.oid c.try_from-2.ensures c.in_ok-oid.ensures.value in
     let delta = fitting _ c.try_from-3.result _ c.in_ok-delta.delta c.try_from-3.ensures c.in_ok-delta.ensures.value in
-    let tau : tau_of c.in_ok-tau.tau ≡ c.tau.result = c.in_ok-tau.ensures in
+    let tau : tau_of c.in_ok-low.low c.in_ok-low.high ≡ c.tau.result = c.in_ok-low.ensures in
     let order : to_z w8 (of_z w8 c.in_ok-delta.delta) ≡ c.height-height.result.delta =
     to_z-of_z w8 c.in_ok-delta.delta (subst (FitsSigned w8) (sym delta.1) delta.0) ∙ delta.1 ∙ to_z-of_z w32 c.delta.result (record { sfits = c.delta.type_inv }) ∙ c.delta.ensures.value in
-    let same : (id : ℕ) → id ≡ u.height.id → update_of c.in_ok-destination.destination (quintuple (tau_of c.in_ok-tau.tau) c.in_ok-oid.oid c.r.result (to_z w8 (of_z w8 c.in_ok-delta.delta)) id) ≡ u =
-    λ id is. same_update u c.height-height.result c.in_ok-destination.destination (tau_of c.in_ok-tau.tau) c.in_ok-oid.oid c.r.result id (to_z w8 (of_z w8 c.in_ok-delta.delta))
+    let same : (id : ℕ) → id ≡ u.height.id → update_of c.in_ok-destination.destination (quintuple (tau_of c.in_ok-low.low c.in_ok-low.high) c.in_ok-oid.oid c.r.result (to_z w8 (of_z w8 c.in_ok-delta.delta)) id) ≡ u =
+    λ id is. same_update u c.height-height.result c.in_ok-destination.destination (tau_of c.in_ok-low.low c.in_ok-low.high) c.in_ok-oid.oid c.r.result id (to_z w8 (of_z w8 c.in_ok-delta.delta))
     c.height-height.ensures.value (destination.1 ∙ c.destination.ensures.value) (tau ∙ c.tau.ensures.value) (oid.1 ∙ c.oid.ensures.value) c.r.ensures.value order (is ∙ sym (ap (λ (q : Quintuple). q.id) c.height-height.ensures.value)) in
     record {
       value = λ origins apart is. ap₂ (λ (l : Life) (v : UpdateParts). Gives.Packet l (Upd v)) is.1.0 (same (origin_at origins c.args.origin).id is.1.1);
