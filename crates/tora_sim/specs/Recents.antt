@@ -1,6 +1,7 @@
 -- What is kept of the datagrams that were sent last, and of the last HELLOs of each link end.
 use Rattle.std.specs.Prelude.{◌≡◌, ◌≢◌, ℕ, ◌+◌, true, List, Option, Some, length, option_map, slice_get}
 use Rattle.tora_frame.specs.declared.parts.Body.TheVariants.{Hello}
+use Rattle.tora_frame.specs.declared.parts.Header.{Header}
 use Rattle.tora_frame.specs.declared.parts.Version.{Version}
 use Rattle.tora_frame.specs.declared.parts.Version.TheVariants.{One, Two}
 use Rattle.tora_frame.specs.FrameParts.{FrameParts, IsHeader, frame_of}
@@ -8,11 +9,15 @@ use Rattle.tora_sim.specs.declared.recents.RecentFrame.{RecentFrame}
 use Rattle.tora_sim.specs.declared.recents.LastHello.{LastHello}
 use Rattle.tora_sim.specs.declared.recents.TheConstants.{NONE}
 
+-- the header that is told
+abbrev pub told_header : RecentFrame → Header
+told_header recent = record { version = recent.version; sender = recent.sender; receiver = recent.receiver; life = recent.life; heard = recent.heard }
+
 -- a datagram has this header, and is a HELLO where that is told
 pub record IsTold (recent : RecentFrame) (datagram : Option FrameParts) : Type 0 where
-  pub header : option_map (λ f. f.header) datagram ≡ Some recent.header
-  pub hello : recent.is_hello ≡ true → datagram ≡ Some (frame_of recent.header Hello)
-  pub valid : IsHeader recent.header
+  pub header : option_map (λ f. f.header) datagram ≡ Some (told_header recent)
+  pub hello : recent.is_hello ≡ true → datagram ≡ Some (frame_of (told_header recent) Hello)
+  pub valid : IsHeader (told_header recent)
 
 -- all datagrams from a place on are told of
 pub record AreRecent (first : ℕ) (recents : List RecentFrame) (items : List FrameParts) : Type 0 where

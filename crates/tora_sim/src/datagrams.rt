@@ -4,7 +4,7 @@ ghost use Rattle.tora_frame.specs.FrameParts.{IsHeader, frame_of};
 ghost use Rattle.tora_frame.specs.declared.parts.Body.{Body};
 ghost use Rattle.tora_sim.specs.Datagrams.{DatagramList, HasRoom, IsMore};
 ghost use Rattle.tora_sim.specs.Readers.{way_of};
-ghost use Rattle.tora_sim.specs.Recents.{AreHellos};
+ghost use Rattle.tora_sim.specs.Recents.{AreHellos, told_header};
 
 use crate::kept_frames::{Guess, KeptFrames};
 use crate::places::Places;
@@ -161,8 +161,8 @@ impl Datagrams {
     /// last.
     #[inline(always)]
     pub fn hello(&self, place: usize) -> Option<&RecentFrame>
-        ensures hello { IfSome result (λ told. slice_get self.now.items place ≡ Some (frame_of told.now.header Body.Hello)) }
-        ensures valid { IfSome result (λ told. IsHeader told.now.header) }
+        ensures hello { IfSome result (λ told. slice_get self.now.items place ≡ Some (frame_of (told_header told.now) Body.Hello)) }
+        ensures valid { IfSome result (λ told. IsHeader (told_header told.now)) }
     {
         let Some(recent) = self.recents.get(place) else {
             return None;
@@ -185,7 +185,7 @@ impl Datagrams {
         ensures { result ≡ option_map way_of (slice_get self.now.items place) }
     {
         if let Some(recent) = self.recents.get(place) {
-            return Some((recent.header.sender, recent.header.receiver));
+            return Some(recent.way());
         }
         self.kept_way(place)
     }

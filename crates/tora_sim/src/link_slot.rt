@@ -21,7 +21,7 @@ use crate::spares::Spares;
 use std::alloc::{AllocError, Global};
 use std::marker::Model;
 use tora_arq::{GrowingEnd, Life, LinkEvent, Steady};
-use tora_frame::{BorrowedFrame, Header, Packets};
+use tora_frame::{BorrowedBody, BorrowedFrame, Header, Packets};
 use tora_height::Id;
 use tora_life::DiskCall;
 use tora_packet::Packet;
@@ -72,6 +72,19 @@ fn keep(steady: &mut Steady, parts: &mut LinkParts)
     if let Some(kept) = parts.steady() {
         *steady = kept;
         parts.narrow();
+    }
+}
+
+/// Whether there is a frame, and it carries packets.
+#[inline(always)]
+fn has_packets(frame: &Option<BorrowedFrame<'_>>) -> bool {
+    match frame {
+        Some(frame) => match frame.body() {
+            BorrowedBody::Data(..) => true,
+            BorrowedBody::Hello => false,
+            BorrowedBody::Ack(_) => false,
+        },
+        None => false,
     }
 }
 
@@ -140,7 +153,10 @@ impl LinkSlot {
     {
         wake(&mut self.steady, &mut *self.parts);
         let frame = self.parts.send(now, packets);
-        keep(&mut self.steady, &mut *self.parts);
+        // one that sent packets waits for their acknowledgement, and isn't steady
+        if !has_packets(&frame) {
+            keep(&mut self.steady, &mut *self.parts);
+        }
         frame
     }
 
@@ -157,21 +173,6 @@ impl LinkSlot {
             return None;
         }
         self.steady.send_hello(now)
-    }
-
-    /// Takes the first frame due of the end itself, where it is a HELLO: its header, and what can be kept of the end is kept then. Else nothing is
-    /// changed.
-    #[inline(never)]
-    pub fn send_first_hello(&mut self, now: u64) -> Option<Header>
-        ensures frame { IfSome result (λ header. frame_due self.old.settings self.old.state now ≡ Some (frame_of header Body.Hello)) }
-        ensures state { IfSome result (λ _. self.new ≡ with_state self.old (after_transmit self.old.settings self.old.state now)) }
-        ensures valid { IfSome result (λ header. IsHeader header) }
-        ensures none { IfNone result (self.new ≡ self.old) }
-    {
-        wake(&mut self.steady, &mut *self.parts);
-        let header = self.parts.send_hello(now)?;
-        keep(&mut self.steady, &mut *self.parts);
-        Some(header)
     }
 
     /// Takes a frame in, and tells whether the end is busy then, and before which tick nothing is to be done at it; 0 where something is to be
@@ -204,7 +205,8 @@ impl LinkSlot {
         if let Some(until) = self.hear(header, now) {
             return Some((false, until));
         }
-        self.receive_first_hello(header, now)
+        // By value: where its address is handed on, each HELLO is written to memory for it.
+        self.receive_first_hello(*header, now)
     }
 
     /// Takes a HELLO in by what is kept of the end, where it says nothing new, and tells before which tick nothing is to be done at it then;
@@ -227,15 +229,15 @@ impl LinkSlot {
 
     /// The same at an end of which nothing is kept, or where the HELLO says something new.
     #[inline(never)]
-    fn receive_first_hello(&mut self, header: &Header, now: u64) -> Option<(bool, u64)>
-        requires { IsHeader header.now }
-        ensures state { IfSome result (λ _. self.new ≡ with_state self.old (after_frame self.old.settings self.old.state (frame_of header.now Body.Hello) now)) }
+    fn receive_first_hello(&mut self, header: Header, now: u64) -> Option<(bool, u64)>
+        requires { IsHeader header }
+        ensures state { IfSome result (λ _. self.new ≡ with_state self.old (after_frame self.old.settings self.old.state (frame_of header Body.Hello) now)) }
         ensures plain { IfSome result (λ seen. seen.0 ≡ false → IsPlain self.new) }
         ensures still { IfSome result (λ seen. IsStillIf seen.1 self.new) }
         ensures none { IfNone result (self.new ≡ self.old) }
     {
         wake(&mut self.steady, &mut *self.parts);
-        let seen = self.parts.receive_hello_and_look(header, now)?;
+        let seen = self.parts.receive_hello_and_look(&header, now)?;
         // one that is busy isn't steady
         if !seen.0 {
             keep(&mut self.steady, &mut *self.parts);

@@ -138,18 +138,6 @@ impl LinkParts {
         self.end.poll_transmit_into(now, packets)
     }
 
-    /// Takes the first frame due, where it is a HELLO: its header. Else nothing is changed.
-    #[inline(always)]
-    pub fn send_hello(&mut self, now: u64) -> Option<Header>
-        ensures frame { IfSome result (λ header. frame_due self.old.settings self.old.state now ≡ Some (frame_of header Body.Hello)) }
-        ensures state { IfSome result (λ _. self.new ≡ with_state self.old (after_transmit self.old.settings self.old.state now)) }
-        ensures valid { IfSome result (λ header. IsHeader header) }
-        ensures none { IfNone result (self.new ≡ self.old) }
-    {
-        lives_are_bound_once();
-        self.end.poll_hello(now)
-    }
-
     /// Takes a frame in, and says whether it did: it does not where there is no memory, and then nothing is changed.
     #[inline(always)]
     pub fn receive(&mut self, frame: &BorrowedFrame<'_>, now: u64) -> bool

@@ -4,7 +4,7 @@
 ghost use Rattle.std.specs.Prelude.{◌≡◌, ◌≢◌, ◌+◌, ◌<◌, ◌∷◌, ◌++◌, [], true, List, IfSome, length, slice_get, Some};
 ghost use Rattle.tora_frame.specs.FrameParts.{FrameParts, IsHeader, frame_of};
 ghost use Rattle.tora_frame.specs.declared.parts.Body.{Body};
-ghost use Rattle.tora_sim.specs.Recents.{IsTold, AreRecent, IsLastHello, hello_as};
+ghost use Rattle.tora_sim.specs.Recents.{IsTold, AreRecent, IsLastHello, hello_as, told_header};
 ghost use Rattle.tora_sim.specs.declared.recents.TheConstants.{NONE};
 
 use std::alloc::{AllocError, Global};
@@ -15,13 +15,59 @@ use tora_height::Id;
 /// may send two HELLOs.
 const MOST: usize = 131_072;
 
-/// The header of a datagram, whether it is a HELLO, and where the link end may stand that it goes to.
+/// What the header of a datagram says, whether it is a HELLO, and where the link end may stand that it goes to. It has 32 bytes: the fields
+/// of a header stand here one by one, as what fills a header up would be copied with it.
 #[derive(Clone, Copy, Debug, PartialEq, Eq)]
 pub struct RecentFrame {
-    pub header: Header,
-    pub is_hello: bool,
+    life: u64,
+    heard: u64,
+    sender: Id,
+    receiver: Id,
     /// A guess: who takes it looks which end stands there.
     pub far_end: u32,
+    version: Version,
+    pub is_hello: bool,
+}
+
+impl RecentFrame {
+    /// What is kept of a frame of this header.
+    #[inline(always)]
+    fn new(header: &Header, far_end: u32, is_hello: bool) -> RecentFrame
+        ensures header { told_header result ≡ header.now }
+        ensures hello { result.is_hello ≡ is_hello }
+    {
+        RecentFrame {
+            life: header.life,
+            heard: header.heard,
+            sender: header.sender,
+            receiver: header.receiver,
+            far_end,
+            version: header.version,
+            is_hello,
+        }
+    }
+
+    /// The header.
+    #[inline(always)]
+    pub fn header(&self) -> Header
+        ensures { result ≡ told_header self.now }
+    {
+        Header {
+            version: self.version,
+            sender: self.sender,
+            receiver: self.receiver,
+            life: self.life,
+            heard: self.heard,
+        }
+    }
+
+    /// From which node to which it goes.
+    #[inline(always)]
+    pub fn way(&self) -> (Id, Id)
+        ensures { result ≡ ((told_header self.now).sender, (told_header self.now).receiver) }
+    {
+        (self.sender, self.receiver)
+    }
 }
 
 /// No place of a frame.
@@ -202,11 +248,7 @@ pub fn recent_of(frame: &BorrowedFrame<'_>, far_end: u32) -> RecentFrame
         BorrowedBody::Data(..) => false,
         BorrowedBody::Ack(_) => false,
     };
-    RecentFrame {
-        header: *frame.header(),
-        is_hello,
-        far_end,
-    }
+    RecentFrame::new(frame.header(), far_end, is_hello)
 }
 
 /// What is kept of a HELLO, which goes to the link end that may stand at the place `far_end`.
@@ -215,9 +257,5 @@ pub fn recent_hello(header: &Header, far_end: u32) -> RecentFrame
     requires { IsHeader header.now }
     ensures { IsTold result (Some (frame_of header.now Body.Hello)) }
 {
-    RecentFrame {
-        header: *header,
-        is_hello: true,
-        far_end,
-    }
+    RecentFrame::new(header, far_end, true)
 }

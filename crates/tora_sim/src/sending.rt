@@ -63,15 +63,6 @@ impl Sim {
         true
     }
 
-    /// Whether no frame is due at the end that stands at the place `at`.
-    #[inline(always)]
-    fn has_none_due(&self, at: usize) -> bool
-        requires { at < length self.now.links }
-        ensures { result ≡ true → (n k : ℕ) → IsFirst (is_at n k) self.now.links at → IsRefused (world_of self.now) (Transmit n k) SimError.NotPossible (world_of self.now) }
-    {
-        !self.links[at].has_frame_due(self.clock)
-    }
-
     /// The first frame due of an end goes out, where it is known by what is kept of the end that it is a HELLO, as most are, and says whether it did;
     /// else nothing is changed.
     #[inline(always)]
@@ -102,36 +93,8 @@ impl Sim {
         true
     }
 
-    /// The same by the end itself, where nothing is kept of it.
-    #[inline(never)]
-    fn transmit_first_hello(&mut self, _n: Id, _k: Id, at: usize, home: usize) -> bool
-        requires end { IsFirst (is_at _n _k) self.old.links at }
-        requires node { IsFirst (is_of _n) self.old.nodes home }
-        ensures done { result ≡ true → IsDone (world_of self.old) (Transmit _n _k) (world_of self.new) }
-        ensures same { result ≡ false → self.new ≡ self.old }
-        ensures end { IsFirst (is_at _n _k) self.new.links at }
-        ensures node { IsFirst (is_of _n) self.new.nodes home }
-    {
-        if self.datagrams.reserve(at).is_err() {
-            return false;
-        }
-        data_frames_are_what_was_submitted();
-        let Some(header) = self.links[at].send_first_hello(self.clock) else {
-            return false;
-        };
-        self.quiet = 0;
-        let far_end = far_end_at(&self.far_ends, at);
-        note_hello(
-            &mut self.nodes[home],
-            &mut self.datagrams,
-            at,
-            far_end,
-            &header,
-        );
-        true
-    }
-
-    /// The first frame due of an end goes out, as `transmit_at` has it. A HELLO is made of its header, at less cost than any other frame.
+    /// The first frame due of an end goes out, as `transmit_at` has it. A HELLO of an end of which something is kept is made of its header, at
+    /// less cost than any other frame.
     #[inline(always)]
     fn transmit_first(&mut self, n: Id, k: Id, at: usize, home: usize) -> Result<(), SimError>
         requires end { IsFirst (is_at n k) self.old.links at }
@@ -141,12 +104,6 @@ impl Sim {
         ensures node { IsFirst (is_of n) self.new.nodes home }
     {
         if self.transmit_hello(n, k, at, home) {
-            return Ok(());
-        }
-        if self.has_none_due(at) {
-            return Err(SimError::NotPossible);
-        }
-        if self.transmit_first_hello(n, k, at, home) {
             return Ok(());
         }
         self.transmit_at(n, k, at, home)

@@ -18,7 +18,6 @@ use crate::link_slot::LinkSlot;
 use crate::links::{arm, far_end_at, place, place_at_or_among};
 use crate::nodes::{NodeSlot, Sending, place as node_place};
 use crate::plains::keep_looked;
-use crate::recents::RecentFrame;
 use crate::restarts::{new_ends, restart_ends};
 use crate::spares::Spares;
 use crate::stills::{Stills, forget};
@@ -169,7 +168,8 @@ impl Sim {
     }
 
     /// The first frame due of an end goes out: the end of node `_n` towards `_k` stands at the place `at`, and the node at the place `home`.
-    #[inline(always)]
+    /// It stands apart, so that the loop in which HELLOs go out has registers of its own.
+    #[inline(never)]
     pub(crate) fn transmit_at(
         &mut self,
         _n: Id,
@@ -253,10 +253,10 @@ impl Sim {
         ensures done { result ≡ true → IsDone (world_of self.old) (Deliver i) (world_of self.new) }
         ensures same { result ≡ false → self.new ≡ self.old }
     {
-        let Some(told) = numbered_hello(&self.datagrams, i) else {
+        let Some((header, guess)) = numbered_hello(&self.datagrams, i) else {
             return false;
         };
-        let Some(home) = node_place(&self.nodes, &self.hints, told.header.receiver) else {
+        let Some(home) = node_place(&self.nodes, &self.hints, header.receiver) else {
             return false;
         };
         if self.nodes[home].receive() {
@@ -267,17 +267,16 @@ impl Sim {
         let Some(at) = place_at_or_among(
             &self.links,
             &self.keys,
-            told.far_end as usize,
+            guess,
             first,
             count,
-            told.header.receiver,
-            told.header.sender,
+            header.receiver,
+            header.sender,
         ) else {
             return false;
         };
         self.quiet = 0;
-        let Some((busy, until)) = self.links[at].receive_hello_and_look(&told.header, self.clock)
-        else {
+        let Some((busy, until)) = self.links[at].receive_hello_and_look(&header, self.clock) else {
             return false;
         };
         keep_looked(&mut self.stills, &mut self.plains, at, busy, until);
@@ -492,14 +491,16 @@ pub fn numbered(datagrams: &Datagrams, i: u64) -> Option<BorrowedFrame<'_>>
     datagrams.get(place)
 }
 
-/// What is told of the datagram of a number from 1 on, where it is known to be a HELLO.
+/// The header of the datagram of a number from 1 on, where it is known to be a HELLO, and where the link end may stand to which it goes: a
+/// guess.
 #[inline(always)]
-fn numbered_hello(datagrams: &Datagrams, i: u64) -> Option<&RecentFrame>
-    ensures hello { IfSome result (λ told. numbered i datagrams.now.items ≡ Some (frame_of told.now.header Hello)) }
-    ensures valid { IfSome result (λ told. IsHeader told.now.header) }
+fn numbered_hello(datagrams: &Datagrams, i: u64) -> Option<(Header, usize)>
+    ensures hello { IfSome result (λ told. numbered i datagrams.now.items ≡ Some (frame_of told.0 Hello)) }
+    ensures valid { IfSome result (λ told. IsHeader told.0) }
 {
     let number = usize::try_from(i).ok()?;
-    datagrams.hello(number.checked_sub(1)?)
+    let told = datagrams.hello(number.checked_sub(1)?)?;
+    Some((told.header(), told.far_end as usize))
 }
 
 /// Where the link end may stand to which the datagram of a number from 1 on goes: a guess.

@@ -48,9 +48,9 @@ returns-in_default-receive_hello_and_look-clause-same c _ =
 pub invariant_of-self-2 : goal.invariant_of-self-2
 invariant_of-self-2 c =
     let s = c.self.inside in
-    let home_first : IsFirst (is_of c.in-Some.told.now.header.receiver) s.nodes.items c.in-Some-node_place.home = c.in-Some-node_place.ensures.first in
-    let end_first : IsFirst (is_at c.in-Some.told.now.header.receiver c.in-Some.told.now.header.sender) s.links.items c.in-Some-place_at_or_among.at = c.in-Some-place_at_or_among.ensures.first in (
-      received_store s.topology s.times s.clock s.nodes.items s.links.items s.datagrams.items c.self.invariant.0 c.args.i (frame_of c.in-Some.told.now.header Hello) c.in-Some.ensures.hello
+    let home_first : IsFirst (is_of c.in-Some.header.receiver) s.nodes.items c.in-Some-node_place.home = c.in-Some-node_place.ensures.first in
+    let end_first : IsFirst (is_at c.in-Some.header.receiver c.in-Some.header.sender) s.links.items c.in-Some-place_at_or_among.at = c.in-Some-place_at_or_among.ensures.first in (
+      received_store s.topology s.times s.clock s.nodes.items s.links.items s.datagrams.items c.self.invariant.0 c.args.i (frame_of c.in-Some.header Hello) c.in-Some.ensures.hello
           c.in-Some-node_place.home c.index.result.now home_first c.index.ensures c.in-Some-place_at_or_among.at c.index_mut.result.now end_first c.index_mut.ensures.value c.receive_hello_and_look.new.self c.in-Some-receive_hello_and_look.ensures.state,
       λ none. absurd (omega (arith, none)),
       found_still s.clock s.stills c.keep_looked.new.stills s.links.items c.in-Some-place_at_or_among.at (short c.in-Some-receive_hello_and_look.until) c.receive_hello_and_look.new.self c.in-Some-place_at_or_among.ensures.first.within c.keep_looked.ensures.stills
@@ -66,9 +66,9 @@ invariant_of-self-2 c =
 pub returns-clause-done : goal.returns-clause-done
 returns-clause-done c = λ _.
     let s = c.self.inside in
-    let home_first : IsFirst (is_of c.in-Some.told.now.header.receiver) s.nodes.items c.in-Some-node_place.home = c.in-Some-node_place.ensures.first in
-    let end_first : IsFirst (is_at c.in-Some.told.now.header.receiver c.in-Some.told.now.header.sender) s.links.items c.in-Some-place_at_or_among.at = c.in-Some-place_at_or_among.ensures.first in
+    let home_first : IsFirst (is_of c.in-Some.header.receiver) s.nodes.items c.in-Some-node_place.home = c.in-Some-node_place.ensures.first in
+    let end_first : IsFirst (is_at c.in-Some.header.receiver c.in-Some.header.sender) s.links.items c.in-Some-place_at_or_among.at = c.in-Some-place_at_or_among.ensures.first in
     subst (λ (before : SimState). IsDone (world_of before) (Deliver c.args.i) (world_of (state_of s.topology s.times s.clock s.nodes.items (slice_set s.links.items c.in-Some-place_at_or_among.at c.receive_hello_and_look.new.self) s.datagrams.items))) c.self.view_is
-    (received_done s.topology s.times s.clock s.nodes.items s.links.items s.datagrams.items c.self.invariant.0 c.args.i (frame_of c.in-Some.told.now.header Hello) c.in-Some.ensures.hello
+    (received_done s.topology s.times s.clock s.nodes.items s.links.items s.datagrams.items c.self.invariant.0 c.args.i (frame_of c.in-Some.header Hello) c.in-Some.ensures.hello
     c.in-Some-node_place.home c.index.result.now home_first c.index.ensures c.in-Some-place_at_or_among.at c.index_mut.result.now end_first c.index_mut.ensures.value c.receive_hello_and_look.new.self
     (sym c.receive.ensures ∙ c.if-receive.false) c.in-Some-receive_hello_and_look.ensures.state)
