@@ -154,7 +154,10 @@ impl Datagrams {
         let Some(at) = self.places.get(place) else {
             return None;
         };
-        self.frames.get(at as usize)
+        match self.recents.get(place) {
+            Some(recent) => self.frames.get_with(at as usize, recent.header()),
+            None => self.frames.get(at as usize),
+        }
     }
 
     /// What is told of the datagram that stands behind so many others, where it is known to be a HELLO, as most of those are that were sent

@@ -260,6 +260,18 @@ impl KeptFrames {
         Some(frame_of(&self.headers, &self.packets, &self.apart, kept))
     }
 
+    /// The same, where its header is known: headers lie elsewhere for each link end, and this one isn't looked at.
+    #[inline(always)]
+    pub fn get_with(&self, place: usize, header: Header) -> Option<BorrowedFrame<'_>>
+        requires { option_map (λ f. f.header) (slice_get self.now.items place) ≡ Some header }
+        ensures { result ≡ slice_get self.now.items place }
+    {
+        let Some(kept) = self.frames.get(place) else {
+            return None;
+        };
+        Some(told_frame(&self.headers, &self.packets, &self.apart, kept, header))
+    }
+
     /// Whether the frame that stands behind so many others is seen to be this one: it is compared where it stands.
     #[inline(always)]
     pub fn is_at(&self, place: usize, frame: &BorrowedFrame<'_>) -> bool
@@ -542,6 +554,22 @@ fn frame_of<'a>(
     ensures { result ≡ frame_in headers.now packets.now apart.now kept.now }
 {
     let header = header_at(headers, header_number(apart, kept));
+    frame_with(header, packets, apart, kept)
+}
+
+/// The frame that is kept so, where its header is known.
+#[inline(always)]
+fn told_frame<'a>(
+    _headers: &[Header],
+    packets: &'a [Packet],
+    apart: &[WideFrame],
+    kept: &KeptFrame,
+    header: Header,
+) -> BorrowedFrame<'a>
+    requires kept { IsKept _headers.now packets.now apart.now kept.now }
+    requires header { (frame_in _headers.now packets.now apart.now kept.now).header ≡ header }
+    ensures { result ≡ frame_in _headers.now packets.now apart.now kept.now }
+{
     frame_with(header, packets, apart, kept)
 }
 

@@ -9,6 +9,12 @@ use std::marker::Model;
 /// How many cargoes stand near at most.
 pub const NEAR_KEPT: usize = 4;
 
+/// So many more the list takes memory for at least, while it is short.
+const FIRST_LISTED: usize = 12;
+
+/// A list of so many is long: it grows as lists do.
+const LONG_LIST: usize = 64;
+
 /// Once so many stand in the list it takes no more.
 const MOST_LISTED: usize = 0x4000_0000_0000_0000;
 
@@ -20,6 +26,17 @@ pub struct KeptList {
     count: usize,
     near: [KeptCargo; NEAR_KEPT],
     list: Vec<KeptCargo>,
+}
+
+/// For how many more a list of so many takes memory at least. A short one takes as much again as it has, so that it is moved less often.
+fn more_of(count: usize) -> usize
+    ensures { NEAR_KEPT ≤ result }
+{
+    if count < LONG_LIST {
+        count.max(FIRST_LISTED)
+    } else {
+        NEAR_KEPT
+    }
 }
 
 impl Model for KeptList {
@@ -80,7 +97,7 @@ impl KeptList {
         if self.list.len() >= MOST_LISTED {
             return Err(AllocError);
         }
-        self.list.reserve(NEAR_KEPT)?;
+        self.list.reserve(more_of(self.list.len()))?;
         append_all(&mut self.list, &self.near);
         self.count = 0;
         Ok(())
