@@ -148,9 +148,16 @@ pub fn make_room(
     Ok(())
 }
 
-/// Takes that memory at the end at a place, unless it is known that there is.
+/// Takes the memory for all that one item can put at the end at a place, unless it is known that there is.
+///
+/// # Errors
+/// `Memory`. The end is as it was either way.
 #[inline(always)]
-fn make_room_at(links: &mut Vec<LinkSlot>, ready: &mut Vec<bool>, at: usize) -> Result<(), SimError>
+pub fn make_room_at(
+    links: &mut Vec<LinkSlot>,
+    ready: &mut Vec<bool>,
+    at: usize,
+) -> Result<(), SimError>
     requires within { at < length links.old.items }
     requires marks { AreReadyEach ready.old.items links.old.items }
     ensures same { AreAlike links.old.items links.new.items }

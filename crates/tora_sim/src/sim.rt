@@ -13,7 +13,7 @@ ghost use Rattle.tora_sim.specs.Steps.{Does, IsDone, Runs};
 
 use crate::datagrams::Datagrams;
 use crate::hints::Hints;
-use crate::lanes::make_room;
+use crate::lanes::{make_room, make_room_at};
 use crate::link_slot::LinkSlot;
 use crate::links::{arm, far_end_at, place, place_at_or_among};
 use crate::nodes::{NodeSlot, Sending, place as node_place};
@@ -134,7 +134,34 @@ impl Sim {
         if !self.links[at].pull() {
             return Err(SimError::Memory);
         }
+        self.make_ready_again(at);
         Ok(())
+    }
+
+    /// Takes the memory for all that one item of a node can put at the link end at a place, where its lane is empty, and marks it as ready: it is
+    /// at hand now, and the next turn of the node's core looks at it no more. Where memory is refused, that turn asks again.
+    #[inline(always)]
+    fn make_ready_again(&mut self, at: usize)
+        ensures { world_of self.new ≡ world_of self.old }
+    {
+        if at >= self.links.len() {
+            return;
+        }
+        if self.links[at].has_cargo() {
+            return;
+        }
+        self.quiet = 0;
+        let _made = make_room_at(&mut self.links, &mut self.ready, at);
+    }
+
+    /// The same at the end of a node's seat, where it is that of a neighbour: the ends of the node stand from the place `first` on.
+    #[inline(always)]
+    fn make_seat_ready(&mut self, first: usize, count: usize, seat: usize)
+        ensures { world_of self.new ≡ world_of self.old }
+    {
+        if seat < count {
+            self.make_ready_again(first.saturating_add(seat));
+        }
     }
 
     /// The need of a destination goes into a node's lane.
@@ -374,6 +401,7 @@ impl Sim {
             first.saturating_add(seat),
         );
         set_unready(&mut self.unready, home, after);
+        self.make_seat_ready(first, count, seat);
         turned
     }
 

@@ -1,6 +1,9 @@
-use Rattle.std.proofs.Common.{◌≡◌, ◌<◌, ◌≤◌, ◌+◌, ◌-◌, ℕ, List, length, sym, ap, ◌∙◌, subst, arith}
+use Rattle.std.proofs.Common.{◌≡◌, ◌<◌, ◌≤◌, ◌+◌, ◌-◌, ℕ, List, length, Result, Ok, Err, sym, ap, ◌∙◌, subst, arith}
 use Rattle.std.specs.Prelude.{slice_set, slice_index_or}
+use Rattle.tora_world.specs.World.{World}
+use Rattle.tora_world.specs.declared.event.Event.{Event}
 use Rattle.tora_world.specs.declared.event.Event.TheVariants.{CoreTurn}
+use Rattle.tora_world.specs.declared.sim_error.SimError.{SimError}
 use Rattle.tora_world.specs.declared.sim_error.SimError.TheVariants as Refused
 use Rattle.tora_sim.specs.declared.unready.Unready.{Unready}
 use Rattle.tora_sim.specs.Lane.{AreWhole}
@@ -9,7 +12,7 @@ use Rattle.tora_sim.specs.Nodes.{NodeView}
 use Rattle.tora_sim.specs.Quiet.{AreForgottenWhere}
 use Rattle.tora_sim.specs.Unready.{AreMarkedOutside, IsMarkedOutside, AreRemarked}
 use Rattle.tora_sim.specs.Store.{SimState, state_of, world_of}
-use Rattle.tora_sim.specs.Steps.{IsRefused, Does}
+use Rattle.tora_sim.specs.Steps.{IsDone, IsRefused, Does}
 use Rattle.tora_sim.proofs.Opens.{same_read}
 use Rattle.tora_sim.proofs.SameLinks.{same_alike, store_same}
 use Rattle.tora_sim.proofs.Turning.{turn_refused, turn_starved, ends_within, as_many, between_does, between_store}
@@ -238,10 +241,16 @@ invariant_of-self-2 c =
       λ known. absurd cc,
     )
 
+does_alike : (before after other : SimState) (event : Event) (result : Result (Unit {0}) SimError) → world_of other ≡ world_of after → Does before event result after → Does before event result other
+does_alike before after other event (Ok _) same done = subst (λ (w : World). IsDone (world_of before) event w) (sym same) done
+does_alike before after other event (Err error) same refused = subst (λ (w : World). IsRefused (world_of before) event error w) (sym same) refused
+
 pub returns : goal.returns
 returns c =
     let s = c.self.inside in
+    let turned = state_of s.topology s.times s.clock (slice_set s.nodes.items c.in-Some.home c.turn-turned.new.node) c.turn-turned.new.links.items s.datagrams.items in
+    does_alike c.args.self.now turned c.make_seat_ready.new.self (CoreTurn c.args.n) c.turn-turned.result c.make_seat_ready.ensures (
     subst (λ (before : SimState). Does before (CoreTurn c.args.n) c.turn-turned.result (state_of s.topology s.times s.clock (slice_set s.nodes.items c.in-Some.home c.turn-turned.new.node) c.turn-turned.new.links.items s.datagrams.items)) c.self.view_is
     (between_does s.topology s.times s.clock s.nodes.items s.links.items s.datagrams.items c.self.invariant.0 c.args.n c.in-Some.home c.index_mut.result.now c.in-Some.ensures.first c.index_mut.ensures.value
     c.make_room.new.links.items c.make_room.ensures.same c.turn-turned.new.node c.turn-turned.new.links.items c.turn-turned.result
-    (waits s.nodes.items c.in-Some.home c.index.result.now c.index_mut.result.now c.waiting.result c.in-Some.ensures.first.within c.index.ensures c.index_mut.ensures.value c.waiting.ensures (omega (arith, c.if-waiting-eq0.false))) c.turn-turned.ensures.turned)
+    (waits s.nodes.items c.in-Some.home c.index.result.now c.index_mut.result.now c.waiting.result c.in-Some.ensures.first.within c.index.ensures c.index_mut.ensures.value c.waiting.ensures (omega (arith, c.if-waiting-eq0.false))) c.turn-turned.ensures.turned))

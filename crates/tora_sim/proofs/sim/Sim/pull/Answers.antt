@@ -2,6 +2,7 @@ use Rattle.std.proofs.Common.{◌≡◌, ◌<◌, List, length, nat_lt, slice_ge
 use Rattle.std.specs.Prelude.{slice_set}
 use Rattle.std.proofs.lemmas.Bool.{both_ways, lt-ltb}
 use borrow.Author.Tests.{ltb-true, ltb-false}
+use Rattle.tora_world.specs.World.{World}
 use Rattle.tora_world.specs.declared.event.Event.TheVariants.{Pull}
 use Rattle.tora_world.specs.declared.sim_error.SimError.TheVariants as Refused
 use Rattle.tora_sim.specs.Links.{LinkView, after_pull_at}
@@ -75,6 +76,7 @@ invariant_of-self-2 c =
 pub returns : goal.returns
 returns c =
     let s = c.self.inside in
+    subst (λ (w : World). IsDone (world_of c.args.self.now) (Pull c.args.n c.args.k) w) (sym c.make_ready_again.ensures) (
     subst (λ (before : SimState). IsDone (world_of before) (Pull c.args.n c.args.k) (world_of (state_of s.topology s.times s.clock s.nodes.items (slice_set s.links.items c.in-Some.at c.pull.new.self) s.datagrams.items))) c.self.view_is
     (pull_done s.topology s.times s.clock s.nodes.items s.links.items s.datagrams.items c.self.invariant.0 c.args.n c.args.k c.in-Some.at c.index_mut.result.now c.in-Some.ensures.first c.index_mut.ensures.value
-    c.pull.new.self (waits c.index.result.now c.index_mut.result.now (same_read c.self.inside.links.items c.in-Some.at c.index.result.now c.index_mut.result.now c.in-Some.ensures.first.within c.index.ensures c.index_mut.ensures.value) (sym c.has_cargo.ensures ∙ c.if-not-has_cargo.false)) (c.pull.ensures.pulled c.if-not-pull.false))
+    c.pull.new.self (waits c.index.result.now c.index_mut.result.now (same_read c.self.inside.links.items c.in-Some.at c.index.result.now c.index_mut.result.now c.in-Some.ensures.first.within c.index.ensures c.index_mut.ensures.value) (sym c.has_cargo.ensures ∙ c.if-not-has_cargo.false)) (c.pull.ensures.pulled c.if-not-pull.false)))
