@@ -1,11 +1,12 @@
 -- Datagrams as places of frames that are kept, where more frames come behind those.
-use Rattle.std.proofs.Common.{◌≡◌, ℕ, zero, suc, ◌+◌, ◌<◌, List, [], ◌∷◌, ◌++◌, length, take, drop, slice_get, Some, None, Option, refl, sym, ap, ◌∙◌, subst, arith, length-append}
+use Rattle.std.proofs.Common.{◌≡◌, ℕ, zero, suc, ◌+◌, ◌-◌, ◌<◌, ◌^◌, Bool, true, false, List, [], ◌∷◌, ◌++◌, length, take, drop, slice_get, Some, None, Option, refl, sym, ap, ◌∙◌, subst, arith, length-append}
 use Rattle.std.specs.Prelude.{option_to_list}
 use Rattle.std.specs.List.{cons_option}
 use Rattle.std.proofs.lemmas.List.Elements.{filter_map-append}
 use Rattle.tora_frame.specs.FrameParts.{FrameParts}
-use Rattle.tora_sim.specs.Datagrams.{IsMore}
-use Rattle.tora_sim.specs.SentFrames.{AreWithin, sent_frames}
+use Rattle.tora_sim.specs.Datagrams.{DatagramList, HasRoom, IsMore}
+use Rattle.tora_sim.specs.Places.{PlaceList}
+use Rattle.tora_sim.specs.SentFrames.{AreWithin, HasRooms, sent_frames}
 
 -- within the list there is an item
 pub item_at : {A : Type 0} (xs : List A) (n : ℕ) → n < length xs → (x : A) × (slice_get xs n ≡ Some x)
@@ -96,3 +97,22 @@ take_next [] zero = refl
 take_next [] (suc n) = let e : suc n + 1 ≡ suc (suc n) = omega arith in rw e refl
 take_next (x ∷ xs) zero = refl
 take_next (x ∷ xs) (suc n) = let e : suc n + 1 ≡ suc (n + 1) = omega arith in rw e (ap (λ (ys : List FrameParts). x ∷ ys) (take_next xs n))
+
+-- ---- room
+
+rooms_less : (room after : ℕ) (frames new : DatagramList) (places rest : PlaceList) → after ≡ room - 1 → new ≡ frames → rest.places + 1 ≡ places.places → HasRooms room frames places → HasRooms after new rest
+rooms_less room after frames new places rest less same left h =
+    let many = h.0 in (
+      omega (arith, less, left, many),
+      λ some. subst (λ (d : DatagramList). HasRoom d × (length d.items < 2 ^ 32)) (sym same) (h.1 (omega (arith, less, some))),
+    )
+
+rooms_none : (after : ℕ) (new : DatagramList) (rest : PlaceList) → after ≡ 0 → HasRooms after new rest
+rooms_none after new rest none = (omega (arith, none), λ some. absurd (omega (arith, none, some)))
+
+-- behind a datagram, as far as it is known that no frame came and that there is one place less
+pub rooms_behind : (room after : ℕ) (frames new : DatagramList) (places rest : PlaceList) (kept left : Bool) → (kept ≡ true → left ≡ true → after ≡ room - 1) → (kept ≡ false → after ≡ 0) → (left ≡ false → after ≡ 0) → (kept ≡ true → new ≡ frames)
+    → (left ≡ true → rest.places + 1 ≡ places.places) → HasRooms room frames places → HasRooms after new rest
+rooms_behind room after frames new places rest true true known frame place same less h = rooms_less room after frames new places rest (known refl refl) (same refl) (less refl) h
+rooms_behind room after frames new places rest true false known frame place same less h = rooms_none after new rest (place refl)
+rooms_behind room after frames new places rest false left known frame place same less h = rooms_none after new rest (frame refl)

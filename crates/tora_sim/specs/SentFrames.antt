@@ -1,8 +1,8 @@
 -- Datagrams as places of frames that are kept.
-use Rattle.std.specs.Prelude.{ℕ, ◌-◌, ◌<◌, ◌^◌, min, List, length, slice_get}
+use Rattle.std.specs.Prelude.{ℕ, ◌-◌, ◌<◌, ◌≤◌, ◌^◌, min, List, length, slice_get}
 use Rattle.std.specs.List.{AllByRecursion, filter_map}
 use Rattle.tora_frame.specs.FrameParts.{FrameParts}
-use Rattle.tora_sim.specs.Datagrams.{DatagramList}
+use Rattle.tora_sim.specs.Datagrams.{DatagramList, HasRoom}
 use Rattle.tora_sim.specs.Places.{PlaceList}
 
 -- each place is one of a frame
@@ -20,3 +20,7 @@ sent_list frames places = record {
   places = min places.places (min frames.places (2 ^ 32 - length frames.items));
   packet_places = frames.packet_places;
 }
+
+-- where it is known that there is room for some more, there is room for a frame more, and so many places
+abbrev pub HasRooms : ℕ → DatagramList → PlaceList → Type 0
+HasRooms room frames places = (room ≤ places.places) × (0 < room → HasRoom frames × (length frames.items < 2 ^ 32))

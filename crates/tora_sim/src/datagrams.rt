@@ -1,5 +1,5 @@
 //! The datagrams that were sent.
-ghost use Rattle.std.specs.Prelude.{◌≡◌, ◌<◌, ◌^◌, ◌∷◌, ◌++◌, [], length, drop, option_map, option_to_list, slice_get, vec_len, vec_capacity, Some, IfOk, IfSome, OnOk};
+ghost use Rattle.std.specs.Prelude.{◌≡◌, ◌-◌, ◌<◌, ◌^◌, ◌∷◌, ◌++◌, [], true, false, length, drop, option_map, option_to_list, slice_get, vec_len, vec_capacity, Some, IfOk, IfSome, OnOk};
 ghost use Rattle.tora_frame.specs.FrameParts.{IsHeader, frame_of};
 ghost use Rattle.tora_frame.specs.declared.parts.Body.{Body};
 ghost use Rattle.tora_sim.specs.Datagrams.{DatagramList, HasRoom, IsMore};
@@ -39,6 +39,9 @@ pub struct Datagrams {
     recents: Recents,
     /// Of so many link ends, the first ones, what they sent last has its places.
     ends: usize,
+    /// For so many more it is known that there is room, as long as they say what others said: so that it is asked of one number, and not of five
+    /// lists each time.
+    room: usize,
 }
 
 impl Model for Datagrams {
@@ -46,13 +49,13 @@ impl Model for Datagrams {
     ghost use Rattle.std.specs.List.{AllByRecursion};
     ghost use Rattle.tora_sim.specs.Datagrams.{DatagramList};
     ghost use Rattle.tora_sim.specs.Recents.{AreHellos, AreRecent};
-    ghost use Rattle.tora_sim.specs.SentFrames.{sent_frames, sent_list, AreWithin};
+    ghost use Rattle.tora_sim.specs.SentFrames.{sent_frames, sent_list, AreWithin, HasRooms};
 
     ghost Value = { DatagramList };
 
     ghost view = { λ d. sent_list d.frames d.places };
 
-    ghost invariant = { λ d. AreWithin d.frames.items d.places.items × AreHellos d.hellos.items d.frames.items × AreRecent d.recents.first d.recents.frames.items (sent_frames d.frames.items d.places.items) };
+    ghost invariant = { λ d. AreWithin d.frames.items d.places.items × AreHellos d.hellos.items d.frames.items × AreRecent d.recents.first d.recents.frames.items (sent_frames d.frames.items d.places.items) × HasRooms d.room d.frames d.places };
 }
 
 impl Datagrams {
@@ -66,6 +69,7 @@ impl Datagrams {
             hellos: Vec::new(alloc),
             recents: Recents::new(alloc),
             ends: 0,
+            room: 0,
         }
     }
 
@@ -85,12 +89,30 @@ impl Datagrams {
         if end >= self.ends {
             self.make_ends(end)?;
         }
+        if self.room > 0 {
+            return Ok(());
+        }
+        self.make_room()
+    }
+
+    /// Makes room for one more, and counts for how many there is room then.
+    ///
+    /// # Errors
+    /// Want of memory.
+    #[inline(never)]
+    fn make_room(&mut self) -> Result<(), AllocError>
+        ensures items { self.new.items ≡ self.old.items }
+        ensures room { OnOk result (HasRoom self.new) }
+    {
+        self.room = 0;
         if self.frames.len() >= MOST_FRAMES {
             return Err(AllocError);
         }
         self.frames.reserve()?;
         self.places.reserve()?;
-        self.recents.reserve()
+        self.recents.reserve()?;
+        self.room = self.places.left().min(self.recents.left());
+        Ok(())
     }
 
     /// Makes places for what a link end sends last, and those before it.
@@ -101,6 +123,7 @@ impl Datagrams {
     fn make_ends(&mut self, end: usize) -> Result<(), AllocError>
         ensures { self.new.items ≡ self.old.items }
     {
+        self.room = 0;
         self.frames.make_ends(end)?;
         make_hellos(&mut self.hellos, &self.frames, end)?;
         self.ends = end.saturating_add(1);
@@ -127,7 +150,8 @@ impl Datagrams {
         ensures { self.new.items ≡ self.old.items ++ frame.now ∷ [] }
     {
         let place = place_of(&mut self.frames, end, frame);
-        self.places.push(place);
+        let _left = self.places.push(place);
+        self.room = 0;
         self.recents
             .push(self.places.len(), recent_of(frame, far_end));
     }
@@ -140,8 +164,9 @@ impl Datagrams {
         requires valid { IsHeader header.now }
         ensures { self.new.items ≡ self.old.items ++ frame_of header.now Body.Hello ∷ [] }
     {
-        let place = hello_place(&mut self.frames, &mut self.hellos, end, header);
-        self.places.push(place);
+        let (place, is_kept) = hello_place(&mut self.frames, &mut self.hellos, end, header);
+        let is_left = self.places.push(place);
+        self.room = room_behind(self.room, is_kept, is_left);
         self.recents
             .push(self.places.len(), recent_hello(header, far_end));
     }
@@ -229,6 +254,7 @@ impl Datagrams {
     fn forget_places(&mut self, many: usize)
         ensures { self.new.items ≡ drop many self.old.items }
     {
+        self.room = 0;
         self.places.forget_first(many);
         self.recents.clear(self.places.len());
     }
@@ -309,27 +335,43 @@ fn found_hello(
     last.place(header)
 }
 
-/// The place of a HELLO of this header, whose frame is kept now if it was not the last one of its version that its link end sent.
+/// The place of a HELLO of this header, whose frame is kept now if it was not the last one of its version that its link end sent; and whether it
+/// was.
 #[inline(always)]
 fn hello_place(
     frames: &mut KeptFrames,
     hellos: &mut Vec<LastHello>,
     end: usize,
     header: &Header,
-) -> u32
+) -> (u32, bool)
     requires room { HasRoom frames.old }
     requires places { length frames.old.items < 2 ^ 32 }
     requires valid { IsHeader header.now }
     requires hellos { AreHellos hellos.old.items frames.old.items }
-    ensures is { slice_get frames.new.items result ≡ Some (frame_of header.now Body.Hello) }
+    ensures is { slice_get frames.new.items result.0 ≡ Some (frame_of header.now Body.Hello) }
     ensures more { IsMore frames.old.items frames.new.items }
     ensures hellos { AreHellos hellos.new.items frames.new.items }
+    ensures same { result.1 ≡ true → frames.new ≡ frames.old }
 {
     if let Some(place) = found_hello(hellos, frames, end, header) {
-        return place;
+        return (place, true);
     }
     // By value: where it lies in memory for a call, each HELLO is written there and read from there.
-    keep_hello(frames, hellos, end, *header)
+    (keep_hello(frames, hellos, end, *header), false)
+}
+
+/// For how many more it is known that there is room, behind one for which there was: one less, if no frame came and there is one place less.
+#[inline(always)]
+fn room_behind(room: usize, is_kept: bool, is_left: bool) -> usize
+    ensures less { is_kept ≡ true → is_left ≡ true → result ≡ room - 1 }
+    ensures frame { is_kept ≡ false → result ≡ 0 }
+    ensures place { is_left ≡ false → result ≡ 0 }
+{
+    if is_kept && is_left {
+        room.saturating_sub(1)
+    } else {
+        0
+    }
 }
 
 /// Keeps the frame of a HELLO of this header, and that it is the last one.

@@ -204,6 +204,12 @@ impl Recents {
         self.frames.reserve(1)
     }
 
+    /// For how many more there is memory.
+    #[inline(always)]
+    pub fn left(&self) -> usize {
+        self.frames.capacity() - self.frames.len()
+    }
+
     /// None, where there are so many datagrams.
     pub fn clear(&mut self, count: usize)
         ensures { (items : List FrameParts) → length items ≡ count → AreRecent self.new.first self.new.frames.items items }

@@ -1,4 +1,4 @@
-use Rattle.std.proofs.Common.{List, ℕ, drop, ap, sym, subst, ◌∙◌}
+use Rattle.std.proofs.Common.{List, ℕ, drop, ap, sym, subst, ◌∙◌, arith}
 use Rattle.tora_sim.specs.Datagrams.{DatagramList}
 use Rattle.tora_sim.specs.SentFrames.{AreWithin, sent_frames}
 use Rattle.tora_sim.proofs.SentFrames.{as_many, within_drop, sent_drop}
@@ -11,6 +11,7 @@ invariant_of-self c =
       within,
       c.self.invariant.1,
       c.clear.ensures (sent_frames d.frames.items c.forget_first.new.self.items) (as_many d.frames.items c.forget_first.new.self.items within ∙ sym c.len.ensures),
+      (omega (arith), λ none. absurd (omega (arith, none))),
     )
 
 pub returns : goal.returns

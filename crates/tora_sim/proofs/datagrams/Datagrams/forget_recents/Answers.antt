@@ -9,4 +9,5 @@ invariant_of-self c =
       c.self.invariant.0,
       c.self.invariant.1,
       c.clear.ensures (sent_frames d.frames.items d.places.items) (as_many d.frames.items d.places.items c.self.invariant.0 ∙ sym c.len-2.ensures),
+      c.self.invariant.3,
     )

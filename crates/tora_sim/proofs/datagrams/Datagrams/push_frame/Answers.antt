@@ -1,4 +1,4 @@
-use Rattle.std.proofs.Common.{ℕ, List, ◌∷◌, [], ◌++◌, sym, ap, ◌∙◌, subst}
+use Rattle.std.proofs.Common.{ℕ, List, ◌∷◌, [], ◌++◌, sym, ap, ◌∙◌, subst, arith}
 use Rattle.tora_frame.specs.FrameParts.{FrameParts}
 use Rattle.tora_sim.specs.Recents.{AreRecent}
 use Rattle.tora_sim.proofs.RecentLaws.{hellos_stay, next_count}
@@ -9,14 +9,14 @@ use Rattle.tora_sim.proofs.datagrams.Datagrams.push_frame.Goals as goal
 
 pub returns : goal.returns
 returns c =
-    ap (sent_frames c.place_of-place.new.frames.items) c.push.ensures
+    ap (sent_frames c.place_of-place.new.frames.items) c.push-left.ensures.items
     ∙ one_more c.self.inside.frames.items c.place_of-place.new.frames.items c.self.inside.places.items c.place_of-place.result c.args.frame.now c.place_of-place.ensures.more c.place_of-place.ensures.is c.self.invariant.0
     ∙ ap (λ (d : DatagramList). d.items ++ c.args.frame.now ∷ []) c.self.view_is
 
-pub push-requires-2 : goal.push-requires-2
-push-requires-2 c =
+pub push-requires : goal.push-requires
+push-requires c =
     let d = c.self.inside in
-    next_count d.frames.items d.places.items c.push.new.self.items d.recents.first c.len.result c.place_of-place.result d.recents.frames.items c.self.invariant.0 c.self.invariant.2 c.push.ensures c.len.ensures
+    next_count d.frames.items d.places.items c.push-left.new.self.items d.recents.first c.len.result c.place_of-place.result d.recents.frames.items c.self.invariant.0 c.self.invariant.2 c.push-left.ensures.items c.len.ensures
 
 pub invariant_of-self : goal.invariant_of-self
 invariant_of-self c =
@@ -24,9 +24,10 @@ invariant_of-self c =
     let after = c.place_of-place.new.frames.items in
     let is = c.place_of-place.ensures.is in
     let more = c.place_of-place.ensures.more in (
-      subst (λ (places : List ℕ). AreWithin after places) (sym c.push.ensures) (all_within d.frames.items after d.places.items c.place_of-place.result c.args.frame.now more is c.self.invariant.0),
+      subst (λ (places : List ℕ). AreWithin after places) (sym c.push-left.ensures.items) (all_within d.frames.items after d.places.items c.place_of-place.result c.args.frame.now more is c.self.invariant.0),
       hellos_stay d.hellos.items d.frames.items after more c.self.invariant.1,
-      subst (λ (items : List FrameParts). AreRecent c.push-2.new.self.first c.push-2.new.self.frames.items items)
-          (sym (ap (sent_frames after) c.push.ensures ∙ one_more d.frames.items after d.places.items c.place_of-place.result c.args.frame.now more is c.self.invariant.0))
-          (c.push-2.ensures (sent_frames d.frames.items d.places.items) c.args.frame.now c.self.invariant.2 c.recent_of.ensures),
+      subst (λ (items : List FrameParts). AreRecent c.push.new.self.first c.push.new.self.frames.items items)
+          (sym (ap (sent_frames after) c.push-left.ensures.items ∙ one_more d.frames.items after d.places.items c.place_of-place.result c.args.frame.now more is c.self.invariant.0))
+          (c.push.ensures (sent_frames d.frames.items d.places.items) c.args.frame.now c.self.invariant.2 c.recent_of.ensures),
+      (omega (arith), λ none. absurd (omega (arith, none))),
     )
