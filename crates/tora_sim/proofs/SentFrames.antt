@@ -1,5 +1,5 @@
 -- Datagrams as places of frames that are kept, where more frames come behind those.
-use Rattle.std.proofs.Common.{◌≡◌, ℕ, zero, suc, ◌+◌, ◌-◌, ◌<◌, ◌^◌, Bool, true, false, List, [], ◌∷◌, ◌++◌, length, take, drop, slice_get, Some, None, Option, refl, sym, ap, ◌∙◌, subst, arith, length-append}
+use Rattle.std.proofs.Common.{◌≡◌, ℕ, zero, suc, ◌+◌, ◌-◌, ◌<◌, ◌≤◌, ◌^◌, Bool, true, false, List, [], ◌∷◌, ◌++◌, length, take, drop, slice_get, Some, None, Option, refl, sym, ap, ◌∙◌, subst, arith, length-append}
 use Rattle.std.specs.Prelude.{option_to_list}
 use Rattle.std.specs.List.{cons_option}
 use Rattle.std.proofs.lemmas.List.Elements.{filter_map-append}
@@ -116,3 +116,10 @@ pub rooms_behind : (room after : ℕ) (frames new : DatagramList) (places rest :
 rooms_behind room after frames new places rest true true known frame place same less h = rooms_less room after frames new places rest (known refl refl) (same refl) (less refl) h
 rooms_behind room after frames new places rest true false known frame place same less h = rooms_none after new rest (place refl)
 rooms_behind room after frames new places rest false left known frame place same less h = rooms_none after new rest (frame refl)
+
+-- where there is room for some more only behind a datagram that took one place, there is room for no more than there are places
+pub rooms_with : (room after places rest : ℕ) (left : Bool) → (0 < after → (after + 1 ≡ room) × (left ≡ true)) → (left ≡ true → rest + 1 ≡ places) → room ≤ places → after ≤ rest
+rooms_with room zero places rest left known less within = omega (arith)
+rooms_with room (suc after) places rest left known less within =
+    let some : 0 < suc after = omega (arith) in
+    omega (arith, (known some).0, less (known some).1, within)

@@ -1,5 +1,5 @@
 //! The datagrams that were sent.
-ghost use Rattle.std.specs.Prelude.{◌≡◌, ◌-◌, ◌<◌, ◌^◌, ◌∷◌, ◌++◌, [], true, false, length, drop, option_map, option_to_list, slice_get, vec_len, vec_capacity, Some, IfOk, IfSome, OnOk};
+ghost use Rattle.std.specs.Prelude.{◌≡◌, ◌-◌, ◌+◌, ◌<◌, ◌^◌, ◌∷◌, ◌++◌, [], true, false, length, drop, option_map, option_to_list, slice_get, vec_len, vec_capacity, Some, IfOk, IfSome, OnOk};
 ghost use Rattle.tora_frame.specs.FrameParts.{IsHeader, frame_of};
 ghost use Rattle.tora_frame.specs.declared.parts.Body.{Body};
 ghost use Rattle.tora_sim.specs.Datagrams.{DatagramList, HasRoom, IsMore};
@@ -150,8 +150,8 @@ impl Datagrams {
         ensures { self.new.items ≡ self.old.items ++ frame.now ∷ [] }
     {
         let place = place_of(&mut self.frames, end, frame);
-        let _left = self.places.push(place);
-        self.room = 0;
+        let is_left = self.places.push(place);
+        self.room = room_with(self.room, &self.frames, is_left);
         self.recents
             .push(self.places.len(), recent_of(frame, far_end));
     }
@@ -368,6 +368,20 @@ fn room_behind(room: usize, is_kept: bool, is_left: bool) -> usize
     ensures place { is_left ≡ false → result ≡ 0 }
 {
     if is_kept && is_left {
+        room.saturating_sub(1)
+    } else {
+        0
+    }
+}
+
+/// For how many more it is known that there is room, behind one for which there was and whose frame may have come: one less, if there is room
+/// for a frame more and one place less.
+#[inline(always)]
+fn room_with(room: usize, frames: &KeptFrames, is_left: bool) -> usize
+    ensures less { 0 < result → (result + 1 ≡ room) × (is_left ≡ true) }
+    ensures room { 0 < result → HasRoom frames.now × (length frames.now.items < 2 ^ 32) }
+{
+    if frames.is_ready() && frames.len() < MOST_FRAMES && is_left {
         room.saturating_sub(1)
     } else {
         0

@@ -1,5 +1,5 @@
 //! Frames, each kept once where that is seen, with their headers and packets apart.
-ghost use Rattle.std.specs.Prelude.{◌≡◌, ◌<◌, ◌≤◌, ◌+◌, ◌^◌, ◌∷◌, ◌++◌, [], length, option_map, slice_get, slice_range, vec_len, vec_capacity, Some, IfSome, IsTrue, OnOk};
+ghost use Rattle.std.specs.Prelude.{◌≡◌, ◌<◌, ◌≤◌, ◌+◌, ◌^◌, ◌∷◌, ◌++◌, [], true, length, option_map, slice_get, slice_range, vec_len, vec_capacity, Some, IfSome, IsTrue, OnOk};
 ghost use Rattle.std.specs.List.{AllByRecursion};
 ghost use Rattle.tora_frame.specs.FrameParts.{IsFrame, IsHeader, batch, frame_of};
 ghost use Rattle.tora_frame.specs.declared.parts.Body.TheVariants as Carries;
@@ -246,7 +246,15 @@ impl KeptFrames {
         let body = keep_body(&mut self.packets, frame);
         let kept = keep(&mut self.apart, header, body);
         self.frames.push_reserved(kept);
-        self.is_ready = false;
+        self.is_ready = is_room(&self.headers, &self.frames, &self.packets, &self.apart);
+    }
+
+    /// Whether it is known that there is room for one more.
+    #[inline(always)]
+    pub fn is_ready(&self) -> bool
+        ensures { result ≡ true → HasRoom self.now }
+    {
+        self.is_ready
     }
 
     /// The frame that stands behind so many others, with its packets where they stand.
@@ -294,6 +302,25 @@ impl KeptFrames {
         let header = header_at(&self.headers, header_number(&self.apart, kept));
         Some((header.sender, header.receiver))
     }
+}
+
+/// Whether there is room for one more frame in these lists, whatever it carries.
+#[inline(always)]
+fn is_room(
+    headers: &Vec<Header>,
+    frames: &Vec<KeptFrame>,
+    packets: &Vec<Packet>,
+    apart: &Vec<WideFrame>,
+) -> bool
+    ensures headers { result ≡ true → (vec_len headers.now < vec_capacity headers.now) × (vec_len headers.now < 2 ^ 32) }
+    ensures frames { result ≡ true → vec_len frames.now < vec_capacity frames.now }
+    ensures packets { result ≡ true → (vec_len packets.now + 16 ≤ vec_capacity packets.now) × (vec_len packets.now + 16 ≤ 2 ^ 32) }
+    ensures apart { result ≡ true → (vec_len apart.now < vec_capacity apart.now) × (vec_len apart.now < 2 ^ 32) }
+{
+    headers.len() < headers.capacity().min(MOST_KEPT)
+        && frames.len() < frames.capacity()
+        && packets.len() + MOST_PACKETS <= packets.capacity().min(MOST_KEPT)
+        && apart.len() < apart.capacity().min(MOST_KEPT)
 }
 
 /// Makes a place for what a link end sends last.

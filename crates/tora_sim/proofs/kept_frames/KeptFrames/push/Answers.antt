@@ -1,4 +1,4 @@
-use Rattle.std.proofs.Common.{◌∷◌, [], ◌++◌, ap, sym, ◌∙◌, true≢false}
+use Rattle.std.proofs.Common.{◌∷◌, [], ◌++◌, ap, ◌∙◌, arith}
 use Rattle.tora_sim.specs.Datagrams.{DatagramList}
 use Rattle.tora_sim.proofs.KeptFrames.{pushed, pushed_kept}
 use Rattle.tora_sim.proofs.kept_frames.KeptFrames.push.Goals as goal
@@ -10,7 +10,11 @@ invariant_of-self c =
           c.keep-kept.result c.number_of-header.result c.keep_body-body.result c.args.frame.now
           c.number_of-header.ensures.more c.keep_body-body.ensures.more c.keep-kept.ensures.more c.keep-kept.ensures.value c.number_of-header.ensures.is c.keep_body-body.ensures.body c.push_reserved.ensures.items c.self.invariant.0
           c.keep-kept.ensures.there c.keep_body-body.ensures.within c.keep_body-body.ensures.valid,
-      λ ready. absurd (true≢false (sym ready)),
+      λ ready.
+        let fits = c.is_room-self-inside in (
+          omega (arith, fits.ensures.headers ready, fits.ensures.frames ready, fits.ensures.apart ready, c.number_of-header.new.headers.ok.0, c.push_reserved.new.self.ok.0, c.keep-kept.new.apart.ok.0),
+          omega (arith, fits.ensures.packets ready, c.keep_body-body.new.packets.ok.0),
+        ),
       c.number_of-header.ensures.lasts,
     )
 
