@@ -82,7 +82,7 @@ pub fn repeat<S: Simulator>(
         if !may_go_on(sim, place, event, some) {
             return Ok(some);
         }
-        let refused = sim.happen(event)?;
+        let refused = sim.happen_at(place, event)?;
         match refused {
             None => some = true,
             Some(_) => return Ok(some),

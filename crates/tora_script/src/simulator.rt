@@ -89,6 +89,19 @@ pub trait Simulator: Drop {
         ensures refused { IfOk result (λ refused. refused ≡ refusal_of (world self.old) event.now) }
         ensures after { IfOk result (λ _. world self.new ≡ world_after (world self.old) event.now) };
 
+    /// Makes an event happen as `happen` does. The place says where to look, as that of `may_happen` does: where another node or link end stands
+    /// there, it is searched. A simulator that looks there itself searches less; by itself each event is searched.
+    fn happen_at(
+        &mut self,
+        _place: usize,
+        event: &Event,
+    ) -> Result<Option<SimError>, AllocError>
+        ensures refused { IfOk result (λ refused. refused ≡ refusal_of (world self.old) event.now) }
+        ensures after { IfOk result (λ _. world self.new ≡ world_after (world self.old) event.now) }
+    {
+        self.happen(event)
+    }
+
     /// Makes a link end send its frames one after another until none is due, and so many at most, and says whether any was sent: it is a
     /// `Transmit` up to the first that `happen` refuses. The place is that of the end among `ends`, from 0 on; where it is another's, the end
     /// is searched.

@@ -81,7 +81,11 @@ impl Simulator for Sim {
     }
 
     fn happen(&mut self, event: &Event) -> Result<Option<SimError>, AllocError> {
-        match self.step(event) {
+        self.happen_at(0, event)
+    }
+
+    fn happen_at(&mut self, place: usize, event: &Event) -> Result<Option<SimError>, AllocError> {
+        match self.step_at(place, event) {
             Ok(()) => Ok(None),
             Err(SimError::Memory) => Err(AllocError),
             Err(SimError::NoNode) => Ok(Some(SimError::NoNode)),

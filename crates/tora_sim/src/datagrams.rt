@@ -356,8 +356,23 @@ fn hello_place(
     if let Some(place) = found_hello(hellos, frames, end, header) {
         return (place, true);
     }
-    // By value: where it lies in memory for a call, each HELLO is written there and read from there.
-    (keep_hello(frames, hellos, end, *header), false)
+    // By value, and by its fields: where it lies in memory for a call, or what fills it up is moved as well, each HELLO is written there and read
+    // from there.
+    (keep_hello(frames, hellos, end, same_header(header)), false)
+}
+
+/// The header, put together by its fields.
+#[inline(always)]
+fn same_header(header: &Header) -> Header
+    ensures { result ≡ header.now }
+{
+    Header {
+        version: header.version,
+        sender: header.sender,
+        receiver: header.receiver,
+        life: header.life,
+        heard: header.heard,
+    }
 }
 
 /// For how many more it is known that there is room, behind one for which there was: one less, if no frame came and there is one place less.

@@ -15,7 +15,7 @@ use crate::datagrams::Datagrams;
 use crate::hints::Hints;
 use crate::lanes::{make_room, make_room_at};
 use crate::link_slot::LinkSlot;
-use crate::links::{arm, far_end_at, place, place_at_or_among};
+use crate::links::{arm, far_end_at, place, place_at_or_among, place_near};
 use crate::nodes::{NodeSlot, Sending, place as node_place};
 use crate::plains::keep_looked;
 use crate::restarts::{new_ends, restart_ends};
@@ -120,11 +120,11 @@ impl Sim {
         Ok(())
     }
 
-    /// A cargo of a lane is submitted, or cuts.
-    pub(crate) fn pull(&mut self, n: Id, k: Id) -> Result<(), SimError>
+    /// A cargo of a lane is submitted, or cuts. The link end is looked for at the place `guess` first.
+    pub(crate) fn pull(&mut self, guess: usize, n: Id, k: Id) -> Result<(), SimError>
         ensures { Does self.old (Pull n k) result self.new }
     {
-        let Some(at) = place(&self.links, &self.keys, &self.hints, n, k) else {
+        let Some(at) = place_near(&self.links, &self.keys, &self.hints, guess, n, k) else {
             return Err(SimError::NoNode);
         };
         if !self.links[at].has_cargo() {
@@ -233,11 +233,11 @@ impl Sim {
         Ok(())
     }
 
-    /// An event of an end goes into its node's lane.
-    pub(crate) fn pump(&mut self, n: Id, k: Id) -> Result<(), SimError>
+    /// An event of an end goes into its node's lane. The link end is looked for at the place `guess` first.
+    pub(crate) fn pump(&mut self, guess: usize, n: Id, k: Id) -> Result<(), SimError>
         ensures { Does self.old (Pump n k) result self.new }
     {
-        let Some(at) = place(&self.links, &self.keys, &self.hints, n, k) else {
+        let Some(at) = place_near(&self.links, &self.keys, &self.hints, guess, n, k) else {
             return Err(SimError::NoNode);
         };
         let Some(event) = self.links[at].next_event() else {
@@ -481,15 +481,27 @@ impl Sim {
     pub fn step(&mut self, event: &Event) -> Result<(), SimError>
         ensures { Does self.old event.now result self.new }
     {
+        self.step_at(0, event)
+    }
+
+    /// Lets one event happen as `step` does. The place is that of the link end of a `Pull` or `Pump` in the order of `ends` and from 0 on, which
+    /// then isn't searched; where another end stands there, it is.
+    ///
+    /// # Errors
+    /// Those of `step`.
+    #[inline(always)]
+    pub fn step_at(&mut self, place: usize, event: &Event) -> Result<(), SimError>
+        ensures { Does self.old event.now result self.new }
+    {
         // What happens seldom is never put in here: each event would pay for the locals of all.
         match event {
             Event::Need(n, d) => self.need(*n, *d),
             Event::Tick => self.tick(),
             Event::Open(n, k) => self.open(*n, *k),
-            Event::Pull(n, k) => self.pull(*n, *k),
+            Event::Pull(n, k) => self.pull(place, *n, *k),
             Event::Transmit(n, k) => self.transmit(*n, *k),
             Event::Deliver(i) => self.deliver(*i),
-            Event::Pump(n, k) => self.pump(*n, *k),
+            Event::Pump(n, k) => self.pump(place, *n, *k),
             Event::CoreTurn(n) => self.core_turn(*n),
             Event::Arm(n, call) => self.arm(*n, *call),
             Event::Restart(n, torn) => self.restart(*n, *torn),

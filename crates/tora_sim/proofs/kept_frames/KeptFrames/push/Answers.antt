@@ -11,10 +11,10 @@ invariant_of-self c =
           c.number_of-header.ensures.more c.keep_body-body.ensures.more c.keep-kept.ensures.more c.keep-kept.ensures.value c.number_of-header.ensures.is c.keep_body-body.ensures.body c.push_reserved.ensures.items c.self.invariant.0
           c.keep-kept.ensures.there c.keep_body-body.ensures.within c.keep_body-body.ensures.valid,
       λ ready.
-        let fits = c.is_room-self-inside in (
-          omega (arith, fits.ensures.headers ready, fits.ensures.frames ready, fits.ensures.apart ready, c.number_of-header.new.headers.ok.0, c.push_reserved.new.self.ok.0, c.keep-kept.new.apart.ok.0),
-          omega (arith, fits.ensures.packets ready, c.keep_body-body.new.packets.ok.0),
-        ),
+          let fits = c.is_room-self-inside in (
+            omega (arith, fits.ensures.headers ready, fits.ensures.frames ready, fits.ensures.apart ready, c.number_of-header.new.headers.ok.0, c.push_reserved.new.self.ok.0, c.keep-kept.new.apart.ok.0),
+            omega (arith, fits.ensures.packets ready, c.keep_body-body.new.packets.ok.0),
+          ),
       c.number_of-header.ensures.lasts,
     )
 

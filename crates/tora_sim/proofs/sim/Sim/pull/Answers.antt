@@ -16,8 +16,8 @@ use Rattle.tora_sim.proofs.ReadyEnds.{kept_ready}
 use Rattle.tora_sim.proofs.Unchanged.{links_stay, nothing_known}
 use Rattle.tora_sim.proofs.sim.Sim.pull.Goals as goal
 
-pub place-requires-clause-keys : goal.place-requires-clause-keys
-place-requires-clause-keys c = c.self.invariant.3 ∙ sym c.self.invariant.0.keys
+pub place_near-requires-clause-keys : goal.place_near-requires-clause-keys
+place_near-requires-clause-keys c = c.self.invariant.3 ∙ sym c.self.invariant.0.keys
 
 pub returns-then-not-has_cargo : goal.returns-then-not-has_cargo
 returns-then-not-has_cargo c =

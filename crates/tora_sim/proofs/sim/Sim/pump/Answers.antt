@@ -19,8 +19,8 @@ use Rattle.tora_sim.proofs.ReadyEnds.{kept_as}
 use Rattle.tora_sim.proofs.UnreadyEnds.{node_kept, same_place}
 use Rattle.tora_sim.proofs.sim.Sim.pump.Goals as goal
 
-pub place-requires-clause-keys : goal.place-requires-clause-keys
-place-requires-clause-keys c = c.self.invariant.3 ∙ sym c.self.invariant.0.keys
+pub place_near-requires-clause-keys : goal.place_near-requires-clause-keys
+place_near-requires-clause-keys c = c.self.invariant.3 ∙ sym c.self.invariant.0.keys
 
 waits : (nodes : List NodeView) (home : ℕ) (y z : NodeView) (count : ℕ) → home < length nodes → y ≡ slice_index_or nodes home y → z ≡ slice_index_or nodes home z → count ≡ length y.items → count < 1024 → nat_lt (length z.items) 1024 ≡ true
 waits nodes home y z count lt a b e less = subst (λ (v : NodeView). nat_lt (length v.items) 1024 ≡ true) (same_read nodes home y z lt a b) (lt-ltb (length y.items) 1024 (omega (arith, e, less)))
