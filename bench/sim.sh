@@ -5,7 +5,7 @@
 # Each runs twice: with a line `old N` for every node, where the outputs have to be the same, and without them. The baseline
 # knows version 1 of frames alone, and batches bring packets in another order, so without them heights may differ.
 # Large worlds come behind, once each, beside the baseline with its limits raised in a copy (bench/raised.py): a grid of 32 x 32 with
-# one need across it, 500 moving nodes for 1,200 rounds, and 1,024 nodes with 8,000 links and 16 destinations; the memory of the
+# one need across it, 500 moving nodes for 1,200 rounds (also with pages of 2 MB for the program, as ./tora asks for them), and 1,024 nodes with 8,000 links and 16 destinations; the memory of the
 # first is to be under 150 MB, of the last under 1 GB. Then the time of a datagram at 64 and at 1,024 nodes, which is to be at most 1.5 times:
 # in a grid, where no link is parted, and with moving nodes; and the same of each datagram more, without the time in which the world is made.
 # usage: bench/sim.sh [--large] BASE [REPEATS] [ROUNDS]     BASE: the folder of the baseline's sources (a Cargo crate `base`)
@@ -21,6 +21,8 @@ rounds=${3:-5}
 "$top/tora" build >&2
 program=$top/crates/tora/out/tora
 large=()
+# What stands before the program's words: a large world also runs in pages of 2 MB where the system gives them, as ./tora runs it.
+way=()
 
 # A file whose lines behind the links come so many times.
 repeated() {
@@ -43,7 +45,7 @@ compared() {
   all_old "$work/case.sim" >"$work/old.sim"
   for nodes in old case; do
     echo "$1: $(wc -l <"$work/case.sim") lines, $repeats times what stands behind the links$([ "$nodes" = case ] || echo ', every node old')"
-    python3 "$top/bench/measure.py" "$rounds" /dev/null "$work/a" "$work/b" -- "$program" sim ${large[@]+"${large[@]}"} "$work/$nodes.sim" -- "$bin" sim "$work/case.sim"
+    python3 "$top/bench/measure.py" "$rounds" /dev/null "$work/a" "$work/b" -- ${way[@]+"${way[@]}"} "$program" sim ${large[@]+"${large[@]}"} "$work/$nodes.sim" -- "$bin" sim "$work/case.sim"
   done
 }
 
@@ -107,6 +109,9 @@ large_worlds() {
   moving 500
   cp "$work/moving-500.sim" "$work/once.sim"
   compared '500 moving nodes, 1,200 rounds'
+  way=(env GLIBC_TUNABLES=glibc.malloc.hugetlb=1)
+  compared '500 moving nodes, 1,200 rounds, in pages of 2 MB'
+  way=()
   {
     echo "dests $(seq -s , 1009 1024)"
     links 32 '0 1,1 0,1 1,1 -1,0 2,2 0,1 2,2 1,1 -2' | awk 'NR % 14' | head -n 8000
