@@ -5,8 +5,9 @@
 # Each runs twice: with a line `old N` for every node, where the outputs have to be the same, and without them. The baseline
 # knows version 1 of frames alone, and batches bring packets in another order, so without them heights may differ.
 # Large worlds come behind, once each, beside the baseline with its limits raised in a copy (bench/raised.py): a grid of 32 x 32 with
-# one need across it, 500 moving nodes for 1,200 rounds (also with pages of 2 MB for the program, as ./tora asks for them), and 1,024 nodes with 8,000 links and 16 destinations; the memory of the
-# first is to be under 150 MB, of the last under 1 GB. Then the time of a datagram at 64 and at 1,024 nodes, which is to be at most 1.5 times:
+# one need across it, 500 moving nodes for 1,200 rounds (also with pages of 2 MB for the program, as ./tora asks for them), and
+# 1,024 nodes with 8,000 links and 16 destinations; the memory of the first is to be under 150 MB, of the last under 1 GB.
+# Then the time of a datagram at 64 and at 1,024 nodes, which is to be at most 1.5 times:
 # in a grid, where no link is parted, and with moving nodes; and the same of each datagram more, without the time in which the world is made.
 # usage: bench/sim.sh [--large] BASE [REPEATS] [ROUNDS]     BASE: the folder of the baseline's sources (a Cargo crate `base`)
 #   --large   large worlds alone
