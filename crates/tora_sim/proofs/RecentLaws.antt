@@ -64,3 +64,13 @@ next_count frames places after first count place recents h r e c =
     let many = as_many frames places h in
     let longer : length after ≡ length places + 1 = ap length e ∙ length-append places (place ∷ []) in
     omega (arith, all, many, longer, c)
+
+-- the same behind two
+pub pair_count : (frames : List FrameParts) (places after : List ℕ) (first count one two : ℕ) (recents : List RecentFrame) → AreWithin frames places → AreRecent first recents (sent_frames frames places) → after ≡ (places ++ one ∷ []) ++ two ∷ []
+    → count ≡ length after → count ≡ first + length recents + 2
+pair_count frames places after first count one two recents h r e c =
+    let all = r.count in
+    let many = as_many frames places h in
+    let longer : length after ≡ length (places ++ one ∷ []) + 1 = ap length e ∙ length-append (places ++ one ∷ []) (two ∷ []) in
+    let long : length (places ++ one ∷ []) ≡ length places + 1 = length-append places (one ∷ []) in
+    omega (arith, all, many, longer, long, c)

@@ -1,5 +1,5 @@
 -- Datagrams as places of frames that are kept, where more frames come behind those.
-use Rattle.std.proofs.Common.{◌≡◌, ℕ, zero, suc, ◌+◌, ◌-◌, ◌<◌, ◌≤◌, ◌^◌, Bool, true, false, List, [], ◌∷◌, ◌++◌, length, take, drop, slice_get, Some, None, Option, refl, sym, ap, ◌∙◌, subst, arith, length-append}
+use Rattle.std.proofs.Common.{◌≡◌, ℕ, zero, suc, ◌+◌, ◌-◌, ◌<◌, ◌≤◌, ◌^◌, Bool, true, false, List, [], ◌∷◌, ◌++◌, length, take, drop, slice_get, Some, None, Option, refl, sym, ap, ◌∙◌, subst, arith, length-append, append-nil}
 use Rattle.std.specs.Prelude.{option_to_list}
 use Rattle.std.specs.List.{cons_option}
 use Rattle.std.proofs.lemmas.List.Elements.{filter_map-append}
@@ -74,6 +74,22 @@ module _ (frames after : List FrameParts) (places : List ℕ) (place : ℕ) (fra
   all_within =
       subst (λ (xs : List FrameParts). AreWithin xs (places ++ place ∷ [])) (sym more.1)
       (within_more frames more.0 places place h (subst (λ (xs : List FrameParts). place < length xs) more.1 (within after place frame is)))
+
+-- two datagrams more, whose frames stand among those that are kept
+module _ (frames : List FrameParts) (places : List ℕ) (one two : ℕ) (first second : FrameParts) (is : slice_get frames one ≡ Some first) (is' : slice_get frames two ≡ Some second) (h : AreWithin frames places) where
+  no_more : IsMore frames frames
+  no_more = ([], sym (append-nil frames))
+
+  within_one : AreWithin frames (places ++ one ∷ [])
+  within_one = all_within frames frames places one first no_more is h
+
+  pub two_more : sent_frames frames ((places ++ one ∷ []) ++ two ∷ []) ≡ (sent_frames frames places ++ first ∷ []) ++ second ∷ []
+  two_more =
+      one_more frames frames (places ++ one ∷ []) two second no_more is' within_one
+      ∙ ap (λ (fs : List FrameParts). fs ++ second ∷ []) (one_more frames frames places one first no_more is h)
+
+  pub both_within : AreWithin frames ((places ++ one ∷ []) ++ two ∷ [])
+  both_within = all_within frames frames (places ++ one ∷ []) two second no_more is' within_one
 
 -- ---- the first datagrams are let go
 

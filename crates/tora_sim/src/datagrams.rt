@@ -171,6 +171,34 @@ impl Datagrams {
             .push(self.places.len(), recent_hello(header, far_end));
     }
 
+    /// Appends two HELLOs of these headers, one after the other, that the link end at a place sends to the one that may stand at the place
+    /// `far_end`, where both are known to be the last ones that it sent, and it is known that there is room for both; and answers whether it
+    /// did. Else nothing is changed.
+    #[inline(always)]
+    pub fn push_pair(&mut self, end: usize, far_end: u32, first: &Header, second: &Header) -> bool
+        requires first { IsHeader first.now }
+        requires second { IsHeader second.now }
+        ensures items { result ≡ true → self.new.items ≡ (self.old.items ++ frame_of first.now Body.Hello ∷ []) ++ frame_of second.now Body.Hello ∷ [] }
+        ensures same { result ≡ false → self.new ≡ self.old }
+    {
+        if self.room < 2 {
+            return false;
+        }
+        let Some((one, two)) = found_pair(&self.hellos, &self.frames, end, first, second) else {
+            return false;
+        };
+        if !self.places.push_pair(one, two) {
+            return false;
+        }
+        self.room -= 2;
+        self.recents.push_pair(
+            self.places.len(),
+            recent_hello(first, far_end),
+            recent_hello(second, far_end),
+        );
+        true
+    }
+
     /// The datagram that stands behind so many others, with its packets where they stand.
     #[inline(always)]
     pub fn get(&self, place: usize) -> Option<BorrowedFrame<'_>>
@@ -333,6 +361,28 @@ fn found_hello(
         return None;
     };
     last.place(header)
+}
+
+/// The places of two HELLOs that are both known to be kept.
+#[inline(always)]
+fn found_pair(
+    hellos: &[LastHello],
+    _frames: &KeptFrames,
+    end: usize,
+    first: &Header,
+    second: &Header,
+) -> Option<(u32, u32)>
+    requires { AreHellos hellos.now _frames.now.items }
+    ensures first { IfSome result (λ places. slice_get _frames.now.items places.0 ≡ Some (frame_of first.now Body.Hello)) }
+    ensures second { IfSome result (λ places. slice_get _frames.now.items places.1 ≡ Some (frame_of second.now Body.Hello)) }
+{
+    let Some(one) = found_hello(hellos, _frames, end, first) else {
+        return None;
+    };
+    let Some(two) = found_hello(hellos, _frames, end, second) else {
+        return None;
+    };
+    Some((one, two))
 }
 
 /// The place of a HELLO of this header, whose frame is kept now if it was not the last one of its version that its link end sent; and whether it

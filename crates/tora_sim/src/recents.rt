@@ -232,6 +232,20 @@ impl Recents {
         }
     }
 
+    /// Keeps the headers of two more datagrams, behind which there are so many in all; where there is no place for both none is kept any more.
+    #[inline(always)]
+    pub fn push_pair(&mut self, count: usize, first: RecentFrame, second: RecentFrame)
+        requires { count ≡ self.old.first + length self.old.frames.items + 2 }
+        ensures { (items : List FrameParts) (one two : FrameParts) → AreRecent self.old.first self.old.frames.items items → IsTold first (Some one) → IsTold second (Some two) → AreRecent self.new.first self.new.frames.items ((items ++ one ∷ []) ++ two ∷ []) }
+    {
+        if self.frames.capacity() - self.frames.len() >= 2 {
+            self.frames.push_reserved(first);
+            self.frames.push_reserved(second);
+        } else {
+            self.clear(count);
+        }
+    }
+
     /// What is kept of the datagram that stands behind so many others.
     #[inline(always)]
     pub fn get(&self, place: usize) -> Option<&RecentFrame>
