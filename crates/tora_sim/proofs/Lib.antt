@@ -10,6 +10,7 @@ pub mod LaneRooms
 pub mod Unchanged
 pub mod Sends
 pub mod Sendings
+pub mod PairSends
 pub mod Receives
 pub mod Pumps
 pub mod Runs

@@ -16,6 +16,7 @@ pub mod Topologies
 pub mod Store
 pub mod Steps
 pub mod Sending
+pub mod Pairs
 pub mod Readers
 pub mod Recents
 pub mod Possible

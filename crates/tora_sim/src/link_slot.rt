@@ -9,6 +9,7 @@ ghost use Rattle.tora_world.specs.Lists.{packets_of, parcels_in};
 ghost use Rattle.tora_sim.specs.Lane.{AreOthersAsWhole, Fits};
 ghost use Rattle.tora_sim.specs.Lanes.{HasRoom, IsReady, after_offer_at, bare, has_place};
 ghost use Rattle.tora_sim.specs.Links.{after_arm, after_open_at, after_pull_at, with_state};
+ghost use Rattle.tora_sim.specs.Pairs.{IsPairSent};
 ghost use Rattle.tora_sim.specs.Plains.{IsPlain};
 ghost use Rattle.tora_sim.specs.Quiet.{IsStillIf};
 ghost use Rattle.tora_sim.specs.Resting.{is_idle};
@@ -16,12 +17,13 @@ ghost use Rattle.tora_sim.specs.Restarts.{restarted};
 ghost use Rattle.tora_sim.specs.SteadyLinks.{IsKept, is_none, shown};
 
 use crate::SimError;
+use crate::datagrams::Datagrams;
 use crate::links::LinkParts;
 use crate::spares::Spares;
 use std::alloc::{AllocError, Global};
 use std::marker::Model;
 use tora_arq::{GrowingEnd, Life, LinkEvent, Steady};
-use tora_frame::{BorrowedBody, BorrowedFrame, Header, Packets};
+use tora_frame::{BorrowedBody, BorrowedFrame, Header, Packets, Version};
 use tora_height::Id;
 use tora_life::DiskCall;
 use tora_packet::Packet;
@@ -173,6 +175,56 @@ impl LinkSlot {
             return None;
         }
         self.steady.send_hello(now)
+    }
+
+    /// Whether it is seen by what is kept of the end that each HELLO goes out in both versions, one after the other: the peer isn't known to
+    /// speak version 2.
+    #[inline(always)]
+    pub fn says_both(&self) -> bool
+        ensures { result ≡ true → self.now.state.speaks_two ≡ false }
+    {
+        !self.steady.is_none()
+            && !self.steady.speaks_two
+            && !self.steady.owes_old_hello
+            && self.steady.version == Version::Two
+    }
+
+    /// Takes the first two frames due by what is kept of the end, which are a HELLO in both versions, and puts them behind the datagrams, to the
+    /// end that may stand at the place `far_end`, where the end at the place `end` sent the same ones before; and answers whether it did. Else
+    /// nothing is changed.
+    #[inline(always)]
+    pub fn send_pair(
+        &mut self,
+        now: u64,
+        datagrams: &mut Datagrams,
+        end: usize,
+        far_end: u32,
+    ) -> bool
+        ensures sent { result ≡ true → IsPairSent self.old now self.new datagrams.old.items datagrams.new.items }
+        ensures same { result ≡ false → self.new ≡ self.old }
+        ensures datagrams { result ≡ false → datagrams.new ≡ datagrams.old }
+    {
+        if self.steady.is_none() {
+            return false;
+        }
+        if !self.says_both() {
+            return false;
+        }
+        let mut behind = self.steady;
+        let Some(first) = behind.send_hello(now) else {
+            return false;
+        };
+        let Some(second) = behind.send_hello(now) else {
+            return false;
+        };
+        if !datagrams.push_pair(end, far_end, &first, &second) {
+            return false;
+        }
+        // By its fields: all others are as they were, and each that is written costs an instruction.
+        self.steady.said = behind.said;
+        self.steady.heard = behind.heard;
+        self.steady.owes_old_hello = behind.owes_old_hello;
+        true
     }
 
     /// Takes a frame in, and tells whether the end is busy then, and before which tick nothing is to be done at it; 0 where something is to be
