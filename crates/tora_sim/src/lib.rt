@@ -40,6 +40,7 @@ mod nodes;
 mod packed_block;
 mod packed_places;
 mod packing;
+mod pairs;
 mod places;
 mod plains;
 mod possible;

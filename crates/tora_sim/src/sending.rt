@@ -123,8 +123,9 @@ impl Sim {
         requires node { IsFirst (is_of n) self.old.nodes home }
         ensures { Repeats self.old most (Transmit n k) result self.new }
     {
-        let mut some = false;
-        for _ in 0..most {
+        let mut some = most >= 2 && self.transmit_pair(n, k, at, home);
+        let first = if some { 2 } else { 0 };
+        for _ in first..most {
             if self.is_over(at, some) {
                 return Ok(some);
             }

@@ -10,7 +10,7 @@ use Rattle.tora_sim.proofs.sim.Sim.transmit_from.Given as goal
 
 abbrev pub invariant-loop : goal.invariant-loop
 invariant-loop l = record {
-  sent : Onward (world_of l.initial.self) (repeats l.most (Transmit l.n l.k) (world_of l.initial.self)) (world_of l.self) l.some (repeats (l.most - l.counter) (Transmit l.n l.k) (world_of l.self));
+  sent : Onward (world_of l.fn.self) (repeats l.most (Transmit l.n l.k) (world_of l.fn.self)) (world_of l.self) l.some (repeats (l.most - l.counter) (Transmit l.n l.k) (world_of l.self));
   end : IsFirst (is_at l.n l.k) l.self.links l.at;
   node : IsFirst (is_of l.n) l.self.nodes l.home;
 }

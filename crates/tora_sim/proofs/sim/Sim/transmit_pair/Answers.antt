@@ -1,0 +1,60 @@
+use Rattle.std.proofs.Common.{◌≡◌, ◌∷◌, [], List, length, is_some, refl, ap, sym, ◌∙◌, subst, arith}
+use Rattle.std.specs.Prelude.{slice_set}
+use Rattle.std.proofs.lemmas.Bool.{both_ways}
+use Rattle.std.proofs.lemmas.Option.{slice_get_read}
+use Rattle.tora_arq.specs.LinkEnd.{after_transmit, frame_due}
+use Rattle.tora_world.specs.declared.event.Event.TheVariants.{Transmit}
+use Rattle.tora_sim.specs.Datagrams.{DatagramList}
+use Rattle.tora_sim.specs.Links.{LinkView}
+use Rattle.tora_sim.specs.Plains.{IsPlain}
+use Rattle.tora_sim.specs.Possible.{has_cargo}
+use Rattle.tora_sim.specs.Store.{SimState, state_of, world_of}
+use Rattle.tora_sim.specs.Steps.{AllAreDone}
+use Rattle.tora_sim.proofs.PairSends.{pair_done, pair_store}
+use Rattle.tora_sim.proofs.PlainEnds.{same_plain, transmit_plain}
+use Rattle.tora_sim.proofs.Quiets.{set_same}
+use Rattle.tora_sim.proofs.ReadyEnds.{kept_as}
+use Rattle.tora_sim.proofs.Sendings.{end_of, node_of}
+use Rattle.tora_sim.proofs.StillEnds.{possible_still}
+use Rattle.tora_sim.proofs.Unchanged.{datagrams_stay, links_stay}
+use Rattle.tora_sim.proofs.sim.Sim.transmit_pair.Goals as goal
+
+-- ---- nothing went out
+
+pub invariant_of-self : goal.invariant_of-self
+invariant_of-self c =
+    let s = c.self.inside in
+    let links = slice_set s.links.items c.args.at c.send_pair.new.self in
+    let stays = set_same s.links.items c.args.at c.index_mut.result.now c.send_pair.new.self (end_of c.args._n c.args._k c.args.at c.self.view_is c.requires.end).within c.index_mut.ensures.value (c.send_pair.ensures.same c.if-not-send_pair.true) in
+    datagrams_stay s.topology s.times s.clock s.nodes.items links s.datagrams.items s.quiet s.keys.items s.stills s.plains s.ready.items s.unready.items s.idle
+    (links_stay s.topology s.times s.clock s.nodes.items s.links.items s.datagrams.items s.quiet s.keys.items s.stills s.plains s.ready.items s.unready.items s.idle c.self.invariant links stays) c.send_pair.new.datagrams.items
+    (ap (λ (d : DatagramList). d.items) (c.send_pair.ensures.datagrams c.if-not-send_pair.true))
+
+-- ---- both frames went out
+
+pub invariant_of-self-2 : goal.invariant_of-self-2
+invariant_of-self-2 c =
+    let s = c.self.inside in
+    let x = c.index_mut.result.now in
+    let new = c.send_pair.new.self in
+    let sent = c.send_pair.ensures.sent c.if-not-send_pair.false in
+    let end = end_of c.args._n c.args._k c.args.at c.self.view_is c.requires.end in
+    let read = c.index_mut.ensures.value in (
+      pair_store s.topology s.times s.clock s.nodes.items s.links.items s.datagrams.items c.self.invariant.0 c.args._n c.args._k c.args.at x end read c.args.home c.index-2.result.now (node_of c.args._n c.args.home c.self.view_is c.requires.node) c.index-2.ensures
+          (sym c.sending.ensures ∙ c.in-Goes.is) c.data_frames_are_what_was_submitted.ensures.frame new c.send_pair.new.datagrams.items sent,
+      λ none. absurd (omega (arith, none)),
+      possible_still s.clock s.stills s.links.items c.args.at x new end.within read (λ until lt h. both_ways (is_some (frame_due x.settings x.state s.clock)) (h.frames s.clock lt) (ap is_some sent.due)) c.self.invariant.2,
+      c.self.invariant.3,
+      same_plain s.clock s.plains s.links.items c.args.at x new (slice_get_read s.links.items (length s.links.items) c.args.at x refl end.within read)
+          (λ h. subst (λ (y : LinkView). IsPlain y) (sym sent.state) (transmit_plain x.settings (after_transmit x.settings x.state s.clock) s.clock (has_cargo x) (transmit_plain x.settings x.state s.clock (has_cargo x) h))) c.self.invariant.4,
+      kept_as s.ready.items s.links.items c.args.at x new _ end.within read sent.state (λ h. h) c.self.invariant.5,
+      c.self.invariant.6,
+      c.self.invariant.7,
+    )
+
+pub returns-clause-done : goal.returns-clause-done
+returns-clause-done c done =
+    let s = c.self.inside in
+    subst (λ (before : SimState). AllAreDone (world_of before) (Transmit c.args._n c.args._k ∷ Transmit c.args._n c.args._k ∷ []) (world_of (state_of s.topology s.times s.clock s.nodes.items (slice_set s.links.items c.args.at c.send_pair.new.self) c.send_pair.new.datagrams.items))) c.self.view_is
+    (pair_done s.topology s.times s.clock s.nodes.items s.links.items s.datagrams.items c.self.invariant.0 c.args._n c.args._k c.args.at c.index_mut.result.now (end_of c.args._n c.args._k c.args.at c.self.view_is c.requires.end) c.index_mut.ensures.value
+    c.args.home c.index-2.result.now (node_of c.args._n c.args.home c.self.view_is c.requires.node) c.index-2.ensures (sym c.sending.ensures ∙ c.in-Goes.is) c.data_frames_are_what_was_submitted.ensures.frame c.send_pair.new.self c.send_pair.new.datagrams.items (c.send_pair.ensures.sent c.if-not-send_pair.false))
