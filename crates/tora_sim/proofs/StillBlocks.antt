@@ -1,10 +1,8 @@
 -- Ticks of link ends in blocks: what a block's tick tells of its ends, as ticks change.
-use Rattle.std.proofs.Common.{◌≡◌, ℕ, zero, suc, ◌+◌, ◌*◌, ◌<◌, ◌≤◌, ◌⊎◌, inl, inr, max, min, List, length, set, sym, ap, ◌∙◌, arith, ltb}
+use Rattle.std.proofs.Common.{◌≡◌, ℕ, zero, suc, ◌+◌, ◌*◌, ◌<◌, ◌≤◌, ◌⊎◌, inl, inr, max, List, length, sym, ap, ◌∙◌, arith, ltb}
 use borrow.Author.Tests.{ltb-true, ltb-false}
 use Rattle.std.specs.Prelude.{slice_index}
-use Rattle.std.proofs.Math.Nat.{min-le_left, min-le_right}
 use Rattle.std.proofs.lemmas.Bool.{cases_Bool}
-use Rattle.std.proofs.lemmas.List.{get_or-set_same, get_or-set_other}
 use Rattle.tora_sim.specs.Stills.{AreLater, AreBlocks}
 use Rattle.tora_sim.proofs.FreshEnds.{below_next}
 
@@ -45,22 +43,6 @@ later_below now from to blocks ends h later at le lt within = go (block_at at)
         let least = h.least block at begin end within in
         let here = later block (omega (arith, le, end)) (omega (arith, lt, begin)) (omega (arith, begin, within, many)) in
         omega (arith, least, here)
-
--- ---- the least tick of a block
-
--- one end more, of which a tick is kept
-pub least_so_far : (stills after : List ℕ) (first place least until : ℕ) → after ≡ set stills (first + place) until → first + place < length stills
-    → ((at : ℕ) → first ≤ at → at < first + place → least ≤ slice_index stills at) → (at : ℕ) → first ≤ at → at < first + (place + 1) → min least until ≤ slice_index after at
-least_so_far stills after first place least until e within h at le lt = go (below_next at (first + place) (omega (arith, lt)))
-  where
-    go : (at < first + place) ⊎ (at ≡ first + place) → min least until ≤ slice_index after at
-    go (inl less) =
-        let old : slice_index after at ≡ slice_index stills at = ap (λ (ys : List ℕ). slice_index ys at) e ∙ get_or-set_other stills (first + place) at until 0 (λ q. omega (arith, less, q)) in
-        let before = h at le less in
-        omega (arith, old, before, min-le_left least until)
-    go (inr same) =
-        let here : slice_index after at ≡ until = ap (λ (ys : List ℕ). slice_index ys at) e ∙ ap (slice_index (set stills (first + place) until)) same ∙ get_or-set_same stills (first + place) until 0 within in
-        omega (arith, here, min-le_right least until)
 
 -- ---- ends that are passed over
 

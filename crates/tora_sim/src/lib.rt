@@ -18,6 +18,7 @@ mod cuts;
 mod datagrams;
 mod delivering;
 mod due;
+mod due_bits;
 mod duplicates;
 mod files;
 mod first;

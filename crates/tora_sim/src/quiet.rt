@@ -1,5 +1,5 @@
 //! Until which tick nothing is to be done.
-ghost use Rattle.std.specs.Prelude.{◌≡◌, ◌*◌, ◌<◌, ℕ, true, false, is_some, length, slice_set};
+ghost use Rattle.std.specs.Prelude.{◌≡◌, ◌+◌, ◌*◌, ◌<◌, ◌≤◌, ℕ, true, false, is_some, length};
 ghost use Rattle.std.specs.List.{list_all};
 ghost use Rattle.tora_sim.specs.Quiet.{IsQuiet, IsStillIf, is_idle, AreIdleIf, AreStill, AreStillEach};
 ghost use Rattle.tora_sim.specs.Store.{world_of};
@@ -12,8 +12,8 @@ use crate::nodes::NodeSlot;
 use crate::plains::mark_ends;
 use crate::sim::Sim;
 use crate::stills::{
-    Stills, block_count, ends_of, is_still_block, keep_block, keep_least, keep_still, keep_tops,
-    next_block, short, still_at, still_until,
+    BLOCK, Stills, block_count, dues_of, end_count, ends_of, is_still_block, keep_block,
+    keep_still, keep_tops, next_block, short, still_at, still_until,
 };
 
 impl Sim {
@@ -101,30 +101,61 @@ fn settle_block(links: &Vec<LinkSlot>, stills: &mut Stills, block: usize, now: u
     if is_still_block(stills, block, now) {
         return;
     }
-    let (first, count) = ends_of(stills, block);
-    let mut least = u64::MAX;
-    for place in 0..count {
-        let until = settle_end(links, stills, first + place, now);
-        least = least.min(until);
-    }
-    keep_least(stills, block, least);
+    settle_dues(links, stills, block, now);
+    keep_block(stills, block);
 }
 
-/// Looks at the end at a place, unless its tick is still to come, and answers its tick.
-#[inline(always)]
-fn settle_end(links: &Vec<LinkSlot>, stills: &mut Stills, place: usize, now: u64) -> u64
-    requires within { place < length stills.old }
+/// Looks at each such end of a block. Sixteen ticks are looked at in one go.
+fn settle_dues(links: &Vec<LinkSlot>, stills: &mut Stills, block: usize, now: u64)
+    requires within { 16 * block < length stills.old }
     requires still { AreStillEach now stills.old links.now.items }
-    ensures still { AreStillEach now stills.new links.now.items }
-    ensures tick { stills.new ≡ slice_set stills.old place result }
+    ensures { AreStillEach now stills.new links.now.items }
 {
-    let known = still_at(stills, place);
-    if now < known {
-        return known;
+    let (first, count) = ends_of(stills, block);
+    if count == BLOCK {
+        settle_sixteen(links, stills, first, now);
+    } else {
+        settle_few(links, stills, first, count, now);
     }
+}
+
+/// Looks at each such end of the 16 from the place `first` on.
+fn settle_sixteen(links: &Vec<LinkSlot>, stills: &mut Stills, first: usize, now: u64)
+    requires within { first + 16 ≤ length stills.old }
+    requires still { AreStillEach now stills.old links.now.items }
+    ensures { AreStillEach now stills.new links.now.items }
+{
+    let mut dues = dues_of(stills, first, now);
+    while dues != 0 {
+        let place = dues.trailing_zeros() as usize;
+        settle_end(links, stills, first + place, now);
+        dues &= dues - 1;
+    }
+}
+
+/// Looks at each such end of the `count` from the place `first` on.
+fn settle_few(links: &Vec<LinkSlot>, stills: &mut Stills, first: usize, count: usize, now: u64)
+    requires within { first + count ≤ length stills.old }
+    requires still { AreStillEach now stills.old links.now.items }
+    ensures { AreStillEach now stills.new links.now.items }
+{
+    let _many = end_count(stills);
+    for place in 0..count {
+        if still_at(stills, first + place) <= now {
+            settle_end(links, stills, first + place, now);
+        }
+    }
+}
+
+/// Looks at the end at a place.
+#[inline(always)]
+fn settle_end(links: &Vec<LinkSlot>, stills: &mut Stills, place: usize, _now: u64)
+    requires within { place < length stills.old }
+    requires still { AreStillEach _now stills.old links.now.items }
+    ensures { AreStillEach _now stills.new links.now.items }
+{
     let until = short(links[place].still_until());
     keep_still(stills, place, until);
-    u64::from(until)
 }
 
 /// Whether no item waits for any core. The nodes are looked at where that is not known.

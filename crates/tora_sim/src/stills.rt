@@ -5,14 +5,15 @@
 //! so that from there on, after more than four thousand million rounds, all ends are looked at in each round.
 ghost use Rattle.std.specs.Prelude.{◌≡◌, ◌+◌, ◌*◌, ◌-◌, ◌^◌, ◌<◌, ◌≤◌, ℕ, true, IfNone, IfSome, MatchResult, length, min, replicate, slice_index, slice_set};
 ghost use Rattle.tora_sim.specs.Quiet.{AreForgotten};
-ghost use Rattle.tora_sim.specs.Stills.{AreBlocks, AreLater, short};
+ghost use Rattle.tora_sim.specs.Stills.{AreBlocks, AreLater, due_bits, short};
 
 use crate::SimError;
+use crate::due_bits::due_bits;
 use std::alloc::Global;
 use std::marker::Model;
 
 /// How many link ends stand in a block; fewer may stand in the last.
-const BLOCK: usize = 16;
+pub const BLOCK: usize = 16;
 
 /// Of each link end the tick before which nothing is to be done at it, in the order of the ends; or likewise that before which it is plain.
 ///
@@ -125,6 +126,15 @@ pub fn still_at(stills: &Stills, at: usize) -> u64
     ensures { result ≡ slice_index stills.now at }
 {
     u64::from(stills.ends[at])
+}
+
+/// At which of the 16 ends from the place `first` on the tick is not still to come: a bit for each, the lowest for the first.
+#[inline(always)]
+pub fn dues_of(stills: &Stills, first: usize, now: u64) -> u16
+    requires { first + 16 ≤ length stills.now }
+    ensures { result ≡ due_bits (short now) first stills.now }
+{
+    due_bits(stills.ends.as_slice(), first, short(now))
 }
 
 /// Whether the tick of a block tells that the ticks of its ends are still to come.
@@ -248,16 +258,6 @@ pub fn keep_block(stills: &mut Stills, block: usize)
     let (first, count) = ends_of(stills, block);
     let until = first_tick(&stills.ends, first, count);
     set_block(&mut stills.blocks, &mut stills.tops, block, until);
-}
-
-/// Keeps a tick of a block that none of the ticks of its ends is before.
-#[inline(always)]
-pub fn keep_least(stills: &mut Stills, block: usize, least: u64)
-    requires within { 16 * block < length stills.old }
-    requires least { (at : ℕ) → 16 * block ≤ at → at < 16 * block + 16 → at < length stills.old → least ≤ slice_index stills.old at }
-    ensures { stills.new ≡ stills.old }
-{
-    set_block(&mut stills.blocks, &mut stills.tops, block, short(least));
 }
 
 /// The first of the ticks of the `count` ends from the place `first` on.

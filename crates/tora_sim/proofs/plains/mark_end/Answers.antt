@@ -3,9 +3,6 @@ use Rattle.std.proofs.lemmas.Option.{slice_get_read}
 use Rattle.tora_sim.proofs.PlainEnds.{known_plain}
 use Rattle.tora_sim.proofs.plains.mark_end.Goals as goal
 
-pub still_at-requires : goal.still_at-requires
-still_at-requires c = c.requires.within
-
 pub index-requires : goal.index-requires
 index-requires c = let many = c.requires.plain.as_many in omega (arith, c.requires.within, many)
 
@@ -17,5 +14,5 @@ returns c =
     let links = c.args.links.now.items in
     let many = c.requires.plain.as_many in
     let within : c.args.place < length links = omega (arith, c.requires.within, many) in
-    known_plain c.args.now c.args.plains.now c.keep_still.new.stills links c.args.place _ c.index.result.now c.keep_still.ensures
+    known_plain c.args._now c.args.plains.now c.keep_still.new.stills links c.args.place _ c.index.result.now c.keep_still.ensures
     (slice_get_read links (length links) c.args.place c.index.result.now refl within c.index.ensures) (c.is_busy.ensures c.if-is_busy.false) c.requires.plain
