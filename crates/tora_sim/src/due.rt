@@ -6,7 +6,6 @@ ghost use Rattle.tora_sim.specs.Readers.{ends_in};
 ghost use Rattle.tora_sim.specs.Stills.{AreLater};
 ghost use Rattle.tora_sim.specs.Store.{world_of};
 
-use crate::links::is_key;
 use crate::sim::Sim;
 use crate::stills::{
     Stills, block_count, block_of, end_count, ends_of, is_still_block, next_block, still_at,
@@ -45,6 +44,8 @@ impl Sim {
     }
 }
 
+/// Whether these are the same ends, in the same order. It looks at every end: several at once take less time than one after another up to the
+/// one that is another.
 fn are_ends(keys: &[(Id, Id)], ends: &[(Id, Id)]) -> bool
     ensures sound { result ≡ true → ends.now ≡ keys.now }
     ensures complete { ends.now ≡ keys.now → result ≡ true }
@@ -52,12 +53,29 @@ fn are_ends(keys: &[(Id, Id)], ends: &[(Id, Id)]) -> bool
     if keys.len() != ends.len() {
         return false;
     }
+    let mut apart = 0;
     for (place, end) in ends.iter().enumerate() {
-        if !is_key(keys[place], end.0, end.1) {
-            return false;
-        }
+        apart |= ends_apart(keys[place], *end);
     }
-    true
+    apart == 0
+}
+
+/// A number that is 0 where the two are the same end, and only there.
+#[inline(always)]
+fn ends_apart(end: (Id, Id), other: (Id, Id)) -> Id
+    ensures same { end ≡ other → result ≡ 0 }
+    ensures apart { result ≡ 0 → end ≡ other }
+{
+    nodes_apart(end.0, other.0) | nodes_apart(end.1, other.1)
+}
+
+/// The same of two nodes.
+#[inline(always)]
+fn nodes_apart(n: Id, k: Id) -> Id
+    ensures same { n ≡ k → result ≡ 0 }
+    ensures apart { result ≡ 0 → n ≡ k }
+{
+    n.wrapping_sub(k)
 }
 
 /// The first place from `place` on at which a tick is not still to come: it is looked for in the rest of its block first.
