@@ -57,6 +57,7 @@ pub mod Quiets
 pub mod StillEnds
 pub mod PlainEnds
 pub mod StillBlocks
+pub mod DueBits
 pub mod ReadyEnds
 pub mod UnreadyEnds
 pub mod TickEnds

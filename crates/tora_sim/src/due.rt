@@ -8,7 +8,8 @@ ghost use Rattle.tora_sim.specs.Store.{world_of};
 
 use crate::sim::Sim;
 use crate::stills::{
-    Stills, block_count, block_of, end_count, ends_of, is_still_block, next_block, still_at,
+    BLOCK, Stills, block_count, block_of, dues_of, end_count, ends_of, is_still_block, next_block,
+    still_at,
 };
 use tora_height::Id;
 
@@ -78,21 +79,23 @@ fn nodes_apart(n: Id, k: Id) -> Id
     n.wrapping_sub(k)
 }
 
-/// The first place from `place` on at which a tick is not still to come: it is looked for in the rest of its block first.
+/// The first place from `place` on at which a tick is not still to come: it is looked for among the next 16 first.
 #[inline(always)]
 fn next_due(stills: &Stills, now: u64, place: usize) -> usize
     ensures onward { place ≤ result }
     ensures passed { (at : ℕ) → place ≤ at → at < result → now < slice_index stills.now at }
 {
-    if place >= end_count(stills) {
+    let many = end_count(stills);
+    if place >= many {
         return place;
     }
-    let (first, count) = ends_of(stills, block_of(place));
-    let behind = first + count;
-    if let Some(at) = due_within(stills, now, place, behind) {
+    if many - place < BLOCK {
+        return due_within(stills, now, place, many).unwrap_or(many);
+    }
+    if let Some(at) = due_of_sixteen(stills, now, place) {
         return at;
     }
-    due_from(stills, now, behind)
+    due_from(stills, now, place + BLOCK)
 }
 
 /// The first such place, with the blocks passed over whose ticks tell that there is none in them.
@@ -123,7 +126,28 @@ fn due_in_block(stills: &Stills, block: usize, now: u64, place: usize) -> Option
         return None;
     }
     let (first, count) = ends_of(stills, block);
+    if place <= first && count == BLOCK {
+        return due_of_sixteen(stills, now, first);
+    }
     due_within(stills, now, place.max(first), first + count)
+}
+
+/// The first such place of the 16 from one on: all are looked at at once.
+#[inline(always)]
+fn due_of_sixteen(stills: &Stills, now: u64, from: usize) -> Option<usize>
+    requires { from + 16 ≤ length stills.now }
+    ensures none { IfNone result (AreLater now from (from + 16) stills.now) }
+    ensures onward { IfSome result (λ at. from ≤ at) }
+    ensures within { IfSome result (λ at. at < from + 16) }
+    ensures passed { IfSome result (λ at. AreLater now from at stills.now) }
+{
+    let _many = end_count(stills);
+    let dues = dues_of(stills, from, now);
+    if dues == 0 {
+        None
+    } else {
+        Some(from + dues.trailing_zeros() as usize)
+    }
 }
 
 /// The first such place from one on and before another.

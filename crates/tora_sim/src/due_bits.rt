@@ -2,14 +2,15 @@
 ghost use Rattle.std.specs.Prelude.{◌≡◌, ◌+◌, ◌≤◌, length};
 ghost use Rattle.tora_sim.specs.Stills.{due_bits};
 
+use crate::stills::short;
 use std::simd::prelude::*;
 
 /// A bit for each of the 16 ticks from the place `first` on, the lowest for the first: it is set where the tick is not still to come.
 #[inline(always)]
-pub fn due_bits(ticks: &[u32], first: usize, now: u32) -> u16
+pub fn due_bits(ticks: &[u32], first: usize, now: u64) -> u16
     requires { first + 16 ≤ length ticks.now }
     ensures { result ≡ due_bits now first ticks.now }
 {
     let near = u32x16::from_slice(&ticks[first..]);
-    near.simd_le(u32x16::splat(now)).to_bitmask() as u16
+    near.simd_le(u32x16::splat(short(now))).to_bitmask() as u16
 }

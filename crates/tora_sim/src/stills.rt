@@ -132,9 +132,9 @@ pub fn still_at(stills: &Stills, at: usize) -> u64
 #[inline(always)]
 pub fn dues_of(stills: &Stills, first: usize, now: u64) -> u16
     requires { first + 16 ≤ length stills.now }
-    ensures { result ≡ due_bits (short now) first stills.now }
+    ensures { result ≡ due_bits now first stills.now }
 {
-    due_bits(stills.ends.as_slice(), first, short(now))
+    due_bits(stills.ends.as_slice(), first, now)
 }
 
 /// Whether the tick of a block tells that the ticks of its ends are still to come.
