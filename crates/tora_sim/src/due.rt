@@ -79,7 +79,8 @@ fn nodes_apart(n: Id, k: Id) -> Id
     n.wrapping_sub(k)
 }
 
-/// The first place from `place` on at which a tick is not still to come: it is looked for among the next 16 first.
+/// The first place from `place` on at which a tick is not still to come: in most passes in which many HELLOs are due the place itself; else it is
+/// looked for among the next 16 first.
 #[inline(always)]
 fn next_due(stills: &Stills, now: u64, place: usize) -> usize
     ensures onward { place ≤ result }
@@ -87,6 +88,9 @@ fn next_due(stills: &Stills, now: u64, place: usize) -> usize
 {
     let many = end_count(stills);
     if place >= many {
+        return place;
+    }
+    if still_at(stills, place) <= now {
         return place;
     }
     if many - place < BLOCK {
