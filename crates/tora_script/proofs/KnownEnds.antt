@@ -15,7 +15,7 @@ use Rattle.tora_world.specs.World.{World, Choice, settings, datagram, refusal_of
 use Rattle.tora_channel.specs.Table.{Channels}
 use Rattle.tora_sim.specs.Readers.{ends_in}
 use Rattle.tora_script.specs.declared.rounds.EndTurn.{EndTurn}
-use Rattle.tora_script.specs.Rounds.{Plan, end_event, repeats, each, Sky, moment_of, round, after_round, Happened, AreKnown}
+use Rattle.tora_script.specs.Rounds.{Plan, end_event, repeats, each, each_core, while_possible, Sky, moment_of, round, after_round, Happened, AreKnown}
 use Rattle.tora_script.proofs.RoundLaws.{no_event}
 
 -- ---- no event changes the topology
@@ -97,3 +97,7 @@ each_over plan (x ∷ xs) (suc i) (suc j) w le none = each_over plan xs i j w (o
 pub pass_over : (kind : EndTurn) (most : ℕ) (ends : List (ℕ × ℕ)) (i j : ℕ) (w : World) → i ≤ j → ((at : ℕ) (end : ℕ × ℕ) → i ≤ at → at < j → slice_get ends at ≡ Some end → is_some (refusal_of w (end_event kind end)) ≡ true)
     → each (λ e. repeats most (end_event kind e)) (drop i ends) w ≡ each (λ e. repeats most (end_event kind e)) (drop j ends) w
 pass_over kind most ends i j w le none = each_over (λ (e : ℕ × ℕ). repeats most (end_event kind e)) ends i j w le (λ at end from before there. no_event w most (end_event kind end) (none at end from before there))
+
+-- nodes whose cores refuse a turn have none
+pub cores_over : (nodes : List ℕ) (i j : ℕ) (w : World) → i ≤ j → ((at n : ℕ) → i ≤ at → at < j → slice_get nodes at ≡ Some n → is_some (refusal_of w (CoreTurn n)) ≡ true) → each_core (drop i nodes) w ≡ each_core (drop j nodes) w
+cores_over nodes i j w le none = each_over (λ (n : ℕ). while_possible (CoreTurn n)) nodes i j w le (λ at n from before there. no_event w 1024 (CoreTurn n) (none at n from before there))

@@ -102,7 +102,7 @@ fn turn_core<S: Simulator>(sim: &mut S, place: usize, n: Id) -> Result<bool, All
     repeat(sim, place, &Event::CoreTurn(n), MOST_TIMES)
 }
 
-/// Lets each core take its items, unless it is known that none has one.
+/// Lets each core take its items, unless it is known that none has one. Cores of which the simulator knows that they have none are passed over.
 #[inline(always)]
 pub fn turn_cores<S: Simulator>(sim: &mut S, nodes: &[Id]) -> Result<bool, AllocError>
     ensures { IfOk result (λ some. Happened (S.world sim.old) (each_core nodes.now (S.world sim.old)) (S.world sim.new) some) }
@@ -111,9 +111,11 @@ pub fn turn_cores<S: Simulator>(sim: &mut S, nodes: &[Id]) -> Result<bool, Alloc
         return Ok(false);
     }
     let mut some = false;
-    for (place, n) in nodes.iter().enumerate() {
-        let any = turn_core(sim, place, *n)?;
+    let mut place = sim.next_core(nodes, 0);
+    while place < nodes.len() {
+        let any = turn_core(sim, place, nodes[place])?;
         some = either(some, any);
+        place = sim.next_core(nodes, place + 1);
     }
     Ok(some)
 }

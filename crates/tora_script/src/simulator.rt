@@ -59,6 +59,17 @@ pub trait Simulator: Drop {
     fn may_turn(&self) -> bool
         ensures { result ≡ false → (n : ℕ) → is_some (refusal_of (world self.now) (CoreTurn n)) ≡ true };
 
+    /// The first place from `place` on, among these nodes and from 0 on, at which a core may have an item to take: of the nodes that are
+    /// passed over `happen` refuses each `CoreTurn`. By itself none is passed over; a simulator that looks at its cores itself passes over more.
+    ///
+    /// It is asked before each core's turn.
+    fn next_core(&self, _nodes: &[Id], place: usize) -> usize
+        ensures onward { place ≤ result }
+        ensures passed { (at n : ℕ) → place ≤ at → at < result → slice_get _nodes.now at ≡ Some n → is_some (refusal_of (world self.now) (CoreTurn n)) ≡ true }
+    {
+        place
+    }
+
     /// Whether these are the link ends, in the order of `ends`.
     fn has_ends(&self, ends: &[(Id, Id)]) -> bool
         ensures { result ≡ true → ends.now ≡ ends_in (world self.now).topology };

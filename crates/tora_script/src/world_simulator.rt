@@ -62,6 +62,11 @@ impl Simulator for Sim {
         Sim::may_turn(self)
     }
 
+    #[inline(always)]
+    fn next_core(&self, nodes: &[Id], place: usize) -> usize {
+        Sim::next_core(self, nodes, place)
+    }
+
     fn has_ends(&self, ends: &[(Id, Id)]) -> bool {
         Sim::has_ends(self, ends)
     }

@@ -26,6 +26,7 @@ mod first_items;
 mod forgetting;
 mod gone_datagrams;
 mod hints;
+mod idle_cores;
 mod kept_cargoes;
 mod kept_frames;
 mod kept_list;
