@@ -1,6 +1,6 @@
 -- Two frames of a link end go out, one after the other.
-use Rattle.std.proofs.Common.{◌≡◌, ℕ, ◌+◌, ◌-◌, ◌≤◌, suc, Bool, true, false, Some, None, if◌then◌else◌, List, [], ◌∷◌, ◌++◌, set, refl, sym, ap, ap₂, ◌∙◌, subst, arith}
-use Rattle.std.specs.Prelude.{slice_index_or}
+use Rattle.std.proofs.Common.{◌≡◌, ℕ, ◌-◌, ◌≤◌, suc, Bool, true, false, Some, None, if◌then◌else◌, List, [], ◌∷◌, ◌++◌, set, refl, sym, ap, ◌∙◌, subst, arith, Option, is_some, true≢false, zero}
+use Rattle.std.specs.Prelude.{slice_index_or, IfSome, IfNone}
 use Rattle.std.proofs.lemmas.List.{get_or-set_same, set-set, set-get_or}
 use Rattle.tora_frame.specs.FrameParts.{FrameParts}
 use Rattle.tora_arq.specs.declared.times.Times.{Times}
@@ -17,9 +17,9 @@ use Rattle.tora_sim.specs.Links.{LinkView, is_at, with_state}
 use Rattle.tora_sim.specs.Nodes.{NodeView, is_of, sending_of}
 use Rattle.tora_sim.specs.Pairs.{IsPairSent}
 use Rattle.tora_sim.specs.SteadyLinks.{is_none, shown}
-use Rattle.tora_sim.specs.Steps.{AllAreDone, IsDone, repeats}
+use Rattle.tora_sim.specs.Steps.{AllAreDone, Happened, IsDone, repeats}
 use Rattle.tora_sim.specs.Store.{IsStore, state_of, world_of}
-use Rattle.tora_sim.proofs.Sendings.{Onward, again, begins, still_end}
+use Rattle.tora_sim.proofs.Sendings.{Onward, again, begins, no_more, refused, still_end}
 use Rattle.tora_sim.proofs.Sends.{FramesAreSent, transmit_done, transmit_store}
 
 module _ (t : Topology) (times : Times) (clock : ℕ) (nodes : List NodeView) (links : List LinkView) (ds : List FrameParts) (h : IsStore (state_of t times clock nodes links ds)) (n k i : ℕ) (x : LinkView) (first : IsFirst (is_at n k) links i)
@@ -133,3 +133,19 @@ begun w most first event after false both same two none =
     let all : most ≡ most - first = omega (arith, start) in
     subst (λ (v : World). Onward w (repeats most event w) v false (repeats (most - first) event v)) (sym (same refl))
     (subst (λ (m : ℕ). Onward w (repeats most event w) w false (repeats m event w)) all (begins w (repeats most event w)))
+
+-- nothing more is due
+pub stopped : (start : World) (events : List Event) (w : World) (some : Bool) (j : ℕ) (event : Event) → Onward start events w some (repeats j event w) → is_some (refusal_of w event) ≡ true → Happened start events w some
+stopped start events w some zero event o stop = no_more start events w some event o
+stopped start events w some (suc j) event o stop = refused start events w some j event o stop
+
+pub over_behind : (w : World) (most : ℕ) (event : Event) (after : World) → (2 ≤ most) × AllAreDone w (event ∷ event ∷ []) after → is_some (refusal_of after event) ≡ true → Happened w (repeats most event w) after true
+over_behind w most event after went stop = stopped w (repeats most event w) after true (most - 2) event (begins_behind w most event after went.0 went.1) stop
+
+pub some_case : {A X : Type 0} (r : Option A) → IfSome r (λ _. X) → is_some r ≡ true → X
+some_case (Some x) h e = h
+some_case None h e = absurd (true≢false (sym e))
+
+pub none_case : {A X : Type 0} (r : Option A) → IfNone r X → is_some r ≡ false → X
+none_case None h e = h
+none_case (Some x) h e = absurd (true≢false e)

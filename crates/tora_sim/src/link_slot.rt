@@ -190,8 +190,8 @@ impl LinkSlot {
     }
 
     /// Takes the first two frames due by what is kept of the end, which are a HELLO in both versions, and puts them behind the datagrams, to the
-    /// end that may stand at the place `far_end`, where the end at the place `end` sent the same ones before; and answers whether it did. Else
-    /// nothing is changed.
+    /// end that may stand at the place `far_end`, where the end at the place `end` sent the same ones before; and tells before which tick nothing
+    /// is to be done at it then. Else nothing is changed.
     #[inline(always)]
     pub fn send_pair(
         &mut self,
@@ -199,32 +199,33 @@ impl LinkSlot {
         datagrams: &mut Datagrams,
         end: usize,
         far_end: u32,
-    ) -> bool
-        ensures sent { result ≡ true → IsPairSent self.old now self.new datagrams.old.items datagrams.new.items }
-        ensures same { result ≡ false → self.new ≡ self.old }
-        ensures datagrams { result ≡ false → datagrams.new ≡ datagrams.old }
+    ) -> Option<u64>
+        ensures sent { IfSome result (λ _. IsPairSent self.old now self.new datagrams.old.items datagrams.new.items) }
+        ensures still { IfSome result (λ until. IsStillIf until self.new) }
+        ensures same { IfNone result (self.new ≡ self.old) }
+        ensures datagrams { IfNone result (datagrams.new ≡ datagrams.old) }
     {
         if self.steady.is_none() {
-            return false;
+            return None;
         }
         if !self.says_both() {
-            return false;
+            return None;
         }
         let mut behind = self.steady;
         let Some(first) = behind.send_hello(now) else {
-            return false;
+            return None;
         };
         let Some(second) = behind.send_hello(now) else {
-            return false;
+            return None;
         };
         if !datagrams.push_pair(end, far_end, &first, &second) {
-            return false;
+            return None;
         }
         // By its fields: all others are as they were, and each that is written costs an instruction.
         self.steady.said = behind.said;
         self.steady.heard = behind.heard;
         self.steady.owes_old_hello = behind.owes_old_hello;
-        true
+        Some(self.steady.still_until())
     }
 
     /// Takes a frame in, and tells whether the end is busy then, and before which tick nothing is to be done at it; 0 where something is to be

@@ -1,45 +1,64 @@
 //! Two frames of a link end go out at once: a HELLO in both versions, as long as the peer isn't known to speak the newer one.
-ghost use Rattle.std.specs.Prelude.{◌≡◌, ◌∷◌, [], true, false};
+ghost use Rattle.std.specs.Prelude.{◌≡◌, ◌≤◌, ◌∷◌, [], true, IfSome, IfNone};
 ghost use Rattle.tora_world.specs.declared.event.Event.TheVariants.{Transmit};
 ghost use Rattle.tora_sim.specs.Keyed.{IsFirst};
 ghost use Rattle.tora_sim.specs.Links.{is_at};
 ghost use Rattle.tora_sim.specs.Nodes.{is_of};
+ghost use Rattle.tora_sim.specs.Sending.{IsOver};
 ghost use Rattle.tora_sim.specs.Steps.{AllAreDone};
 ghost use Rattle.tora_sim.specs.Store.{world_of};
 
 use crate::links::far_end_at;
 use crate::nodes::Sending;
 use crate::sim::Sim;
+use crate::stills::{keep_still, short};
 use tora_arq::data_frames_are_what_was_submitted;
 use tora_height::Id;
 
 impl Sim {
     /// The first two frames due of an end go out, one after the other, where it is known by what is kept of the end that they are a HELLO in both
-    /// versions, which it sent before, and the next send of its node isn't armed; and says whether they did. Else nothing is changed.
+    /// versions, which it sent before, where so many may go, and the next send of its node isn't armed; and says whether no frame is due then: that is known by the tick before
+    /// which nothing is to be done, which is kept. Else nothing is changed.
     #[inline(always)]
-    pub(crate) fn transmit_pair(&mut self, _n: Id, _k: Id, at: usize, home: usize) -> bool
+    pub(crate) fn transmit_pair(
+        &mut self,
+        _n: Id,
+        _k: Id,
+        at: usize,
+        home: usize,
+        most: u64,
+    ) -> Option<bool>
         requires end { IsFirst (is_at _n _k) self.old.links at }
         requires node { IsFirst (is_of _n) self.old.nodes home }
-        ensures done { result ≡ true → AllAreDone (world_of self.old) (Transmit _n _k ∷ Transmit _n _k ∷ []) (world_of self.new) }
-        ensures same { result ≡ false → self.new ≡ self.old }
+        ensures done { IfSome result (λ _. (2 ≤ most) × AllAreDone (world_of self.old) (Transmit _n _k ∷ Transmit _n _k ∷ []) (world_of self.new)) }
+        ensures over { IfSome result (λ over. over ≡ true → IsOver self.new at) }
+        ensures same { IfNone result (self.new ≡ self.old) }
         ensures end { IsFirst (is_at _n _k) self.new.links at }
         ensures node { IsFirst (is_of _n) self.new.nodes home }
     {
+        if most < 2 {
+            return None;
+        }
         // What tells most ends apart is asked first: those of which the peer speaks the newer version pay for no more.
         if !self.links[at].says_both() {
-            return false;
+            return None;
         }
         match self.nodes[home].sending() {
             Sending::Goes => {}
-            Sending::IsLost => return false,
-            Sending::IsGone => return false,
+            Sending::IsLost => return None,
+            Sending::IsGone => return None,
         }
         data_frames_are_what_was_submitted();
         let far_end = far_end_at(&self.far_ends, at);
-        if !self.links[at].send_pair(self.clock, &mut self.datagrams, at, far_end) {
-            return false;
-        }
+        let Some(until) = self.links[at].send_pair(self.clock, &mut self.datagrams, at, far_end)
+        else {
+            return None;
+        };
         self.quiet = 0;
-        true
+        if self.clock >= until {
+            return Some(false);
+        }
+        keep_still(&mut self.stills, at, short(until));
+        Some(true)
     }
 }

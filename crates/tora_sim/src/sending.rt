@@ -123,7 +123,11 @@ impl Sim {
         requires node { IsFirst (is_of n) self.old.nodes home }
         ensures { Repeats self.old most (Transmit n k) result self.new }
     {
-        let mut some = most >= 2 && self.transmit_pair(n, k, at, home);
+        let pair = self.transmit_pair(n, k, at, home, most);
+        let mut some = pair.is_some();
+        if let Some(true) = pair {
+            return Ok(true);
+        }
         let first = if some { 2 } else { 0 };
         for _ in first..most {
             if self.is_over(at, some) {

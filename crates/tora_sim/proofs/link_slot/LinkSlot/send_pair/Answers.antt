@@ -18,7 +18,7 @@ push_pair-requires-clause-second c =
     c.in-Some-send_hello.ensures.valid link.settings link.state (c.send_hello.ensures.steady link.settings link.state (c.self.invariant some).steady)
 
 pub returns-clause-sent : goal.returns-clause-sent
-returns-clause-sent c done =
+returns-clause-sent c =
     let link = c.self.inside.parts.value in
     let some : is_none c.self.inside.steady ≡ false = sym c.is_none.ensures ∙ c.if-is_none.false in
     let steady = (c.self.invariant some).steady in

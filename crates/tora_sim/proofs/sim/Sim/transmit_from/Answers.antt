@@ -1,37 +1,37 @@
-use Rattle.std.proofs.Common.{◌≡◌, ◌∙◌, suc, ◌+◌, ◌-◌, true, false, true≢false, ◌∷◌, [], ap, sym, subst, arith}
-use Rattle.std.proofs.lemmas.Bool.{leb-true}
+use Rattle.std.proofs.Common.{◌≡◌, ◌∙◌, suc, ◌+◌, ◌-◌, true, false, true≢false, ◌∷◌, [], ap, sym, subst, arith, Option, Bool, ◌≤◌}
+use Rattle.std.specs.Prelude.{IfSome}
+use Rattle.tora_sim.specs.Sending.{IsOver}
 use Rattle.tora_world.specs.declared.event.Event.TheVariants.{Transmit}
 use Rattle.tora_world.specs.declared.sim_error.SimError.{SimError}
 use Rattle.tora_world.specs.declared.sim_error.SimError.TheVariants as Refused
 use Rattle.tora_world.specs.World.{World}
 use Rattle.tora_sim.specs.Store.{SimState, world_of}
 use Rattle.tora_sim.specs.Steps.{AllAreDone, IsRefused, repeats, Happened}
-use Rattle.tora_sim.proofs.PairSends.{begun}
+use Rattle.tora_sim.proofs.PairSends.{begun, none_case, over_behind, some_case}
 use Rattle.tora_sim.proofs.Sendings.{still_onward, end_of, node_of, other_cause, again, refused, starved, no_more}
 use Rattle.tora_sim.proofs.sim.Sim.transmit_from.Goals as goal
-use Rattle.tora_sim.proofs.sim.Sim.transmit_from.Goals.{then-most-ge2, else-most-ge2, then-some, else-some}
+use Rattle.tora_sim.proofs.sim.Sim.transmit_from.Goals.{then-some, else-some}
+
+pub returns-in-Some-true : goal.returns-in-Some-true
+returns-in-Some-true c =
+    let p = c.transmit_pair-pair in
+    let w = world_of c.args.self.now in
+    over_behind w c.args.most (Transmit c.args.n c.args.k) (world_of p.new.self)
+    (subst (λ (r : Option Bool). IfSome r (λ _. (2 ≤ c.args.most) × AllAreDone w (Transmit c.args.n c.args.k ∷ Transmit c.args.n c.args.k ∷ []) (world_of p.new.self))) c.in-Some-true.is p.ensures.done)
+    (subst (λ (r : Option Bool). IfSome r (λ over. over ≡ true → IsOver p.new.self c.args.at)) c.in-Some-true.is p.ensures.over c.in-Some-true.field-0-test c.args.n c.args.k p.ensures.end)
 
 pub loop-init : goal.loop-init
 loop-init c =
+    let p = c.transmit_pair-pair in
     let w = world_of c.args.self.now in
-    let two : c.if-most-ge2.some ≡ true → c.if-some.first ≡ 2 = λ some. elim c.if-some.branch [ then-some b ↦ b.first-is | else-some b ↦ absurd (true≢false (sym some ∙ b.if-some.false)) ] in
-    let none : c.if-most-ge2.some ≡ false → c.if-some.first ≡ 0 = λ no. elim c.if-some.branch [ then-some b ↦ absurd (true≢false (sym b.if-some.true ∙ no)) | else-some b ↦ b.first-is ] in
-    elim c.if-most-ge2.branch [
-      | then-most-ge2 a ↦
-          record {
-            sent = begun w c.args.most c.if-some.first (Transmit c.args.n c.args.k) (world_of c.if-most-ge2.self) c.if-most-ge2.some
-                (λ some. (a.if-most-ge2.true, subst (λ (s : SimState). AllAreDone w (Transmit c.args.n c.args.k ∷ Transmit c.args.n c.args.k ∷ []) (world_of s)) (sym a.self-is) (a.transmit_pair-some.ensures.done (sym a.some-is ∙ some))))
-                (λ no. ap world_of (a.self-is ∙ a.transmit_pair-some.ensures.same (sym a.some-is ∙ no))) two none;
-            end = end_of c.args.n c.args.k c.args.at a.self-is a.transmit_pair-some.ensures.end;
-            node = node_of c.args.n c.args.home a.self-is a.transmit_pair-some.ensures.node;
-          }
-      | else-most-ge2 a ↦
-          record {
-            sent = begun w c.args.most c.if-some.first (Transmit c.args.n c.args.k) (world_of c.if-most-ge2.self) c.if-most-ge2.some (λ some. let more = leb-true 2 c.args.most (sym a.some-is ∙ some) in let few = a.if-most-ge2.false in absurd (omega (arith, more, few))) (λ no. ap world_of a.self-is) two none;
-            end = end_of c.args.n c.args.k c.args.at a.self-is c.requires.end;
-            node = node_of c.args.n c.args.home a.self-is c.requires.node;
-          }
-    ]
+    let some = c.is_some-some.result in
+    let two : some ≡ true → c.if-some.first ≡ 2 = λ e. elim c.if-some.branch [ then-some b ↦ b.first-is | else-some b ↦ absurd (true≢false (sym e ∙ b.if-some.false)) ] in
+    let none : some ≡ false → c.if-some.first ≡ 0 = λ e. elim c.if-some.branch [ then-some b ↦ absurd (true≢false (sym b.if-some.true ∙ e)) | else-some b ↦ b.first-is ] in
+    record {
+      sent = begun w c.args.most c.if-some.first (Transmit c.args.n c.args.k) (world_of p.new.self) some (λ e. some_case p.result p.ensures.done (sym c.is_some-some.ensures ∙ e)) (λ e. ap world_of (none_case p.result p.ensures.same (sym c.is_some-some.ensures ∙ e))) two none;
+      end = p.ensures.end;
+      node = p.ensures.node;
+    }
 
 pub is_over-requires : goal.is_over-requires
 is_over-requires c = c.loop.invariant.end.within

@@ -1,4 +1,4 @@
-use Rattle.std.proofs.Common.{◌≡◌, ◌∷◌, [], List, length, is_some, refl, ap, sym, ◌∙◌, subst, arith}
+use Rattle.std.proofs.Common.{ℕ, ◌∷◌, [], length, is_some, refl, ap, sym, ◌∙◌, subst, arith}
 use Rattle.std.specs.Prelude.{slice_set}
 use Rattle.std.proofs.lemmas.Bool.{both_ways}
 use Rattle.std.proofs.lemmas.Option.{slice_get_read}
@@ -15,7 +15,11 @@ use Rattle.tora_sim.proofs.PlainEnds.{same_plain, transmit_plain}
 use Rattle.tora_sim.proofs.Quiets.{set_same}
 use Rattle.tora_sim.proofs.ReadyEnds.{kept_as}
 use Rattle.tora_sim.proofs.Sendings.{end_of, node_of}
-use Rattle.tora_sim.proofs.StillEnds.{possible_still}
+use Rattle.tora_sim.proofs.StillEnds.{found_still, possible_still, short_still}
+use Rattle.tora_sim.proofs.Possibles.{is_impossible}
+use Rattle.tora_sim.proofs.Sends.{transmit_refused}
+use Rattle.tora_sim.specs.Quiet.{IsStillIf}
+use Rattle.std.proofs.lemmas.List.{get_or-set_same}
 use Rattle.tora_sim.proofs.Unchanged.{datagrams_stay, links_stay}
 use Rattle.tora_sim.proofs.sim.Sim.transmit_pair.Goals as goal
 
@@ -25,19 +29,19 @@ pub invariant_of-self : goal.invariant_of-self
 invariant_of-self c =
     let s = c.self.inside in
     let links = slice_set s.links.items c.args.at c.send_pair.new.self in
-    let stays = set_same s.links.items c.args.at c.index_mut.result.now c.send_pair.new.self (end_of c.args._n c.args._k c.args.at c.self.view_is c.requires.end).within c.index_mut.ensures.value (c.send_pair.ensures.same c.if-not-send_pair.true) in
+    let stays = set_same s.links.items c.args.at c.index_mut.result.now c.send_pair.new.self (end_of c.args._n c.args._k c.args.at c.self.view_is c.requires.end).within c.index_mut.ensures.value c.in_default.ensures.same in
     datagrams_stay s.topology s.times s.clock s.nodes.items links s.datagrams.items s.quiet s.keys.items s.stills s.plains s.ready.items s.unready.items s.idle
     (links_stay s.topology s.times s.clock s.nodes.items s.links.items s.datagrams.items s.quiet s.keys.items s.stills s.plains s.ready.items s.unready.items s.idle c.self.invariant links stays) c.send_pair.new.datagrams.items
-    (ap (λ (d : DatagramList). d.items) (c.send_pair.ensures.datagrams c.if-not-send_pair.true))
+    (ap (λ (d : DatagramList). d.items) c.in_default.ensures.datagrams)
 
--- ---- both frames went out
+-- ---- both frames went out, and more may be due
 
-pub invariant_of-self-2 : goal.invariant_of-self-2
-invariant_of-self-2 c =
+pub invariant_of-self-then-self-until : goal.invariant_of-self-then-self-until
+invariant_of-self-then-self-until c =
     let s = c.self.inside in
     let x = c.index_mut.result.now in
     let new = c.send_pair.new.self in
-    let sent = c.send_pair.ensures.sent c.if-not-send_pair.false in
+    let sent = c.in-Some.ensures.sent in
     let end = end_of c.args._n c.args._k c.args.at c.self.view_is c.requires.end in
     let read = c.index_mut.ensures.value in (
       pair_store s.topology s.times s.clock s.nodes.items s.links.items s.datagrams.items c.self.invariant.0 c.args._n c.args._k c.args.at x end read c.args.home c.index-2.result.now (node_of c.args._n c.args.home c.self.view_is c.requires.node) c.index-2.ensures
@@ -52,9 +56,53 @@ invariant_of-self-2 c =
       c.self.invariant.7,
     )
 
-pub returns-clause-done : goal.returns-clause-done
-returns-clause-done c done =
+pub returns-then-self-until-clause-done : goal.returns-then-self-until-clause-done
+returns-then-self-until-clause-done c =
+    let s = c.self.inside in (
+      c.if-most-lt2.false,
+      subst (λ (before : SimState). AllAreDone (world_of before) (Transmit c.args._n c.args._k ∷ Transmit c.args._n c.args._k ∷ []) (world_of (state_of s.topology s.times s.clock s.nodes.items (slice_set s.links.items c.args.at c.send_pair.new.self) c.send_pair.new.datagrams.items))) c.self.view_is
+          (pair_done s.topology s.times s.clock s.nodes.items s.links.items s.datagrams.items c.self.invariant.0 c.args._n c.args._k c.args.at c.index_mut.result.now (end_of c.args._n c.args._k c.args.at c.self.view_is c.requires.end) c.index_mut.ensures.value
+          c.args.home c.index-2.result.now (node_of c.args._n c.args.home c.self.view_is c.requires.node) c.index-2.ensures (sym c.sending.ensures ∙ c.in-Goes.is) c.data_frames_are_what_was_submitted.ensures.frame c.send_pair.new.self c.send_pair.new.datagrams.items c.in-Some.ensures.sent),
+    )
+
+-- ---- both frames went out, and no more is due
+
+pub invariant_of-self-2 : goal.invariant_of-self-2
+invariant_of-self-2 c =
     let s = c.self.inside in
-    subst (λ (before : SimState). AllAreDone (world_of before) (Transmit c.args._n c.args._k ∷ Transmit c.args._n c.args._k ∷ []) (world_of (state_of s.topology s.times s.clock s.nodes.items (slice_set s.links.items c.args.at c.send_pair.new.self) c.send_pair.new.datagrams.items))) c.self.view_is
-    (pair_done s.topology s.times s.clock s.nodes.items s.links.items s.datagrams.items c.self.invariant.0 c.args._n c.args._k c.args.at c.index_mut.result.now (end_of c.args._n c.args._k c.args.at c.self.view_is c.requires.end) c.index_mut.ensures.value
-    c.args.home c.index-2.result.now (node_of c.args._n c.args.home c.self.view_is c.requires.node) c.index-2.ensures (sym c.sending.ensures ∙ c.in-Goes.is) c.data_frames_are_what_was_submitted.ensures.frame c.send_pair.new.self c.send_pair.new.datagrams.items (c.send_pair.ensures.sent c.if-not-send_pair.false))
+    let x = c.index_mut.result.now in
+    let new = c.send_pair.new.self in
+    let sent = c.in-Some.ensures.sent in
+    let end = end_of c.args._n c.args._k c.args.at c.self.view_is c.requires.end in
+    let read = c.index_mut.ensures.value in (
+      pair_store s.topology s.times s.clock s.nodes.items s.links.items s.datagrams.items c.self.invariant.0 c.args._n c.args._k c.args.at x end read c.args.home c.index-2.result.now (node_of c.args._n c.args.home c.self.view_is c.requires.node) c.index-2.ensures
+          (sym c.sending.ensures ∙ c.in-Goes.is) c.data_frames_are_what_was_submitted.ensures.frame new c.send_pair.new.datagrams.items sent,
+      λ none. absurd (omega (arith, none)),
+      found_still s.clock s.stills c.keep_still.new.stills s.links.items c.args.at c.short.result new end.within c.keep_still.ensures (subst (λ (n : ℕ). IsStillIf n new) (sym c.short.ensures) (short_still c.in-Some.until new c.in-Some.ensures.still)) c.self.invariant.2,
+      c.self.invariant.3,
+      same_plain s.clock s.plains s.links.items c.args.at x new (slice_get_read s.links.items (length s.links.items) c.args.at x refl end.within read)
+          (λ h. subst (λ (y : LinkView). IsPlain y) (sym sent.state) (transmit_plain x.settings (after_transmit x.settings x.state s.clock) s.clock (has_cargo x) (transmit_plain x.settings x.state s.clock (has_cargo x) h))) c.self.invariant.4,
+      kept_as s.ready.items s.links.items c.args.at x new _ end.within read sent.state (λ h. h) c.self.invariant.5,
+      c.self.invariant.6,
+      c.self.invariant.7,
+    )
+
+pub returns-clause-done : goal.returns-clause-done
+returns-clause-done c =
+    let s = c.self.inside in (
+      c.if-most-lt2.false,
+      subst (λ (before : SimState). AllAreDone (world_of before) (Transmit c.args._n c.args._k ∷ Transmit c.args._n c.args._k ∷ []) (world_of (state_of s.topology s.times s.clock s.nodes.items (slice_set s.links.items c.args.at c.send_pair.new.self) c.send_pair.new.datagrams.items))) c.self.view_is
+          (pair_done s.topology s.times s.clock s.nodes.items s.links.items s.datagrams.items c.self.invariant.0 c.args._n c.args._k c.args.at c.index_mut.result.now (end_of c.args._n c.args._k c.args.at c.self.view_is c.requires.end) c.index_mut.ensures.value
+          c.args.home c.index-2.result.now (node_of c.args._n c.args.home c.self.view_is c.requires.node) c.index-2.ensures (sym c.sending.ensures ∙ c.in-Goes.is) c.data_frames_are_what_was_submitted.ensures.frame c.send_pair.new.self c.send_pair.new.datagrams.items c.in-Some.ensures.sent),
+    )
+
+pub returns-clause-over : goal.returns-clause-over
+returns-clause-over c told n k first =
+    let s = c.self.inside in
+    let new = c.send_pair.new.self in
+    let end = end_of c.args._n c.args._k c.args.at c.self.view_is c.requires.end in
+    let store = pair_store s.topology s.times s.clock s.nodes.items s.links.items s.datagrams.items c.self.invariant.0 c.args._n c.args._k c.args.at c.index_mut.result.now end c.index_mut.ensures.value c.args.home c.index-2.result.now (node_of c.args._n c.args.home c.self.view_is c.requires.node) c.index-2.ensures
+    (sym c.sending.ensures ∙ c.in-Goes.is) c.data_frames_are_what_was_submitted.ensures.frame new c.send_pair.new.datagrams.items c.in-Some.ensures.sent in
+    is_impossible _ (Transmit n k)
+    (transmit_refused s.topology s.times s.clock s.nodes.items (slice_set s.links.items c.args.at new) c.send_pair.new.datagrams.items store n k c.args.at new first (sym (get_or-set_same s.links.items c.args.at new new end.within))
+    ((c.in-Some.ensures.still (omega (arith, c.if-self-until.false))).frames s.clock c.if-self-until.false))
