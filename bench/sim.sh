@@ -8,7 +8,8 @@
 # one need across it, 500 moving nodes for 1,200 rounds (also with pages of 2 MB for the program, as ./tora asks for them), and
 # 1,024 nodes with 8,000 links and 16 destinations; the memory of the first is to be under 150 MB, of the last under 1 GB.
 # Then the time of a datagram at 64 and at 1,024 nodes, which is to be at most 1.5 times:
-# in a grid, where no link is parted, and with moving nodes; and the same of each datagram more, without the time in which the world is made.
+# in a grid, where no link is parted, for 2,000 and for 16,000 rounds of the larger one, and with moving nodes; and the same of each datagram more,
+# without the time in which the world is made.
 # usage: bench/sim.sh [--large] BASE [REPEATS] [ROUNDS]     BASE: the folder of the baseline's sources (a Cargo crate `base`)
 #   --large   large worlds alone
 set -eu
@@ -128,6 +129,10 @@ datagrams() {
   { grid 8; for _ in 1 2 3 4; do echo 'rounds 8000'; done; } >"$work/grid-of-64"
   { grid 32; echo 'rounds 2000'; } >"$work/grid-of-1024"
   python3 "$top/bench/per_datagram.py" "$rounds" "$program" "$work/grid-of-64" "$work/grid-of-1024"
+  echo 'eight times as many rounds of the grids, so that the making of the world is less of the time'
+  { grid 8; for _ in $(seq 32); do echo 'rounds 8000'; done; } >"$work/long-grid-of-64"
+  { grid 32; for _ in $(seq 8); do echo 'rounds 2000'; done; } >"$work/long-grid-of-1024"
+  python3 "$top/bench/per_datagram.py" "$rounds" "$program" "$work/long-grid-of-64" "$work/long-grid-of-1024"
   moving 64
   moving 1024
   python3 "$top/bench/per_datagram.py" "$rounds" "$program" "$work/moving-64.sim" "$work/moving-1024.sim"

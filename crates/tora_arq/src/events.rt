@@ -90,9 +90,14 @@ impl<const PLACES: usize> EventQueue<PLACES> {
     }
 }
 
-impl EventQueue<FRONT> {
-    /// The same events, with room for all that may wait.
-    pub fn widened(&self, alloc: Global) -> Result<EventQueue<EVENT_PLACES>, AllocError>
+impl<const FROM: usize> EventQueue<FROM> {
+    /// The same events, with room for more.
+    pub fn widened<const PLACES: usize>(
+        &self,
+        alloc: Global,
+    ) -> Result<EventQueue<PLACES>, AllocError>
+        requires more { FROM ≤ PLACES }
+        requires list { FRONT < PLACES }
         ensures { IfOk result (λ q. q ≡ self.now) }
     {
         let events = self.events.widened(alloc)?;

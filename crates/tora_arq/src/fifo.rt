@@ -1,5 +1,7 @@
 //! Lists from whose front items are taken.
-ghost use Rattle.std.specs.Prelude.{◌≡◌, ◌<◌, ◌≤◌, ◌+◌, length, drop, vec_capacity};
+ghost use Rattle.std.specs.Prelude.{◌≡◌, ◌<◌, ◌≤◌, ◌+◌, ◌++◌, length, drop, vec_capacity, vec_len, IfOk};
+
+use std::alloc::{AllocError, Global};
 
 /// Lets the items go that were taken, where they stand in the way of another one: fewer than so many places are then in use. Those that
 /// wait stay.
@@ -32,4 +34,35 @@ pub fn take_first<T: Drop>(items: &mut Vec<T>, taken: &mut usize, count: usize)
         items.clear();
         *taken = 0;
     }
+}
+
+/// Appends copies of items, for which there is room.
+fn append_all<T: Copy + Drop>(list: &mut Vec<T>, items: &[T])
+    requires { vec_len list.old + length items.now ≤ vec_capacity list.old }
+    ensures items { list.new.items ≡ list.old.items ++ items.now }
+    ensures capacity { vec_capacity list.new ≡ vec_capacity list.old }
+{
+    for at in 0..items.len() {
+        list.push_reserved(items[at]);
+    }
+}
+
+/// Copies of the items that wait, in a list with room for so many.
+///
+/// # Errors
+/// Want of memory.
+pub fn copied_behind<T: Copy + Drop>(
+    alloc: Global,
+    items: &Vec<T>,
+    taken: usize,
+    places: usize,
+) -> Result<Vec<T>, AllocError>
+    requires within { taken ≤ length items.now.items }
+    requires most { length items.now.items ≤ places }
+    ensures same { IfOk result (λ copies. copies.items ≡ drop taken items.now.items) }
+    ensures capacity { IfOk result (λ copies. vec_capacity copies ≡ places) }
+{
+    let mut copies = Vec::with_capacity(alloc, places)?;
+    append_all(&mut copies, &items[taken..]);
+    Ok(copies)
 }

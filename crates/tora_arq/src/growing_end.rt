@@ -10,6 +10,7 @@ ghost use Rattle.tora_frame.specs.FrameParts.{IsHeader, frame_of};
 ghost use Rattle.tora_frame.specs.declared.parts.Body.{Body};
 
 use crate::near_end::NearEnd;
+use crate::near_queue::{FEW, FRONT};
 use crate::settings::Settings;
 use crate::{ArqError, Life, LinkEnd, LinkEvent, Steady, SubmitError, Times, Verdict};
 use std::alloc::Global;
@@ -22,14 +23,17 @@ use tora_packet::Packet;
 #[derive(Debug, Drop)]
 pub enum EndKind {
     /// Few packets and events wait, which stand in it.
-    Near(NearEnd),
-    /// It has lists.
+    Near(NearEnd<FRONT>),
+    /// It has small lists.
+    Few(NearEnd<FEW>),
+    /// It has lists for all that may wait.
     Whole(LinkEnd),
 }
 
 /// A link end as `LinkEnd` is one, which takes memory for its lists only once more packets or events wait at it than it has places for, or a
-/// packet comes early, and can give them back (`narrow`) once nothing stands in them. So where very many ends are kept of which most have little
-/// to do, as in a simulator, most are without 20 kB of lists.
+/// packet comes early, and can give them back (`narrow`) once nothing stands in them. It takes small lists first, and those for all that may wait
+/// only where they are not enough. So where very many ends are kept of which most have little to do, as in a simulator, most are without 20 kB of
+/// lists.
 ///
 /// Its calls do what those of `LinkEnd` do; those that may take memory may fail, and change nothing then. Own profile.
 #[derive(Debug, Drop)]
@@ -79,6 +83,7 @@ impl GrowingEnd {
     {
         match &self.kind {
             EndKind::Near(end) => end.settings(),
+            EndKind::Few(end) => end.settings(),
             EndKind::Whole(end) => end.settings,
         }
     }
@@ -90,6 +95,7 @@ impl GrowingEnd {
     {
         match &self.kind {
             EndKind::Near(end) => end.settings().peer,
+            EndKind::Few(end) => end.settings().peer,
             EndKind::Whole(end) => end.peer(),
         }
     }
@@ -121,6 +127,7 @@ impl GrowingEnd {
     {
         match &self.kind {
             EndKind::Near(end) => end.is_closed(),
+            EndKind::Few(end) => end.is_closed(),
             EndKind::Whole(end) => end.is_closed(),
         }
     }
@@ -131,6 +138,7 @@ impl GrowingEnd {
     {
         match &self.kind {
             EndKind::Near(end) => end.life(),
+            EndKind::Few(end) => end.life(),
             EndKind::Whole(end) => end.life(),
         }
     }
@@ -141,6 +149,7 @@ impl GrowingEnd {
     {
         match &self.kind {
             EndKind::Near(end) => end.waiting(),
+            EndKind::Few(end) => end.waiting(),
             EndKind::Whole(end) => end.waiting(),
         }
     }
@@ -152,6 +161,7 @@ impl GrowingEnd {
     {
         match &self.kind {
             EndKind::Near(end) => end.has_event(),
+            EndKind::Few(end) => end.has_event(),
             EndKind::Whole(end) => end.state.events.has_first(),
         }
     }
@@ -162,6 +172,7 @@ impl GrowingEnd {
     {
         match &self.kind {
             EndKind::Near(end) => end.next_event(),
+            EndKind::Few(end) => end.next_event(),
             EndKind::Whole(end) => end.next_event(),
         }
     }
@@ -172,6 +183,7 @@ impl GrowingEnd {
     {
         match &self.kind {
             EndKind::Near(end) => end.has_frame_due(now),
+            EndKind::Few(end) => end.has_frame_due(now),
             EndKind::Whole(end) => end.has_frame_due(now),
         }
     }
@@ -185,6 +197,7 @@ impl GrowingEnd {
     {
         match &self.kind {
             EndKind::Near(end) => end.still_until(),
+            EndKind::Few(end) => end.still_until(),
             EndKind::Whole(end) => end.still_until(),
         }
     }
@@ -197,6 +210,7 @@ impl GrowingEnd {
     {
         match &self.kind {
             EndKind::Near(end) => end.steady(),
+            EndKind::Few(end) => end.steady(),
             EndKind::Whole(end) => end.steady(),
         }
     }
@@ -208,6 +222,7 @@ impl GrowingEnd {
     {
         match &mut self.kind {
             EndKind::Near(end) => end.resume(steady),
+            EndKind::Few(end) => end.resume(steady),
             EndKind::Whole(end) => end.resume(steady),
         }
     }
@@ -221,6 +236,7 @@ impl GrowingEnd {
     {
         match &mut self.kind {
             EndKind::Near(end) => end.open(life, now),
+            EndKind::Few(end) => end.open(life, now),
             EndKind::Whole(end) => end.open(life, now),
         }
     }
@@ -231,6 +247,7 @@ impl GrowingEnd {
     {
         match &mut self.kind {
             EndKind::Near(end) => end.on_tick(now),
+            EndKind::Few(end) => end.on_tick(now),
             EndKind::Whole(end) => end.on_tick(now),
         }
     }
@@ -242,6 +259,7 @@ impl GrowingEnd {
     {
         match &mut self.kind {
             EndKind::Near(end) => end.poll_event(),
+            EndKind::Few(end) => end.poll_event(),
             EndKind::Whole(end) => end.poll_event(),
         }
     }
@@ -252,6 +270,7 @@ impl GrowingEnd {
     {
         match &mut self.kind {
             EndKind::Near(end) => end.cut(life),
+            EndKind::Few(end) => end.cut(life),
             EndKind::Whole(end) => end.cut(life),
         }
     }
@@ -268,6 +287,7 @@ impl GrowingEnd {
     {
         match &mut self.kind {
             EndKind::Near(end) => end.poll_transmit_into(now, packets),
+            EndKind::Few(end) => end.poll_transmit_into(now, packets),
             EndKind::Whole(end) => end.poll_transmit_into(now, packets),
         }
     }
@@ -282,6 +302,7 @@ impl GrowingEnd {
     {
         match &mut self.kind {
             EndKind::Near(end) => end.poll_hello(now),
+            EndKind::Few(end) => end.poll_hello(now),
             EndKind::Whole(end) => end.poll_hello(now),
         }
     }
@@ -290,10 +311,23 @@ impl GrowingEnd {
     pub fn narrow(&mut self)
         ensures { self.new ≡ self.old }
     {
-        let EndKind::Whole(end) = &self.kind else {
+        if let EndKind::Near(_) = &self.kind {
             return;
+        }
+        self.narrow_lists();
+    }
+
+    /// The same where there are lists. It stands apart, as `on_frame_with_lists`.
+    #[inline(never)]
+    fn narrow_lists(&mut self)
+        ensures { self.new ≡ self.old }
+    {
+        let narrowed = match &self.kind {
+            EndKind::Near(_) => None,
+            EndKind::Few(end) => end.narrowed(self.alloc),
+            EndKind::Whole(end) => end.narrowed(self.alloc),
         };
-        if let Some(near) = end.narrowed(self.alloc) {
+        if let Some(near) = narrowed {
             self.kind = EndKind::Near(near);
         }
     }
@@ -317,13 +351,18 @@ impl GrowingEnd {
                     return Ok(verdict);
                 }
             }
+            EndKind::Few(end) => {
+                if let Some(verdict) = end.on_frame(frame, now) {
+                    return Ok(verdict);
+                }
+            }
             EndKind::Whole(end) => return Ok(end.on_borrowed_frame(frame, now)),
         }
         self.on_frame_with_lists(frame, now)
     }
 
-    /// The same with lists, which are taken first where there are none. It stands apart: the room for an end on the stack is made ready at each
-    /// call.
+    /// The same with lists, which are taken first where there are none: small ones, and where those are not enough, lists for all that may wait. It
+    /// stands apart: the room for an end on the stack is made ready at each call.
     #[inline(never)]
     fn on_frame_with_lists(
         &mut self,
@@ -334,15 +373,35 @@ impl GrowingEnd {
         ensures state { IfOk result (λ _. self.new ≡ record self.old { state = after_frame self.old.settings self.old.state frame.now now }) }
         ensures same { OnErr result (self.new ≡ self.old) }
     {
-        match &mut self.kind {
-            EndKind::Near(end) => {
-                let mut whole = end.widened(self.alloc)?;
-                let verdict = whole.on_borrowed_frame(frame, now);
-                self.kind = EndKind::Whole(whole);
-                Ok(verdict)
+        if let EndKind::Near(end) = &self.kind {
+            let mut few = end.with_few(self.alloc)?;
+            if let Some(verdict) = few.on_frame(frame, now) {
+                self.kind = EndKind::Few(few);
+                return Ok(verdict);
             }
-            EndKind::Whole(end) => Ok(end.on_borrowed_frame(frame, now)),
         }
+        self.on_frame_with_all_lists(frame, now)
+    }
+
+    /// The same with lists for all that may wait, which are taken first where there are none. It stands apart too.
+    #[inline(never)]
+    fn on_frame_with_all_lists(
+        &mut self,
+        frame: &BorrowedFrame<'_>,
+        now: u64,
+    ) -> Result<Verdict, ArqError>
+        ensures verdict { IfOk result (λ verdict. verdict ≡ verdict_of self.old.settings self.old.state frame.now now) }
+        ensures state { IfOk result (λ _. self.new ≡ record self.old { state = after_frame self.old.settings self.old.state frame.now now }) }
+        ensures same { OnErr result (self.new ≡ self.old) }
+    {
+        let mut whole = match &mut self.kind {
+            EndKind::Near(end) => end.widened(self.alloc)?,
+            EndKind::Few(end) => end.widened(self.alloc)?,
+            EndKind::Whole(end) => return Ok(end.on_borrowed_frame(frame, now)),
+        };
+        let verdict = whole.on_borrowed_frame(frame, now);
+        self.kind = EndKind::Whole(whole);
+        Ok(verdict)
     }
 
     /// As `LinkEnd::on_hello`.
@@ -362,6 +421,11 @@ impl GrowingEnd {
                     return Ok(verdict);
                 }
             }
+            EndKind::Few(end) => {
+                if let Some(verdict) = end.on_hello(header, now) {
+                    return Ok(verdict);
+                }
+            }
             EndKind::Whole(end) => return Ok(end.on_hello(header, now)),
         }
         self.on_hello_with_lists(header, now)
@@ -375,15 +439,32 @@ impl GrowingEnd {
         ensures state { IfOk result (λ _. self.new ≡ record self.old { state = after_frame self.old.settings self.old.state (frame_of header.now Body.Hello) now }) }
         ensures same { OnErr result (self.new ≡ self.old) }
     {
-        match &mut self.kind {
-            EndKind::Near(end) => {
-                let mut whole = end.widened(self.alloc)?;
-                let verdict = whole.on_hello(header, now);
-                self.kind = EndKind::Whole(whole);
-                Ok(verdict)
+        if let EndKind::Near(end) = &self.kind {
+            let mut few = end.with_few(self.alloc)?;
+            if let Some(verdict) = few.on_hello(header, now) {
+                self.kind = EndKind::Few(few);
+                return Ok(verdict);
             }
-            EndKind::Whole(end) => Ok(end.on_hello(header, now)),
         }
+        self.on_hello_with_all_lists(header, now)
+    }
+
+    /// The same with lists for all that may wait, as `on_frame_with_all_lists`.
+    #[inline(never)]
+    fn on_hello_with_all_lists(&mut self, header: &Header, now: u64) -> Result<Verdict, ArqError>
+        requires { IsHeader header.now }
+        ensures verdict { IfOk result (λ verdict. verdict ≡ verdict_of self.old.settings self.old.state (frame_of header.now Body.Hello) now) }
+        ensures state { IfOk result (λ _. self.new ≡ record self.old { state = after_frame self.old.settings self.old.state (frame_of header.now Body.Hello) now }) }
+        ensures same { OnErr result (self.new ≡ self.old) }
+    {
+        let mut whole = match &mut self.kind {
+            EndKind::Near(end) => end.widened(self.alloc)?,
+            EndKind::Few(end) => end.widened(self.alloc)?,
+            EndKind::Whole(end) => return Ok(end.on_hello(header, now)),
+        };
+        let verdict = whole.on_hello(header, now);
+        self.kind = EndKind::Whole(whole);
+        Ok(verdict)
     }
 
     /// As `LinkEnd::submit`.
@@ -406,6 +487,11 @@ impl GrowingEnd {
                     return Ok(answer);
                 }
             }
+            EndKind::Few(end) => {
+                if let Some(answer) = end.submit(life, packet) {
+                    return Ok(answer);
+                }
+            }
             EndKind::Whole(end) => return Ok(end.submit(life, packet)),
         }
         self.submit_with_lists(life, again)
@@ -422,14 +508,35 @@ impl GrowingEnd {
         ensures state { IfOk result (λ _. self.new ≡ record self.old { state = after_submit self.old.state life packet }) }
         ensures same { OnErr result (self.new ≡ self.old) }
     {
-        match &mut self.kind {
-            EndKind::Near(end) => {
-                let mut whole = end.widened(self.alloc)?;
-                let answer = whole.submit(life, packet);
-                self.kind = EndKind::Whole(whole);
-                Ok(answer)
+        let again = packet;
+        if let EndKind::Near(end) = &self.kind {
+            let mut few = end.with_few(self.alloc)?;
+            if let Some(answer) = few.submit(life, packet) {
+                self.kind = EndKind::Few(few);
+                return Ok(answer);
             }
-            EndKind::Whole(end) => Ok(end.submit(life, packet)),
         }
+        self.submit_with_all_lists(life, again)
+    }
+
+    /// The same with lists for all that may wait, as `on_frame_with_all_lists`.
+    #[inline(never)]
+    fn submit_with_all_lists(
+        &mut self,
+        life: Life,
+        packet: Packet,
+    ) -> Result<Result<(), SubmitError>, ArqError>
+        ensures answer { IfOk result (λ answer. answer ≡ submit_answer self.old.state life packet) }
+        ensures state { IfOk result (λ _. self.new ≡ record self.old { state = after_submit self.old.state life packet }) }
+        ensures same { OnErr result (self.new ≡ self.old) }
+    {
+        let mut whole = match &mut self.kind {
+            EndKind::Near(end) => end.widened(self.alloc)?,
+            EndKind::Few(end) => end.widened(self.alloc)?,
+            EndKind::Whole(end) => return Ok(end.submit(life, packet)),
+        };
+        let answer = whole.submit(life, packet);
+        self.kind = EndKind::Whole(whole);
+        Ok(answer)
     }
 }

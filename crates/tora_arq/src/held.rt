@@ -2,7 +2,6 @@
 ghost use Rattle.std.specs.Prelude.{◌≡◌, ◌<◌, ◌≤◌, ◌==◌, [], length, drop, IfOk, IfNone, OnSome};
 ghost use Rattle.tora_arq.specs.Held.{hold_at, padded, first_held};
 
-use crate::HELD_PLACES;
 use crate::rings::{push, set};
 use circular_buffer::HeapCircularBuffer;
 use std::alloc::{AllocError, Global};
@@ -86,11 +85,14 @@ impl<const PLACES: usize> HeldPackets<PLACES> {
 }
 
 impl HeldPackets<0> {
-    /// The same, which are none, with room for a window.
-    pub fn widened(&self, alloc: Global) -> Result<HeldPackets<HELD_PLACES>, AllocError>
+    /// The same, which are none, with room for so many.
+    pub fn widened<const PLACES: usize>(
+        &self,
+        alloc: Global,
+    ) -> Result<HeldPackets<PLACES>, AllocError>
         ensures { IfOk result (λ h. h ≡ self.now) }
     {
-        let ring = HeapCircularBuffer::with_capacity(alloc, HELD_PLACES)?;
+        let ring = HeapCircularBuffer::with_capacity(alloc, PLACES)?;
         // that its places are none is what the prover sees of the ring by its length
         let _none = self.ring.len();
         Ok(HeldPackets { ring })

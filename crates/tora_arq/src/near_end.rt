@@ -11,38 +11,41 @@ ghost use Rattle.tora_frame.specs.FrameParts.{IsHeader, frame_of};
 ghost use Rattle.tora_frame.specs.declared.parts.Body.{Body};
 ghost use Rattle.tora_frame.specs.BorrowedFrames.{body_of};
 
-use crate::near_queue::FRONT;
+use crate::near_queue::{FEW, FRONT};
 use crate::phase::Phase;
 use crate::settings::Settings;
 use crate::state::State;
-use crate::{ArqError, Life, LinkEnd, LinkEvent, Steady, SubmitError, Times, Verdict};
+use crate::{ArqError, Life, LinkEnd, LinkEvent, Steady, SubmitError, Times, Verdict, WINDOW};
 use std::alloc::Global;
 use std::marker::Model;
 use tora_frame::{BorrowedBody, BorrowedFrame, Header, Packets, Version};
 use tora_height::Id;
 use tora_packet::Packet;
 
-/// A link end without lists, whose packets and events stand in it. What it has no place for it doesn't take.
+/// A link end with `PLACES` places for events, as many for packets that wait for their acknowledgement, and none for packets that came early. What it
+/// has no place for it doesn't take. Where the places are those that stand in front, it has no lists.
 #[derive(Debug, Drop)]
-pub struct NearEnd {
+pub struct NearEnd<const PLACES: usize> {
     settings: Settings,
-    state: State<FRONT, FRONT, 0>,
+    state: State<PLACES, PLACES, 0>,
 }
 
-impl Model for NearEnd {
+impl<const PLACES: usize> Model for NearEnd<PLACES> {
+    ghost use Rattle.std.specs.Prelude.{◌≤◌};
     ghost use Rattle.tora_arq.specs.EndRange.{LinkEndView, IsEndState, link_end_of};
     ghost use Rattle.tora_arq.specs.Rooms.{HasEventPlace};
     ghost use Rattle.tora_arq.specs.StateView.{settings_in, state_in};
+    ghost use Rattle.tora_arq.specs.declared.TheConstants.{WINDOW};
     ghost use Rattle.tora_arq.specs.declared.near_queue.TheConstants.{FRONT};
 
     ghost Value = { LinkEndView };
 
     ghost view = { λ e. link_end_of (settings_in e.settings) (state_in e.state) };
 
-    ghost invariant = { λ e. IsEndState (settings_in e.settings) (state_in e.state) × HasEventPlace FRONT (state_in e.state) };
+    ghost invariant = { λ e. IsEndState (settings_in e.settings) (state_in e.state) × HasEventPlace PLACES (state_in e.state) × (FRONT ≤ PLACES) × (PLACES ≤ WINDOW) };
 }
 
-impl NearEnd {
+impl<const PLACES: usize> NearEnd<PLACES> {
     /// A closed end that speaks versions up to this one.
     pub fn new(
         alloc: Global,
@@ -50,7 +53,8 @@ impl NearEnd {
         me: Id,
         peer: Id,
         times: Times,
-    ) -> Result<NearEnd, ArqError>
+    ) -> Result<NearEnd<PLACES>, ArqError>
+        requires places { (FRONT ≤ PLACES) × (PLACES ≤ WINDOW) }
         requires me { 0 < me }
         requires peer { 0 < peer }
         requires other { me ≢ peer }
@@ -113,9 +117,9 @@ impl NearEnd {
 
     /// Whether there is a place for another packet.
     fn has_packet_place(&self) -> bool
-        ensures { result ≡ true → length self.now.state.queue < FRONT }
+        ensures { result ≡ true → length self.now.state.queue < PLACES }
     {
-        self.state.queue.len() < FRONT
+        self.state.queue.len() < PLACES
     }
 
     pub fn poll_transmit_into<'a>(
@@ -142,14 +146,14 @@ impl NearEnd {
 
     /// Whether there is a place for the events of a HELLO or an ACK, and for that of a life that ended.
     fn has_event_places(&self) -> bool
-        ensures { result ≡ true → length self.now.state.events < FRONT - 1 }
+        ensures { result ≡ true → length self.now.state.events < PLACES - 1 }
     {
-        self.state.events.len() < FRONT - 1
+        self.state.events.len() < PLACES - 1
     }
 
     /// Whether what a frame has can be taken: of packets only the next ones, where none came early and there is a place for the event of each.
     fn has_body_room(&self, body: BorrowedBody<'_>) -> bool
-        ensures { result ≡ true → HasNextRoom (FRONT - 1) (body_of body.entry) self.now.state self.now.state.phase }
+        ensures { result ≡ true → HasNextRoom (PLACES - 1) (body_of body.entry) self.now.state self.now.state.phase }
     {
         let BorrowedBody::Data(number, _, packets) = body else {
             return true;
@@ -160,15 +164,15 @@ impl NearEnd {
             Phase::Bound(_) => {
                 self.state.held.is_empty()
                     && number <= self.state.accepted + 1
-                    && packets.len() < FRONT
-                    && self.state.events.len() + packets.len() < FRONT
+                    && packets.len() < PLACES
+                    && self.state.events.len() + packets.len() < PLACES
             }
         }
     }
 
     /// Whether a frame can be taken.
     fn has_room(&self, frame: &BorrowedFrame<'_>) -> bool
-        ensures { result ≡ true → HasFrameRoom (FRONT - 1) frame.now self.now.state }
+        ensures { result ≡ true → HasFrameRoom (PLACES - 1) frame.now self.now.state }
     {
         self.has_event_places() && self.has_body_room(frame.body())
     }
@@ -199,7 +203,7 @@ impl NearEnd {
         Some(self.state.on_hello(&self.settings, header, now))
     }
 
-    /// The same end, with its lists.
+    /// The same end, with all its lists.
     ///
     /// # Errors
     /// `Memory`.
@@ -284,9 +288,36 @@ impl NearEnd {
     }
 }
 
+impl NearEnd<FRONT> {
+    /// The same end, with small lists.
+    ///
+    /// # Errors
+    /// `Memory`.
+    pub fn with_few(&self, alloc: Global) -> Result<NearEnd<FEW>, ArqError>
+        ensures { IfOk result (λ end. end ≡ self.now) }
+    {
+        let settings = self.settings;
+        match self.state.widened(alloc) {
+            Ok(state) => Ok(NearEnd { settings, state }),
+            Err(_) => Err(ArqError::Memory),
+        }
+    }
+}
+
+impl NearEnd<FEW> {
+    /// The same end without lists, where nothing stands in them.
+    pub fn narrowed(&self, alloc: Global) -> Option<NearEnd<FRONT>>
+        ensures { IfSome result (λ end. end ≡ self.now) }
+    {
+        let settings = self.settings;
+        let state = self.state.narrowed(alloc)?;
+        Some(NearEnd { settings, state })
+    }
+}
+
 impl LinkEnd {
     /// The same end without lists, where nothing stands in them.
-    pub fn narrowed(&self, alloc: Global) -> Option<NearEnd>
+    pub fn narrowed(&self, alloc: Global) -> Option<NearEnd<FRONT>>
         ensures { IfSome result (λ end. end ≡ self.now) }
     {
         let settings = self.settings;

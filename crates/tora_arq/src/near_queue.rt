@@ -1,12 +1,15 @@
 //! Queues of which the first places lie near.
 ghost use Rattle.std.specs.Prelude.{◌≡◌, ◌<◌, ◌≤◌, ◌+◌, ◌++◌, ◌∷◌, [], length, drop, slice_get, slice_set, Some, IfOk};
 
-use crate::fifo::{make_place, take_first};
+use crate::fifo::{copied_behind, make_place, take_first};
 use std::alloc::{AllocError, Global};
 use std::marker::Model;
 
 /// How many items stand in front.
 pub const FRONT: usize = 4;
+
+/// How many packets, and how many events, an end with small lists has places for: those of a frame of sixteen packets, and what stands before them.
+pub const FEW: usize = 24;
 
 /// Few items, in a place that is part of what has them.
 #[derive(Debug, Drop)]
@@ -232,8 +235,8 @@ impl<T: Copy + Drop, const PLACES: usize> NearQueue<T, PLACES> {
     }
 }
 
-impl<T: Copy + Drop> NearQueue<T, FRONT> {
-    /// The same queue, with room for more items.
+impl<T: Copy + Drop, const FROM: usize> NearQueue<T, FROM> {
+    /// The same queue, with room for more items: those that stand behind are copied into the new list, without those that were taken.
     ///
     /// # Errors
     /// Want of memory.
@@ -241,10 +244,11 @@ impl<T: Copy + Drop> NearQueue<T, FRONT> {
         &self,
         alloc: Global,
     ) -> Result<NearQueue<T, PLACES>, AllocError>
-        requires { FRONT < PLACES }
+        requires more { FROM ≤ PLACES }
+        requires list { FRONT < PLACES }
         ensures { IfOk result (λ q. q ≡ self.now) }
     {
-        let back = Vec::with_capacity(alloc, PLACES)?;
+        let back = copied_behind(alloc, &self.back, self.gone, PLACES)?;
         Ok(NearQueue {
             gone: 0,
             back,

@@ -8,7 +8,7 @@ ghost use Rattle.tora_arq.specs.NextDue.{has_begun, is_packet_due};
 use crate::near_queue::{FRONT, NearQueue};
 use crate::queued_packet::QueuedPacket;
 use crate::settings::{earlier, tick_behind, ticks_passed};
-use crate::{QUEUE_PLACES, Times, WINDOW};
+use crate::{Times, WINDOW};
 use std::alloc::{AllocError, Global};
 use std::marker::Model;
 use tora_frame::{MOST_PACKETS, Packets};
@@ -190,9 +190,14 @@ impl<const PLACES: usize> SendQueue<PLACES> {
     }
 }
 
-impl SendQueue<FRONT> {
-    /// The same packets, with room for all that may wait.
-    pub fn widened(&self, alloc: Global) -> Result<SendQueue<QUEUE_PLACES>, AllocError>
+impl<const FROM: usize> SendQueue<FROM> {
+    /// The same packets, with room for more.
+    pub fn widened<const PLACES: usize>(
+        &self,
+        alloc: Global,
+    ) -> Result<SendQueue<PLACES>, AllocError>
+        requires more { FROM ≤ PLACES }
+        requires list { FRONT < PLACES }
         ensures { IfOk result (λ q. q ≡ self.now) }
     {
         let packets = self.packets.widened(alloc)?;

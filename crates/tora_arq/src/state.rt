@@ -12,9 +12,7 @@ use crate::near_queue::FRONT;
 use crate::phase::Phase;
 use crate::queue::SendQueue;
 use crate::settings::{Settings, ticks_passed};
-use crate::{
-    EVENT_PLACES, HELD_PLACES, Life, LinkEvent, QUEUE_PLACES, Reason, Steady, SubmitError,
-};
+use crate::{Life, LinkEvent, QUEUE_PLACES, Reason, Steady, SubmitError};
 use std::alloc::{AllocError, Global};
 use tora_frame::GREATEST_NUMBER;
 use tora_packet::Packet;
@@ -259,12 +257,14 @@ impl<const EVENTS: usize, const PACKETS: usize, const EARLY: usize> State<EVENTS
     }
 }
 
-impl State<FRONT, FRONT, 0> {
-    /// The same state, with lists.
-    pub fn widened(
+impl<const PLACES: usize> State<PLACES, PLACES, 0> {
+    /// The same state, with more places and the lists for them.
+    pub fn widened<const EVENTS: usize, const PACKETS: usize, const EARLY: usize>(
         &self,
         alloc: Global,
-    ) -> Result<State<EVENT_PLACES, QUEUE_PLACES, HELD_PLACES>, AllocError>
+    ) -> Result<State<EVENTS, PACKETS, EARLY>, AllocError>
+        requires events { (PLACES ≤ EVENTS) × (FRONT < EVENTS) }
+        requires packets { (PLACES ≤ PACKETS) × (FRONT < PACKETS) }
         ensures { IfOk result (λ s. state_in s ≡ state_in self.now) }
     {
         let queue = self.queue.widened(alloc)?;
@@ -290,7 +290,7 @@ impl State<FRONT, FRONT, 0> {
     }
 }
 
-impl State<EVENT_PLACES, QUEUE_PLACES, HELD_PLACES> {
+impl<const EVENTS: usize, const PACKETS: usize, const EARLY: usize> State<EVENTS, PACKETS, EARLY> {
     /// The same state without lists, where nothing stands in them.
     pub fn narrowed(&self, alloc: Global) -> Option<State<FRONT, FRONT, 0>>
         ensures same { IfSome result (λ s. state_in s ≡ state_in self.now) }

@@ -105,6 +105,15 @@ impl Lane {
         self.cargoes.reserve()
     }
 
+    /// Puts the cargoes into a list that is no longer than they need, where theirs is, which goes to the spare ones in the place of that of a place.
+    #[inline(always)]
+    pub fn shorten(&mut self, spares: &mut Spares, spare: usize)
+        ensures put { self.new.put ≡ self.old.put }
+        ensures pulled { self.new.pulled ≡ self.old.pulled }
+    {
+        self.cargoes.shorten(spares, spare);
+    }
+
     /// Puts a cargo at the back. There must be a place for it, and room, or the spare list of the place `spare`, which it takes then.
     #[inline(always)]
     pub fn put(&mut self, cargo: Cargo, spares: &mut Spares, spare: usize)

@@ -174,3 +174,44 @@ pub fn make_room_at(
     set_ready(ready, at, known);
     Ok(())
 }
+
+/// Makes the lists of the lanes at the `count` ends from the place `first` on no longer than their cargoes need: the long ones go to the spare ones, from
+/// which the next lanes take them, so that the same few are written. Ends that are ready are not looked at.
+pub fn shorten(
+    links: &mut Vec<LinkSlot>,
+    ready: &Vec<bool>,
+    spares: &mut Spares,
+    first: usize,
+    count: usize,
+)
+    requires within { first + count ≤ length links.old.items }
+    requires marks { AreReadyEach ready.now.items links.old.items }
+    ensures same { AreAlike links.old.items links.new.items }
+    ensures marks { AreReadyEach ready.now.items links.new.items }
+{
+    spares.forget_taken();
+    for place in 0..count {
+        let at = first + place;
+        shorten_at(links, ready, spares, at, place);
+    }
+}
+
+/// The same at the end at a place, which gives its list to the spare place `spare`.
+#[inline(always)]
+fn shorten_at(
+    links: &mut Vec<LinkSlot>,
+    ready: &Vec<bool>,
+    spares: &mut Spares,
+    at: usize,
+    spare: usize,
+)
+    requires within { at < length links.old.items }
+    requires marks { AreReadyEach ready.now.items links.old.items }
+    ensures same { AreAlike links.old.items links.new.items }
+    ensures marks { AreReadyEach ready.now.items links.new.items }
+{
+    if is_ready(ready, at) {
+        return;
+    }
+    links[at].shorten(spares, spare);
+}

@@ -397,6 +397,17 @@ impl LinkSlot {
         self.parts.make_ready()
     }
 
+    /// Makes the list of the lane no longer than its cargoes need, where one waits: the long one goes to the spare ones, in the place of that of the
+    /// place `spare`.
+    #[inline(always)]
+    pub fn shorten(&mut self, spares: &mut Spares, spare: usize)
+        ensures { bare self.new ≡ bare self.old }
+    {
+        if self.has_cargo() {
+            self.parts.shorten(spares, spare);
+        }
+    }
+
     /// Puts a cargo at the back of the lane, where fewer wait than it holds, and answers whether it was put. A lane that has no place left takes
     /// the spare list of the place `spare`.
     pub fn offer(&mut self, cargo: Cargo, spares: &mut Spares, spare: usize) -> bool

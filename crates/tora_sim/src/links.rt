@@ -267,6 +267,14 @@ impl LinkParts {
         Ok(!self.has_cargo())
     }
 
+    /// Makes the list of the lane no longer than its cargoes need: the long one goes to the spare ones, in the place of that of the place `spare`.
+    #[inline(always)]
+    pub fn shorten(&mut self, spares: &mut Spares, spare: usize)
+        ensures { bare self.new ≡ bare self.old }
+    {
+        self.lane.shorten(spares, spare);
+    }
+
     /// Puts a cargo at the back of the lane, where fewer wait than it holds, and answers whether it was put. A lane that has no place left takes
     /// the spare list of the place `spare`.
     #[inline(always)]

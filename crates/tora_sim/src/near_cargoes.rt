@@ -1,5 +1,5 @@
 //! Cargoes of which the first few stand where they are kept.
-ghost use Rattle.std.specs.Prelude.{◌≡◌, ◌<◌, ◌≤◌, ◌+◌, ◌⊎◌, ◌^◌, ◌-◌, ◌++◌, ◌∷◌, [], length, drop, take, vec_len, vec_capacity, slice_get, slice_set, Some, OnOk};
+ghost use Rattle.std.specs.Prelude.{◌≡◌, ◌<◌, ◌≤◌, ◌+◌, ◌⊎◌, ◌^◌, ◌-◌, ◌++◌, ◌∷◌, [], length, drop, take, vec_len, vec_capacity, slice_get, slice_set, Some, IfOk, OnOk};
 ghost use Rattle.tora_seat.specs.declared.TheConstants.{MOST_CARGOES};
 ghost use Rattle.tora_sim.specs.declared.near_cargoes.TheConstants.{NEAR};
 ghost use Rattle.tora_sim.specs.Lane.{IsWhole, AreOthersAsWhole};
@@ -8,11 +8,15 @@ use crate::kept_cargoes::append;
 use crate::spares::Spares;
 use std::alloc::{AllocError, Global};
 use std::marker::Model;
+use std::mem;
 use tora_arq::Life;
 use tora_seat::{Cargo, MOST_CARGOES};
 
 /// How many cargoes stand near.
 pub const NEAR: usize = 4;
+
+/// A list with memory for more than so many times its cargoes is long.
+const LONG: usize = 4;
 
 /// Cargoes in the order in which they were put: a few where this stands itself, or all in a list. Where it is empty before a turn, its memory is given
 /// back, and the next few stand near again.
@@ -124,6 +128,28 @@ impl NearCargoes {
         self.list.reserve(needed)
     }
 
+    /// Where the list has more memory than its cargoes need, puts them into one of their own, and gives the other one to the spare ones, in the place of
+    /// that of a place. Where there is no memory, it stays.
+    #[inline(never)]
+    pub fn shorten(&mut self, spares: &mut Spares, place: usize)
+        ensures items { self.new.items ≡ self.old.items }
+    {
+        let many = self.list.len();
+        if many == 0 {
+            return;
+        }
+        if self.list.capacity() <= LONG * many {
+            return;
+        }
+        let alloc = *self.list.allocator();
+        let Ok(short) = copied(alloc, self.list.as_slice()) else {
+            return;
+        };
+        let mut long = mem::replace(&mut self.list, short);
+        long.clear();
+        spares.give(place, long);
+    }
+
     /// Puts a cargo behind the others: near, in the list, or, where no place near is left, in one that it takes from the spare ones, that of a place.
     #[inline(always)]
     pub fn push(&mut self, cargo: &Cargo, spares: &mut Spares, place: usize)
@@ -145,6 +171,17 @@ impl NearCargoes {
         self.is_wide = true;
         append(&mut self.list, cargo);
     }
+}
+
+/// Cargoes in a list of their own, which has memory for no more of them.
+fn copied(alloc: Global, cargoes: &[Cargo]) -> Result<Vec<Cargo>, AllocError>
+    ensures items { IfOk result (λ list. list.items ≡ cargoes.now) }
+    ensures places { IfOk result (λ list. length cargoes.now ≤ vec_capacity list) }
+{
+    let mut list = Vec::new(alloc);
+    list.reserve_exact(cargoes.len())?;
+    list.extend_from_slice(cargoes)?;
+    Ok(list)
 }
 
 /// Puts a cargo in the place of what stands at a place.

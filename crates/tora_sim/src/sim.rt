@@ -13,7 +13,7 @@ ghost use Rattle.tora_sim.specs.Steps.{Does, IsDone, Runs};
 
 use crate::datagrams::Datagrams;
 use crate::hints::Hints;
-use crate::lanes::{make_room, make_room_at};
+use crate::lanes::{make_room, make_room_at, shorten};
 use crate::link_slot::LinkSlot;
 use crate::links::{arm, far_end_at, place, place_at_or_among, place_near};
 use crate::nodes::{NodeSlot, Sending, place as node_place};
@@ -162,6 +162,38 @@ impl Sim {
         if seat < count {
             self.make_ready_again(first.saturating_add(seat));
         }
+    }
+
+    /// Makes the lists of the lanes at so many link ends from the place `first` on no longer than their cargoes need, where a lane took a list, once no
+    /// item waits for the core of the node at the place `home`: so it puts no more into them before they are pulled.
+    #[inline(always)]
+    fn shorten_lanes(&mut self, home: usize, first: usize, count: usize)
+        ensures { world_of self.new ≡ world_of self.old }
+    {
+        if self.spares.was_taken() {
+            self.shorten_now(home, first, count);
+        }
+    }
+
+    /// The same where a lane took a list.
+    #[inline(never)]
+    fn shorten_now(&mut self, home: usize, first: usize, count: usize)
+        ensures { world_of self.new ≡ world_of self.old }
+    {
+        if home >= self.nodes.len() {
+            return;
+        }
+        if self.nodes[home].waiting() > 0 {
+            return;
+        }
+        if first > self.links.len() {
+            return;
+        }
+        if count > self.links.len() - first {
+            return;
+        }
+        self.quiet = 0;
+        shorten(&mut self.links, &self.ready, &mut self.spares, first, count);
     }
 
     /// The need of a destination goes into a node's lane.
@@ -401,6 +433,7 @@ impl Sim {
             first.saturating_add(seat),
         );
         set_unready(&mut self.unready, home, after);
+        self.shorten_lanes(home, start, after.behind - after.from);
         self.make_seat_ready(first, count, seat);
         turned
     }

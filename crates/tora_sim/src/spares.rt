@@ -60,6 +60,8 @@ pub struct Spares {
     lists: Vec<Spare>,
     /// So many of the first ones are known to be whole.
     whole: usize,
+    /// Whether one was taken since that was last forgotten.
+    is_taken: bool,
 }
 
 impl Model for Spares {
@@ -79,6 +81,7 @@ impl Spares {
         Spares {
             lists: Vec::new(alloc),
             whole: 0,
+            is_taken: false,
         }
     }
 
@@ -118,7 +121,34 @@ impl Spares {
         ensures others { AreOthersAsWhole self.old self.new place }
     {
         self.whole = self.whole.min(place);
+        self.is_taken = true;
         self.lists[place].take()
+    }
+
+    /// Whether one was taken since that was last forgotten: where none was, no lane has a longer list than before.
+    #[inline(always)]
+    pub fn was_taken(&self) -> bool {
+        self.is_taken
+    }
+
+    /// From now on only those count that are taken later.
+    pub fn forget_taken(&mut self)
+        ensures { self.new ≡ self.old }
+    {
+        self.is_taken = false;
+    }
+
+    /// Puts a list in the place of the one of a place, if there is one.
+    pub fn give(&mut self, place: usize, list: Vec<Cargo>)
+        requires { list.items ≡ [] }
+    {
+        if place >= self.lists.len() {
+            return;
+        }
+        if place < self.whole {
+            self.whole = place;
+        }
+        self.lists[place].list = list;
     }
 }
 

@@ -1,4 +1,4 @@
-use Rattle.std.proofs.Common.{sym, subst, ap, ◌∙◌}
+use Rattle.std.proofs.Common.{◌≤◌, sym, subst, ap, ◌∙◌}
 use Rattle.tora_arq.proofs.FactCalls.{if_none, transmit-idle}
 use Rattle.tora_arq.proofs.RangeLemmas.{transmit_kept}
 use Rattle.tora_arq.proofs.PlaceLemmas.{transmit_place}
@@ -6,15 +6,16 @@ use Rattle.tora_arq.specs.EndRange.{IsEndState, link_end_of}
 use Rattle.tora_arq.specs.Rooms.{HasEventPlace}
 use Rattle.tora_arq.specs.StateView.{settings_in, state_in}
 use Rattle.tora_arq.specs.LinkEnd.{EndState}
+use Rattle.tora_arq.specs.declared.TheConstants.{WINDOW}
 use Rattle.tora_arq.specs.declared.near_queue.TheConstants.{FRONT}
 use Rattle.tora_arq.proofs.near_end.NearEnd.poll_transmit_into.Goals as goal
 
 pub invariant_of-self : goal.invariant_of-self
-invariant_of-self c =
-    subst (λ (e : EndState). IsEndState (settings_in c.self.inside.settings) e × HasEventPlace FRONT e) (sym c.poll_transmit.ensures.state) (transmit_kept (settings_in c.self.inside.settings) (state_in c.self.inside.state) c.args.now c.self.invariant.0, transmit_place FRONT (settings_in c.self.inside.settings) (state_in c.self.inside.state) c.args.now c.self.invariant.1)
+invariant_of-self g c =
+    subst (λ (e : EndState). IsEndState (settings_in c.self.inside.settings) e × HasEventPlace g.row.PLACES e × (FRONT ≤ g.row.PLACES) × (g.row.PLACES ≤ WINDOW)) (sym c.poll_transmit.ensures.state) (transmit_kept (settings_in c.self.inside.settings) (state_in c.self.inside.state) c.args.now c.self.invariant.0, transmit_place g.row.PLACES (settings_in c.self.inside.settings) (state_in c.self.inside.state) c.args.now c.self.invariant.1, c.self.invariant.2, c.self.invariant.3)
 
 pub returns-clause-none : goal.returns-clause-none
-returns-clause-none c =
+returns-clause-none g c =
     if_none c.poll_transmit.result _ (λ q.
     ap (link_end_of (settings_in c.self.inside.settings)) (c.poll_transmit.ensures.state ∙ transmit-idle (settings_in c.self.inside.settings) (state_in c.self.inside.state) c.args.now (sym c.poll_transmit.ensures.frame ∙ q))
     ∙ c.self.view_is)

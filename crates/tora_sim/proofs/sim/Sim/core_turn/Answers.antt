@@ -249,7 +249,7 @@ pub returns : goal.returns
 returns c =
     let s = c.self.inside in
     let turned = state_of s.topology s.times s.clock (slice_set s.nodes.items c.in-Some.home c.turn-turned.new.node) c.turn-turned.new.links.items s.datagrams.items in
-    does_alike c.args.self.now turned c.make_seat_ready.new.self (CoreTurn c.args.n) c.turn-turned.result c.make_seat_ready.ensures (
+    does_alike c.args.self.now turned c.make_seat_ready.new.self (CoreTurn c.args.n) c.turn-turned.result (c.make_seat_ready.ensures ∙ c.shorten_lanes.ensures) (
     subst (λ (before : SimState). Does before (CoreTurn c.args.n) c.turn-turned.result (state_of s.topology s.times s.clock (slice_set s.nodes.items c.in-Some.home c.turn-turned.new.node) c.turn-turned.new.links.items s.datagrams.items)) c.self.view_is
     (between_does s.topology s.times s.clock s.nodes.items s.links.items s.datagrams.items c.self.invariant.0 c.args.n c.in-Some.home c.index_mut.result.now c.in-Some.ensures.first c.index_mut.ensures.value
     c.make_room.new.links.items c.make_room.ensures.same c.turn-turned.new.node c.turn-turned.new.links.items c.turn-turned.result
