@@ -7,7 +7,7 @@ use Rattle.tora_seat.specs.declared.cargo.Cargo.{Cargo}
 use Rattle.tora_seat.specs.declared.item.Item.{Item}
 use Rattle.tora_seat.specs.Serving.{put_one}
 use Rattle.tora_sim.specs.Cuts.{after_cut_at}
-use Rattle.tora_sim.proofs.LaneLists.{get_behind}
+use Rattle.tora_cargoes.proofs.LaneLists.{get_behind}
 use Rattle.tora_world.specs.declared.call.Call.{Call}
 use Rattle.tora_world.specs.declared.call.Call.TheVariants as Fails
 use Rattle.tora_world.specs.declared.event.Event.{Event}

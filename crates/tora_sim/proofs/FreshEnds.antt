@@ -7,6 +7,7 @@ use Rattle.std.proofs.lemmas.List.{length-set}
 use Rattle.std.specs.Prelude.{slice_index_or}
 use Rattle.tora_arq.specs.LinkEnd.{first_end}
 use Rattle.tora_arq.specs.EndRange.{LinkEndView, link_end_of}
+use Rattle.tora_datagrams.proofs.EachItem.{set_same, set_other}
 use Rattle.tora_sim.specs.Links.{LinkView, AreChanged}
 use Rattle.tora_sim.specs.Restarts.{restarted, AreFresh}
 
@@ -20,18 +21,6 @@ get_front (x ∷ xs) ys (suc i) lt = get_front xs ys i (omega (arith, lt))
 get_back : {A : Type 0} → (xs : List A) (y : A) → slice_get (xs ++ y ∷ []) (length xs) ≡ Some y
 get_back [] y = refl
 get_back (x ∷ xs) y = get_back xs y
-
-pub set_same : {A : Type 0} → (xs : List A) (i : ℕ) (y : A) → i < length xs → slice_get (set xs i y) i ≡ Some y
-set_same [] i y lt = absurd (omega (arith, lt))
-set_same (x ∷ xs) zero y lt = refl
-set_same (x ∷ xs) (suc i) y lt = set_same xs i y (omega (arith, lt))
-
-pub set_other : {A : Type 0} → (xs : List A) (i j : ℕ) (y : A) → (j ≡ i → ⊥) → slice_get (set xs i y) j ≡ slice_get xs j
-set_other [] i j y apart = refl
-set_other (x ∷ xs) zero zero y apart = absurd (apart refl)
-set_other (x ∷ xs) zero (suc j) y apart = refl
-set_other (x ∷ xs) (suc i) zero y apart = refl
-set_other (x ∷ xs) (suc i) (suc j) y apart = set_other xs i j y (λ e. apart (ap suc e))
 
 pub item_at : {A : Type 0} → (xs : List A) (i : ℕ) → i < length xs → (x : A) × (slice_get xs i ≡ Some x)
 item_at [] i lt = absurd (omega (arith, lt))

@@ -1,13 +1,8 @@
 -- Ticks of link ends in blocks: what a block's tick tells of its ends, as ticks change.
-use Rattle.std.proofs.Common.{◌≡◌, ℕ, zero, suc, ◌+◌, ◌*◌, ◌<◌, ◌≤◌, ◌⊎◌, inl, inr, max, List, length, sym, ap, ◌∙◌, arith, ltb}
-use borrow.Author.Tests.{ltb-true, ltb-false}
+use Rattle.std.proofs.Common.{◌≡◌, ℕ, zero, suc, ◌+◌, ◌*◌, ◌<◌, ◌≤◌, ◌⊎◌, inl, inr, max, List, length, sym, ap, ◌∙◌, arith}
 use Rattle.std.specs.Prelude.{slice_index}
-use Rattle.std.proofs.lemmas.Bool.{cases_Bool}
 use Rattle.tora_sim.specs.Stills.{AreLater, AreBlocks}
 use Rattle.tora_sim.proofs.FreshEnds.{below_next}
-
-pub before_or_not : (i n : ℕ) → (i < n) ⊎ (n ≤ i)
-before_or_not i n = elim (cases_Bool (ltb i n)) [ inl e ↦ inl (ltb-true i n e) | inr e ↦ inr (ltb-false i n e) ]
 
 -- ---- the block of an end
 

@@ -1,11 +1,6 @@
 pub mod Keyed
 pub mod Files
 pub mod Cuts
-pub mod Datagrams
-pub mod Places
-pub mod Words
-pub mod Packing
-pub mod SentFrames
 pub mod Links
 pub mod Nodes
 pub mod Hints
@@ -18,7 +13,6 @@ pub mod Steps
 pub mod Sending
 pub mod Pairs
 pub mod Readers
-pub mod Recents
 pub mod Possible
 pub mod Firsts
 pub mod Unready
@@ -29,6 +23,4 @@ pub mod Resting
 pub mod Quiet
 pub mod Plains
 pub mod Stills
-pub mod KeptCargoes
-pub mod Lane
 pub mod SteadyLinks

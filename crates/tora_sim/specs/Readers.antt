@@ -2,7 +2,6 @@
 use Rattle.std.specs.Prelude.{ℕ, Bool, false, if◌then◌else◌, List, map}
 use Rattle.std.specs.List.{flat_map}
 use Rattle.tora_core.specs.CoreRun.{flag_of}
-use Rattle.tora_frame.specs.FrameParts.{FrameParts}
 use Rattle.tora_world.specs.Topology.{Topology, nodes_in, neighbours_of, is_node}
 use Rattle.tora_world.specs.World.{World}
 
@@ -13,10 +12,6 @@ ends_at t n = map (λ k. (n, k)) (neighbours_of t n)
 -- the link ends, by ascending node and then neighbour
 abbrev pub ends_in : Topology → List (ℕ × ℕ)
 ends_in t = flat_map (ends_at t) (nodes_in t.links)
-
--- from which node to which a datagram goes
-abbrev pub way_of : FrameParts → ℕ × ℕ
-way_of f = (f.header.sender, f.header.receiver)
 
 -- whether the core of a node requires a route to a destination
 abbrev pub flag_at : World → ℕ → ℕ → Bool

@@ -1,8 +1,8 @@
 //! Datagrams that a simulated world lets go.
 ghost use Rattle.std.specs.Prelude.{◌≡◌, take, drop};
 
-use crate::gone_datagrams::{FirstDatagrams, GoneDatagrams};
 use crate::sim::Sim;
+use tora_datagrams::{FirstDatagrams, GoneDatagrams};
 
 impl Sim {
     /// Lets the first datagrams go, so many or all, and tells contracts which they were: those behind them have the numbers from 1 on then.

@@ -1,6 +1,6 @@
 //! The lanes from a node's core to its neighbours.
 ghost use Rattle.std.specs.Prelude.{◌≡◌, ◌+◌, ◌<◌, ◌≤◌, ◌++◌, ◌∷◌, [], ⊤, Some, length, slice_get, slice_set, OnOk, IfErr, MatchOption};
-ghost use Rattle.tora_sim.specs.Lane.{AreWhole};
+ghost use Rattle.tora_cargoes.specs.Lane.{AreWhole};
 ghost use Rattle.tora_sim.specs.Lanes.{lanes_of, bare_between, AreReady, AreReadyEach, AreReadyOutside, AreAlike, AreOthersSame, HasRoomAt, HaveRoom, HaveRoomBut};
 ghost use Rattle.tora_sim.specs.Links.{LinkView};
 ghost use Rattle.tora_sim.specs.Turns.{IsNoted};
@@ -9,9 +9,9 @@ ghost use Rattle.tora_sim.specs.Unready.{AreMarksKept};
 use crate::SimError;
 use crate::link_slot::LinkSlot;
 use crate::ready::{is_ready, set_ready};
-use crate::spares::Spares;
 use crate::unready::Unready;
 use std::marker::Model;
+use tora_cargoes::Spares;
 use tora_seat::{Cargo, OutLanes, Stepped};
 
 /// The ends of all links, with the place of one node's: its ends stand one behind the other, in the order of its

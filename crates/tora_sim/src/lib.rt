@@ -15,51 +15,33 @@
 #![tactic(auto)]
 
 mod cuts;
-mod datagrams;
 mod delivering;
 mod due;
 mod due_bits;
 mod duplicates;
 mod files;
 mod first;
-mod first_items;
 mod forgetting;
-mod gone_datagrams;
 mod hints;
 mod idle_cores;
-mod kept_cargoes;
-mod kept_frames;
-mod kept_list;
-mod lane;
 mod lanes;
 mod link_keys;
 mod link_slot;
 mod links;
 mod links_by_bits;
 mod name_counts;
-mod near_cargoes;
 mod nodes;
-mod packed_block;
-mod packed_places;
-mod packing;
 mod pairs;
-mod places;
 mod plains;
 mod possible;
 mod queue;
 mod quiet;
 mod readers;
 mod ready;
-mod recents;
 mod rest;
 mod restarts;
-mod same_frames;
-mod same_packets;
 mod sending;
-mod short_place;
 mod sim;
-mod spares;
-mod split_number;
 mod stills;
 mod ticking;
 mod topology;
@@ -67,11 +49,10 @@ mod turns;
 mod unready;
 mod walks;
 mod watching;
-mod words;
 
-pub use gone_datagrams::GoneDatagrams;
 pub use sim::Sim;
 pub use topology::{Topology, topology_fault, topology_fault_within};
+pub use tora_datagrams::GoneDatagrams;
 pub use tora_world::{Call, Event, GREATEST_NODES, Limits, MOST_NODES, SimError};
 // the laws that every world of a simulator keeps
 pub use tora_world::{

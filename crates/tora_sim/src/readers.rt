@@ -1,26 +1,25 @@
 //! What is read of a simulated world.
-ghost use Rattle.std.specs.Prelude.{◌≡◌, ◌<◌, ◌≤◌, ◌^◌, IfOk, OnOk, Some, length, map, option_map, option_to_list, slice_get, ◌++◌, [], ◌∷◌};
-ghost use Rattle.tora_seat.specs.declared.cargo.Cargo.{Cargo as AnyCargo};
+ghost use Rattle.std.specs.Prelude.{◌≡◌, ◌<◌, IfOk, Some, length, map, option_map, ◌++◌, []};
 ghost use Rattle.tora_core.specs.CoreRun.{height_of, hop_of};
 ghost use Rattle.tora_world.specs.Topology.{is_node, nodes_in, neighbours_of};
 ghost use Rattle.tora_world.specs.World.{sent_packets, taken_packets, datagram};
 ghost use Rattle.tora_world.specs.Walks.{height_at, hop_at};
 ghost use Rattle.tora_world.specs.Lists.{packets_of, parcels_in};
 ghost use Rattle.tora_sim.specs.Store.{world_of, numbered};
-ghost use Rattle.tora_sim.specs.Readers.{ends_at, ends_in, way_of};
+ghost use Rattle.tora_datagrams.specs.Datagrams.{way_of};
+ghost use Rattle.tora_sim.specs.Readers.{ends_at, ends_in};
 
-use crate::datagrams::Datagrams;
-use crate::kept_cargoes::KeptCargoes;
 use crate::links::{LinkParts, place};
 use crate::nodes::{NodeSlot, place as node_place};
 use crate::sim::Sim;
 use crate::topology::Topology;
 use std::alloc::{AllocError, Global};
 use tora_arq::Life;
+use tora_cargoes::{count_kept, list_kept};
 use tora_core::numbers_come_and_go;
+use tora_datagrams::Datagrams;
 use tora_height::{Entry, Id};
 use tora_packet::Packet;
-use tora_seat::Cargo;
 
 impl Sim {
     /// The topology that the world was made of.
@@ -261,83 +260,4 @@ fn way_of_numbered(datagrams: &Datagrams, i: u64) -> Option<(Id, Id)>
 {
     let place = usize::try_from(i).ok()?.checked_sub(1)?;
     datagrams.way(place)
-}
-
-/// The packet of a cargo, where it is of this life.
-fn packet_put(cargo: &Cargo, life: Life) -> Option<Packet>
-    ensures { option_to_list result ≡ packets_of life (parcels_in (cargo.now ∷ [])) }
-{
-    match cargo {
-        Cargo::Packet(other, packet) => { if *other == life { Some(*packet) } else { None } }
-        Cargo::Cut(_) => None,
-    }
-}
-
-/// How many packets of a life are among cargoes.
-pub fn count_put(put: &[Cargo], life: Life) -> usize
-    ensures count { result ≡ length (packets_of life (parcels_in put.now)) }
-    ensures few { result ≤ length put.now }
-{
-    let mut count = 0;
-    for cargo in put {
-        if packet_put(cargo, life).is_some() {
-            count += 1;
-        }
-    }
-    count
-}
-
-/// Appends the packets of a life that are among cargoes.
-pub fn list_put(packets: &mut Vec<Packet>, put: &[Cargo], life: Life) -> Result<(), AllocError>
-    ensures { OnOk result (packets.new.items ≡ packets.old.items ++ packets_of life (parcels_in put.now)) }
-{
-    for cargo in put {
-        match packet_put(cargo, life) {
-            Some(packet) => packets.push(packet)?,
-            None => {}
-        }
-    }
-    Ok(())
-}
-
-/// The packet of the cargo at a place, where it is of this life.
-fn packet_kept(kept: &KeptCargoes, place: usize, life: Life) -> Option<Packet>
-    requires { place < length kept.now.items }
-    ensures { (cargo : AnyCargo) → slice_get kept.now.items place ≡ Some cargo → option_to_list result ≡ packets_of life (parcels_in (cargo ∷ [])) }
-{
-    match kept.get(place) {
-        Some(cargo) => packet_put(&cargo, life),
-        None => None,
-    }
-}
-
-/// How many packets of a life are among cargoes that are kept.
-pub fn count_kept(kept: &KeptCargoes, life: Life) -> usize
-    ensures count { result ≡ length (packets_of life (parcels_in kept.now.items)) }
-    ensures few { result < 2 ^ 63 }
-{
-    let mut count = 0;
-    for place in 0..kept.len() {
-        if packet_kept(kept, place, life).is_some() {
-            count += 1;
-        }
-    }
-    count
-}
-
-/// Appends the packets of a life that are among cargoes that are kept.
-pub fn list_kept(
-    packets: &mut Vec<Packet>,
-    kept: &KeptCargoes,
-    life: Life,
-) -> Result<(), AllocError>
-    ensures { OnOk result (packets.new.items ≡ packets.old.items ++ packets_of life (parcels_in kept.now.items)) }
-{
-    for place in 0..kept.len() {
-        match packet_kept(kept, place, life) {
-            Some(packet) => packets.push(packet)?,
-            None => {}
-        }
-    }
-    Ok(())
 }

@@ -1,6 +1,6 @@
 //! Turns of a node's core.
 ghost use Rattle.std.specs.Prelude.{◌≡◌, ◌+◌, ◌<◌, ◌≤◌, length};
-ghost use Rattle.tora_sim.specs.Lane.{AreWhole};
+ghost use Rattle.tora_cargoes.specs.Lane.{AreWhole};
 ghost use Rattle.tora_sim.specs.Lanes.{lanes_of, bare_between, AreReady, AreReadyOutside, AreOthersKept, HaveRoomBut};
 ghost use Rattle.tora_sim.specs.Quiet.{AreForgottenWhere, IsForgottenWhere};
 ghost use Rattle.tora_sim.specs.Turns.{Turns};
@@ -11,10 +11,10 @@ use crate::lanes::NodeLanes;
 use crate::link_slot::LinkSlot;
 use crate::nodes::NodeSlot;
 use crate::ready::set_ready;
-use crate::spares::Spares;
 use crate::stills::{Stills, keep_still};
 use crate::unready::Unready;
 use std::mem;
+use tora_cargoes::Spares;
 use tora_seat::offers_are_their_own_answers;
 
 /// Serves the first item of a node's lane. There is memory for all that it can put at the node's link ends, and as many spare lists are whole. Each of

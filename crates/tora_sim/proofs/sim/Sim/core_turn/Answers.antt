@@ -6,7 +6,7 @@ use Rattle.tora_world.specs.declared.event.Event.TheVariants.{CoreTurn}
 use Rattle.tora_world.specs.declared.sim_error.SimError.{SimError}
 use Rattle.tora_world.specs.declared.sim_error.SimError.TheVariants as Refused
 use Rattle.tora_sim.specs.declared.unready.Unready.{Unready}
-use Rattle.tora_sim.specs.Lane.{AreWhole}
+use Rattle.tora_cargoes.specs.Lane.{AreWhole}
 use Rattle.tora_sim.specs.Lanes.{AreReadyOutside, bare_between}
 use Rattle.tora_sim.specs.Nodes.{NodeView}
 use Rattle.tora_sim.specs.Quiet.{AreForgottenWhere}

@@ -4,7 +4,7 @@ use Rattle.std.proofs.lemmas.Bool.{both_ways}
 use Rattle.std.proofs.lemmas.Option.{slice_get_read}
 use Rattle.tora_arq.specs.LinkEnd.{after_transmit, frame_due}
 use Rattle.tora_world.specs.declared.event.Event.TheVariants.{Transmit}
-use Rattle.tora_sim.specs.Datagrams.{DatagramList}
+use Rattle.tora_datagrams.specs.Datagrams.{DatagramList}
 use Rattle.tora_sim.specs.Links.{LinkView}
 use Rattle.tora_sim.specs.Plains.{IsPlain}
 use Rattle.tora_sim.specs.Possible.{has_cargo}

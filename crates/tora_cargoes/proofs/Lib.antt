@@ -1,0 +1,4 @@
+pub mod LaneRooms
+pub mod KeptMore
+pub mod LaneLists
+pub mod InTurn

@@ -1,0 +1,10 @@
+use Rattle.std.proofs.Common.{◌≡◌, ◌+◌, ◌≤◌, length, drop}
+use Rattle.tora_world.specs.Lists.{packets_of, parcels_in}
+use Rattle.tora_cargoes.proofs.packets.count_kept.Given as goal
+
+-- those that were counted and those of the rest are all
+abbrev pub invariant-loop-place : goal.invariant-loop-place
+invariant-loop-place l = record {
+  few : l.count ≤ l.place;
+  all : l.count + length (packets_of l.life (parcels_in (drop l.place l.kept.items))) ≡ length (packets_of l.life (parcels_in l.kept.items));
+}

@@ -1,0 +1,10 @@
+use Rattle.std.proofs.Common.{◌≡◌, ◌+◌, ◌≤◌, length, drop}
+use Rattle.tora_world.specs.Lists.{packets_of, parcels_in}
+use Rattle.tora_cargoes.proofs.packets.count_put.Given as goal
+
+-- those that were counted and those of the rest are all
+abbrev pub invariant-loop-cargo : goal.invariant-loop-cargo
+invariant-loop-cargo l = record {
+  few : l.count ≤ l.cargo-index;
+  all : l.count + length (packets_of l.life (parcels_in (drop l.cargo-index l.put))) ≡ length (packets_of l.life (parcels_in l.put));
+}

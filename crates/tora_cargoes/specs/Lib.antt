@@ -1,0 +1,2 @@
+pub mod KeptCargoes
+pub mod Lane

@@ -1,0 +1,153 @@
+//! Cargoes of few bytes, of which the last ones stand near.
+ghost use Rattle.std.specs.Prelude.{◌≡◌, ◌<◌, ◌≤◌, ◌+◌, ◌^◌, ◌++◌, ◌∷◌, [], length, take, slice_get, slice_set, vec_len, vec_capacity, OnOk};
+ghost use Rattle.tora_cargoes.specs.declared.kept_list.TheConstants.{NEAR_KEPT};
+
+use crate::kept_cargoes::KeptCargo;
+use std::alloc::{AllocError, Global};
+use std::marker::Model;
+
+/// How many cargoes stand near at most.
+pub const NEAR_KEPT: usize = 4;
+
+/// So many more the list takes memory for at least, while it is short.
+const FIRST_LISTED: usize = 12;
+
+/// A list of so many is long: it grows as lists do.
+const LONG_LIST: usize = 64;
+
+/// Once so many stand in the list it takes no more.
+const MOST_LISTED: usize = 0x4000_0000_0000_0000;
+
+/// Cargoes in the order in which they came. The last few stand where this stands itself, and go into a list together: so most that come are put
+/// where memory is at hand, and the list, which lies elsewhere for each link end, is looked at for every fourth.
+#[derive(Drop)]
+pub struct KeptList {
+    /// How many stand near.
+    count: usize,
+    near: [KeptCargo; NEAR_KEPT],
+    list: Vec<KeptCargo>,
+}
+
+/// For how many more a list of so many takes memory at least. A short one takes as much again as it has, so that it is moved less often.
+fn more_of(count: usize) -> usize
+    ensures { NEAR_KEPT ≤ result }
+{
+    if count < LONG_LIST {
+        count.max(FIRST_LISTED)
+    } else {
+        NEAR_KEPT
+    }
+}
+
+impl Model for KeptList {
+    ghost use Rattle.std.specs.Prelude.{◌≡◌, ◌<◌, ◌≤◌, ◌+◌, ◌++◌, ◌-◌, length, take};
+    ghost use Rattle.tora_cargoes.specs.declared.kept_list.TheConstants.{NEAR_KEPT, MOST_LISTED};
+    ghost use Rattle.tora_cargoes.specs.KeptCargoes.{KeptItems};
+
+    ghost Value = { KeptItems };
+
+    ghost view = { λ l. record { items = l.list.items ++ take l.count l.near; places = NEAR_KEPT - l.count } };
+
+    ghost invariant = { λ l. (l.count ≤ NEAR_KEPT) × (length l.near ≡ NEAR_KEPT) × (length l.list.items < MOST_LISTED + NEAR_KEPT) };
+}
+
+impl KeptList {
+    /// No cargoes.
+    pub fn new(alloc: Global) -> KeptList
+        ensures { result.items ≡ [] }
+    {
+        KeptList {
+            list: Vec::new(alloc),
+            count: 0,
+            near: [KeptCargo::Cut(0); NEAR_KEPT],
+        }
+    }
+
+    /// How many there are.
+    #[inline(always)]
+    pub fn len(&self) -> usize
+        ensures len { result ≡ length self.now.items }
+        ensures most { result < 2 ^ 63 }
+    {
+        self.list.len() + self.count
+    }
+
+    /// Makes room for one more: where none is left near, those that stand there go into the list.
+    ///
+    /// # Errors
+    /// Want of memory.
+    #[inline(always)]
+    pub fn reserve(&mut self) -> Result<(), AllocError>
+        ensures items { self.new.items ≡ self.old.items }
+        ensures room { OnOk result (0 < self.new.places) }
+    {
+        if self.count < NEAR_KEPT {
+            return Ok(());
+        }
+        self.put_away()
+    }
+
+    /// Those that stand near go into the list.
+    #[inline(never)]
+    fn put_away(&mut self) -> Result<(), AllocError>
+        requires { self.old.places ≡ 0 }
+        ensures items { self.new.items ≡ self.old.items }
+        ensures room { OnOk result (0 < self.new.places) }
+    {
+        if self.list.len() >= MOST_LISTED {
+            return Err(AllocError);
+        }
+        self.list.reserve(more_of(self.list.len()))?;
+        append_all(&mut self.list, &self.near);
+        self.count = 0;
+        Ok(())
+    }
+
+    /// Appends a cargo. There must be room for it.
+    #[inline(always)]
+    pub fn push(&mut self, kept: KeptCargo)
+        requires { 0 < self.old.places }
+        ensures { self.new.items ≡ self.old.items ++ kept ∷ [] }
+    {
+        set_near(&mut self.near, self.count, kept);
+        self.count += 1;
+    }
+
+    /// The cargo that stands behind so many others.
+    pub fn get(&self, place: usize) -> Option<KeptCargo>
+        ensures { result ≡ slice_get self.now.items place }
+    {
+        let first = self.list.len();
+        if place < first {
+            return self.list.get(place).copied();
+        }
+        near_at(&self.near, self.count, place - first)
+    }
+}
+
+/// Puts a cargo at a place near.
+#[inline(always)]
+fn set_near(near: &mut [KeptCargo; NEAR_KEPT], at: usize, kept: KeptCargo)
+    requires { at < NEAR_KEPT }
+    ensures { near.new ≡ slice_set near.old at kept }
+{
+    near[at] = kept;
+}
+
+/// The cargo at a place near, of those of which so many are there.
+fn near_at(near: &[KeptCargo; NEAR_KEPT], count: usize, at: usize) -> Option<KeptCargo>
+    requires { count ≤ NEAR_KEPT }
+    ensures { result ≡ slice_get (take count near.now) at }
+{
+    near[..count].get(at).copied()
+}
+
+/// Appends all that stand near to a list.
+fn append_all(list: &mut Vec<KeptCargo>, near: &[KeptCargo; NEAR_KEPT])
+    requires { vec_len list.old + NEAR_KEPT ≤ vec_capacity list.old }
+    ensures { list.new.items ≡ list.old.items ++ near.now }
+{
+    for at in 0..NEAR_KEPT {
+        list.push_reserved(near[at]);
+    }
+}

@@ -1,0 +1,185 @@
+//! The lane from a core to a link end, and what was ever put into it.
+ghost use Rattle.std.specs.Prelude.{◌≡◌, ◌<◌, ◌≤◌, ◌⊎◌, ◌+◌, ◌++◌, ◌∷◌, [], true, suc, Some, length, nat_lt, slice_get, take, OnOk, IfOk};
+ghost use Rattle.tora_seat.specs.declared.TheConstants.{MOST_CARGOES};
+ghost use Rattle.tora_world.specs.Lists.{packets_of, parcels_in};
+ghost use Rattle.tora_cargoes.specs.Lane.{AreOthersAsWhole, Fits, has_place_in};
+
+use crate::kept_cargoes::KeptCargoes;
+use crate::near_cargoes::NearCargoes;
+use crate::packets::{count_kept, count_put, list_kept, list_put};
+use crate::spares::Spares;
+use std::alloc::{AllocError, Global};
+use std::marker::Model;
+use tora_arq::Life;
+use tora_packet::Packet;
+use tora_seat::{Cargo, MOST_CARGOES};
+
+/// The lane from a core to a link end, with all cargoes that were ever put into it.
+///
+/// What left the lane is kept in less, but not at once: before the next turn of the node's core, when memory may be asked for. What waits stands near
+/// where few cargoes do, so that only lanes of which more waited at a time have a list.
+#[derive(Drop)]
+pub struct Lane {
+    /// How many of the cargoes left the lane.
+    taken: usize,
+    /// The cargoes that were put last, in front those that left the lane.
+    cargoes: NearCargoes,
+    /// The cargoes before these, which left the lane.
+    past: KeptCargoes,
+}
+
+impl Model for Lane {
+    ghost use Rattle.std.specs.Prelude.{◌≤◌, length};
+    ghost use Rattle.tora_cargoes.specs.Lane.{LaneView, lane_of};
+
+    ghost Value = { LaneView };
+
+    ghost view = { λ l. lane_of l.past.items l.cargoes l.taken };
+
+    ghost invariant = { λ l. l.taken ≤ length l.cargoes.items };
+}
+
+impl Lane {
+    /// An empty lane.
+    pub fn new(alloc: Global) -> Lane
+        ensures put { result.put ≡ [] }
+        ensures pulled { result.pulled ≡ 0 }
+    {
+        Lane {
+            past: KeptCargoes::new(alloc),
+            cargoes: NearCargoes::new(alloc),
+            taken: 0,
+        }
+    }
+
+    /// Whether a cargo waits.
+    pub fn has_cargo(&self) -> bool
+        ensures { result ≡ nat_lt self.now.pulled (length self.now.put) }
+    {
+        self.taken < self.cargoes.len()
+    }
+
+    /// Whether fewer cargoes wait than a lane holds.
+    pub fn has_place(&self) -> bool
+        ensures { result ≡ has_place_in self.now }
+    {
+        self.cargoes.len() - self.taken < MOST_CARGOES
+    }
+
+    /// The first cargo that waits.
+    pub fn next(&self) -> Cargo
+        requires { self.now.pulled < length self.now.put }
+        ensures { slice_get self.now.put self.now.pulled ≡ Some result }
+    {
+        self.cargoes.at(self.taken)
+    }
+
+    /// Takes the first cargo that waits.
+    pub fn take(&mut self) -> Cargo
+        requires { self.old.pulled < length self.old.put }
+        ensures cargo { slice_get self.old.put self.old.pulled ≡ Some result }
+        ensures lane { self.new ≡ record self.old { pulled = suc self.old.pulled } }
+    {
+        let cargo = self.cargoes.at(self.taken);
+        self.taken += 1;
+        cargo
+    }
+
+    /// Takes all cargoes that wait.
+    pub fn take_all(&mut self)
+        ensures { self.new ≡ record self.old { pulled = length self.old.put } }
+    {
+        self.taken = self.cargoes.len();
+    }
+
+    /// Keeps the cargoes that left the lane in less, and takes the memory for as many as it holds, where it has a list.
+    ///
+    /// # Errors
+    /// Want of memory.
+    pub fn make_room(&mut self) -> Result<(), AllocError>
+        ensures put { self.new.put ≡ self.old.put }
+        ensures pulled { self.new.pulled ≡ self.old.pulled }
+        ensures room { OnOk result ((self.new.room ≡ 0) ⊎ (self.new.pulled + MOST_CARGOES ≤ self.new.room)) }
+    {
+        keep_taken(&mut self.past, &mut self.cargoes, &mut self.taken)?;
+        self.cargoes.reserve()
+    }
+
+    /// Puts the cargoes into a list that is no longer than they need, where theirs is, which goes to the spare ones in the place of that of a place.
+    #[inline(always)]
+    pub fn shorten(&mut self, spares: &mut Spares, spare: usize)
+        ensures put { self.new.put ≡ self.old.put }
+        ensures pulled { self.new.pulled ≡ self.old.pulled }
+    {
+        self.cargoes.shorten(spares, spare);
+    }
+
+    /// Puts a cargo at the back. There must be a place for it, and room, or the spare list of the place `spare`, which it takes then.
+    #[inline(always)]
+    pub fn put(&mut self, cargo: Cargo, spares: &mut Spares, spare: usize)
+        requires room { Fits self.old.pulled self.old.room spares.old spare }
+        requires place { has_place_in self.old ≡ true }
+        ensures put { self.new.put ≡ self.old.put ++ cargo ∷ [] }
+        ensures pulled { self.new.pulled ≡ self.old.pulled }
+        ensures room { Fits self.new.pulled self.new.room spares.new spare }
+        ensures others { AreOthersAsWhole spares.old spares.new spare }
+    {
+        self.cargoes.push(&cargo, spares, spare);
+    }
+
+    /// How many packets were put in a life.
+    pub fn sent_count(&self, life: Life) -> usize
+        ensures { result ≡ length (packets_of life (parcels_in self.now.put)) }
+    {
+        count_kept(&self.past, life) + count_put(self.cargoes.as_slice(), life)
+    }
+
+    /// The packets that were put in a life.
+    ///
+    /// # Errors
+    /// Want of memory.
+    pub fn sent(&self, alloc: Global, life: Life) -> Result<Vec<Packet>, AllocError>
+        ensures { IfOk result (λ v. v.items ≡ packets_of life (parcels_in self.now.put)) }
+    {
+        let mut packets = Vec::new(alloc);
+        list_kept(&mut packets, &self.past, life)?;
+        list_put(&mut packets, self.cargoes.as_slice(), life)?;
+        Ok(packets)
+    }
+}
+
+/// Keeps the cargoes that left a lane in less: all of them, or those before the first for which there is no memory.
+fn keep_taken(
+    past: &mut KeptCargoes,
+    cargoes: &mut NearCargoes,
+    taken: &mut usize,
+) -> Result<(), AllocError>
+    requires { taken.old ≤ length cargoes.old.items }
+    ensures near { cargoes.old.places ≡ 0 → cargoes.new.places ≡ 0 }
+    ensures all { past.new.items ++ cargoes.new.items ≡ past.old.items ++ cargoes.old.items }
+    ensures pulled { length past.new.items + taken.new ≡ length past.old.items + taken.old }
+    ensures within { taken.new ≤ length cargoes.new.items }
+    ensures done { OnOk result (taken.new ≡ 0) }
+{
+    if *taken == 0 {
+        return Ok(());
+    }
+    let kept = keep_first(past, &cargoes.as_slice()[..*taken]);
+    cargoes.drop_first(kept);
+    *taken -= kept;
+    if *taken == 0 { Ok(()) } else { Err(AllocError) }
+}
+
+/// Appends cargoes up to the first for which there is no memory, and says how many they are.
+fn keep_first(past: &mut KeptCargoes, cargoes: &[Cargo]) -> usize
+    ensures kept { past.new.items ≡ past.old.items ++ take result cargoes.now }
+    ensures within { result ≤ length cargoes.now }
+{
+    for place in 0..cargoes.len() {
+        if past.reserve().is_err() {
+            return place;
+        }
+        past.push(&cargoes[place]);
+    }
+    cargoes.len()
+}

@@ -1,0 +1,221 @@
+//! Cargoes of which the first few stand where they are kept.
+ghost use Rattle.std.specs.Prelude.{◌≡◌, ◌<◌, ◌≤◌, ◌+◌, ◌⊎◌, ◌^◌, ◌-◌, ◌++◌, ◌∷◌, [], length, drop, take, vec_len, vec_capacity, slice_get, slice_set, Some, IfOk, OnOk};
+ghost use Rattle.tora_seat.specs.declared.TheConstants.{MOST_CARGOES};
+ghost use Rattle.tora_cargoes.specs.declared.near_cargoes.TheConstants.{NEAR};
+ghost use Rattle.tora_cargoes.specs.Lane.{IsWhole, AreOthersAsWhole};
+
+use crate::kept_cargoes::append;
+use crate::spares::Spares;
+use std::alloc::{AllocError, Global};
+use std::marker::Model;
+use std::mem;
+use tora_arq::Life;
+use tora_seat::{Cargo, MOST_CARGOES};
+
+/// How many cargoes stand near.
+pub const NEAR: usize = 4;
+
+/// A list with memory for more than so many times its cargoes is long.
+const LONG: usize = 4;
+
+/// Cargoes in the order in which they were put: a few where this stands itself, or all in a list. Where it is empty before a turn, its memory is given
+/// back, and the next few stand near again.
+#[derive(Drop)]
+pub struct NearCargoes {
+    /// Whether they stand in the list.
+    is_wide: bool,
+    /// How many stand near, where there is no list.
+    count: usize,
+    list: Vec<Cargo>,
+    cells: [Cargo; NEAR],
+}
+
+impl Model for NearCargoes {
+    ghost use Rattle.std.specs.Prelude.{◌≡◌, ◌<◌, ◌≤◌, [], true, false, length, vec_capacity};
+    ghost use Rattle.tora_cargoes.specs.declared.near_cargoes.TheConstants.{NEAR};
+    ghost use Rattle.tora_cargoes.specs.Lane.{CargoesView, cargoes_in};
+
+    ghost Value = { CargoesView };
+
+    ghost view = { λ c. cargoes_in c.is_wide c.count c.cells c.list.items (vec_capacity c.list) };
+
+    ghost invariant = { λ c. (c.count ≤ NEAR) × (length c.cells ≡ NEAR) × (c.is_wide ≡ true → 0 < vec_capacity c.list) × (c.is_wide ≡ false → c.list.items ≡ []) };
+}
+
+impl NearCargoes {
+    /// No cargoes.
+    pub fn new(alloc: Global) -> NearCargoes
+        ensures items { result.items ≡ [] }
+        ensures places { result.places ≡ 0 }
+    {
+        NearCargoes {
+            count: 0,
+            cells: [Cargo::Cut(Life { own: 0, peer: 0 }); NEAR],
+            is_wide: false,
+            list: Vec::new(alloc),
+        }
+    }
+
+    /// The cargoes.
+    #[inline(always)]
+    pub fn as_slice(&self) -> &[Cargo]
+        ensures items { result.now ≡ self.now.items }
+        ensures most { length result.now < 2 ^ 63 }
+    {
+        if self.is_wide {
+            return self.list.as_slice();
+        }
+        &self.cells[..self.count]
+    }
+
+    /// The cargo at a place.
+    #[inline(always)]
+    pub fn at(&self, place: usize) -> Cargo
+        requires { place < length self.now.items }
+        ensures cargo { slice_get self.now.items place ≡ Some result }
+        ensures most { length self.now.items < 2 ^ 63 }
+    {
+        self.as_slice()[place]
+    }
+
+    /// How many there are.
+    #[inline(always)]
+    pub fn len(&self) -> usize
+        ensures len { result ≡ length self.now.items }
+        ensures most { result < 2 ^ 63 }
+    {
+        if self.is_wide {
+            return self.list.len();
+        }
+        self.count
+    }
+
+    /// Takes the first ones away, so many.
+    pub fn drop_first(&mut self, count: usize)
+        requires { count ≤ length self.old.items }
+        ensures items { self.new.items ≡ drop count self.old.items }
+        ensures places { self.new.places ≡ self.old.places }
+    {
+        if self.is_wide {
+            self.list.drain(..count);
+            return;
+        }
+        drop_cells(&mut self.cells, self.count, count);
+        self.count -= count;
+    }
+
+    /// Takes the memory for cargoes up to as many as a lane holds, where they stand in a list. Where none does, the list goes, and the next few stand
+    /// near.
+    ///
+    /// # Errors
+    /// Want of memory.
+    pub fn reserve(&mut self) -> Result<(), AllocError>
+        ensures items { self.new.items ≡ self.old.items }
+        ensures near { self.old.places ≡ 0 → self.new.places ≡ 0 }
+        ensures places { OnOk result ((self.new.places ≡ 0) ⊎ (MOST_CARGOES ≤ self.new.places)) }
+    {
+        if !self.is_wide {
+            return Ok(());
+        }
+        if self.list.is_empty() {
+            let alloc = *self.list.allocator();
+            self.count = 0;
+            self.is_wide = false;
+            self.list = Vec::new(alloc);
+            return Ok(());
+        }
+        let needed = MOST_CARGOES.saturating_sub(self.list.len());
+        self.list.reserve(needed)
+    }
+
+    /// Where the list has more memory than its cargoes need, puts them into one of their own, and gives the other one to the spare ones, in the place of
+    /// that of a place. Where there is no memory, it stays.
+    #[inline(never)]
+    pub fn shorten(&mut self, spares: &mut Spares, place: usize)
+        ensures items { self.new.items ≡ self.old.items }
+    {
+        let many = self.list.len();
+        if many == 0 {
+            return;
+        }
+        if self.list.capacity() <= LONG * many {
+            return;
+        }
+        let alloc = *self.list.allocator();
+        let Ok(short) = copied(alloc, self.list.as_slice()) else {
+            return;
+        };
+        let mut long = mem::replace(&mut self.list, short);
+        long.clear();
+        spares.give(place, long);
+    }
+
+    /// Puts a cargo behind the others: near, in the list, or, where no place near is left, in one that it takes from the spare ones, that of a place.
+    #[inline(always)]
+    pub fn push(&mut self, cargo: &Cargo, spares: &mut Spares, place: usize)
+        requires { ((self.old.places ≡ 0) × IsWhole spares.old place) ⊎ (length self.old.items < self.old.places) }
+        ensures items { self.new.items ≡ self.old.items ++ cargo.now ∷ [] }
+        ensures places { ((self.new.places ≡ self.old.places) × (spares.new ≡ spares.old)) ⊎ ((length self.old.items ≤ NEAR) × (MOST_CARGOES + NEAR ≤ self.new.places)) }
+        ensures others { AreOthersAsWhole spares.old spares.new place }
+    {
+        if self.is_wide {
+            append(&mut self.list, cargo);
+            return;
+        }
+        if self.count < NEAR {
+            set_cell(&mut self.cells, self.count, cargo);
+            self.count += 1;
+            return;
+        }
+        self.list = listed(&self.cells, spares, place);
+        self.is_wide = true;
+        append(&mut self.list, cargo);
+    }
+}
+
+/// Cargoes in a list of their own, which has memory for no more of them.
+fn copied(alloc: Global, cargoes: &[Cargo]) -> Result<Vec<Cargo>, AllocError>
+    ensures items { IfOk result (λ list. list.items ≡ cargoes.now) }
+    ensures places { IfOk result (λ list. length cargoes.now ≤ vec_capacity list) }
+{
+    let mut list = Vec::new(alloc);
+    list.reserve_exact(cargoes.len())?;
+    list.extend_from_slice(cargoes)?;
+    Ok(list)
+}
+
+/// Puts a cargo in the place of what stands at a place.
+#[inline(always)]
+fn set_cell(cells: &mut [Cargo; NEAR], at: usize, cargo: &Cargo)
+    requires { at < NEAR }
+    ensures { cells.new ≡ slice_set cells.old at cargo.now }
+{
+    cells[at] = *cargo;
+}
+
+/// Moves up those that stand behind the first ones.
+fn drop_cells(cells: &mut [Cargo; NEAR], count: usize, first: usize)
+    requires first { first ≤ count }
+    requires count { count ≤ NEAR }
+    ensures cells { take (count - first) cells.new ≡ drop first (take count cells.old) }
+    ensures many { length cells.new ≡ NEAR }
+{
+    if first < count {
+        cells.copy_within(first..count, 0);
+    }
+}
+
+/// All that stand near, in the spare list of a place.
+#[inline(never)]
+fn listed(cells: &[Cargo; NEAR], spares: &mut Spares, place: usize) -> Vec<Cargo>
+    requires { IsWhole spares.old place }
+    ensures items { result.items ≡ cells.now }
+    ensures places { MOST_CARGOES + NEAR ≤ vec_capacity result }
+    ensures others { AreOthersAsWhole spares.old spares.new place }
+{
+    let mut list = spares.take(place);
+    for at in 0..NEAR {
+        append(&mut list, &cells[at]);
+    }
+    list
+}

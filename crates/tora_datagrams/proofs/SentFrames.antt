@@ -1,0 +1,141 @@
+-- Datagrams as places of frames that are kept, where more frames come behind those.
+use Rattle.std.proofs.Common.{◌≡◌, ℕ, zero, suc, ◌+◌, ◌-◌, ◌<◌, ◌≤◌, ◌^◌, Bool, true, false, List, [], ◌∷◌, ◌++◌, length, take, drop, slice_get, Some, None, Option, refl, sym, ap, ◌∙◌, subst, arith, length-append, append-nil}
+use Rattle.std.specs.Prelude.{option_to_list}
+use Rattle.std.specs.List.{cons_option}
+use Rattle.std.proofs.lemmas.List.Elements.{filter_map-append}
+use Rattle.tora_frame.specs.FrameParts.{FrameParts}
+use Rattle.tora_datagrams.specs.Datagrams.{DatagramList, HasRoom, IsMore}
+use Rattle.tora_datagrams.specs.Places.{PlaceList}
+use Rattle.tora_datagrams.specs.SentFrames.{AreWithin, HasRooms, sent_frames}
+
+-- within the list there is an item
+pub item_at : {A : Type 0} (xs : List A) (n : ℕ) → n < length xs → (x : A) × (slice_get xs n ≡ Some x)
+item_at [] n h = absurd (omega (arith, h))
+item_at (x ∷ xs) zero h = (x, refl)
+item_at (x ∷ xs) (suc n) h = item_at xs n (omega (arith, h))
+
+-- and an item is within it
+pub within : {A : Type 0} (xs : List A) (n : ℕ) (x : A) → slice_get xs n ≡ Some x → n < length xs
+within [] n x e = absurd cc
+within (y ∷ xs) zero x e = omega arith
+within (y ∷ xs) (suc n) x e = omega (arith, within xs n x e)
+
+pub stays_at : {A : Type 0} (xs ys : List A) (n : ℕ) → n < length xs → slice_get (xs ++ ys) n ≡ slice_get xs n
+stays_at [] ys n h = absurd (omega (arith, h))
+stays_at (x ∷ xs) ys zero h = refl
+stays_at (x ∷ xs) ys (suc n) h = stays_at xs ys n (omega (arith, h))
+
+-- one frame for each place
+pub as_many : (frames : List FrameParts) (places : List ℕ) → AreWithin frames places → length (sent_frames frames places) ≡ length places
+as_many frames [] h = refl
+as_many frames (place ∷ places) h =
+    let here = item_at frames place h.0 in
+    ap (λ (o : Option FrameParts). length (cons_option o (sent_frames frames places))) here.1 ∙ ap suc (as_many frames places h.1)
+
+-- the datagram of a place is its frame
+pub sent_at : (frames : List FrameParts) (places : List ℕ) (k place : ℕ) → AreWithin frames places → slice_get places k ≡ Some place
+    → slice_get frames place ≡ slice_get (sent_frames frames places) k
+sent_at frames [] k place h e = absurd cc
+sent_at frames (other ∷ places) zero place h e =
+    let here = item_at frames other h.0 in
+    let same : other ≡ place = cc in
+    sym (ap (λ (o : Option FrameParts). slice_get (cons_option o (sent_frames frames places)) zero) here.1 ∙ sym here.1 ∙ ap (slice_get frames) same)
+sent_at frames (other ∷ places) (suc k) place h e =
+    let here = item_at frames other h.0 in
+    sent_at frames places k place h.1 e ∙ sym (ap (λ (o : Option FrameParts). slice_get (cons_option o (sent_frames frames places)) (suc k)) here.1)
+
+pub none_at : (frames : List FrameParts) (places : List ℕ) (k : ℕ) → AreWithin frames places → slice_get places k ≡ None
+    → None ≡ slice_get (sent_frames frames places) k
+none_at frames [] k h e = refl
+none_at frames (other ∷ places) zero h e = absurd cc
+none_at frames (other ∷ places) (suc k) h e =
+    let here = item_at frames other h.0 in
+    none_at frames places k h.1 e ∙ sym (ap (λ (o : Option FrameParts). slice_get (cons_option o (sent_frames frames places)) (suc k)) here.1)
+
+sent_stay : (frames more : List FrameParts) (places : List ℕ) → AreWithin frames places → sent_frames (frames ++ more) places ≡ sent_frames frames places
+sent_stay frames more [] h = refl
+sent_stay frames more (place ∷ places) h =
+    ap (λ (o : Option FrameParts). cons_option o (sent_frames (frames ++ more) places)) (stays_at frames more place h.0)
+    ∙ ap (cons_option (slice_get frames place)) (sent_stay frames more places h.1)
+
+within_more : (frames more : List FrameParts) (places : List ℕ) (place : ℕ) → AreWithin frames places → place < length (frames ++ more) → AreWithin (frames ++ more) (places ++ place ∷ [])
+within_more frames more [] place h lt = (lt, tt)
+within_more frames more (other ∷ places) place h lt = (omega (arith, h.0, length-append frames more), within_more frames more places place h.1 lt)
+
+-- a datagram more, whose frame stands at this place of frames that may be more
+module _ (frames after : List FrameParts) (places : List ℕ) (place : ℕ) (frame : FrameParts) (more : IsMore frames after) (is : slice_get after place ≡ Some frame) (h : AreWithin frames places) where
+  pub one_more : sent_frames after (places ++ place ∷ []) ≡ sent_frames frames places ++ frame ∷ []
+  one_more =
+      filter_map-append (slice_get after) places (place ∷ [])
+      ∙ ap (λ (o : Option FrameParts). sent_frames after places ++ cons_option o []) is
+      ∙ ap (λ (fs : List FrameParts). fs ++ frame ∷ []) (ap (λ (xs : List FrameParts). sent_frames xs places) more.1 ∙ sent_stay frames more.0 places h)
+
+  pub all_within : AreWithin after (places ++ place ∷ [])
+  all_within =
+      subst (λ (xs : List FrameParts). AreWithin xs (places ++ place ∷ [])) (sym more.1)
+      (within_more frames more.0 places place h (subst (λ (xs : List FrameParts). place < length xs) more.1 (within after place frame is)))
+
+-- two datagrams more, whose frames stand among those that are kept
+module _ (frames : List FrameParts) (places : List ℕ) (one two : ℕ) (first second : FrameParts) (is : slice_get frames one ≡ Some first) (is' : slice_get frames two ≡ Some second) (h : AreWithin frames places) where
+  no_more : IsMore frames frames
+  no_more = ([], sym (append-nil frames))
+
+  within_one : AreWithin frames (places ++ one ∷ [])
+  within_one = all_within frames frames places one first no_more is h
+
+  pub two_more : sent_frames frames ((places ++ one ∷ []) ++ two ∷ []) ≡ (sent_frames frames places ++ first ∷ []) ++ second ∷ []
+  two_more =
+      one_more frames frames (places ++ one ∷ []) two second no_more is' within_one
+      ∙ ap (λ (fs : List FrameParts). fs ++ second ∷ []) (one_more frames frames places one first no_more is h)
+
+  pub both_within : AreWithin frames ((places ++ one ∷ []) ++ two ∷ [])
+  both_within = all_within frames frames (places ++ one ∷ []) two second no_more is' within_one
+
+-- ---- the first datagrams are let go
+
+pub within_drop : (frames : List FrameParts) (places : List ℕ) (n : ℕ) → AreWithin frames places → AreWithin frames (drop n places)
+within_drop frames [] zero h = tt
+within_drop frames [] (suc n) h = tt
+within_drop frames (place ∷ places) zero h = h
+within_drop frames (place ∷ places) (suc n) h = within_drop frames places n h.1
+
+pub sent_drop : (frames : List FrameParts) (places : List ℕ) (n : ℕ) → AreWithin frames places → sent_frames frames (drop n places) ≡ drop n (sent_frames frames places)
+sent_drop frames [] zero h = refl
+sent_drop frames [] (suc n) h = refl
+sent_drop frames (place ∷ places) zero h = refl
+sent_drop frames (place ∷ places) (suc n) h =
+    let here = item_at frames place h.0 in
+    sent_drop frames places n h.1 ∙ sym (ap (λ (o : Option FrameParts). drop (suc n) (cons_option o (sent_frames frames places))) here.1)
+
+-- the first of a list up to a place, and up to the next one
+pub take_next : (xs : List FrameParts) (n : ℕ) → take n xs ++ option_to_list (slice_get xs n) ≡ take (n + 1) xs
+take_next [] zero = refl
+take_next [] (suc n) = let e : suc n + 1 ≡ suc (suc n) = omega arith in rw e refl
+take_next (x ∷ xs) zero = refl
+take_next (x ∷ xs) (suc n) = let e : suc n + 1 ≡ suc (n + 1) = omega arith in rw e (ap (λ (ys : List FrameParts). x ∷ ys) (take_next xs n))
+
+-- ---- room
+
+rooms_less : (room after : ℕ) (frames new : DatagramList) (places rest : PlaceList) → after ≡ room - 1 → new ≡ frames → rest.places + 1 ≡ places.places → HasRooms room frames places → HasRooms after new rest
+rooms_less room after frames new places rest less same left h =
+    let many = h.0 in (
+      omega (arith, less, left, many),
+      λ some. subst (λ (d : DatagramList). HasRoom d × (length d.items < 2 ^ 32)) (sym same) (h.1 (omega (arith, less, some))),
+    )
+
+rooms_none : (after : ℕ) (new : DatagramList) (rest : PlaceList) → after ≡ 0 → HasRooms after new rest
+rooms_none after new rest none = (omega (arith, none), λ some. absurd (omega (arith, none, some)))
+
+-- behind a datagram, as far as it is known that no frame came and that there is one place less
+pub rooms_behind : (room after : ℕ) (frames new : DatagramList) (places rest : PlaceList) (kept left : Bool) → (kept ≡ true → left ≡ true → after ≡ room - 1) → (kept ≡ false → after ≡ 0) → (left ≡ false → after ≡ 0) → (kept ≡ true → new ≡ frames)
+    → (left ≡ true → rest.places + 1 ≡ places.places) → HasRooms room frames places → HasRooms after new rest
+rooms_behind room after frames new places rest true true known frame place same less h = rooms_less room after frames new places rest (known refl refl) (same refl) (less refl) h
+rooms_behind room after frames new places rest true false known frame place same less h = rooms_none after new rest (place refl)
+rooms_behind room after frames new places rest false left known frame place same less h = rooms_none after new rest (frame refl)
+
+-- where there is room for some more only behind a datagram that took one place, there is room for no more than there are places
+pub rooms_with : (room after places rest : ℕ) (left : Bool) → (0 < after → (after + 1 ≡ room) × (left ≡ true)) → (left ≡ true → rest + 1 ≡ places) → room ≤ places → after ≤ rest
+rooms_with room zero places rest left known less within = omega (arith)
+rooms_with room (suc after) places rest left known less within =
+    let some : 0 < suc after = omega (arith) in
+    omega (arith, (known some).0, less (known some).1, within)

@@ -1,0 +1,37 @@
+//! The datagrams that were sent in a simulated world, each in few bytes.
+//!
+//! A world of the prefix law keeps every datagram, so that each can be delivered late, twice or never. `Datagrams` keeps them
+//! in the order in which they were sent: each frame once, and of each datagram the place of its frame, packed where places
+//! repeat. What is read is what was sent, frame by frame. Own profile.
+//!
+//! ```rust
+//! let mut datagrams = Datagrams::new(alloc);
+//! datagrams.reserve(0)?; // for one more of the first link end
+//! datagrams.push_hello(0, 1, &header); // its HELLO, to the second end
+//! assert_eq!(rt; datagrams.way(0), Some((header.sender, header.receiver)));
+//! let first = FirstDatagrams { many: 1 };
+//! let gone = GoneDatagrams::first(&datagrams, &first); // for contracts: the datagrams that go
+//! datagrams.forget_first(first.many);
+//! ```
+#![tactic(auto)]
+
+mod datagrams;
+mod first_items;
+mod gone_datagrams;
+mod kept_frames;
+mod packed_block;
+mod packed_places;
+mod packing;
+mod places;
+mod recents;
+mod room;
+mod same_frames;
+mod same_packets;
+mod short_place;
+mod split_number;
+mod words;
+
+pub use datagrams::Datagrams;
+pub use gone_datagrams::{FirstDatagrams, GoneDatagrams};
+pub use recents::RecentFrame;
+pub use room::reserve_one;

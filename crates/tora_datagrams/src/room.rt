@@ -1,0 +1,16 @@
+//! Room for items of which few come.
+ghost use Rattle.std.specs.Prelude.{◌≡◌, ◌<◌, vec_len, vec_capacity, OnOk};
+
+use std::alloc::AllocError;
+
+/// Makes room for one more item; a first one gets no more than its own, as most lists have few origins, and nothing apart.
+pub fn reserve_one<T: Drop>(items: &mut Vec<T>) -> Result<(), AllocError>
+    ensures items { items.new.items ≡ items.old.items }
+    ensures room { OnOk result (vec_len items.new < vec_capacity items.new) }
+{
+    if items.is_empty() {
+        items.reserve_exact(1)
+    } else {
+        items.reserve(1)
+    }
+}
