@@ -128,8 +128,8 @@ impl NearCargoes {
         self.list.reserve(needed)
     }
 
-    /// Where the list has more memory than its cargoes need, puts them into one of their own, and gives the other one to the spare ones, in the place of
-    /// that of a place. Where there is no memory, it stays.
+    /// Where the list has more than four times the memory that its cargoes need, puts them into one of their own, and gives the other one to the spare
+    /// ones, in the place of that of a place. One without cargoes stays, and so does one where there is no memory for another.
     #[inline(never)]
     pub fn shorten(&mut self, spares: &mut Spares, place: usize)
         ensures items { self.new.items ≡ self.old.items }

@@ -424,32 +424,29 @@ fn same_header(header: &Header) -> Header
     }
 }
 
-/// For how many more it is known that there is room, behind one for which there was: one less, if no frame came and there is one place less.
+/// For how many more it is known that there is room, behind one for which there was: one less, if there is room for a frame, as where none came,
+/// and one place less.
 #[inline(always)]
-fn room_behind(room: usize, is_kept: bool, is_left: bool) -> usize
-    ensures less { is_kept ≡ true → is_left ≡ true → result ≡ room - 1 }
-    ensures frame { is_kept ≡ false → result ≡ 0 }
+fn room_behind(room: usize, is_ready: bool, is_left: bool) -> usize
+    ensures less { is_ready ≡ true → is_left ≡ true → result ≡ room - 1 }
+    ensures frame { is_ready ≡ false → result ≡ 0 }
     ensures place { is_left ≡ false → result ≡ 0 }
 {
-    if is_kept && is_left {
+    if is_ready && is_left {
         room.saturating_sub(1)
     } else {
         0
     }
 }
 
-/// For how many more it is known that there is room, behind one for which there was and whose frame may have come: one less, if there is room
-/// for a frame more and one place less.
+/// The same behind one whose frame may have come: whether there is room for a frame more is asked of the frames.
 #[inline(always)]
 fn room_with(room: usize, frames: &KeptFrames, is_left: bool) -> usize
     ensures less { 0 < result → (result + 1 ≡ room) × (is_left ≡ true) }
     ensures room { 0 < result → HasRoom frames.now × (length frames.now.items < 2 ^ 32) }
 {
-    if frames.is_ready() && frames.len() < MOST_FRAMES && is_left {
-        room.saturating_sub(1)
-    } else {
-        0
-    }
+    let is_ready = frames.is_ready() && frames.len() < MOST_FRAMES;
+    room_behind(room, is_ready, is_left)
 }
 
 /// Keeps the frame of a HELLO of this header, and that it is the last one.
