@@ -1,5 +1,5 @@
 //! The simulator.
-ghost use Rattle.std.specs.Prelude.{◌≡◌, ◌<◌, true, false, Some, IfSome};
+ghost use Rattle.std.specs.Prelude.{◌≡◌, ◌+◌, ◌<◌, ◌≤◌, length, true, false, Some, IfSome};
 ghost use Rattle.tora_frame.specs.FrameParts.{IsHeader, frame_of};
 ghost use Rattle.tora_frame.specs.declared.parts.Body.TheVariants.{Hello};
 ghost use Rattle.tora_world.specs.declared.event.Event.TheVariants.{Tick, Open, Pull, Need, Transmit, Deliver, Pump, CoreTurn, Arm, Restart};
@@ -168,6 +168,8 @@ impl Sim {
     /// item waits for the core of the node at the place `home`: so it puts no more into them before they are pulled.
     #[inline(always)]
     fn shorten_lanes(&mut self, home: usize, first: usize, count: usize)
+        requires node { home < length self.old.nodes }
+        requires ends { first + count ≤ length self.old.links }
         ensures { world_of self.new ≡ world_of self.old }
     {
         if self.spares.was_taken() {
@@ -178,18 +180,11 @@ impl Sim {
     /// The same where a lane took a list.
     #[inline(never)]
     fn shorten_now(&mut self, home: usize, first: usize, count: usize)
+        requires node { home < length self.old.nodes }
+        requires ends { first + count ≤ length self.old.links }
         ensures { world_of self.new ≡ world_of self.old }
     {
-        if home >= self.nodes.len() {
-            return;
-        }
         if self.nodes[home].waiting() > 0 {
-            return;
-        }
-        if first > self.links.len() {
-            return;
-        }
-        if count > self.links.len() - first {
             return;
         }
         self.quiet = 0;

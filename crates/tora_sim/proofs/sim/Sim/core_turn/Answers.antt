@@ -193,6 +193,22 @@ forget_waiting-requires-clause-plains c =
 pub set_unready-requires : goal.set_unready-requires
 set_unready-requires c = let many = c.self.invariant.6.as_many in omega (arith, many, c.in-Some.ensures.first.within)
 
+pub shorten_lanes-requires-clause-ends : goal.shorten_lanes-requires-clause-ends
+shorten_lanes-requires-clause-ends c =
+    let s = c.self.inside in
+    let node = c.index_mut.result.now in
+    let first : c.first-first.result ≡ node.first =
+    c.first-first.ensures ∙ ap (λ (x : NodeView). x.first) (same_read s.nodes.items c.in-Some.home c.index-2.result.now node c.in-Some.ensures.first.within c.index-2.ensures c.index_mut.ensures.value) in
+    let count : c.count-count.result ≡ node.count =
+    c.count-count.ensures ∙ ap (λ (x : NodeView). x.count) (same_read s.nodes.items c.in-Some.home c.index-3.result.now node c.in-Some.ensures.first.within c.index-3.ensures c.index_mut.ensures.value) in
+    let still : AreStillBut s.clock s.stills c.turn-turned.new.links.items node.first node.count =
+    turned_still s.clock s.stills node c.turn-turned.new.node c.make_room.new.links.items c.turn-turned.new.links.items c.turn-turned.result c.turn-turned.ensures.turned
+    (alike_still s.clock s.stills s.links.items c.make_room.new.links.items c.make_room.ensures.same c.self.invariant.2) in
+    let within = ends_within s.topology s.times s.clock s.nodes.items s.links.items s.datagrams.items c.self.invariant.0 c.args.n c.in-Some.home node c.in-Some.ensures.first c.index_mut.ensures.value in
+    let before = c.self.invariant.2.as_many in
+    let many = still.as_many in
+    omega (arith, within, first, count, before, many, c.within-after.ensures.ordered, c.within-after.ensures.within)
+
 pub invariant_of-self-2 : goal.invariant_of-self-2
 invariant_of-self-2 c =
     let s = c.self.inside in
