@@ -29,6 +29,7 @@ mod link_keys;
 mod link_slot;
 mod links;
 mod links_by_bits;
+mod looks;
 mod name_counts;
 mod nodes;
 mod pairs;

@@ -1,5 +1,5 @@
 //! At which link ends nothing but a frame may be due.
-ghost use Rattle.std.specs.Prelude.{◌≡◌, ◌+◌, ◌*◌, ◌<◌, ◌≤◌, true, false, length, slice_set, IfNone, IfSome};
+ghost use Rattle.std.specs.Prelude.{◌≡◌, ◌<◌, true, false, length, slice_set, IfNone, IfSome};
 ghost use Rattle.tora_arq.specs.LinkEnd.{is_closed, after_frame, after_tick};
 ghost use Rattle.tora_frame.specs.FrameParts.{IsHeader, frame_of};
 ghost use Rattle.tora_frame.specs.declared.parts.Body.{Body};
@@ -10,89 +10,29 @@ ghost use Rattle.tora_sim.specs.Stills.{short};
 
 use crate::link_slot::LinkSlot;
 use crate::links::LinkParts;
-use crate::stills::{
-    BLOCK, Stills, block_count, dues_of, end_count, ends_of, keep_block, keep_still, keep_tops,
-    next_block, short, still_at,
-};
+use crate::looks::Look;
+use crate::stills::{Stills, keep_still, short};
 use tora_frame::{BorrowedFrame, Header};
 
-/// Looks at each link end that is not known to be plain, whether it is. The ends stay as they are.
-pub fn mark_ends(links: &Vec<LinkSlot>, plains: &mut Stills, now: u64)
-    requires { ArePlainEach now plains.old links.now.items }
-    ensures { ArePlainEach now plains.new links.now.items }
-{
-    let mut block = next_block(plains, 0, now);
-    while block < block_count(plains) {
-        mark_block(links, plains, block, now);
-        block = next_block(plains, block + 1, now);
-    }
-    keep_tops(plains, now);
-}
+/// The look for ends that are plain. One that is known to be plain stays so until something happens at it, whatever the tick.
+pub struct Marking;
 
-/// Looks at each such end of a block, and keeps the tick of the block anew.
-fn mark_block(links: &Vec<LinkSlot>, plains: &mut Stills, block: usize, now: u64)
-    requires within { 16 * block < length plains.old }
-    requires plain { ArePlainEach now plains.old links.now.items }
-    ensures { ArePlainEach now plains.new links.now.items }
-{
-    mark_dues(links, plains, block, now);
-    keep_block(plains, block);
-}
+impl Look for Marking {
+    ghost holds = { λ now plains links. ArePlainEach now plains links };
 
-/// Looks at each such end of a block. Sixteen ticks are looked at in one go.
-fn mark_dues(links: &Vec<LinkSlot>, plains: &mut Stills, block: usize, now: u64)
-    requires within { 16 * block < length plains.old }
-    requires plain { ArePlainEach now plains.old links.now.items }
-    ensures { ArePlainEach now plains.new links.now.items }
-{
-    let (first, count) = ends_of(plains, block);
-    if count == BLOCK {
-        mark_sixteen(links, plains, first, now);
-    } else {
-        mark_few(links, plains, first, count, now);
-    }
-}
-
-/// Looks at each such end of the 16 from the place `first` on. One that is known to be plain stays so until something happens at it, whatever
-/// the tick.
-fn mark_sixteen(links: &Vec<LinkSlot>, plains: &mut Stills, first: usize, now: u64)
-    requires within { first + 16 ≤ length plains.old }
-    requires plain { ArePlainEach now plains.old links.now.items }
-    ensures { ArePlainEach now plains.new links.now.items }
-{
-    let mut dues = dues_of(plains, first, now);
-    while dues != 0 {
-        let place = dues.trailing_zeros() as usize;
-        mark_end(links, plains, first + place, now);
-        dues &= dues - 1;
-    }
-}
-
-/// Looks at each such end of the `count` from the place `first` on.
-fn mark_few(links: &Vec<LinkSlot>, plains: &mut Stills, first: usize, count: usize, now: u64)
-    requires within { first + count ≤ length plains.old }
-    requires plain { ArePlainEach now plains.old links.now.items }
-    ensures { ArePlainEach now plains.new links.now.items }
-{
-    let _many = end_count(plains);
-    for place in 0..count {
-        if still_at(plains, first + place) <= now {
-            mark_end(links, plains, first + place, now);
+    #[inline(always)]
+    fn look(links: &Vec<LinkSlot>, plains: &mut Stills, place: usize, _now: u64) {
+        if links[place].is_busy() {
+            return;
         }
+        keep_still(plains, place, u32::MAX);
     }
-}
 
-/// Looks at the end at a place.
-#[inline(always)]
-fn mark_end(links: &Vec<LinkSlot>, plains: &mut Stills, place: usize, _now: u64)
-    requires within { place < length plains.old }
-    requires plain { ArePlainEach _now plains.old links.now.items }
-    ensures { ArePlainEach _now plains.new links.now.items }
-{
-    if links[place].is_busy() {
-        return;
+    /// A block to which the walk comes has an end that is not known to be plain, so that there is nothing to pass over.
+    #[inline(always)]
+    fn passes_over(_plains: &mut Stills, _block: usize, _now: u64) -> bool {
+        false
     }
-    keep_still(plains, place, u32::MAX);
 }
 
 /// Nothing is known any more of the end at a place, where it is busy after what happened at it; else what was known stays.

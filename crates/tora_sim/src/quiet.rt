@@ -1,5 +1,5 @@
 //! Until which tick nothing is to be done.
-ghost use Rattle.std.specs.Prelude.{◌≡◌, ◌+◌, ◌*◌, ◌<◌, ◌≤◌, ℕ, true, false, is_some, length};
+ghost use Rattle.std.specs.Prelude.{◌≡◌, ℕ, true, false, is_some};
 ghost use Rattle.std.specs.List.{list_all};
 ghost use Rattle.tora_sim.specs.Quiet.{IsQuiet, IsStillIf, is_idle, AreIdleIf, AreStill, AreStillEach};
 ghost use Rattle.tora_sim.specs.Store.{world_of};
@@ -8,13 +8,11 @@ ghost use Rattle.tora_world.specs.declared.event.Event.TheVariants.{CoreTurn};
 
 use crate::link_slot::LinkSlot;
 use crate::links::LinkParts;
+use crate::looks::{Look, look_at_ends};
 use crate::nodes::NodeSlot;
-use crate::plains::mark_ends;
+use crate::plains::Marking;
 use crate::sim::Sim;
-use crate::stills::{
-    BLOCK, Stills, block_count, dues_of, end_count, ends_of, is_still_block, keep_block,
-    keep_still, keep_tops, next_block, short, still_at, still_until,
-};
+use crate::stills::{Stills, is_still_block, keep_block, keep_still, short, still_until};
 
 impl Sim {
     /// Whether it is known that nothing is to be done: no core has an item to take, and no link end can be opened, take a
@@ -45,8 +43,8 @@ impl Sim {
             return;
         }
         self.datagrams.forget_recents();
-        settle_ends(&self.links, &mut self.stills, self.clock);
-        mark_ends(&self.links, &mut self.plains, self.clock);
+        look_at_ends::<Settling>(&self.links, &mut self.stills, self.clock);
+        look_at_ends::<Marking>(&self.links, &mut self.plains, self.clock);
         self.idle = find_idle(self.idle, &self.nodes);
         let until = quiet_until(
             self.idle,
@@ -77,85 +75,25 @@ fn quiet_until(
     still_until(stills, now)
 }
 
-/// Looks at each link end of which no tick is known that is still to come, for the tick before which nothing is to be done at it.
-fn settle_ends(links: &Vec<LinkSlot>, stills: &mut Stills, now: u64)
-    requires { AreStillEach now stills.old links.now.items }
-    ensures { AreStillEach now stills.new links.now.items }
-{
-    let mut block = next_block(stills, 0, now);
-    while block < block_count(stills) {
-        settle_block(links, stills, block, now);
-        block = next_block(stills, block + 1, now);
-    }
-    keep_tops(stills, now);
-}
+/// The look for the tick before which nothing is to be done at an end.
+pub struct Settling;
 
-/// Looks at each such end of a block, and keeps the tick of the block anew. Most often the ticks of all ends are still to come: they sent, and their
-/// ticks were kept.
-fn settle_block(links: &Vec<LinkSlot>, stills: &mut Stills, block: usize, now: u64)
-    requires within { 16 * block < length stills.old }
-    requires still { AreStillEach now stills.old links.now.items }
-    ensures { AreStillEach now stills.new links.now.items }
-{
-    keep_block(stills, block);
-    if is_still_block(stills, block, now) {
-        return;
-    }
-    settle_dues(links, stills, block, now);
-    keep_block(stills, block);
-}
+impl Look for Settling {
+    ghost holds = { λ now stills links. AreStillEach now stills links };
 
-/// Looks at each such end of a block. Sixteen ticks are looked at in one go.
-fn settle_dues(links: &Vec<LinkSlot>, stills: &mut Stills, block: usize, now: u64)
-    requires within { 16 * block < length stills.old }
-    requires still { AreStillEach now stills.old links.now.items }
-    ensures { AreStillEach now stills.new links.now.items }
-{
-    let (first, count) = ends_of(stills, block);
-    if count == BLOCK {
-        settle_sixteen(links, stills, first, now);
-    } else {
-        settle_few(links, stills, first, count, now);
+    #[inline(always)]
+    fn look(links: &Vec<LinkSlot>, stills: &mut Stills, place: usize, _now: u64) {
+        let until = short(links[place].still_until());
+        keep_still(stills, place, until);
     }
-}
 
-/// Looks at each such end of the 16 from the place `first` on.
-fn settle_sixteen(links: &Vec<LinkSlot>, stills: &mut Stills, first: usize, now: u64)
-    requires within { first + 16 ≤ length stills.old }
-    requires still { AreStillEach now stills.old links.now.items }
-    ensures { AreStillEach now stills.new links.now.items }
-{
-    let mut dues = dues_of(stills, first, now);
-    while dues != 0 {
-        let place = dues.trailing_zeros() as usize;
-        settle_end(links, stills, first + place, now);
-        dues &= dues - 1;
+    /// Most often the ticks of all ends of a block are still to come, where that of the block is not: they sent, and their ticks were kept. So it is
+    /// first kept anew by theirs.
+    #[inline(always)]
+    fn passes_over(stills: &mut Stills, block: usize, now: u64) -> bool {
+        keep_block(stills, block);
+        is_still_block(stills, block, now)
     }
-}
-
-/// Looks at each such end of the `count` from the place `first` on.
-fn settle_few(links: &Vec<LinkSlot>, stills: &mut Stills, first: usize, count: usize, now: u64)
-    requires within { first + count ≤ length stills.old }
-    requires still { AreStillEach now stills.old links.now.items }
-    ensures { AreStillEach now stills.new links.now.items }
-{
-    let _many = end_count(stills);
-    for place in 0..count {
-        if still_at(stills, first + place) <= now {
-            settle_end(links, stills, first + place, now);
-        }
-    }
-}
-
-/// Looks at the end at a place.
-#[inline(always)]
-fn settle_end(links: &Vec<LinkSlot>, stills: &mut Stills, place: usize, _now: u64)
-    requires within { place < length stills.old }
-    requires still { AreStillEach _now stills.old links.now.items }
-    ensures { AreStillEach _now stills.new links.now.items }
-{
-    let until = short(links[place].still_until());
-    keep_still(stills, place, until);
 }
 
 /// Whether no item waits for any core. The nodes are looked at where that is not known.

@@ -3,11 +3,11 @@ use Rattle.tora_frame.specs.FrameParts.{FrameParts}
 use Rattle.tora_sim.specs.Store.{IsStore, state_of}
 use Rattle.tora_sim.proofs.sim.Sim.settle.Goals as goal
 
-pub settle_ends-requires : goal.settle_ends-requires
-settle_ends-requires c = c.self.invariant.2
+pub look_at_ends-requires : goal.look_at_ends-requires
+look_at_ends-requires c = c.self.invariant.2
 
-pub mark_ends-requires : goal.mark_ends-requires
-mark_ends-requires c = c.self.invariant.4
+pub look_at_ends-requires-2 : goal.look_at_ends-requires-2
+look_at_ends-requires-2 c = c.self.invariant.4
 
 pub find_idle-self-inside-requires : goal.find_idle-self-inside-requires
 find_idle-self-inside-requires c = c.self.invariant.7
@@ -16,10 +16,10 @@ pub quiet_until-until-requires-clause-idle : goal.quiet_until-until-requires-cla
 quiet_until-until-requires-clause-idle c = c.find_idle-self-inside.ensures
 
 pub quiet_until-until-requires-clause-still : goal.quiet_until-until-requires-clause-still
-quiet_until-until-requires-clause-still c = c.settle_ends.ensures
+quiet_until-until-requires-clause-still c = c.look_at_ends.ensures
 
 pub invariant_of-self : goal.invariant_of-self
 invariant_of-self c =
     let s = c.self.inside in
     let store : IsStore (state_of s.topology s.times s.clock s.nodes.items s.links.items c.forget_recents.new.self.items) = subst (λ (items : List FrameParts). IsStore (state_of s.topology s.times s.clock s.nodes.items s.links.items items)) (sym c.forget_recents.ensures) c.self.invariant.0 in
-    (store, c.quiet_until-until.ensures, c.settle_ends.ensures, c.self.invariant.3, c.mark_ends.ensures, c.self.invariant.5, c.self.invariant.6, c.find_idle-self-inside.ensures)
+    (store, c.quiet_until-until.ensures, c.look_at_ends.ensures, c.self.invariant.3, c.look_at_ends-2.ensures, c.self.invariant.5, c.self.invariant.6, c.find_idle-self-inside.ensures)

@@ -1,9 +1,0 @@
-use Rattle.tora_sim.specs.Quiet.{AreStillEach}
-use Rattle.tora_sim.proofs.quiet.settle_sixteen.Given as goal
-
-abbrev pub invariant-loop-dues : goal.invariant-loop-dues
-invariant-loop-dues l = AreStillEach l.now l.stills l.links.items
-
--- the lowest bit goes each time
-abbrev pub decreases-loop-dues : goal.decreases-loop-dues
-decreases-loop-dues l = l.dues
