@@ -18,6 +18,7 @@
 mod answer;
 mod between;
 mod cargo;
+mod core_seat;
 mod display;
 mod inputs;
 mod item;
@@ -34,6 +35,7 @@ mod worked;
 pub use answer::Answer;
 pub use between::{cut_bound, hand_in, what_of};
 pub use cargo::Cargo;
+pub use core_seat::CoreSeat;
 pub use inputs::accepted_inputs_make_the_core;
 pub use item::Item;
 pub use lanes::OutLanes;
@@ -43,7 +45,7 @@ pub use laws::{
 };
 pub use relation::{cut_links_go_down, serving_is_the_relation};
 pub use rows::LinkRow;
-pub use seat::CoreSeat;
+pub use seat::BareSeat;
 pub use status::Status;
 pub use stepped::Stepped;
 pub use what::What;

@@ -1,4 +1,4 @@
-//! The core's seat.
+//! The core's seat, but for the list in which a step's packets stand.
 ghost use Rattle.std.specs.Prelude.{true, ◌≡◌, ◌<◌, ◌≤◌, ◌+◌, ◌*◌, ℕ, List, length, [], Option, None, Some, IfOk, IfSome, MatchOption, slice_get, map, is_some, if◌then◌else◌};
 ghost use Rattle.tora_core.specs.Numbers.{has_repeat, IsAscending};
 ghost use Rattle.tora_core.specs.CoreRun.{up_after};
@@ -18,13 +18,13 @@ use tora_core::{Core, Input, Sends};
 use tora_height::Id;
 use tora_packet::Packet;
 
-/// The core of a node with what it knows of its links.
+/// The core of a node with what it knows of its links. Where the packets of a step stand is lent to it (`Sends`): one list serves many seats, as in a
+/// simulation, where it stays at hand. `CoreSeat` is one with a list of its own.
 #[derive(Drop)]
-pub struct CoreSeat {
+pub struct BareSeat {
     core: Core,
     rows: Vec<LinkRow>,
     inputs: Vec<Input>,
-    sends: Sends,
     stepped: Option<Stepped>,
     answer: Answer,
     /// Where it is false, no cut is pending.
@@ -33,7 +33,7 @@ pub struct CoreSeat {
     has_cut: bool,
 }
 
-impl Model for CoreSeat {
+impl Model for BareSeat {
     ghost use Rattle.std.specs.Prelude.{vec_capacity};
     ghost use Rattle.tora_seat.specs.Rows.{SeatView};
     ghost use Rattle.tora_seat.specs.Bodies.{IsSeat};
@@ -45,7 +45,7 @@ impl Model for CoreSeat {
     ghost invariant = { λ s. IsSeat s.core s.rows.items (vec_capacity s.inputs) s.has_pending s.has_cut };
 }
 
-impl CoreSeat {
+impl BareSeat {
     /// The neighbour at a place, from 0 on in ascending order.
     fn neighbour(&self, place: usize) -> Option<Id>
         ensures { result ≡ slice_get self.now.core.neighbours place }
@@ -85,7 +85,13 @@ impl CoreSeat {
     }
 
     /// Steps an input, and sends what the core answers. Answers whether the core accepted it and no life is over by it.
-    fn step<O: OutLanes>(&mut self, input: &Input, now: u64, outs: &mut O) -> bool
+    fn step<O: OutLanes>(
+        &mut self,
+        input: &Input,
+        now: u64,
+        sends: &mut Sends,
+        outs: &mut O,
+    ) -> bool
         requires lanes { length self.old.core.neighbours ≤ O.count outs.old }
         requires room { length self.old.inputs < 2 * (length self.old.core.neighbours + 1) }
         ensures count { O.count outs.new ≡ O.count outs.old }
@@ -95,10 +101,10 @@ impl CoreSeat {
         ensures quietly { StepsQuietly result input.now self.old self.new }
     {
         self.has_cut = true;
-        match self.core.step_into(input, now, &mut self.sends) {
+        match self.core.step_into(input, now, sends) {
             Ok(()) => {
                 self.inputs.push_reserved(*input);
-                let is_over = broadcast_all(&mut self.rows, self.sends.as_slice(), outs);
+                let is_over = broadcast_all(&mut self.rows, sends.as_slice(), outs);
                 self.has_pending |= is_over;
                 !is_over
             }
@@ -110,7 +116,7 @@ impl CoreSeat {
     }
 
     /// Steps down each neighbour whose life was cut, the least first, until none is left.
-    fn settle<O: OutLanes>(&mut self, now: u64, outs: &mut O)
+    fn settle<O: OutLanes>(&mut self, now: u64, sends: &mut Sends, outs: &mut O)
         requires lanes { length self.old.core.neighbours ≤ O.count outs.old }
         requires room { length self.old.inputs + length self.old.core.neighbours ≤ 2 * (length self.old.core.neighbours + 1) }
         ensures count { O.count outs.new ≡ O.count outs.old }
@@ -122,7 +128,7 @@ impl CoreSeat {
         for _round in 0..most {
             match self.first_cut() {
                 Some(k) => {
-                    self.step(&Input::LinkDown(k), now, outs);
+                    self.step(&Input::LinkDown(k), now, sends, outs);
                 }
                 None => {
                     self.note_settled();
@@ -134,7 +140,14 @@ impl CoreSeat {
 
     /// Steps an input, and then all that follows from what it sends. Where it is known that no link is up without a
     /// current life once the input is accepted, and no life is over by it, nothing follows.
-    fn take_in<O: OutLanes>(&mut self, input: &Input, now: u64, is_settled: bool, outs: &mut O)
+    fn take_in<O: OutLanes>(
+        &mut self,
+        input: &Input,
+        now: u64,
+        is_settled: bool,
+        sends: &mut Sends,
+        outs: &mut O,
+    )
         requires settled { is_settled ≡ true
             → IsSettled self.old.core (up_after self.old.core.up input.now) self.old.rows }
         requires lanes { length self.old.core.neighbours ≤ O.count outs.old }
@@ -144,16 +157,22 @@ impl CoreSeat {
         ensures goes { SeatGoes O.did_offer (λ answers ks. after_input answers ks input.now now)
             now self.old outs.old self.new outs.new }
     {
-        let is_quiet = self.step(input, now, outs);
+        let is_quiet = self.step(input, now, sends, outs);
         if is_quiet && is_settled {
             self.note_settled();
         } else {
-            self.settle(now, outs);
+            self.settle(now, sends, outs);
         }
     }
 
     /// Takes in an input that brings no link up or down.
-    fn take_in_calm<O: OutLanes>(&mut self, input: &Input, now: u64, outs: &mut O)
+    fn take_in_calm<O: OutLanes>(
+        &mut self,
+        input: &Input,
+        now: u64,
+        sends: &mut Sends,
+        outs: &mut O,
+    )
         requires calm { up_after self.old.core.up input.now ≡ self.old.core.up }
         requires lanes { length self.old.core.neighbours ≤ O.count outs.old }
         requires room { length self.old.inputs ≤ length self.old.core.neighbours + 1 }
@@ -162,7 +181,7 @@ impl CoreSeat {
             now self.old outs.old self.new outs.new }
     {
         let is_settled = self.is_settled();
-        self.take_in(input, now, is_settled, outs);
+        self.take_in(input, now, is_settled, sends, outs);
     }
 
     /// Gives the neighbour at a place another current life.
@@ -191,7 +210,14 @@ impl CoreSeat {
     }
 
     /// The current life of the neighbour at a place is over.
-    fn on_end<O: OutLanes>(&mut self, place: usize, k: Id, now: u64, outs: &mut O)
+    fn on_end<O: OutLanes>(
+        &mut self,
+        place: usize,
+        k: Id,
+        now: u64,
+        sends: &mut Sends,
+        outs: &mut O,
+    )
         requires place { slice_get self.old.core.neighbours place ≡ Some k }
         requires lanes { length self.old.core.neighbours ≤ O.count outs.old }
         requires room { length self.old.inputs ≤ length self.old.core.neighbours + 1 }
@@ -202,11 +228,18 @@ impl CoreSeat {
     {
         let is_settled = self.is_settled();
         self.set_current(place, k, None);
-        self.take_in(&Input::LinkDown(k), now, is_settled, outs);
+        self.take_in(&Input::LinkDown(k), now, is_settled, sends, outs);
     }
 
     /// The current life of the neighbour at a place is over, if there is one.
-    fn on_old_end<O: OutLanes>(&mut self, place: usize, k: Id, now: u64, outs: &mut O)
+    fn on_old_end<O: OutLanes>(
+        &mut self,
+        place: usize,
+        k: Id,
+        now: u64,
+        sends: &mut Sends,
+        outs: &mut O,
+    )
         requires place { slice_get self.old.core.neighbours place ≡ Some k }
         requires lanes { length self.old.core.neighbours ≤ O.count outs.old }
         requires room { length self.old.inputs ≤ 0 }
@@ -217,12 +250,20 @@ impl CoreSeat {
             now self.old outs.old self.new outs.new }
     {
         if self.current(place).is_some() {
-            self.on_end(place, k, now, outs);
+            self.on_end(place, k, now, sends, outs);
         }
     }
 
     /// A life of the neighbour at a place begins.
-    fn on_up<O: OutLanes>(&mut self, place: usize, k: Id, life: Life, now: u64, outs: &mut O)
+    fn on_up<O: OutLanes>(
+        &mut self,
+        place: usize,
+        k: Id,
+        life: Life,
+        now: u64,
+        sends: &mut Sends,
+        outs: &mut O,
+    )
         requires place { slice_get self.old.core.neighbours place ≡ Some k }
         requires lanes { length self.old.core.neighbours ≤ O.count outs.old }
         requires room { length self.old.inputs ≤ 0 }
@@ -230,10 +271,10 @@ impl CoreSeat {
         ensures goes { SeatGoes O.did_offer (λ answers ks v. after_up answers ks k life now
             (after_old_down answers ks k now v (v.seat.current k))) now self.old outs.old self.new outs.new }
     {
-        self.on_old_end(place, k, now, outs);
+        self.on_old_end(place, k, now, sends, outs);
         let is_settled = self.is_settled();
         self.set_current(place, k, Some(life));
-        self.take_in(&Input::LinkUp(k), now, is_settled, outs);
+        self.take_in(&Input::LinkUp(k), now, is_settled, sends, outs);
     }
 
     /// Hands a packet of the neighbour at a place to the core, where its life is current.
@@ -244,6 +285,7 @@ impl CoreSeat {
         life: &Life,
         packet: &Packet,
         now: u64,
+        sends: &mut Sends,
         outs: &mut O,
     )
         requires place { slice_get self.old.core.neighbours place ≡ Some k }
@@ -257,7 +299,7 @@ impl CoreSeat {
     {
         if is_current(life, &self.current(place)) {
             self.note_stepped(k, life, packet);
-            self.take_in_calm(&Input::Packet(k, *packet), now, outs);
+            self.take_in_calm(&Input::Packet(k, *packet), now, sends, outs);
         }
     }
 
@@ -273,7 +315,15 @@ impl CoreSeat {
     }
 
     /// A life of the neighbour at a place has ended.
-    fn on_down<O: OutLanes>(&mut self, place: usize, k: Id, life: &Life, now: u64, outs: &mut O)
+    fn on_down<O: OutLanes>(
+        &mut self,
+        place: usize,
+        k: Id,
+        life: &Life,
+        now: u64,
+        sends: &mut Sends,
+        outs: &mut O,
+    )
         requires place { slice_get self.old.core.neighbours place ≡ Some k }
         requires lanes { length self.old.core.neighbours ≤ O.count outs.old }
         requires room { length self.old.inputs ≤ 0 }
@@ -283,7 +333,7 @@ impl CoreSeat {
             then with_pending v k None else v) now self.old outs.old self.new outs.new }
     {
         if is_current(life, &self.current(place)) {
-            self.on_end(place, k, now, outs);
+            self.on_end(place, k, now, sends, outs);
         } else if is_current(life, &self.pending(place)) {
             self.forget_pending(place, k);
         }
@@ -296,6 +346,7 @@ impl CoreSeat {
         k: Id,
         what: &What,
         now: u64,
+        sends: &mut Sends,
         outs: &mut O,
     )
         requires place { slice_get self.old.core.neighbours place ≡ Some k }
@@ -307,10 +358,10 @@ impl CoreSeat {
             (λ answers ks. after_link_item answers ks k now what.now) now self.old outs.old self.new outs.new }
     {
         match what {
-            What::Up(life) => self.on_up(place, k, *life, now, outs),
-            What::Packet(life, packet) => self.on_packet(place, k, life, packet, now, outs),
-            What::Down(life, _) => self.on_down(place, k, life, now, outs),
-            What::Need(d) => self.take_in_calm(&Input::Need(*d), now, outs),
+            What::Up(life) => self.on_up(place, k, *life, now, sends, outs),
+            What::Packet(life, packet) => self.on_packet(place, k, life, packet, now, sends, outs),
+            What::Down(life, _) => self.on_down(place, k, life, now, sends, outs),
+            What::Need(d) => self.take_in_calm(&Input::Need(*d), now, sends, outs),
             What::Beat => {}
             What::Show => self.answer = Answer::Show,
             What::Status(_) => self.answer = Answer::Show,
@@ -319,7 +370,7 @@ impl CoreSeat {
     }
 
     /// Takes in an item of a seat that is no link.
-    fn on_other_item<O: OutLanes>(&mut self, what: &What, now: u64, outs: &mut O)
+    fn on_other_item<O: OutLanes>(&mut self, what: &What, now: u64, sends: &mut Sends, outs: &mut O)
         requires lanes { length self.old.core.neighbours ≤ O.count outs.old }
         requires room { length self.old.inputs ≤ 0 }
         ensures count { O.count outs.new ≡ O.count outs.old }
@@ -327,7 +378,7 @@ impl CoreSeat {
             (λ answers ks. after_other_item answers ks now what.now) now self.old outs.old self.new outs.new }
     {
         match what {
-            What::Need(d) => self.take_in_calm(&Input::Need(*d), now, outs),
+            What::Need(d) => self.take_in_calm(&Input::Need(*d), now, sends, outs),
             What::Show => self.answer = Answer::Show,
             What::Status(_) => self.answer = Answer::Show,
             What::Quit => self.answer = Answer::Quit,
@@ -352,7 +403,7 @@ impl CoreSeat {
     }
 
     /// Takes in an item.
-    fn on_item<O: OutLanes>(&mut self, item: &Item, outs: &mut O)
+    fn on_item<O: OutLanes>(&mut self, item: &Item, sends: &mut Sends, outs: &mut O)
         requires lanes { length self.old.core.neighbours ≤ O.count outs.old }
         requires room { length self.old.inputs ≤ 0 }
         requires first { self.old.stepped ≡ None }
@@ -362,8 +413,8 @@ impl CoreSeat {
             item.entry.now.now item.entry.now.what) item.entry.now.now self.old outs.old self.new outs.new }
     {
         match self.neighbour(item.seat) {
-            Some(k) => self.on_link_item(item.seat, k, &item.what, item.now, outs),
-            None => self.on_other_item(&item.what, item.now, outs),
+            Some(k) => self.on_link_item(item.seat, k, &item.what, item.now, sends, outs),
+            None => self.on_other_item(&item.what, item.now, sends, outs),
         }
     }
 
@@ -371,18 +422,17 @@ impl CoreSeat {
     ///
     /// # Errors
     /// `AllocError`.
-    pub fn new(alloc: Global, core: Core) -> Result<CoreSeat, AllocError>
+    pub fn new(alloc: Global, core: Core) -> Result<BareSeat, AllocError>
         ensures { IfOk result (λ seat. seat ≡ first_seat core) }
     {
         let _me = core.me();
         let most = 2 * (core.neighbours().len() + 1);
         let rows = new_rows(alloc, core.neighbours())?;
         let inputs = Vec::with_capacity(alloc, most)?;
-        Ok(CoreSeat {
+        Ok(BareSeat {
             core,
             rows,
             inputs,
-            sends: Sends::new(),
             stepped: None,
             answer: Answer::Nothing,
             has_pending: true,
@@ -437,8 +487,8 @@ impl CoreSeat {
 
     /// Serves an item: each pending cut is tried once, and then the item is taken in.
     ///
-    /// It takes no memory and waits for nobody. There is a lane for each neighbour at least.
-    pub fn serve<O: OutLanes>(&mut self, item: &Item, outs: &mut O) -> Answer
+    /// It takes no memory and waits for nobody. There is a lane for each neighbour at least. What stood in `sends` is gone then.
+    pub fn serve<O: OutLanes>(&mut self, item: &Item, sends: &mut Sends, outs: &mut O) -> Answer
         requires { length self.old.core.neighbours ≤ O.count outs.old }
         ensures count { O.count outs.new ≡ O.count outs.old }
         ensures neighbours { self.new.core.neighbours ≡ self.old.core.neighbours }
@@ -454,7 +504,7 @@ impl CoreSeat {
     {
         self.begin();
         self.try_cuts(item.now, outs);
-        self.on_item(item, outs);
+        self.on_item(item, sends, outs);
         self.answer
     }
 }

@@ -26,12 +26,12 @@ use crate::unready::all_unready;
 use std::alloc::Global;
 use tora_arq::{Times, standard_times};
 use tora_cargoes::{KeptCargoes, Lane, Spares};
-use tora_core::{Core, CoreLimits, numbers_are_put_in_order, numbers_come_and_go};
+use tora_core::{Core, CoreLimits, Sends, numbers_are_put_in_order, numbers_come_and_go};
 use tora_datagrams::Datagrams;
 use tora_frame::{Packets, Version};
 use tora_height::Id;
 use tora_life::{MemDisk, Owner};
-use tora_seat::CoreSeat;
+use tora_seat::BareSeat;
 
 impl Sim {
     /// The world of a topology at its start: no link end is open, every life file is empty, nothing is under way, and the
@@ -98,6 +98,7 @@ impl Sim {
             spares: Spares::new(alloc),
             idle: false,
             packets: Packets::new(),
+            sends: Sends::new(),
         })
     }
 }
@@ -152,7 +153,7 @@ fn new_seat(
     topology: &Topology,
     n: Id,
     neighbours: &[Id],
-) -> Result<CoreSeat, SimError>
+) -> Result<BareSeat, SimError>
     requires me { 0 < n }
     requires kept { IsTopology topology.now }
     requires neighbours { neighbours.now ≡ neighbours_of topology.now n }
@@ -167,7 +168,7 @@ fn new_seat(
     ) else {
         return Err(SimError::Memory);
     };
-    match CoreSeat::new(alloc, core) {
+    match BareSeat::new(alloc, core) {
         Ok(seat) => Ok(seat),
         Err(_) => Err(SimError::Memory),
     }

@@ -15,10 +15,10 @@ use crate::lanes::NodeLanes;
 use crate::queue::Queue;
 use std::alloc::{AllocError, Global};
 use std::marker::Model;
-use tora_core::{Core, CoreLimits, Input, tables_stay};
+use tora_core::{Core, CoreLimits, Input, Sends, tables_stay};
 use tora_height::Id;
 use tora_seat::{
-    CoreSeat, Item, Stepped, What, accepted_inputs_make_the_core, items_step_few_inputs,
+    BareSeat, Item, Stepped, What, accepted_inputs_make_the_core, items_step_few_inputs,
     offers_are_their_own_answers,
 };
 
@@ -48,7 +48,7 @@ pub struct NodeSlot {
     /// The inputs that its core accepted since the node's last restart, each with its tick.
     pub(crate) inputs: Vec<(Input, u64)>,
     /// Its core's seat, in a place of its own: so the nodes lie close together.
-    pub(crate) seat: Box<CoreSeat>,
+    pub(crate) seat: Box<BareSeat>,
 }
 
 impl Model for NodeSlot {
@@ -165,7 +165,7 @@ impl NodeSlot {
     ///
     /// # Errors
     /// `Memory` alone: a core of these lists was made before.
-    pub fn new_seat(&self, alloc: Global) -> Result<CoreSeat, SimError>
+    pub fn new_seat(&self, alloc: Global) -> Result<BareSeat, SimError>
         ensures made { IfOk result (λ seat. seat ≡ first_seat (core_again self.now.seat.core)) }
         ensures kept { IsCore self.now.seat.core }
         ensures accepted { core_refusal_within GREATEST_NEIGHBOURS MOST_DESTINATIONS self.now.seat.core.me self.now.seat.core.neighbours (destinations_of self.now.seat.core.views) ≡ None }
@@ -179,7 +179,7 @@ impl NodeSlot {
             core.neighbours(),
             core.destinations(),
         ) {
-            Ok(again) => match CoreSeat::new(alloc, again) {
+            Ok(again) => match BareSeat::new(alloc, again) {
                 Ok(seat) => Ok(seat),
                 Err(_) => Err(SimError::Memory),
             },
@@ -189,7 +189,7 @@ impl NodeSlot {
     }
 
     /// Takes a new seat in place of its own; nothing is in the lane, and nothing is accepted.
-    pub fn restart(&mut self, seat: CoreSeat)
+    pub fn restart(&mut self, seat: BareSeat)
         ensures { self.new ≡ restarted_node seat self.old }
     {
         *self.seat = seat;
@@ -202,7 +202,7 @@ impl NodeSlot {
     ///
     /// # Errors
     /// `Memory`, which changes nothing.
-    pub fn serve(&mut self, lanes: &mut NodeLanes) -> Result<Item, SimError>
+    pub fn serve(&mut self, sends: &mut Sends, lanes: &mut NodeLanes) -> Result<Item, SimError>
         requires waits { 0 < length self.old.items }
         requires neighbours { length self.old.seat.core.neighbours ≤ lanes.old.count }
         ensures served { IfOk result (λ item. IsServed self.old lanes.old item self.new lanes.new) }
@@ -221,7 +221,7 @@ impl NodeSlot {
                 offers_are_their_own_answers();
                 accepted_inputs_make_the_core();
                 tables_stay();
-                self.seat.serve(&item, lanes);
+                self.seat.serve(&item, sends, lanes);
                 note_inputs(&mut self.inputs, self.seat.inputs(), item.now);
                 Ok(item)
             }

@@ -27,6 +27,7 @@ use crate::{Call, Event, SimError};
 use std::marker::Model;
 use tora_arq::{Times, calls_keep_an_end, data_frames_are_what_was_submitted};
 use tora_cargoes::Spares;
+use tora_core::Sends;
 use tora_datagrams::Datagrams;
 use tora_frame::{BorrowedFrame, Header, Packets};
 use tora_height::Id;
@@ -68,6 +69,8 @@ pub struct Sim {
     pub(crate) idle: bool,
     /// Where the packets of a frame stand while it is sent.
     pub(crate) packets: Packets,
+    /// Where the packets of a core's step stand while they are put. One list serves all cores, so that it stays at hand.
+    pub(crate) sends: Sends,
 }
 
 impl Model for Sim {
@@ -414,6 +417,7 @@ impl Sim {
             &mut unready,
             &mut seat,
             &mut self.spares,
+            &mut self.sends,
         );
         // what the turn changed, and what it left as it was
         let after = unready.joined(before).within(count);

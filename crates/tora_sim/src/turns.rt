@@ -15,6 +15,7 @@ use crate::stills::{Stills, keep_still};
 use crate::unready::Unready;
 use std::mem;
 use tora_cargoes::Spares;
+use tora_core::Sends;
 use tora_seat::offers_are_their_own_answers;
 
 /// Serves the first item of a node's lane. There is memory for all that it can put at the node's link ends, and as many spare lists are whole. Each of
@@ -29,6 +30,7 @@ pub fn turn(
     unready: &mut Unready,
     seat: &mut usize,
     spares: &mut Spares,
+    sends: &mut Sends,
 ) -> Result<(), SimError>
     requires whole { AreWhole spares.old node.old.count }
     requires room { AreReady (lanes_of links.old.items node.old.first node.old.count) unready.old }
@@ -43,7 +45,7 @@ pub fn turn(
     let ends = mem::replace(links, Vec::new(alloc));
     let lists = mem::replace(spares, Spares::new(alloc));
     let mut lanes = NodeLanes::new(ends, node.first(), node.count(), *unready, lists);
-    match node.serve(&mut lanes) {
+    match node.serve(sends, &mut lanes) {
         Ok(item) => {
             offers_are_their_own_answers();
             *seat = item.seat;

@@ -1,0 +1,104 @@
+//! The core's seat.
+ghost use Rattle.std.specs.Prelude.{◌≡◌, ◌≤◌, List, length, [], None, IfOk, MatchOption, slice_get};
+ghost use Rattle.tora_core.specs.Numbers.{IsAscending};
+ghost use Rattle.tora_seat.specs.Serving.{Answers, Offer, serving_of};
+ghost use Rattle.tora_seat.specs.Serves.{Serves};
+ghost use Rattle.tora_seat.specs.Offers.{AreOffered, Follows};
+ghost use Rattle.tora_seat.specs.Rows.{SeatView, current_of, pending_of, state_of, serving_at, first_seat};
+
+use crate::seat::BareSeat;
+use crate::{Answer, Item, OutLanes, Stepped};
+use std::alloc::{AllocError, Global};
+use std::marker::Model;
+use tora_arq::Life;
+use tora_core::{Core, Input, Sends};
+
+/// The core of a node with what it knows of its links, and the list in which the packets of a step stand.
+#[derive(Drop)]
+pub struct CoreSeat {
+    seat: BareSeat,
+    sends: Sends,
+}
+
+impl Model for CoreSeat {
+    ghost use Rattle.tora_seat.specs.Rows.{SeatView};
+
+    ghost Value = { SeatView };
+
+    ghost view = { λ s. s.seat };
+}
+
+impl CoreSeat {
+    /// The seat of a core, with no current life and nothing pending.
+    ///
+    /// # Errors
+    /// `AllocError`.
+    pub fn new(alloc: Global, core: Core) -> Result<CoreSeat, AllocError>
+        ensures { IfOk result (λ seat. seat ≡ first_seat core) }
+    {
+        let seat = BareSeat::new(alloc, core)?;
+        Ok(CoreSeat {
+            seat,
+            sends: Sends::new(),
+        })
+    }
+
+    /// The core.
+    pub fn core(&self) -> &Core
+        ensures { result.now ≡ self.now.core }
+    {
+        self.seat.core()
+    }
+
+    /// The inputs that the core accepted for the last item, in order.
+    pub fn inputs(&self) -> &[Input]
+        ensures { result.now ≡ self.now.inputs }
+    {
+        self.seat.inputs()
+    }
+
+    /// The packet that was handed to the core for the last item, if one was.
+    pub fn stepped(&self) -> Option<Stepped>
+        ensures { result ≡ self.now.stepped }
+    {
+        self.seat.stepped()
+    }
+
+    /// The current life of the neighbour at a place, from 0 on in ascending order; `None` where it has none, or there is
+    /// no such neighbour.
+    pub fn current(&self, place: usize) -> Option<Life>
+        ensures { MatchOption (slice_get self.now.core.neighbours place) (result ≡ None)
+            (λ k. result ≡ current_of self.now.rows k) }
+    {
+        self.seat.current(place)
+    }
+
+    /// The life of the neighbour at a place, from 0 on in ascending order, whose cut was not put yet; `None` where there
+    /// is none, or there is no such neighbour.
+    pub fn pending(&self, place: usize) -> Option<Life>
+        ensures { MatchOption (slice_get self.now.core.neighbours place) (result ≡ None)
+            (λ k. result ≡ pending_of self.now.rows k) }
+    {
+        self.seat.pending(place)
+    }
+
+    /// Serves an item: each pending cut is tried once, and then the item is taken in.
+    ///
+    /// It takes no memory and waits for nobody. There is a lane for each neighbour at least.
+    pub fn serve<O: OutLanes>(&mut self, item: &Item, outs: &mut O) -> Answer
+        requires { length self.old.core.neighbours ≤ O.count outs.old }
+        ensures count { O.count outs.new ≡ O.count outs.old }
+        ensures neighbours { self.new.core.neighbours ≡ self.old.core.neighbours }
+        ensures served { (offers : List Offer)
+            × AreOffered O.did_offer self.old.core.neighbours outs.old offers outs.new
+            × ((answers : Answers) → Follows answers [] offers
+            → serving_of answers self.old.core.neighbours (state_of self.old) item.entry.now ≡ serving_at item.entry.now.now self.new offers) }
+        // The same by the relation: one case for each kind of item and each situation.
+        ensures related { IsAscending self.old.core.neighbours → (offers : List Offer)
+            × AreOffered O.did_offer self.old.core.neighbours outs.old offers outs.new
+            × Serves self.old.core.neighbours (state_of self.old) item.entry.now (serving_at item.entry.now.now self.new offers) }
+        ensures answer { result ≡ self.new.answer }
+    {
+        self.seat.serve(item, &mut self.sends, outs)
+    }
+}
