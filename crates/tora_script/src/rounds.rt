@@ -99,7 +99,7 @@ fn turn_core<S: Simulator>(sim: &mut S, place: usize, n: Id) -> Result<bool, All
     if !sim.may_happen(place, &Event::CoreTurn(n)) {
         return Ok(false);
     }
-    repeat(sim, place, &Event::CoreTurn(n), MOST_TIMES)
+    sim.turn(place, n, MOST_TIMES)
 }
 
 /// Lets each core take its items, unless it is known that none has one. Cores of which the simulator knows that they have none are passed over.

@@ -12,6 +12,7 @@ ghost use Rattle.tora_sim.specs.Steps.{repeats, Happened};
 ghost use Rattle.tora_world.specs.Walks.{height_at, hop_at, exact_in, walk_of};
 ghost use Rattle.tora_world.specs.Rest.{rests};
 
+use crate::rounds::repeat;
 use std::alloc::{AllocError, Global};
 use tora_arq::{Life, Times};
 use tora_core::CoreError;
@@ -107,6 +108,15 @@ pub trait Simulator: Drop {
         ensures after { IfOk result (λ _. world self.new ≡ world_after (world self.old) event.now) }
     {
         self.happen(event)
+    }
+
+    /// Makes a core take its items one after another until none waits, and so many at most, and says whether it took any: it is a `CoreTurn` up to
+    /// the first that `happen` refuses. The place says where to look, as that of `may_happen` does. By itself each turn is an event that happens
+    /// for itself; a simulator that turns a core itself asks less between two items.
+    fn turn(&mut self, place: usize, n: Id, most: u64) -> Result<bool, AllocError>
+        ensures { IfOk result (λ some. Happened (world self.old) (repeats most (CoreTurn n) (world self.old)) (world self.new) some) }
+    {
+        repeat(self, place, &Event::CoreTurn(n), most)
     }
 
     /// Makes a link end send its frames one after another until none is due, and so many at most, and says whether any was sent: it is a

@@ -99,6 +99,10 @@ impl Simulator for Sim {
         }
     }
 
+    fn turn(&mut self, _place: usize, n: Id, most: u64) -> Result<bool, AllocError> {
+        self.turn_all(n, most)
+    }
+
     #[inline(always)]
     fn transmit(&mut self, place: usize, end: (Id, Id), most: u64) -> Result<bool, AllocError> {
         let (n, k) = end;

@@ -49,4 +49,5 @@ pub mod DueBits
 pub mod ReadyEnds
 pub mod UnreadyEnds
 pub mod TickEnds
+pub mod TakenItems
 pub mod CoreEnds

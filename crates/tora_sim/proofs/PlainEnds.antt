@@ -21,7 +21,7 @@ use Rattle.tora_world.specs.declared.sim_error.SimError.{SimError}
 use Rattle.tora_sim.specs.Lanes.{LanesView, after_offer_at, bare, bare_between, AreAlike, DidOffer}
 use Rattle.tora_sim.specs.Links.{LinkView, AreChanged}
 use Rattle.tora_sim.specs.Nodes.{NodeView}
-use Rattle.tora_sim.specs.Plains.{IsPlainEnd, IsPlain, ArePlainEach}
+use Rattle.tora_sim.specs.Plains.{IsPlainEnd, IsPlain, ArePlainEach, ArePlainBut}
 use Rattle.tora_sim.specs.Possible.{has_cargo}
 use Rattle.tora_sim.specs.Quiet.{IsStill, AreStillEach, AreForgotten, AreForgottenWhere}
 use Rattle.tora_sim.specs.Turns.{IsNoted, Turns}
@@ -158,12 +158,7 @@ changed_plain clock plains before links change first count nothing c h = record 
 
 -- ---- a turn of a core
 
--- what is known of each end but of those of so many from a place on in whose lane a cargo waits
-pub record ArePlainBut (clock : ℕ) (plains : List ℕ) (links : List LinkView) (first count : ℕ) : Type 0 where
-  pub as_many : length plains ≡ length links
-  pub plain : (at : ℕ) (link : LinkView) → clock < slice_index plains at → slice_get links at ≡ Some link → ((place : ℕ) → place < count → at ≡ first + place → has_cargo link ≡ false) → IsPlain link
-
-all_but : (clock : ℕ) (plains : List ℕ) (links : List LinkView) (first count : ℕ) → ArePlainEach clock plains links → ArePlainBut clock plains links first count
+pub all_but : (clock : ℕ) (plains : List ℕ) (links : List LinkView) (first count : ℕ) → ArePlainEach clock plains links → ArePlainBut clock plains links first count
 all_but clock plains links first count h = record { as_many = h.as_many; plain = λ at link lt there free. h.plain at link lt there }
 
 plain_offered : (x : LinkView) (cargo : Cargo) (put : Bool) → has_cargo (after_offer_at x cargo put) ≡ false → IsPlain x → IsPlain (after_offer_at x cargo put)
@@ -215,15 +210,15 @@ noted_but clock plains first count lanes seat (Some p) links (link, there, is) h
     subst (λ (xs : List LinkView). ArePlainBut clock plains xs first count) (sym is) (noted_at clock plains lanes.links first count (lanes.first + seat) link new there refl (λ s. s) h)
 
 -- of the ends of the node in whose lane no cargo waits, and of all others, what was known is still so
-pub turned_plain : (clock : ℕ) (plains : List ℕ) (node y : NodeView) (links after : List LinkView) (r : Result (Unit {0}) SimError) (first count : ℕ) → first ≡ node.first → count ≡ node.count → Turns node links r y after → ArePlainEach clock plains links
+turned_plain : (clock : ℕ) (plains : List ℕ) (node y : NodeView) (links after : List LinkView) (r : Result (Unit {0}) SimError) (first count : ℕ) → first ≡ node.first → count ≡ node.count → Turns node links r y after → ArePlainBut clock plains links first count
     → ArePlainBut clock plains after first count
 turned_plain clock plains node y links after (Ok u) first count f n d h =
     noted_but clock plains first count d.lanes d.item.seat y.seat.stepped after d.noted
-    (all_offers clock plains node.seat.core.neighbours first count d.served.offers (record { links = links; first = node.first; count = node.count }) d.lanes (sym f) (sym n) d.served.offered (all_but clock plains links first count h))
-turned_plain clock plains node y links after (Err e) first count f n d h = subst (λ (xs : List LinkView). ArePlainBut clock plains xs first count) (sym d.2) (all_but clock plains links first count h)
+    (all_offers clock plains node.seat.core.neighbours first count d.served.offers (record { links = links; first = node.first; count = node.count }) d.lanes (sym f) (sym n) d.served.offered h)
+turned_plain clock plains node y links after (Err e) first count f n d h = subst (λ (xs : List LinkView). ArePlainBut clock plains xs first count) (sym d.2) h
 
 -- the same of ends that have other memory
-alike_but : (clock : ℕ) (plains : List ℕ) (links after : List LinkView) (first count : ℕ) → AreAlike links after → ArePlainBut clock plains links first count → ArePlainBut clock plains after first count
+pub alike_but : (clock : ℕ) (plains : List ℕ) (links after : List LinkView) (first count : ℕ) → AreAlike links after → ArePlainBut clock plains links first count → ArePlainBut clock plains after first count
 alike_but clock plains links after first count e h = record {
   as_many = h.as_many ∙ sym (length-map links bare) ∙ sym (ap length e) ∙ length-map after bare;
   plain = λ at link lt there free. go at link lt free (slice_get links at) refl (sym (slice_get-map bare links at) ∙ ap (λ (xs : List LinkView). slice_get xs at) (sym e) ∙ slice_get-map bare after at ∙ ap (option_map bare) there);
@@ -237,13 +232,13 @@ alike_but clock plains links after first count e h = record {
         subst (λ (z : LinkView). IsPlain z) same s
 
 -- where what is said of the node's ends is said of them without the memory that they have
-pub turned_plains : (clock : ℕ) (plains : List ℕ) (node y : NodeView) (links after : List LinkView) (r : Result (Unit {0}) SimError) → Turns node (bare_between node.first node.count links) r y (bare_between node.first node.count after) → ArePlainEach clock plains links
+pub turned_plains : (clock : ℕ) (plains : List ℕ) (node y : NodeView) (links after : List LinkView) (r : Result (Unit {0}) SimError) → Turns node (bare_between node.first node.count links) r y (bare_between node.first node.count after) → ArePlainBut clock plains links node.first node.count
     → ArePlainBut clock plains after node.first node.count
 turned_plains clock plains node y links after r d h =
     let old = bare_between node.first node.count links in
     let new = bare_between node.first node.count after in
     alike_but clock plains new after node.first node.count (sym (between_alike node.first node.count after))
-    (turned_plain clock plains node y old new r node.first node.count refl refl d (alike_plain clock plains links old (between_alike node.first node.count links) h))
+    (turned_plain clock plains node y old new r node.first node.count refl refl d (alike_but clock plains links old node.first node.count (between_alike node.first node.count links) h))
 
 -- what was known of an end of the node is forgotten where a cargo waits in its lane
 pub where_plain : (clock : ℕ) (before plains : List ℕ) (links : List LinkView) (first count : ℕ) → AreForgottenWhere links before plains first count → ArePlainBut clock before links first count → ArePlainEach clock plains links

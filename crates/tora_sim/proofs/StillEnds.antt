@@ -14,7 +14,7 @@ use Rattle.tora_sim.specs.Lanes.{LanesView, after_offer_at, bare, bare_between, 
 use Rattle.tora_sim.specs.Links.{LinkView, ticked, AreChanged}
 use Rattle.tora_sim.specs.Nodes.{NodeView}
 use Rattle.tora_sim.specs.Possible.{has_cargo}
-use Rattle.tora_sim.specs.Quiet.{IsStill, IsStillIf, AreStillEach, AreForgotten, IsForgottenWhere, AreForgottenWhere}
+use Rattle.tora_sim.specs.Quiet.{IsStill, IsStillIf, AreStillEach, AreStillBut, AreForgotten, IsForgottenWhere, AreForgottenWhere}
 use Rattle.tora_sim.specs.Stills.{short}
 use Rattle.tora_sim.specs.Store.{EachOf}
 use Rattle.tora_sim.specs.Turns.{IsNoted, Turns}
@@ -213,12 +213,7 @@ changed_still clock stills before links change first count nothing c h = record 
 
 -- ---- a turn of a core
 
--- what is known of each end but of those of so many from a place on in whose lane a cargo waits
-pub record AreStillBut (clock : ℕ) (stills : List ℕ) (links : List LinkView) (first count : ℕ) : Type 0 where
-  pub as_many : length stills ≡ length links
-  pub still : (at : ℕ) (link : LinkView) → clock < slice_index stills at → slice_get links at ≡ Some link → ((place : ℕ) → place < count → at ≡ first + place → has_cargo link ≡ false) → IsStill (slice_index stills at) link
-
-all_but : (clock : ℕ) (stills : List ℕ) (links : List LinkView) (first count : ℕ) → AreStillEach clock stills links → AreStillBut clock stills links first count
+pub all_but : (clock : ℕ) (stills : List ℕ) (links : List LinkView) (first count : ℕ) → AreStillEach clock stills links → AreStillBut clock stills links first count
 all_but clock stills links first count h = record { as_many = h.as_many; still = λ at link lt there free. h.still at link lt there }
 
 -- where no cargo waits behind an offer, none waited before it
@@ -277,15 +272,15 @@ noted_but clock stills first count lanes seat (Some p) links (link, there, is) h
     subst (λ (xs : List LinkView). AreStillBut clock stills xs first count) (sym is) (noted_at clock stills lanes.links first count (lanes.first + seat) link new there refl (λ until s. s) h)
 
 -- of the ends of the node in whose lane no cargo waits, and of all others, what was known is still so
-pub turned_but : (clock : ℕ) (stills : List ℕ) (node y : NodeView) (links after : List LinkView) (r : Result (Unit {0}) SimError) (first count : ℕ) → first ≡ node.first → count ≡ node.count → Turns node links r y after → AreStillEach clock stills links
+turned_but : (clock : ℕ) (stills : List ℕ) (node y : NodeView) (links after : List LinkView) (r : Result (Unit {0}) SimError) (first count : ℕ) → first ≡ node.first → count ≡ node.count → Turns node links r y after → AreStillBut clock stills links first count
     → AreStillBut clock stills after first count
 turned_but clock stills node y links after (Ok u) first count f n d h =
     noted_but clock stills first count d.lanes d.item.seat y.seat.stepped after d.noted
-    (all_offers clock stills node.seat.core.neighbours first count d.served.offers (record { links = links; first = node.first; count = node.count }) d.lanes (sym f) (sym n) d.served.offered (all_but clock stills links first count h))
-turned_but clock stills node y links after (Err e) first count f n d h = subst (λ (xs : List LinkView). AreStillBut clock stills xs first count) (sym d.2) (all_but clock stills links first count h)
+    (all_offers clock stills node.seat.core.neighbours first count d.served.offers (record { links = links; first = node.first; count = node.count }) d.lanes (sym f) (sym n) d.served.offered h)
+turned_but clock stills node y links after (Err e) first count f n d h = subst (λ (xs : List LinkView). AreStillBut clock stills xs first count) (sym d.2) h
 
 -- the same of ends that have other memory
-alike_but : (clock : ℕ) (stills : List ℕ) (links after : List LinkView) (first count : ℕ) → AreAlike links after → AreStillBut clock stills links first count → AreStillBut clock stills after first count
+pub alike_but : (clock : ℕ) (stills : List ℕ) (links after : List LinkView) (first count : ℕ) → AreAlike links after → AreStillBut clock stills links first count → AreStillBut clock stills after first count
 alike_but clock stills links after first count e h = record {
   as_many = h.as_many ∙ sym (length-map links bare) ∙ sym (ap length e) ∙ length-map after bare;
   still = λ at link lt there free. go at link lt free (slice_get links at) refl (sym (slice_get-map bare links at) ∙ ap (λ (xs : List LinkView). slice_get xs at) (sym e) ∙ slice_get-map bare after at ∙ ap (option_map bare) there);
@@ -299,13 +294,13 @@ alike_but clock stills links after first count e h = record {
         subst (λ (z : LinkView). IsStill (slice_index stills at) z) same s
 
 -- where what is said of the node's ends is said of them without the memory that they have
-pub turned_still : (clock : ℕ) (stills : List ℕ) (node y : NodeView) (links after : List LinkView) (r : Result (Unit {0}) SimError) → Turns node (bare_between node.first node.count links) r y (bare_between node.first node.count after) → AreStillEach clock stills links
+pub turned_still : (clock : ℕ) (stills : List ℕ) (node y : NodeView) (links after : List LinkView) (r : Result (Unit {0}) SimError) → Turns node (bare_between node.first node.count links) r y (bare_between node.first node.count after) → AreStillBut clock stills links node.first node.count
     → AreStillBut clock stills after node.first node.count
 turned_still clock stills node y links after r d h =
     let old = bare_between node.first node.count links in
     let new = bare_between node.first node.count after in
     alike_but clock stills new after node.first node.count (sym (between_alike node.first node.count after))
-    (turned_but clock stills node y old new r node.first node.count refl refl d (alike_still clock stills links old (between_alike node.first node.count links) h))
+    (turned_but clock stills node y old new r node.first node.count refl refl d (alike_but clock stills links old node.first node.count (between_alike node.first node.count links) h))
 
 -- ---- ends of a node in whose lane a cargo waits
 

@@ -23,4 +23,5 @@ pub mod Resting
 pub mod Quiet
 pub mod Plains
 pub mod Stills
+pub mod Taking
 pub mod SteadyLinks

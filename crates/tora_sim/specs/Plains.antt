@@ -1,5 +1,5 @@
 -- Link ends at which nothing but a frame may be due.
-use Rattle.std.specs.Prelude.{◌≡◌, ℕ, ◌<◌, Bool, true, false, is_some, List, length, slice_get, slice_index, Some}
+use Rattle.std.specs.Prelude.{◌≡◌, ℕ, ◌+◌, ◌<◌, Bool, true, false, is_some, List, length, slice_get, slice_index, Some}
 use Rattle.tora_arq.specs.LinkEnd.{EndState, is_closed, first_event}
 use Rattle.tora_world.specs.declared.event.Event.TheVariants.{Open, Pull, Pump}
 use Rattle.tora_world.specs.World.{World, refusal_of}
@@ -25,3 +25,8 @@ IsPlain link = IsPlainEnd link.state (has_cargo link)
 pub record ArePlainEach (clock : ℕ) (plains : List ℕ) (links : List LinkView) : Type 0 where
   pub as_many : length plains ≡ length links
   pub plain : (at : ℕ) (link : LinkView) → clock < slice_index plains at → slice_get links at ≡ Some link → IsPlain link
+
+-- what is known of each end but of those of so many from a place on in whose lane a cargo waits
+pub record ArePlainBut (clock : ℕ) (plains : List ℕ) (links : List LinkView) (first count : ℕ) : Type 0 where
+  pub as_many : length plains ≡ length links
+  pub plain : (at : ℕ) (link : LinkView) → clock < slice_index plains at → slice_get links at ≡ Some link → ((place : ℕ) → place < count → at ≡ first + place → has_cargo link ≡ false) → IsPlain link

@@ -76,3 +76,8 @@ pub record AreForgottenWhere (links : List LinkView) (before stills : List ℕ) 
   pub as_many : length stills ≡ length before
   pub here : (place : ℕ) (link : LinkView) → place < count → slice_get links (first + place) ≡ Some link → has_cargo link ≡ true → slice_index stills (first + place) ≡ 0
   pub others : (at : ℕ) → (slice_index stills at ≡ 0) ⊎ (slice_index stills at ≡ slice_index before at)
+
+-- what is known of each end but of those of so many from a place on in whose lane a cargo waits
+pub record AreStillBut (clock : ℕ) (stills : List ℕ) (links : List LinkView) (first count : ℕ) : Type 0 where
+  pub as_many : length stills ≡ length links
+  pub still : (at : ℕ) (link : LinkView) → clock < slice_index stills at → slice_get links at ≡ Some link → ((place : ℕ) → place < count → at ≡ first + place → has_cargo link ≡ false) → IsStill (slice_index stills at) link

@@ -174,8 +174,7 @@ fn new_seat(
     }
 }
 
-/// Adds the link ends of a node towards these neighbours. They are put apart only once all of the node are made, so that their parts lie close together,
-/// too, and not each beside what its end takes for its queues.
+/// Adds the link ends of a node towards these neighbours.
 fn add_links(
     alloc: Global,
     topology: &Topology,
@@ -190,31 +189,10 @@ fn add_links(
     requires peers { peers.now ≡ neighbours_of topology.now n }
     ensures { MatchResult result (λ _. AreAdded topology.now times n links.old.items links.new.items) (λ e. e ≡ SimError.Memory) }
 {
-    let mut parts = Vec::new(alloc);
-    add_parts(alloc, topology, times, n, peers, &mut parts)?;
-    put_apart(alloc, parts, links)?;
-    Ok(())
-}
-
-/// Adds what stands at the link ends of a node towards these neighbours.
-fn add_parts(
-    alloc: Global,
-    topology: &Topology,
-    times: Times,
-    n: Id,
-    peers: &[Id],
-    links: &mut Vec<LinkParts>,
-) -> Result<(), SimError>
-    requires times { IsTimes times }
-    requires me { 0 < n }
-    requires kept { IsTopology topology.now }
-    requires peers { peers.now ≡ neighbours_of topology.now n }
-    ensures { MatchResult result (λ _. AreAdded topology.now times n links.old.items links.new.items) (λ e. e ≡ SimError.Memory) }
-{
     numbers_are_put_in_order();
     let version = topology.version_of(n);
     for seat in 0..peers.len() {
-        let link = new_parts(alloc, version, times, n, peers[seat], seat)?;
+        let link = new_link(alloc, version, times, n, peers[seat], seat)?;
         match links.push(link) {
             Ok(()) => {}
             Err(_) => return Err(SimError::Memory),
@@ -223,27 +201,26 @@ fn add_parts(
     Ok(())
 }
 
-/// Puts link ends of these parts behind others.
-///
-/// # Errors
-/// `Memory`.
-fn put_apart(
+/// The end of a link at its start.
+fn new_link(
     alloc: Global,
-    parts: Vec<LinkParts>,
-    links: &mut Vec<LinkSlot>,
-) -> Result<(), SimError>
-    ensures { MatchResult result (λ _. links.new.items ≡ links.old.items ++ parts.items) (λ e. e ≡ SimError.Memory) }
+    version: Version,
+    times: Times,
+    n: Id,
+    k: Id,
+    seat: usize,
+) -> Result<LinkSlot, SimError>
+    requires times { IsTimes times }
+    requires me { 0 < n }
+    requires peer { 0 < k }
+    requires other { n ≢ k }
+    ensures { MatchResult result (λ link. IsFirstEnd version times n k seat link) (λ e. e ≡ SimError.Memory) }
 {
-    for part in parts {
-        let Ok(part) = Box::new(alloc, part) else {
-            return Err(SimError::Memory);
-        };
-        match links.push(LinkSlot::new(part)) {
-            Ok(()) => {}
-            Err(_) => return Err(SimError::Memory),
-        }
+    let parts = new_parts(alloc, version, times, n, k, seat)?;
+    match Box::new(alloc, parts) {
+        Ok(parts) => Ok(LinkSlot::new(parts)),
+        Err(_) => Err(SimError::Memory),
     }
-    Ok(())
 }
 
 /// What stands at the end of a link at its start.

@@ -44,6 +44,7 @@ mod restarts;
 mod sending;
 mod sim;
 mod stills;
+mod taking;
 mod ticking;
 mod topology;
 mod turns;

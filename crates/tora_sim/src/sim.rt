@@ -12,7 +12,7 @@ ghost use Rattle.tora_datagrams.specs.Datagrams.{HasRoom};
 ghost use Rattle.tora_sim.specs.Steps.{Does, IsDone, Runs};
 
 use crate::hints::Hints;
-use crate::lanes::{make_room, make_room_at, shorten};
+use crate::lanes::{make_room_at, shorten};
 use crate::link_slot::LinkSlot;
 use crate::links::{arm, far_end_at, place, place_at_or_among, place_near};
 use crate::nodes::{NodeSlot, Sending, place as node_place};
@@ -21,8 +21,7 @@ use crate::restarts::{new_ends, restart_ends};
 use crate::stills::{Stills, forget};
 use crate::ticking::tick;
 use crate::topology::Topology;
-use crate::turns::{forget_waiting, turn};
-use crate::unready::{Unready, set_unready, still_unready, unready_at};
+use crate::unready::Unready;
 use crate::{Call, Event, SimError};
 use std::marker::Model;
 use tora_arq::{Times, calls_keep_an_end, data_frames_are_what_was_submitted};
@@ -159,7 +158,7 @@ impl Sim {
 
     /// The same at the end of a node's seat, where it is that of a neighbour: the ends of the node stand from the place `first` on.
     #[inline(always)]
-    fn make_seat_ready(&mut self, first: usize, count: usize, seat: usize)
+    pub(crate) fn make_seat_ready(&mut self, first: usize, count: usize, seat: usize)
         ensures { world_of self.new ≡ world_of self.old }
     {
         if seat < count {
@@ -170,7 +169,7 @@ impl Sim {
     /// Makes the lists of the lanes at so many link ends from the place `first` on no longer than their cargoes need, where a lane took a list, once no
     /// item waits for the core of the node at the place `home`: so it puts no more into them before they are pulled.
     #[inline(always)]
-    fn shorten_lanes(&mut self, home: usize, first: usize, count: usize)
+    pub(crate) fn shorten_lanes(&mut self, home: usize, first: usize, count: usize)
         requires node { home < length self.old.nodes }
         requires ends { first + count ≤ length self.old.links }
         ensures { world_of self.new ≡ world_of self.old }
@@ -390,51 +389,10 @@ impl Sim {
         if self.nodes[home].waiting() == 0 {
             return Err(SimError::NotPossible);
         }
-        let first = self.nodes[home].first();
-        let count = self.nodes[home].count();
-        self.quiet = 0;
-        self.idle = false;
-        let range = unready_at(&self.unready, home).within(count);
-        let start = first + range.from;
-        if make_room(
-            &mut self.links,
-            &mut self.ready,
-            &mut self.spares,
-            start,
-            range.behind - range.from,
-            count,
-        )
-        .is_err()
-        {
-            return Err(SimError::Memory);
+        match self.turn_from(n, home, 1) {
+            Ok(_) => Ok(()),
+            Err(_) => Err(SimError::Memory),
         }
-        let before = still_unready(&self.ready, first, range);
-        let mut unready = before;
-        let mut seat = 0;
-        let turned = turn(
-            &mut self.nodes[home],
-            &mut self.links,
-            &mut unready,
-            &mut seat,
-            &mut self.spares,
-            &mut self.sends,
-        );
-        // what the turn changed, and what it left as it was
-        let after = unready.joined(before).within(count);
-        let start = first + after.from;
-        forget_waiting(
-            &self.links,
-            &mut self.ready,
-            &mut self.stills,
-            &mut self.plains,
-            start,
-            after.behind - after.from,
-            first.saturating_add(seat),
-        );
-        set_unready(&mut self.unready, home, after);
-        self.shorten_lanes(home, start, after.behind - after.from);
-        self.make_seat_ready(first, count, seat);
-        turned
     }
 
     /// A node restarts: its core, ends and lanes are made anew, and its life files are opened after a crash.

@@ -1,8 +1,9 @@
 //! Turns of a node's core.
-ghost use Rattle.std.specs.Prelude.{◌≡◌, ◌+◌, ◌<◌, ◌≤◌, length};
+ghost use Rattle.std.specs.Prelude.{◌≡◌, ◌+◌, ◌<◌, ◌≤◌, length, OnOk, IfErr};
 ghost use Rattle.tora_cargoes.specs.Lane.{AreWhole};
-ghost use Rattle.tora_sim.specs.Lanes.{lanes_of, bare_between, AreReady, AreReadyOutside, AreOthersKept, HaveRoomBut};
+ghost use Rattle.tora_sim.specs.Lanes.{lanes_of, bare_between, AreAlike, AreReady, AreReadyOutside, AreOthersKept, HaveRoom, HaveRoomBut};
 ghost use Rattle.tora_sim.specs.Quiet.{AreForgottenWhere, IsForgottenWhere};
+ghost use Rattle.tora_sim.specs.Taking.{AreTaken, TakesItems};
 ghost use Rattle.tora_sim.specs.Turns.{Turns};
 ghost use Rattle.tora_sim.specs.Unready.{AreRemarked, IsRemarked};
 
@@ -58,6 +59,83 @@ pub fn turn(
             Err(error)
         }
     }
+}
+
+/// Takes once more the memory for all that one item of a node can put: at its end at the place `seat`, the only one at which there may be none, unless it
+/// is known to be ready; and in as many spare lists as it has ends.
+///
+/// # Errors
+/// `Memory`. The ends are as they were either way.
+fn make_room_again(
+    links: &mut Vec<LinkSlot>,
+    spares: &mut Spares,
+    first: usize,
+    count: usize,
+    unready: Unready,
+    seat: usize,
+) -> Result<(), SimError>
+    requires within { first + count ≤ length links.old.items }
+    requires ready { AreReadyOutside links.old.items first count unready }
+    requires room { HaveRoomBut links.old.items first count seat }
+    ensures same { AreAlike links.old.items links.new.items }
+    ensures ready { AreReadyOutside links.new.items first count unready }
+    ensures but { HaveRoomBut links.new.items first count seat }
+    ensures room { OnOk result (HaveRoom links.new.items first count) }
+    ensures others { AreOthersKept links.old.items links.new.items first count }
+    ensures whole { OnOk result (AreWhole spares.new count) }
+    ensures memory { IfErr result (λ e. e ≡ SimError.Memory) }
+{
+    if spares.make_whole(count).is_err() {
+        return Err(SimError::Memory);
+    }
+    if seat >= count {
+        return Ok(());
+    }
+    if !unready.has(seat) {
+        return Ok(());
+    }
+    let at = first + seat;
+    links[at].make_ready()?;
+    Ok(())
+}
+
+/// Serves the items of a node's lane one after another until none waits, and so many at most, and answers whether any was served. There is memory for
+/// all that one of them can put at the node's link ends, and each of those ends but for those in `unready` is ready. Between two items that memory is
+/// taken again where the one before used it, so that no other end is looked at. Behind the last one each of the node's ends but for those in
+/// `unready` is ready, and at each but the one at `seat` there is memory for another item.
+///
+/// # Errors
+/// `Memory`. The items before are served.
+pub fn take_items(
+    node: &mut NodeSlot,
+    links: &mut Vec<LinkSlot>,
+    unready: &mut Unready,
+    seat: &mut usize,
+    spares: &mut Spares,
+    sends: &mut Sends,
+    most: u64,
+) -> Result<bool, SimError>
+    requires room { AreReady (lanes_of links.old.items node.old.first node.old.count) unready.old }
+    requires neighbours { length node.old.seat.core.neighbours ≡ node.old.count }
+    ensures taken { AreTaken node.old links.old.items node.new links.new.items unready.new seat.new }
+    ensures items { TakesItems most node.old links.old.items result node.new links.new.items }
+{
+    let mut some = false;
+    for _ in 0..most {
+        if node.waiting() == 0 {
+            return Ok(some);
+        }
+        let (first, count) = (node.first(), node.count());
+        match make_room_again(links, spares, first, count, *unready, *seat) {
+            Ok(()) => {}
+            Err(error) => return Err(error),
+        }
+        match turn(node, links, unready, seat, spares, sends) {
+            Ok(()) => some = true,
+            Err(error) => return Err(error),
+        }
+    }
+    Ok(some)
 }
 
 /// Of the `count` link ends from the place `first` on those are known to be ready in whose lane no cargo waits, but the one at the place `but`;

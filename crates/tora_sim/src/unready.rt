@@ -1,6 +1,6 @@
 //! Of each node the link ends outside which each of its ends is known to be ready: its lane is empty, and there is memory at it for all that one
 //! item of the node can put.
-ghost use Rattle.std.specs.Prelude.{◌≡◌, ◌+◌, ◌<◌, ◌≤◌, ℕ, true, MatchResult, length, replicate, slice_get, slice_index_or, slice_set, Some};
+ghost use Rattle.std.specs.Prelude.{◌≡◌, ◌+◌, ◌<◌, ◌≤◌, ℕ, true, false, MatchResult, length, replicate, slice_get, slice_index_or, slice_set, Some};
 ghost use Rattle.tora_sim.specs.Unready.{IsOutside, ends_below};
 
 use crate::SimError;
@@ -35,6 +35,15 @@ impl Unready {
             from: self.from.min(behind),
             behind,
         }
+    }
+
+    /// Whether the end at a place is one of them.
+    #[inline(always)]
+    pub fn has(self, place: usize) -> bool
+        ensures none { result ≡ false → IsOutside self place }
+        ensures some { result ≡ true → IsOutside self place → ⊥ }
+    {
+        self.from <= place && place < self.behind
     }
 
     /// These, and the end at a place.

@@ -1,25 +1,11 @@
-use Rattle.std.proofs.Common.{◌≡◌, ◌<◌, ◌≤◌, ◌+◌, ◌-◌, ℕ, List, length, Result, Ok, Err, sym, ap, ◌∙◌, subst, arith}
-use Rattle.std.specs.Prelude.{slice_set, slice_index_or}
-use Rattle.tora_world.specs.World.{World}
-use Rattle.tora_world.specs.declared.event.Event.{Event}
+use Rattle.std.proofs.Common.{◌≡◌, ◌∙◌, Ok, Err, None, refl, sym, subst, arith}
 use Rattle.tora_world.specs.declared.event.Event.TheVariants.{CoreTurn}
-use Rattle.tora_world.specs.declared.sim_error.SimError.{SimError}
 use Rattle.tora_world.specs.declared.sim_error.SimError.TheVariants as Refused
-use Rattle.tora_sim.specs.declared.unready.Unready.{Unready}
-use Rattle.tora_cargoes.specs.Lane.{AreWhole}
-use Rattle.tora_sim.specs.Lanes.{AreReadyOutside, bare_between}
-use Rattle.tora_sim.specs.Nodes.{NodeView}
-use Rattle.tora_sim.specs.Quiet.{AreForgottenWhere}
-use Rattle.tora_sim.specs.Unready.{AreMarkedOutside, IsMarkedOutside, AreRemarked}
+use Rattle.tora_world.specs.World.{refusal_of}
 use Rattle.tora_sim.specs.Store.{SimState, state_of, world_of}
-use Rattle.tora_sim.specs.Steps.{IsDone, IsRefused, Does}
-use Rattle.tora_sim.proofs.Opens.{same_read}
-use Rattle.tora_sim.proofs.SameLinks.{same_alike, store_same}
-use Rattle.tora_sim.proofs.Turning.{turn_refused, turn_starved, ends_within, as_many, between_does, between_store}
-use Rattle.tora_sim.proofs.StillEnds.{AreStillBut, alike_still, turned_still, where_forgotten}
-use Rattle.tora_sim.proofs.PlainEnds.{ArePlainBut, alike_plain, turned_plains, where_plain}
-use Rattle.tora_sim.proofs.Rooms.{same_length}
-use Rattle.tora_sim.proofs.UnreadyEnds.{ok_room, marks_kept, before_turn, forgotten_of_node, ready_after, marked_after, turned_place}
+use Rattle.tora_sim.specs.Steps.{IsRefused}
+use Rattle.tora_sim.proofs.TakenItems.{no_memory_turn, at_most_one}
+use Rattle.tora_sim.proofs.Turning.{turn_refused, turn_starved}
 use Rattle.tora_sim.proofs.sim.Sim.core_turn.Goals as goal
 
 pub returns-then-waiting-eq0 : goal.returns-then-waiting-eq0
@@ -29,244 +15,22 @@ returns-then-waiting-eq0 c =
     (turn_refused s.topology s.times s.clock s.nodes.items s.links.items s.datagrams.items c.self.invariant.0 c.args.n c.in-Some.home c.index.result.now c.in-Some.ensures.first c.index.ensures
     (sym c.waiting.ensures ∙ c.if-waiting-eq0.true))
 
-pub unready_at-requires : goal.unready_at-requires
-unready_at-requires c = let many = c.self.invariant.6.as_many in omega (arith, many, c.in-Some.ensures.first.within)
-
-pub make_room-requires-clause-within : goal.make_room-requires-clause-within
-make_room-requires-clause-within c =
+pub returns-in-Ok : goal.returns-in-Ok
+returns-in-Ok c =
     let s = c.self.inside in
-    let within = ends_within s.topology s.times s.clock s.nodes.items s.links.items s.datagrams.items c.self.invariant.0 c.args.n c.in-Some.home c.index.result.now c.in-Some.ensures.first c.index.ensures in
-    let first : c.first-first.result ≡ c.index.result.now.first =
-    c.first-first.ensures ∙ ap (λ (x : NodeView). x.first) (same_read s.nodes.items c.in-Some.home c.index-2.result.now c.index.result.now c.in-Some.ensures.first.within c.index-2.ensures c.index.ensures) in
-    let count : c.count-count.result ≡ c.index.result.now.count =
-    c.count-count.ensures ∙ ap (λ (x : NodeView). x.count) (same_read s.nodes.items c.in-Some.home c.index-3.result.now c.index.result.now c.in-Some.ensures.first.within c.index-3.ensures c.index.ensures) in
-    omega (arith, within, first, count, c.within-range.ensures.ordered, c.within-range.ensures.within)
-
-pub make_room-requires-clause-marks : goal.make_room-requires-clause-marks
-make_room-requires-clause-marks c = c.self.invariant.5
-
-pub invariant_of-self : goal.invariant_of-self
-invariant_of-self c =
-    let s = c.self.inside in (
-      store_same s.topology s.times s.clock s.nodes.items s.links.items c.make_room.new.links.items s.datagrams.items (same_alike s.links.items c.make_room.new.links.items c.make_room.ensures.same) c.self.invariant.0,
-      λ none. absurd (omega (arith, none)),
-      alike_still s.clock s.stills s.links.items c.make_room.new.links.items c.make_room.ensures.same c.self.invariant.2,
-      c.self.invariant.3,
-      alike_plain s.clock s.plains s.links.items c.make_room.new.links.items c.make_room.ensures.same c.self.invariant.4,
-      c.make_room.ensures.marks,
-      marks_kept s.unready.items s.nodes.items s.ready.items c.make_room.new.ready.items c.make_room.ensures.kept c.self.invariant.6,
-      λ known. absurd cc,
-    )
-
-waits : (nodes : List NodeView) (home : ℕ) (x y : NodeView) (count : ℕ) → home < length nodes → x ≡ slice_index_or nodes home x → y ≡ slice_index_or nodes home y → count ≡ length x.items → 0 < count → 0 < length y.items
-waits nodes home x y count lt a b e more = subst (λ (v : NodeView). 0 < length v.items) (same_read nodes home x y lt a b) (omega (arith, e, more))
-
-pub returns-then-is_err : goal.returns-then-is_err
-returns-then-is_err c =
-    let s = c.self.inside in
-    subst (λ (w : SimState). IsRefused (world_of w) (CoreTurn c.args.n) Refused.Memory (world_of (state_of s.topology s.times s.clock s.nodes.items c.make_room.new.links.items s.datagrams.items))) c.self.view_is
+    let w = world_of (state_of s.topology s.times s.clock s.nodes.items s.links.items s.datagrams.items) in
+    let free = no_memory_turn w c.args.n w
     (turn_starved s.topology s.times s.clock s.nodes.items s.links.items s.datagrams.items c.self.invariant.0 c.args.n c.in-Some.home c.index.result.now c.in-Some.ensures.first c.index.ensures
-    (omega (arith, c.waiting.ensures, c.if-waiting-eq0.false)) c.make_room.new.links.items c.make_room.ensures.same)
+    (omega (arith, c.waiting.ensures, c.if-waiting-eq0.false)) s.links.items refl) in
+    at_most_one c.args.self.now c.turn_from.new.self (CoreTurn c.args.n) (Ok c.in-Ok.field-0)
+    (subst (λ (v : SimState). refusal_of (world_of v) (CoreTurn c.args.n) ≡ None) c.self.view_is free) c.in-Ok.ensures
 
-pub overflow_add-start : goal.overflow_add-start
-overflow_add-start c =
+pub returns-in-Err : goal.returns-in-Err
+returns-in-Err c =
     let s = c.self.inside in
-    let within = ends_within s.topology s.times s.clock s.nodes.items s.links.items s.datagrams.items c.self.invariant.0 c.args.n c.in-Some.home c.index.result.now c.in-Some.ensures.first c.index.ensures in
-    let first : c.first-first.result ≡ c.index.result.now.first =
-    c.first-first.ensures ∙ ap (λ (x : NodeView). x.first) (same_read s.nodes.items c.in-Some.home c.index-2.result.now c.index.result.now c.in-Some.ensures.first.within c.index-2.ensures c.index.ensures) in
-    let count : c.count-count.result ≡ c.index.result.now.count =
-    c.count-count.ensures ∙ ap (λ (x : NodeView). x.count) (same_read s.nodes.items c.in-Some.home c.index-3.result.now c.index.result.now c.in-Some.ensures.first.within c.index-3.ensures c.index.ensures) in
-    omega (arith, within, first, count, c.within-range.ensures.ordered, c.within-range.ensures.within, s.links.small, s.links.ok)
-
-pub overflow_add-start-2 : goal.overflow_add-start-2
-overflow_add-start-2 c =
-    let s = c.self.inside in
-    let within = ends_within s.topology s.times s.clock s.nodes.items s.links.items s.datagrams.items c.self.invariant.0 c.args.n c.in-Some.home c.index.result.now c.in-Some.ensures.first c.index.ensures in
-    let first : c.first-first.result ≡ c.index.result.now.first =
-    c.first-first.ensures ∙ ap (λ (x : NodeView). x.first) (same_read s.nodes.items c.in-Some.home c.index-2.result.now c.index.result.now c.in-Some.ensures.first.within c.index-2.ensures c.index.ensures) in
-    let count : c.count-count.result ≡ c.index.result.now.count =
-    c.count-count.ensures ∙ ap (λ (x : NodeView). x.count) (same_read s.nodes.items c.in-Some.home c.index-3.result.now c.index.result.now c.in-Some.ensures.first.within c.index-3.ensures c.index.ensures) in
-    omega (arith, within, first, count, c.within-after.ensures.ordered, c.within-after.ensures.within, s.links.small, s.links.ok)
-
-pub still_unready-before-requires-clause-ordered : goal.still_unready-before-requires-clause-ordered
-still_unready-before-requires-clause-ordered c = c.within-range.ensures.ordered
-
-pub still_unready-before-requires-clause-within : goal.still_unready-before-requires-clause-within
-still_unready-before-requires-clause-within c =
-    let s = c.self.inside in
-    let within = ends_within s.topology s.times s.clock s.nodes.items s.links.items s.datagrams.items c.self.invariant.0 c.args.n c.in-Some.home c.index.result.now c.in-Some.ensures.first c.index.ensures in
-    let first : c.first-first.result ≡ c.index.result.now.first =
-    c.first-first.ensures ∙ ap (λ (x : NodeView). x.first) (same_read s.nodes.items c.in-Some.home c.index-2.result.now c.index.result.now c.in-Some.ensures.first.within c.index-2.ensures c.index.ensures) in
-    let count : c.count-count.result ≡ c.index.result.now.count =
-    c.count-count.ensures ∙ ap (λ (x : NodeView). x.count) (same_read s.nodes.items c.in-Some.home c.index-3.result.now c.index.result.now c.in-Some.ensures.first.within c.index-3.ensures c.index.ensures) in
-    let many = c.make_room.ensures.kept.as_many in
-    let each = c.self.invariant.5.as_many in
-    omega (arith, within, first, count, many, each, c.within-range.ensures.within)
-
-pub turn-turned-requires-clause-room : goal.turn-turned-requires-clause-room
-turn-turned-requires-clause-room c =
-    let s = c.self.inside in
-    let node = c.index_mut.result.now in
-    let first : c.first-first.result ≡ node.first =
-    c.first-first.ensures ∙ ap (λ (x : NodeView). x.first) (same_read s.nodes.items c.in-Some.home c.index-2.result.now node c.in-Some.ensures.first.within c.index-2.ensures c.index_mut.ensures.value) in
-    let count : c.count-count.result ≡ node.count =
-    c.count-count.ensures ∙ ap (λ (x : NodeView). x.count) (same_read s.nodes.items c.in-Some.home c.index-3.result.now node c.in-Some.ensures.first.within c.index-3.ensures c.index_mut.ensures.value) in
-    let within = ends_within s.topology s.times s.clock s.nodes.items s.links.items s.datagrams.items c.self.invariant.0 c.args.n c.in-Some.home node c.in-Some.ensures.first c.index_mut.ensures.value in
-    let many = same_length s.links.items c.make_room.new.links.items c.make_room.ensures.same in
-    let start =
-    before_turn s.unready.items s.nodes.items s.ready.items c.make_room.new.ready.items c.make_room.new.links.items c.in-Some.home node c.unready_at.result c.within-range.result c.still_unready-before.result c.first-first.result c.count-count.result
-    c.in-Some.ensures.first.within c.index_mut.ensures.value c.unready_at.ensures first count (omega (arith, within, many)) c.make_room.ensures.kept c.self.invariant.6 c.within-range.ensures.outside c.still_unready-before.ensures c.make_room.ensures.marks (ok_room c.make_room.result (sym c.is_err.ensures.value ∙ c.if-is_err.false) c.make_room.ensures.room) in
-    start.1
-
-pub turn-turned-requires-clause-whole : goal.turn-turned-requires-clause-whole
-turn-turned-requires-clause-whole c =
-    let s = c.self.inside in
-    let node = c.index_mut.result.now in
-    let count : c.count-count.result ≡ node.count =
-    c.count-count.ensures ∙ ap (λ (x : NodeView). x.count) (same_read s.nodes.items c.in-Some.home c.index-3.result.now node c.in-Some.ensures.first.within c.index-3.ensures c.index_mut.ensures.value) in
-    subst (λ (n : ℕ). AreWhole c.make_room.new.spares n) count (ok_room c.make_room.result (sym c.is_err.ensures.value ∙ c.if-is_err.false) c.make_room.ensures.whole)
-
-pub turn-turned-requires-clause-neighbours : goal.turn-turned-requires-clause-neighbours
-turn-turned-requires-clause-neighbours c =
-    let s = c.self.inside in
-    as_many s.topology s.times s.clock s.nodes.items s.links.items s.datagrams.items c.self.invariant.0 c.args.n c.in-Some.home c.index_mut.result.now c.in-Some.ensures.first c.index_mut.ensures.value
-
-pub forget_waiting-requires-clause-within : goal.forget_waiting-requires-clause-within
-forget_waiting-requires-clause-within c =
-    let s = c.self.inside in
-    let node = c.index_mut.result.now in
-    let first : c.first-first.result ≡ node.first =
-    c.first-first.ensures ∙ ap (λ (x : NodeView). x.first) (same_read s.nodes.items c.in-Some.home c.index-2.result.now node c.in-Some.ensures.first.within c.index-2.ensures c.index_mut.ensures.value) in
-    let count : c.count-count.result ≡ node.count =
-    c.count-count.ensures ∙ ap (λ (x : NodeView). x.count) (same_read s.nodes.items c.in-Some.home c.index-3.result.now node c.in-Some.ensures.first.within c.index-3.ensures c.index_mut.ensures.value) in
-    let still : AreStillBut s.clock s.stills c.turn-turned.new.links.items node.first node.count =
-    turned_still s.clock s.stills node c.turn-turned.new.node c.make_room.new.links.items c.turn-turned.new.links.items c.turn-turned.result c.turn-turned.ensures.turned
-    (alike_still s.clock s.stills s.links.items c.make_room.new.links.items c.make_room.ensures.same c.self.invariant.2) in
-    let within = ends_within s.topology s.times s.clock s.nodes.items s.links.items s.datagrams.items c.self.invariant.0 c.args.n c.in-Some.home node c.in-Some.ensures.first c.index_mut.ensures.value in
-    let before = c.self.invariant.2.as_many in
-    let many = still.as_many in
-    omega (arith, within, first, count, before, many, c.within-after.ensures.ordered, c.within-after.ensures.within)
-
-pub forget_waiting-requires-clause-ready : goal.forget_waiting-requires-clause-ready
-forget_waiting-requires-clause-ready c =
-    let s = c.self.inside in
-    let node = c.index_mut.result.now in
-    let first : c.first-first.result ≡ node.first =
-    c.first-first.ensures ∙ ap (λ (x : NodeView). x.first) (same_read s.nodes.items c.in-Some.home c.index-2.result.now node c.in-Some.ensures.first.within c.index-2.ensures c.index_mut.ensures.value) in
-    let count : c.count-count.result ≡ node.count =
-    c.count-count.ensures ∙ ap (λ (x : NodeView). x.count) (same_read s.nodes.items c.in-Some.home c.index-3.result.now node c.in-Some.ensures.first.within c.index-3.ensures c.index_mut.ensures.value) in
-    let still : AreStillBut s.clock s.stills c.turn-turned.new.links.items node.first node.count =
-    turned_still s.clock s.stills node c.turn-turned.new.node c.make_room.new.links.items c.turn-turned.new.links.items c.turn-turned.result c.turn-turned.ensures.turned
-    (alike_still s.clock s.stills s.links.items c.make_room.new.links.items c.make_room.ensures.same c.self.invariant.2) in
-    let before = c.self.invariant.2.as_many in
-    let many = still.as_many in
-    let kept = c.make_room.ensures.kept.as_many in
-    let each = c.self.invariant.5.as_many in
-    omega (arith, before, many, kept, each)
-
-pub forget_waiting-requires-clause-stills : goal.forget_waiting-requires-clause-stills
-forget_waiting-requires-clause-stills c =
-    let s = c.self.inside in
-    let node = c.index_mut.result.now in
-    let first : c.first-first.result ≡ node.first =
-    c.first-first.ensures ∙ ap (λ (x : NodeView). x.first) (same_read s.nodes.items c.in-Some.home c.index-2.result.now node c.in-Some.ensures.first.within c.index-2.ensures c.index_mut.ensures.value) in
-    let count : c.count-count.result ≡ node.count =
-    c.count-count.ensures ∙ ap (λ (x : NodeView). x.count) (same_read s.nodes.items c.in-Some.home c.index-3.result.now node c.in-Some.ensures.first.within c.index-3.ensures c.index_mut.ensures.value) in
-    let still : AreStillBut s.clock s.stills c.turn-turned.new.links.items node.first node.count =
-    turned_still s.clock s.stills node c.turn-turned.new.node c.make_room.new.links.items c.turn-turned.new.links.items c.turn-turned.result c.turn-turned.ensures.turned
-    (alike_still s.clock s.stills s.links.items c.make_room.new.links.items c.make_room.ensures.same c.self.invariant.2) in
-    still.as_many
-
-pub forget_waiting-requires-clause-plains : goal.forget_waiting-requires-clause-plains
-forget_waiting-requires-clause-plains c =
-    let s = c.self.inside in
-    let node = c.index_mut.result.now in
-    let first : c.first-first.result ≡ node.first =
-    c.first-first.ensures ∙ ap (λ (x : NodeView). x.first) (same_read s.nodes.items c.in-Some.home c.index-2.result.now node c.in-Some.ensures.first.within c.index-2.ensures c.index_mut.ensures.value) in
-    let count : c.count-count.result ≡ node.count =
-    c.count-count.ensures ∙ ap (λ (x : NodeView). x.count) (same_read s.nodes.items c.in-Some.home c.index-3.result.now node c.in-Some.ensures.first.within c.index-3.ensures c.index_mut.ensures.value) in
-    let plain : ArePlainBut s.clock s.plains c.turn-turned.new.links.items node.first node.count =
-    turned_plains s.clock s.plains node c.turn-turned.new.node c.make_room.new.links.items c.turn-turned.new.links.items c.turn-turned.result c.turn-turned.ensures.turned
-    (alike_plain s.clock s.plains s.links.items c.make_room.new.links.items c.make_room.ensures.same c.self.invariant.4) in
-    plain.as_many
-
-pub set_unready-requires : goal.set_unready-requires
-set_unready-requires c = let many = c.self.invariant.6.as_many in omega (arith, many, c.in-Some.ensures.first.within)
-
-pub shorten_lanes-requires-clause-ends : goal.shorten_lanes-requires-clause-ends
-shorten_lanes-requires-clause-ends c =
-    let s = c.self.inside in
-    let node = c.index_mut.result.now in
-    let first : c.first-first.result ≡ node.first =
-    c.first-first.ensures ∙ ap (λ (x : NodeView). x.first) (same_read s.nodes.items c.in-Some.home c.index-2.result.now node c.in-Some.ensures.first.within c.index-2.ensures c.index_mut.ensures.value) in
-    let count : c.count-count.result ≡ node.count =
-    c.count-count.ensures ∙ ap (λ (x : NodeView). x.count) (same_read s.nodes.items c.in-Some.home c.index-3.result.now node c.in-Some.ensures.first.within c.index-3.ensures c.index_mut.ensures.value) in
-    let still : AreStillBut s.clock s.stills c.turn-turned.new.links.items node.first node.count =
-    turned_still s.clock s.stills node c.turn-turned.new.node c.make_room.new.links.items c.turn-turned.new.links.items c.turn-turned.result c.turn-turned.ensures.turned
-    (alike_still s.clock s.stills s.links.items c.make_room.new.links.items c.make_room.ensures.same c.self.invariant.2) in
-    let within = ends_within s.topology s.times s.clock s.nodes.items s.links.items s.datagrams.items c.self.invariant.0 c.args.n c.in-Some.home node c.in-Some.ensures.first c.index_mut.ensures.value in
-    let before = c.self.invariant.2.as_many in
-    let many = still.as_many in
-    omega (arith, within, first, count, before, many, c.within-after.ensures.ordered, c.within-after.ensures.within)
-
-pub invariant_of-self-2 : goal.invariant_of-self-2
-invariant_of-self-2 c =
-    let s = c.self.inside in
-    let node = c.index_mut.result.now in
-    let first : c.first-first.result ≡ node.first =
-    c.first-first.ensures ∙ ap (λ (x : NodeView). x.first) (same_read s.nodes.items c.in-Some.home c.index-2.result.now node c.in-Some.ensures.first.within c.index-2.ensures c.index_mut.ensures.value) in
-    let count : c.count-count.result ≡ node.count =
-    c.count-count.ensures ∙ ap (λ (x : NodeView). x.count) (same_read s.nodes.items c.in-Some.home c.index-3.result.now node c.in-Some.ensures.first.within c.index-3.ensures c.index_mut.ensures.value) in
-    let within = ends_within s.topology s.times s.clock s.nodes.items s.links.items s.datagrams.items c.self.invariant.0 c.args.n c.in-Some.home node c.in-Some.ensures.first c.index_mut.ensures.value in
-    let many = same_length s.links.items c.make_room.new.links.items c.make_room.ensures.same in
-    let start =
-    before_turn s.unready.items s.nodes.items s.ready.items c.make_room.new.ready.items c.make_room.new.links.items c.in-Some.home node c.unready_at.result c.within-range.result c.still_unready-before.result c.first-first.result c.count-count.result
-    c.in-Some.ensures.first.within c.index_mut.ensures.value c.unready_at.ensures first count (omega (arith, within, many)) c.make_room.ensures.kept c.self.invariant.6 c.within-range.ensures.outside c.still_unready-before.ensures c.make_room.ensures.marks (ok_room c.make_room.result (sym c.is_err.ensures.value ∙ c.if-is_err.false) c.make_room.ensures.room) in
-    let still : AreStillBut s.clock s.stills c.turn-turned.new.links.items node.first node.count =
-    turned_still s.clock s.stills node c.turn-turned.new.node c.make_room.new.links.items c.turn-turned.new.links.items c.turn-turned.result c.turn-turned.ensures.turned
-    (alike_still s.clock s.stills s.links.items c.make_room.new.links.items c.make_room.ensures.same c.self.invariant.2) in
-    let plain : ArePlainBut s.clock s.plains c.turn-turned.new.links.items node.first node.count =
-    turned_plains s.clock s.plains node c.turn-turned.new.node c.make_room.new.links.items c.turn-turned.new.links.items c.turn-turned.result c.turn-turned.ensures.turned
-    (alike_plain s.clock s.plains s.links.items c.make_room.new.links.items c.make_room.ensures.same c.self.invariant.4) in
-    let links = c.turn-turned.new.links.items in
-    let range = c.within-after.result in
-    let inside : (place : ℕ) → place < node.count → place < c.count-count.result = λ place lt. omega (arith, lt, count) in
-    let small : range.behind ≤ node.count = omega (arith, c.within-after.ensures.within, count) in
-    let out : AreReadyOutside links node.first node.count range = λ place link lt off there. c.turn-turned.ensures.ready place link lt (c.joined.ensures.these place (c.within-after.ensures.outside place (inside place lt) off)) there in
-    let own : IsMarkedOutside range node.first node.count c.make_room.new.ready.items = λ place lt off. start.0 place lt (c.joined.ensures.others place (c.within-after.ensures.outside place (inside place lt) off)) in
-    let but = c.saturating_add.result in
-    let seat = c.turn-turned.new.seat in
-    let seated : (place : ℕ) → place < node.count → place ≡ seat → node.first + place ≡ but = λ place lt q. omega (arith, lt, q, within, many, first, c.saturating_add.ensures, s.links.small, s.links.ok) in
-    let remarked = subst (λ (m : ℕ). AreRemarked links but c.make_room.new.ready.items c.forget_waiting.new.ready.items (m + range.from) (range.behind - range.from)) first c.forget_waiting.ensures.ready in
-    let stills = subst (λ (m : ℕ). AreForgottenWhere links s.stills c.forget_waiting.new.stills (m + range.from) (range.behind - range.from)) first c.forget_waiting.ensures.stills in
-    let plains = subst (λ (m : ℕ). AreForgottenWhere links s.plains c.forget_waiting.new.plains (m + range.from) (range.behind - range.from)) first c.forget_waiting.ensures.plains in
-    let before = c.self.invariant.2.as_many in
-    let after = still.as_many in
-    let same : length links ≡ length c.make_room.new.links.items = omega (arith, before, after, many) in (
-      between_store s.topology s.times s.clock s.nodes.items s.links.items s.datagrams.items c.self.invariant.0 c.args.n c.in-Some.home c.index_mut.result.now c.in-Some.ensures.first c.index_mut.ensures.value
-          c.make_room.new.links.items c.make_room.ensures.same c.turn-turned.new.node c.turn-turned.new.links.items c.turn-turned.result c.turn-turned.ensures.turned,
-      λ none. absurd (omega (arith, none)),
-      where_forgotten s.clock s.stills c.forget_waiting.new.stills links node.first node.count (forgotten_of_node links s.stills c.forget_waiting.new.stills node.first node.count range out stills) still,
-      c.self.invariant.3,
-      where_plain s.clock s.plains c.forget_waiting.new.plains links node.first node.count (forgotten_of_node links s.plains c.forget_waiting.new.plains node.first node.count range out plains) plain,
-      ready_after c.make_room.new.links.items links c.make_room.new.ready.items c.forget_waiting.new.ready.items node.first node.count seat but range seated c.turn-turned.ensures.room small same c.turn-turned.ensures.others out remarked c.make_room.ensures.marks,
-      subst (λ (ranges : List Unready). AreMarkedOutside ranges (slice_set s.nodes.items c.in-Some.home c.turn-turned.new.node) c.forget_waiting.new.ready.items) (sym c.set_unready.ensures)
-          (marked_after s.topology s.times s.clock s.nodes.items s.links.items s.datagrams.items c.self.invariant.0 links but s.unready.items c.make_room.new.ready.items c.forget_waiting.new.ready.items c.in-Some.home node c.turn-turned.new.node range
-          c.in-Some.ensures.first.within c.index_mut.ensures.value (turned_place node c.turn-turned.new.node (bare_between node.first node.count c.make_room.new.links.items) (bare_between node.first node.count links) c.turn-turned.result c.turn-turned.ensures.turned) small own remarked
-          (marks_kept s.unready.items s.nodes.items s.ready.items c.make_room.new.ready.items c.make_room.ensures.kept c.self.invariant.6)),
-      λ known. absurd cc,
-    )
-
-does_alike : (before after other : SimState) (event : Event) (result : Result (Unit {0}) SimError) → world_of other ≡ world_of after → Does before event result after → Does before event result other
-does_alike before after other event (Ok _) same done = subst (λ (w : World). IsDone (world_of before) event w) (sym same) done
-does_alike before after other event (Err error) same refused = subst (λ (w : World). IsRefused (world_of before) event error w) (sym same) refused
-
-pub returns : goal.returns
-returns c =
-    let s = c.self.inside in
-    let turned = state_of s.topology s.times s.clock (slice_set s.nodes.items c.in-Some.home c.turn-turned.new.node) c.turn-turned.new.links.items s.datagrams.items in
-    does_alike c.args.self.now turned c.make_seat_ready.new.self (CoreTurn c.args.n) c.turn-turned.result (c.make_seat_ready.ensures ∙ c.shorten_lanes.ensures) (
-    subst (λ (before : SimState). Does before (CoreTurn c.args.n) c.turn-turned.result (state_of s.topology s.times s.clock (slice_set s.nodes.items c.in-Some.home c.turn-turned.new.node) c.turn-turned.new.links.items s.datagrams.items)) c.self.view_is
-    (between_does s.topology s.times s.clock s.nodes.items s.links.items s.datagrams.items c.self.invariant.0 c.args.n c.in-Some.home c.index_mut.result.now c.in-Some.ensures.first c.index_mut.ensures.value
-    c.make_room.new.links.items c.make_room.ensures.same c.turn-turned.new.node c.turn-turned.new.links.items c.turn-turned.result
-    (waits s.nodes.items c.in-Some.home c.index.result.now c.index_mut.result.now c.waiting.result c.in-Some.ensures.first.within c.index.ensures c.index_mut.ensures.value c.waiting.ensures (omega (arith, c.if-waiting-eq0.false))) c.turn-turned.ensures.turned))
+    let w = world_of (state_of s.topology s.times s.clock s.nodes.items s.links.items s.datagrams.items) in
+    let free = no_memory_turn w c.args.n w
+    (turn_starved s.topology s.times s.clock s.nodes.items s.links.items s.datagrams.items c.self.invariant.0 c.args.n c.in-Some.home c.index.result.now c.in-Some.ensures.first c.index.ensures
+    (omega (arith, c.waiting.ensures, c.if-waiting-eq0.false)) s.links.items refl) in
+    at_most_one c.args.self.now c.turn_from.new.self (CoreTurn c.args.n) (Err c.in-Err.field-0)
+    (subst (λ (v : SimState). refusal_of (world_of v) (CoreTurn c.args.n) ≡ None) c.self.view_is free) c.in-Err.ensures

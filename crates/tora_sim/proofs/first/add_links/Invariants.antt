@@ -2,7 +2,7 @@ use Rattle.std.proofs.Common.{◌≡◌, ◌++◌, map, take}
 use Rattle.tora_sim.specs.Store.{EachOf}
 use Rattle.tora_sim.specs.Firsts.{IsFirstLink}
 use Rattle.tora_sim.specs.Links.{key_of}
-use Rattle.tora_sim.proofs.first.add_parts.Given as goal
+use Rattle.tora_sim.proofs.first.add_links.Given as goal
 
 -- the ends towards the peers so far
 abbrev pub invariant-loop-seat : goal.invariant-loop-seat

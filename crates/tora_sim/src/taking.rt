@@ -1,0 +1,93 @@
+//! A core takes its items, one after another.
+ghost use Rattle.std.specs.Prelude.{MatchResult};
+ghost use Rattle.tora_sim.specs.Keyed.{IsFirst};
+ghost use Rattle.tora_sim.specs.Nodes.{is_of};
+ghost use Rattle.tora_sim.specs.Steps.{Repeats};
+ghost use Rattle.tora_world.specs.declared.event.Event.TheVariants.{CoreTurn};
+
+use crate::lanes::make_room;
+use crate::nodes::place as node_place;
+use crate::sim::Sim;
+use crate::turns::{forget_waiting, take_items};
+use crate::unready::{set_unready, still_unready, unready_at};
+use std::alloc::AllocError;
+use tora_height::Id;
+
+impl Sim {
+    /// Lets `CoreTurn` happen at node `n` until it is refused, and so many times at most, and answers whether it ever did: its core takes all items that
+    /// wait. The node is found once, and what is known of its link ends is noted once.
+    ///
+    /// # Errors
+    /// Where there is no memory for what an item may put. The world is then as after the items before it.
+    pub fn turn_all(&mut self, n: Id, most: u64) -> Result<bool, AllocError>
+        ensures { Repeats self.old most (CoreTurn n) result self.new }
+    {
+        let Some(home) = node_place(&self.nodes, &self.hints, n) else {
+            return Ok(false);
+        };
+        self.turn_from(n, home, most)
+    }
+
+    /// The same of the node at the place `home`.
+    #[inline(never)]
+    pub(crate) fn turn_from(&mut self, _n: Id, home: usize, most: u64) -> Result<bool, AllocError>
+        requires { IsFirst (is_of _n) self.old.nodes home }
+        ensures { Repeats self.old most (CoreTurn _n) result self.new }
+    {
+        if most == 0 {
+            return Ok(false);
+        }
+        if self.nodes[home].waiting() == 0 {
+            return Ok(false);
+        }
+        let first = self.nodes[home].first();
+        let count = self.nodes[home].count();
+        self.quiet = 0;
+        self.idle = false;
+        let range = unready_at(&self.unready, home).within(count);
+        let start = first + range.from;
+        if make_room(
+            &mut self.links,
+            &mut self.ready,
+            &mut self.spares,
+            start,
+            range.behind - range.from,
+            count,
+        )
+        .is_err()
+        {
+            return Err(AllocError);
+        }
+        let before = still_unready(&self.ready, first, range);
+        let mut unready = before;
+        let mut seat = count;
+        let taken = take_items(
+            &mut self.nodes[home],
+            &mut self.links,
+            &mut unready,
+            &mut seat,
+            &mut self.spares,
+            &mut self.sends,
+            most,
+        );
+        // what the items changed, and what they left as it was
+        let after = unready.joined(before).within(count);
+        let start = first + after.from;
+        forget_waiting(
+            &self.links,
+            &mut self.ready,
+            &mut self.stills,
+            &mut self.plains,
+            start,
+            after.behind - after.from,
+            first.saturating_add(seat),
+        );
+        set_unready(&mut self.unready, home, after);
+        self.shorten_lanes(home, start, after.behind - after.from);
+        self.make_seat_ready(first, count, seat);
+        match taken {
+            Ok(some) => Ok(some),
+            Err(_) => Err(AllocError),
+        }
+    }
+}
