@@ -103,6 +103,9 @@ impl KeptCargoes {
     }
 
     /// Makes room for one more.
+    ///
+    /// # Errors
+    /// Want of memory, or as many cargoes as can be kept.
     pub fn reserve(&mut self) -> Result<(), AllocError>
         ensures items { self.new.items ≡ self.old.items }
         ensures room { OnOk result (0 < self.new.places) }
@@ -226,6 +229,7 @@ fn short(number: usize, cargo: &Cargo) -> Option<KeptCargo>
     }
 }
 
+/// An update in few bytes, whose origin has this number, if its numbers are small.
 fn short_update(origin: u16, update: &Update) -> Option<KeptCargo>
     ensures { IfSome result (λ kept. (life : AnyLife) → IsShort origin (Cargo.Packet life (Packet.Upd update.now)) kept) }
 {

@@ -75,7 +75,7 @@ impl KeptList {
     /// Makes room for one more: where none is left near, those that stand there go into the list.
     ///
     /// # Errors
-    /// Want of memory.
+    /// Want of memory, or as many cargoes as can be kept.
     #[inline(always)]
     pub fn reserve(&mut self) -> Result<(), AllocError>
         ensures items { self.new.items ≡ self.old.items }
@@ -88,6 +88,9 @@ impl KeptList {
     }
 
     /// Those that stand near go into the list.
+    ///
+    /// # Errors
+    /// Want of memory, or as many cargoes as can be kept.
     #[inline(never)]
     fn put_away(&mut self) -> Result<(), AllocError>
         requires { self.old.places ≡ 0 }

@@ -105,7 +105,9 @@ impl Lane {
         self.cargoes.reserve()
     }
 
-    /// Puts the cargoes into a list that is no longer than they need, where theirs is, which goes to the spare ones in the place of that of a place.
+    /// Where the list has more than four times the memory that its cargoes need, puts them into one that is no longer than they need, and gives the
+    /// other one to the spare ones, in the place of that of the place `spare`. One without cargoes stays, and so does one where there is no memory
+    /// for another.
     #[inline(always)]
     pub fn shorten(&mut self, spares: &mut Spares, spare: usize)
         ensures put { self.new.put ≡ self.old.put }
@@ -149,6 +151,9 @@ impl Lane {
 }
 
 /// Keeps the cargoes that left a lane in less: all of them, or those before the first for which there is no memory.
+///
+/// # Errors
+/// Want of memory.
 fn keep_taken(
     past: &mut KeptCargoes,
     cargoes: &mut NearCargoes,

@@ -174,9 +174,11 @@ impl NearCargoes {
 }
 
 /// Cargoes in a list of their own, which has memory for no more of them.
+///
+/// # Errors
+/// Want of memory.
 fn copied(alloc: Global, cargoes: &[Cargo]) -> Result<Vec<Cargo>, AllocError>
-    ensures items { IfOk result (λ list. list.items ≡ cargoes.now) }
-    ensures places { IfOk result (λ list. length cargoes.now ≤ vec_capacity list) }
+    ensures { IfOk result (λ list. list.items ≡ cargoes.now) }
 {
     let mut list = Vec::new(alloc);
     list.reserve_exact(cargoes.len())?;

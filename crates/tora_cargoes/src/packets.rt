@@ -34,6 +34,9 @@ pub fn count_put(put: &[Cargo], life: Life) -> usize
 }
 
 /// Appends the packets of a life that are among cargoes.
+///
+/// # Errors
+/// Want of memory.
 pub fn list_put(packets: &mut Vec<Packet>, put: &[Cargo], life: Life) -> Result<(), AllocError>
     ensures { OnOk result (packets.new.items ≡ packets.old.items ++ packets_of life (parcels_in put.now)) }
 {
@@ -72,6 +75,9 @@ pub fn count_kept(kept: &KeptCargoes, life: Life) -> usize
 }
 
 /// Appends the packets of a life that are among cargoes that are kept.
+///
+/// # Errors
+/// Want of memory.
 pub fn list_kept(
     packets: &mut Vec<Packet>,
     kept: &KeptCargoes,

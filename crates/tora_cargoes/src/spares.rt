@@ -1,5 +1,5 @@
 //! Lists that stand ready for lanes which have no place left.
-ghost use Rattle.std.specs.Prelude.{◌≡◌, ◌<◌, ◌≤◌, ◌+◌, [], length, vec_capacity, slice_index, OnOk, IfErr};
+ghost use Rattle.std.specs.Prelude.{◌≡◌, ◌<◌, ◌≤◌, ◌+◌, [], length, vec_capacity, slice_index, OnOk};
 ghost use Rattle.tora_seat.specs.declared.TheConstants.{MOST_CARGOES};
 ghost use Rattle.tora_cargoes.specs.declared.near_cargoes.TheConstants.{NEAR};
 ghost use Rattle.tora_cargoes.specs.Lane.{IsWhole, AreWhole, AreOthersAsWhole};
@@ -9,7 +9,6 @@ use std::alloc::{AllocError, Global};
 use std::marker::Model;
 use std::mem;
 use tora_seat::{Cargo, MOST_CARGOES};
-use tora_world::SimError;
 
 /// A list without cargoes.
 #[derive(Drop)]
@@ -36,6 +35,9 @@ impl Spare {
     }
 
     /// Takes the memory for all cargoes that a lane holds, and for those that stand near.
+    ///
+    /// # Errors
+    /// Want of memory.
     fn make_whole(&mut self) -> Result<(), AllocError>
         ensures { OnOk result (MOST_CARGOES + NEAR ≤ self.new) }
     {
@@ -52,9 +54,9 @@ impl Spare {
     }
 }
 
-/// One such list for each place of a node's neighbours. A lane that takes the one of its place keeps it, and before the next turn of a core
-/// another one is made: so memory for all that an item can put is there before it is served, and only lanes of which much waited at a time have a
-/// list.
+/// One such list for each place of a node's neighbours. A lane that takes the one of its place has it until it is made short, when the list comes
+/// back, or until no cargo waits there before a turn of the core, when its memory is given back. Before the next turn another one is made: so memory
+/// for all that an item can put is there before it is served, and only lanes of which much waited at a time have a list.
 #[derive(Drop)]
 pub struct Spares {
     lists: Vec<Spare>,
@@ -88,11 +90,10 @@ impl Spares {
     /// Makes so many of the first ones whole.
     ///
     /// # Errors
-    /// `Memory`.
+    /// Want of memory.
     #[inline(always)]
-    pub fn make_whole(&mut self, count: usize) -> Result<(), SimError>
-        ensures whole { OnOk result (AreWhole self.new count) }
-        ensures memory { IfErr result (λ e. e ≡ SimError.Memory) }
+    pub fn make_whole(&mut self, count: usize) -> Result<(), AllocError>
+        ensures { OnOk result (AreWhole self.new count) }
     {
         if count <= self.whole {
             return Ok(());
@@ -101,19 +102,19 @@ impl Spares {
     }
 
     /// The same where some are not known to be.
+    ///
+    /// # Errors
+    /// Want of memory.
     #[inline(never)]
-    fn make_more(&mut self, count: usize) -> Result<(), SimError>
-        ensures whole { OnOk result (AreWhole self.new count) }
-        ensures memory { IfErr result (λ e. e ≡ SimError.Memory) }
+    fn make_more(&mut self, count: usize) -> Result<(), AllocError>
+        ensures { OnOk result (AreWhole self.new count) }
     {
-        if make_all(&mut self.lists, self.whole, count).is_err() {
-            return Err(SimError::Memory);
-        }
+        make_all(&mut self.lists, self.whole, count)?;
         self.whole = count;
         Ok(())
     }
 
-    /// The list of a place, for good.
+    /// The list of a place, for the lane that takes it. One without memory stands in its place then.
     pub fn take(&mut self, place: usize) -> Vec<Cargo>
         requires { IsWhole self.old place }
         ensures items { result.items ≡ [] }
@@ -153,6 +154,9 @@ impl Spares {
 }
 
 /// Makes whole all lists from the place `from` on up to so many.
+///
+/// # Errors
+/// Want of memory.
 fn make_all(lists: &mut Vec<Spare>, from: usize, count: usize) -> Result<(), AllocError>
     requires within { from ≤ length lists.old.items }
     requires whole { AreWhole lists.old.items from }
@@ -168,6 +172,9 @@ fn make_all(lists: &mut Vec<Spare>, from: usize, count: usize) -> Result<(), All
 }
 
 /// Makes the list of a place whole, which comes anew where it is the next one.
+///
+/// # Errors
+/// Want of memory.
 fn make_one(lists: &mut Vec<Spare>, place: usize) -> Result<(), AllocError>
     requires { place ≤ length lists.old.items }
     ensures whole { OnOk result (IsWhole lists.new.items place) }

@@ -1,5 +1,5 @@
 -- Datagrams as they are kept: the headers of all frames stand in one list, and the packets of all DATA frames in another.
-use Rattle.std.specs.Prelude.{◌≡◌, ◌≢◌, ℕ, ◌+◌, ◌≤◌, ◌<◌, ◌++◌, List, Option, None, Some, length, slice_get, slice_range}
+use Rattle.std.specs.Prelude.{◌≡◌, ◌≢◌, ℕ, ◌+◌, ◌-◌, ◌^◌, ◌≤◌, ◌<◌, ◌++◌, List, Option, None, Some, Vec, length, map, min, slice_get, slice_range, vec_capacity}
 use Rattle.tora_packet.specs.declared.Packet.{Packet}
 use Rattle.tora_frame.specs.declared.parts.Version.TheVariants.{One}
 use Rattle.tora_frame.specs.declared.parts.Header.{Header}
@@ -24,12 +24,9 @@ pub record DatagramList : Type 0 where
 abbrev pub way_of : FrameParts → ℕ × ℕ
 way_of f = (f.header.sender, f.header.receiver)
 
--- room for so many frames and packets is room for one more frame
-abbrev pub IsRoom : ℕ → ℕ → Type 0
-IsRoom places packet_places = (0 < places) × (16 ≤ packet_places)
-
+-- there is room for one more frame, with as many packets as a frame carries at most
 abbrev pub HasRoom : DatagramList → Type 0
-HasRoom d = IsRoom d.places d.packet_places
+HasRoom d = (0 < d.places) × (16 ≤ d.packet_places)
 
 -- the body that is kept so
 abbrev pub body_in : List Packet → KeptBody → Body
@@ -82,6 +79,18 @@ pub record IsKept (headers : List Header) (packets : List Packet) (apart : List 
   pub header : (wide_in apart kept).header < length headers
   pub within : IsWithin packets (wide_in apart kept).body
   pub frame : IsFrame (frame_in headers packets apart kept)
+
+-- for how many more items a list has memory whose places fit 32 bits
+abbrev pub short_places : {A : Type 0} {B : Type 0} → Vec A B → ℕ
+short_places items = min (vec_capacity items - length items.items) (2 ^ 32 - length items.items)
+
+-- the frames that are kept in these lists, and for how many more there is room
+abbrev pub kept_list : {A B C D : Type 0} → Vec Header A → Vec KeptFrame B → Vec Packet C → Vec WideFrame D → DatagramList
+kept_list headers frames packets apart = record {
+  items = map (frame_in headers.items packets.items apart.items) frames.items;
+  places = min (min (vec_capacity frames - length frames.items) (short_places headers)) (short_places apart);
+  packet_places = short_places packets;
+}
 
 -- how a frame of such a header and body is kept, whatever frames stand apart
 pub record IsShort (header : ℕ) (body : KeptBody) (kept : KeptFrame) : Type 0 where

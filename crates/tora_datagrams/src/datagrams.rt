@@ -80,6 +80,9 @@ impl Datagrams {
     }
 
     /// Makes room for one more, which the link end at a place sends.
+    ///
+    /// # Errors
+    /// Want of memory, or as many frames as can be kept.
     #[inline(always)]
     pub fn reserve(&mut self, end: usize) -> Result<(), AllocError>
         ensures items { self.new.items ≡ self.old.items }
@@ -97,7 +100,7 @@ impl Datagrams {
     /// Makes room for one more, and counts for how many there is room then.
     ///
     /// # Errors
-    /// Want of memory.
+    /// Want of memory, or as many frames as can be kept.
     #[inline(never)]
     fn make_room(&mut self) -> Result<(), AllocError>
         ensures items { self.new.items ≡ self.old.items }
@@ -301,6 +304,9 @@ impl Datagrams {
     }
 
     /// The same datagrams, whose frames are kept anew.
+    ///
+    /// # Errors
+    /// Want of memory.
     fn renewed(&self) -> Result<Datagrams, AllocError>
         ensures { IfOk result (λ renewed. renewed.items ≡ self.now.items) }
     {
@@ -313,6 +319,9 @@ impl Datagrams {
     }
 
     /// Appends the datagram that stands behind so many others of these.
+    ///
+    /// # Errors
+    /// Want of memory.
     fn push_from(&mut self, datagrams: &Datagrams, place: usize) -> Result<(), AllocError>
         ensures { OnOk result (self.new.items ≡ self.old.items ++ option_to_list (slice_get datagrams.now.items place)) }
     {
@@ -405,23 +414,10 @@ fn hello_place(
     if let Some(place) = found_hello(hellos, frames, end, header) {
         return (place, true);
     }
-    // By value, and by its fields: where it lies in memory for a call, or what fills it up is moved as well, each HELLO is written there and read
-    // from there.
-    (keep_hello(frames, hellos, end, same_header(header)), false)
-}
-
-/// The header, put together by its fields.
-#[inline(always)]
-fn same_header(header: &Header) -> Header
-    ensures { result ≡ header.now }
-{
-    Header {
-        version: header.version,
-        sender: header.sender,
-        receiver: header.receiver,
-        life: header.life,
-        heard: header.heard,
-    }
+    // By value, and put together by its fields: where it lies in memory for a call, or what fills it up is moved as well, each HELLO is written
+    // there and read from there.
+    let header = recent_hello(header, 0).header();
+    (keep_hello(frames, hellos, end, header), false)
 }
 
 /// For how many more it is known that there is room, behind one for which there was: one less, if there is room for a frame, as where none came,

@@ -16,6 +16,7 @@ pub struct FirstDatagrams {
 /// Datagrams that are gone, in the order in which they were sent. No memory holds them.
 #[derive(Drop)]
 pub struct GoneDatagrams {
+    /// The frames.
     pub ghost frames: { List FrameParts },
 }
 

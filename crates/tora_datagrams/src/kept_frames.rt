@@ -57,6 +57,7 @@ pub enum KeptBody {
 pub struct WideFrame {
     /// The number of its header.
     pub header: u32,
+    /// What it carries.
     pub body: KeptBody,
 }
 
@@ -66,7 +67,9 @@ const NO_HEADER: u32 = 0xffff_ffff;
 /// What is guessed of a frame by the last one of its form: the place where it stands if it has the same mark.
 #[derive(Clone, Copy, Debug, PartialEq, Eq)]
 pub struct Guess {
+    /// Where it stands among all frames that are kept.
     pub place: u32,
+    /// The last 32 bits of the number of a DATA frame, or of the count of an ACK.
     pub mark: u32,
 }
 
@@ -129,19 +132,15 @@ pub struct KeptFrames {
 }
 
 impl Model for KeptFrames {
-    ghost use Rattle.std.specs.Prelude.{◌-◌, ◌^◌, ◌≡◌, true, map, min, length, vec_capacity};
+    ghost use Rattle.std.specs.Prelude.{◌≡◌, true};
     ghost use Rattle.std.specs.List.{AllByRecursion};
-    ghost use Rattle.tora_datagrams.specs.Datagrams.{AreLasts, DatagramList, IsKept, IsRoom, frame_in};
+    ghost use Rattle.tora_datagrams.specs.Datagrams.{AreLasts, DatagramList, HasRoom, IsKept, kept_list};
 
     ghost Value = { DatagramList };
 
-    ghost view = { λ d. record {
-      items = map (frame_in d.headers.items d.packets.items d.apart.items) d.frames.items;
-      places = min (min (vec_capacity d.frames - length d.frames.items) (min (vec_capacity d.headers - length d.headers.items) (2 ^ 32 - length d.headers.items))) (min (vec_capacity d.apart - length d.apart.items) (2 ^ 32 - length d.apart.items));
-      packet_places = min (vec_capacity d.packets - length d.packets.items) (2 ^ 32 - length d.packets.items);
-    } };
+    ghost view = { λ d. kept_list d.headers d.frames d.packets d.apart };
 
-    ghost invariant = { λ d. AllByRecursion (IsKept d.headers.items d.packets.items d.apart.items) d.frames.items × (d.is_ready ≡ true → IsRoom (min (min (vec_capacity d.frames - length d.frames.items) (min (vec_capacity d.headers - length d.headers.items) (2 ^ 32 - length d.headers.items))) (min (vec_capacity d.apart - length d.apart.items) (2 ^ 32 - length d.apart.items))) (min (vec_capacity d.packets - length d.packets.items) (2 ^ 32 - length d.packets.items))) × AreLasts d.lasts.items d.headers.items };
+    ghost invariant = { λ d. AllByRecursion (IsKept d.headers.items d.packets.items d.apart.items) d.frames.items × (d.is_ready ≡ true → HasRoom (kept_list d.headers d.frames d.packets d.apart)) × AreLasts d.lasts.items d.headers.items };
 }
 
 impl KeptFrames {
@@ -168,6 +167,9 @@ impl KeptFrames {
     }
 
     /// Makes room for one more. Where it is known that there is room nothing is asked.
+    ///
+    /// # Errors
+    /// Want of memory, or as many headers, packets or frames apart as can be kept.
     #[inline(always)]
     pub fn reserve(&mut self) -> Result<(), AllocError>
         ensures items { self.new.items ≡ self.old.items }
@@ -180,19 +182,16 @@ impl KeptFrames {
     }
 
     /// Makes room for one more.
+    ///
+    /// # Errors
+    /// Want of memory, or as many headers, packets or frames apart as can be kept.
     #[inline(never)]
     fn make_room(&mut self) -> Result<(), AllocError>
         ensures items { self.new.items ≡ self.old.items }
         ensures room { OnOk result (HasRoom self.new) }
     {
         self.is_ready = false;
-        if self.headers.len() >= MOST_KEPT {
-            return Err(AllocError);
-        }
-        if self.packets.len() > MOST_KEPT - MOST_PACKETS {
-            return Err(AllocError);
-        }
-        if self.apart.len() >= MOST_KEPT {
+        if !may_grow(&self.headers, &self.packets, &self.apart) {
             return Err(AllocError);
         }
         self.headers.reserve(1)?;
@@ -303,6 +302,18 @@ impl KeptFrames {
     }
 }
 
+/// Whether fewer than the most stand in these lists, so that each place of one more frame fits 32 bits, whatever it carries.
+#[inline(always)]
+fn may_grow(headers: &Vec<Header>, packets: &Vec<Packet>, apart: &Vec<WideFrame>) -> bool
+    ensures headers { result ≡ true → vec_len headers.now < 2 ^ 32 }
+    ensures packets { result ≡ true → vec_len packets.now + 16 ≤ 2 ^ 32 }
+    ensures apart { result ≡ true → vec_len apart.now < 2 ^ 32 }
+{
+    headers.len() < MOST_KEPT
+        && packets.len() + MOST_PACKETS <= MOST_KEPT
+        && apart.len() < MOST_KEPT
+}
+
 /// Whether there is room for one more frame in these lists, whatever it carries.
 #[inline(always)]
 fn is_room(
@@ -316,10 +327,11 @@ fn is_room(
     ensures packets { result ≡ true → (vec_len packets.now + 16 ≤ vec_capacity packets.now) × (vec_len packets.now + 16 ≤ 2 ^ 32) }
     ensures apart { result ≡ true → (vec_len apart.now < vec_capacity apart.now) × (vec_len apart.now < 2 ^ 32) }
 {
-    headers.len() < headers.capacity().min(MOST_KEPT)
+    may_grow(headers, packets, apart)
+        && headers.len() < headers.capacity()
         && frames.len() < frames.capacity()
-        && packets.len() + MOST_PACKETS <= packets.capacity().min(MOST_KEPT)
-        && apart.len() < apart.capacity().min(MOST_KEPT)
+        && packets.len() + MOST_PACKETS <= packets.capacity()
+        && apart.len() < apart.capacity()
 }
 
 /// Makes a place for what a link end sends last.
@@ -474,6 +486,7 @@ fn last_place(packets: &[Packet], carried: &[Packet]) -> Option<usize>
     None
 }
 
+/// Appends packets. There must be room for them.
 fn append(packets: &mut Vec<Packet>, carried: &[Packet])
     requires { vec_len packets.old + length carried.now ≤ vec_capacity packets.old }
     ensures { packets.new.items ≡ packets.old.items ++ carried.now }

@@ -26,6 +26,7 @@ pub struct RecentFrame {
     /// A guess: who takes it looks which end stands there.
     pub far_end: u32,
     version: Version,
+    /// Whether it is known to be a HELLO.
     pub is_hello: bool,
 }
 
@@ -172,6 +173,7 @@ fn known(place: u32) -> Option<u32>
 pub struct Recents {
     /// The place of the first of them among all datagrams.
     pub first: usize,
+    /// What is kept of it and of those behind it.
     pub frames: Vec<RecentFrame>,
 }
 

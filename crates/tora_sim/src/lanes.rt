@@ -140,7 +140,9 @@ pub fn make_room(
     ensures whole { OnOk result (AreWhole spares.new lists) }
     ensures memory { IfErr result (λ e. e ≡ SimError.Memory) }
 {
-    spares.make_whole(lists)?;
+    if spares.make_whole(lists).is_err() {
+        return Err(SimError::Memory);
+    }
     for place in 0..count {
         let at = first + place;
         make_room_at(links, ready, at)?;

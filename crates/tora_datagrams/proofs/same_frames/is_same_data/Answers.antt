@@ -6,4 +6,4 @@ pub returns : goal.returns
 returns c same =
     let number : c.args.number ≡ c.args.other = omega arith in
     let count : c.args.count ≡ c.args.accepted = omega arith in
-    same_data c.args.number c.args.other c.args.count c.args.accepted c.args.packets.now c.args.others.now number count (c.are_same_packets.ensures same)
+    same_data c.args.number c.args.other c.args.count c.args.accepted c.args.packets.now c.args.others.now number count (c.are_same_packets.ensures.0 same)

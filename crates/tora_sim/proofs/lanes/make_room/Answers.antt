@@ -49,5 +49,5 @@ returns-clause-marks c = c.loop-place.invariant.marks
 pub returns-clause-kept : goal.returns-clause-kept
 returns-clause-kept c = c.loop-place.invariant.kept
 
-pub returns-in_err-make_whole-clause-kept : goal.returns-in_err-make_whole-clause-kept
-returns-in_err-make_whole-clause-kept c = all_kept c.args.ready.now.items
+pub returns-then-is_err-clause-kept : goal.returns-then-is_err-clause-kept
+returns-then-is_err-clause-kept c = all_kept c.args.ready.now.items
