@@ -177,8 +177,9 @@ pub fn make_room_at(
     Ok(())
 }
 
-/// Makes the lists of the lanes at the `count` ends from the place `first` on no longer than their cargoes need: the long ones go to the spare ones, from
-/// which the next lanes take them, so that the same few are written. Ends that are ready are not looked at.
+/// Of the lanes at the `count` ends from the place `first` on, puts the cargoes of each whose list has memory for more than four times as many into one that
+/// is no longer than they need: the long ones go to the spare ones, from which the next lanes take them, so that the same few are written. Ends that are
+/// ready are not looked at.
 pub fn shorten(
     links: &mut Vec<LinkSlot>,
     ready: &Vec<bool>,

@@ -397,8 +397,8 @@ impl LinkSlot {
         self.parts.make_ready()
     }
 
-    /// Makes the list of the lane no longer than its cargoes need, where one waits: the long one goes to the spare ones, in the place of that of the
-    /// place `spare`.
+    /// Where the list of the lane has memory for more than four times its cargoes, and one waits, puts them into one that is no longer than they need: the
+    /// long one goes to the spare ones, in the place of that of the place `spare`.
     #[inline(always)]
     pub fn shorten(&mut self, spares: &mut Spares, spare: usize)
         ensures { bare self.new ≡ bare self.old }

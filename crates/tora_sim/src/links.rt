@@ -265,7 +265,8 @@ impl LinkParts {
         Ok(!self.has_cargo())
     }
 
-    /// Makes the list of the lane no longer than its cargoes need: the long one goes to the spare ones, in the place of that of the place `spare`.
+    /// Where the list of the lane has memory for more than four times its cargoes, puts them into one that is no longer than they need, as `Lane::shorten`
+    /// does: the long one goes to the spare ones, in the place of that of the place `spare`.
     #[inline(always)]
     pub fn shorten(&mut self, spares: &mut Spares, spare: usize)
         ensures { bare self.new ≡ bare self.old }

@@ -166,8 +166,8 @@ impl Sim {
         }
     }
 
-    /// Makes the lists of the lanes at so many link ends from the place `first` on no longer than their cargoes need, where a lane took a list, once no
-    /// item waits for the core of the node at the place `home`: so it puts no more into them before they are pulled.
+    /// Of the lanes at so many link ends from the place `first` on, gives the lists with memory for more than four times their cargoes back to the spare ones,
+    /// where a lane took a list, once no item waits for the core of the node at the place `home`: so it puts no more into them before they are pulled.
     #[inline(always)]
     pub(crate) fn shorten_lanes(&mut self, home: usize, first: usize, count: usize)
         requires node { home < length self.old.nodes }
