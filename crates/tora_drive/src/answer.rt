@@ -5,7 +5,7 @@ ghost use Rattle.std.specs.Option.{option_map_or};
 ghost use Rattle.tora_lines.specs.Gives.{Gives};
 ghost use Rattle.tora_lines.specs.LineText.{TakesReply};
 ghost use Rattle.tora_world.specs.World.{refusal_of, world_after_all};
-ghost use Rattle.tora_script.specs.declared.rounds.EndTurn.TheVariants.{Open};
+ghost use Rattle.tora_script.specs.declared.turns.EndTurn.TheVariants.{Open};
 ghost use Rattle.tora_script.specs.Rounds.{plan_then, each_end_once};
 ghost use Rattle.tora_script.specs.RunningView.{running_view};
 ghost use Rattle.tora_script.specs.SimulationText.{refusal_text, event_reply, has_end};
