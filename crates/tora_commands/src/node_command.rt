@@ -241,6 +241,27 @@ fn tell_ended<R: Files<File = File> + AllocGlobal + Eprint>(
     }
 }
 
+/// The exit status of a node that has ended, after its line on standard error and what says more of the cause. Its life files are in
+/// `folder`.
+fn finish<R: Files<File = File> + AllocGlobal + Eprint>(
+    rt: &R,
+    folder: &str,
+    ended: Result<Ended, NodeError>,
+    is_verbose: bool,
+) -> ExitCode
+    ensures { exit_status result ≡ status_of_node ended }
+{
+    let cause = match &ended {
+        Ok(_) => None,
+        Err(error) => Some(*error),
+    };
+    let code = status(rt, ended);
+    if let Some(error) = cause {
+        tell_ended(rt, folder, error, is_verbose);
+    }
+    code
+}
+
 /// Reads the configuration, binds the sockets, opens the life files, and runs the node, which logs to `log`, until its
 /// commands end it.
 ///
@@ -325,15 +346,7 @@ fn run_over<
         return code_of(say(rt, Fault::Config));
     }
     let ended = run_node_with_wakers(log, alloc, node, lent, disks, wakers, clock, reader, writer);
-    let cause = match &ended {
-        Ok(_) => None,
-        Err(error) => Some(*error),
-    };
-    let code = status(rt, ended);
-    if let Some(error) = cause {
-        tell_ended(rt, config.life_dir.as_str(), error, is_verbose);
-    }
-    code
+    finish(rt, config.life_dir.as_str(), ended, is_verbose)
 }
 
 /// The node of a configuration.

@@ -144,6 +144,23 @@ pub fn run_over<S: Watched, T: AllocGlobal + Eprint, R: Read + Drop, W: Output, 
     traced_status(rt, result, out, path)
 }
 
+/// The file of a trace at a path, which is made anew, or the status where it can't be had, after its lines on standard error.
+fn make_trace<T: Files + AllocGlobal + Eprint>(
+    rt: &T,
+    path: &str,
+) -> Result<TraceOut<BufWriter<T::File>>, ExitCode>
+    ensures { IfErr result (λ code. (exit_status code ≡ 1) ⊎ (exit_status code ≡ 5)) }
+{
+    let made = match fs::create(rt, path) {
+        Ok(made) => made,
+        Err(error) => return Err(refuse_trace(rt, path, &error)),
+    };
+    match BufWriter::new(rt.alloc(), made) {
+        Ok(records) => Ok(TraceOut::new(records)),
+        Err(_) => Err(stop(rt, MEMORY, "memory")),
+    }
+}
+
 /// Simulates the lines of the file at a path, in a world that is made with this and over the channel of a channel file, and writes
 /// the trace to the file at another one, which is made anew. It is shown on standard error why events are refused, and with a bar
 /// how far the simulation is.
@@ -175,14 +192,10 @@ pub fn run<S: Watched, T: Files + AllocGlobal + Eprint + Clock, W: Output>(
         Ok(reader) => reader,
         Err(error) => return refuse(rt, path, &error),
     };
-    let made = match fs::create(rt, trace) {
-        Ok(made) => made,
-        Err(error) => return refuse_trace(rt, trace, &error),
+    let mut out = match make_trace(rt, trace) {
+        Ok(out) => out,
+        Err(code) => return code,
     };
-    let Ok(records) = BufWriter::new(rt.alloc(), made) else {
-        return stop(rt, MEMORY, "memory");
-    };
-    let mut out = TraceOut::new(records);
     if has_bar {
         let reader = Paced::new(rt, total, setup.until, reader);
         let wiping = Wiping::new(rt);

@@ -5,8 +5,8 @@ use Rattle.tora_packet.specs.PacketParts.{IsId}
 use Rattle.tora_world.specs.declared.event.Event.{Event}
 use Rattle.tora_world.specs.declared.event.Event.TheVariants.{Tick, Transmit, CoreTurn}
 use Rattle.tora_world.specs.World.{World, is_empty, refusal_of, world_after, world_after_all}
-use Rattle.tora_script.specs.declared.rounds.EndTurn.{EndTurn}
-use Rattle.tora_script.specs.declared.rounds.EndTurn.TheVariants as turn
+use Rattle.tora_script.specs.declared.turns.EndTurn.{EndTurn}
+use Rattle.tora_script.specs.declared.turns.EndTurn.TheVariants as turn
 use Rattle.tora_script.specs.Rounds.{Plan, repeats, once, while_possible, plan_then, each, each_core, each_end, each_end_once, end_event}
 use Rattle.tora_drive.specs.Scripts.{HasNumbers, IsEnd, StepsHaveNumbers}
 use Rattle.tora_drive.specs.Steps.{is_far, sends_of, step_pass, step_passes, step}

@@ -8,8 +8,8 @@ use Rattle.tora_world.specs.declared.event.Event.TheVariants.{Tick, CoreTurn}
 use Rattle.tora_world.specs.Walks.{hop_at}
 use Rattle.tora_world.specs.World.{World, world_by, effect_by, world_after, world_after_all}
 use Rattle.tora_sim.specs.Quiet.{IsQuiet}
-use Rattle.tora_script.specs.declared.rounds.EndTurn.{EndTurn}
-use Rattle.tora_script.specs.declared.rounds.EndTurn.TheVariants as turn
+use Rattle.tora_script.specs.declared.turns.EndTurn.{EndTurn}
+use Rattle.tora_script.specs.declared.turns.EndTurn.TheVariants as turn
 use Rattle.tora_script.specs.Rounds.{Plan, end_event, repeats, while_possible, plan_then, each, each_core, each_end, each_end_once}
 use Rattle.tora_script.specs.SimulationText.{RunningView}
 use Rattle.tora_script.proofs.RoundLaws.{each_none, no_event, quiet_ends}

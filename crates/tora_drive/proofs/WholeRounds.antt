@@ -7,7 +7,7 @@ use Rattle.tora_channel.specs.declared.channel.Copies.{Copies}
 use Rattle.tora_channel.specs.Table.{Channels, copies_on}
 use Rattle.tora_world.specs.declared.event.Event.TheVariants.{Tick, Deliver}
 use Rattle.tora_world.specs.World.{World, datagram, world_after_all}
-use Rattle.tora_script.specs.declared.rounds.EndTurn.TheVariants as turn
+use Rattle.tora_script.specs.declared.turns.EndTurn.TheVariants as turn
 use Rattle.tora_script.specs.Parted.{is_parted}
 use Rattle.tora_script.specs.Air.{MomentView, AirView, goes, gone, copies_in, at_once, later_copy, later_copies, put_off_of, put_off, still_later, after_air}
 use Rattle.tora_script.specs.Rounds.{Plan, repeats, once, plan_then, each_core, each_end, each_end_once, arrival_of, arrival, arrivals, delivery_of, delivery, deliveries, new_deliveries, pass, passes, round, Sky, moment_of, sky_behind, after_round, rounds}

@@ -19,6 +19,7 @@ use Rattle.tora_world.specs.declared.sim_error.SimError.TheVariants as Refused
 use Rattle.tora_world.specs.World.{World, datagram, refusal_of, world_after_all}
 use Rattle.tora_sim.specs.Cuts.{after_cut_at}
 use Rattle.tora_sim.specs.Readers.{flag_at}
+use Rattle.tora_script.specs.declared.script_line.SimulationLine.{SimulationLine}
 use Rattle.tora_script.specs.declared.script_line.SimulationLine.TheVariants.{Happens, Rounds, Part, Mend, Heights, Sent, Taken, Exact, Walk, Rest}
 use Rattle.tora_world.specs.declared.limits.Limits.{Limits}
 use Rattle.tora_script.specs.Simulator.{has_topology, started}
@@ -128,10 +129,14 @@ noticed s o n k = if is_some (bound_life (s.world.ends n k)) then shown (record 
 abbrev pub forgetting : RunningView → OwnView → ℕ → Outcome
 forgetting s o i = if nat_le i (length s.world.datagrams) then shown s (record o { forgotten = max o.forgotten i }) [] else unnamed s o
 
--- None for a fault; for a line of a simulation file, what a simulation prints for it
+-- for a line of a simulation file, what a simulation prints for it; None for a fault
+abbrev pub script_outcome : RunningView → OwnView → SimulationLine → Option Outcome
+script_outcome s o (Happens event) = Some (event_outcome s o event)
+script_outcome s o line = option_map (quiet o) (running_reply s line)
+
+-- None for a fault
 unfoldable pub outcome_of : RunningView → OwnView → DriveLine → Option Outcome
-outcome_of s o (Script (Happens event)) = Some (event_outcome s o event)
-outcome_of s o (Script line) = option_map (quiet o) (running_reply s line)
+outcome_of s o (Script line) = script_outcome s o line
 outcome_of s o Step = Some (shown (record s { world = after_step s o }) o [])
 outcome_of s o Needs = Some (shown s o (needs_text s.world s.nodes s.dests))
 outcome_of s o (Near n k) = silenced s o n k (without_far (n, k) o.far)

@@ -13,7 +13,7 @@ use Rattle.tora_world.specs.declared.event.Event.TheVariants as Happen
 use Rattle.tora_world.specs.declared.limits.Limits.{Limits}
 use Rattle.tora_world.specs.World.{World, world_after_all}
 use Rattle.tora_script.specs.declared.script_line.SimulationLine.TheVariants.{Happens, Rounds, Part, Mend, Heights, Sent, Taken, Exact, Walk, Rest}
-use Rattle.tora_script.specs.declared.rounds.EndTurn.{EndTurn}
+use Rattle.tora_script.specs.declared.turns.EndTurn.{EndTurn}
 use Rattle.tora_script.specs.Rounds.{Plan, repeats, end_event, Happened}
 use Rattle.tora_script.specs.Setup.{plain}
 use Rattle.tora_script.specs.Simulator.{started}

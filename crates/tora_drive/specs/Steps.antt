@@ -3,7 +3,7 @@ use Rattle.std.specs.Prelude.{ℕ, zero, suc, ◌==◌, ◌&&◌, Bool, if◌the
 use Rattle.std.specs.List.{list_any}
 use Rattle.tora_world.specs.declared.event.Event.TheVariants.{Tick, Transmit}
 use Rattle.tora_world.specs.World.{is_empty}
-use Rattle.tora_script.specs.declared.rounds.EndTurn.TheVariants as turn
+use Rattle.tora_script.specs.declared.turns.EndTurn.TheVariants as turn
 use Rattle.tora_script.specs.Rounds.{Plan, once, while_possible, plan_then, each, each_core, each_end_once, each_end}
 
 -- ---- silent ends

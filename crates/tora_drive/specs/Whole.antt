@@ -8,10 +8,10 @@ use Rattle.tora_world.specs.World.{World}
 use Rattle.tora_script.specs.declared.script_line.SimulationLine.{SimulationLine}
 use Rattle.tora_script.specs.declared.script_line.SimulationLine.TheVariants.{Happens}
 use Rattle.tora_script.specs.Air.{AirView}
-use Rattle.tora_script.specs.SimulationText.{RunningView, Progress, has_end, running_reply}
+use Rattle.tora_script.specs.SimulationText.{RunningView, Progress, has_end}
 use Rattle.tora_drive.specs.declared.line.DriveLine.{DriveLine}
 use Rattle.tora_drive.specs.declared.line.DriveLine.TheVariants.{Script, Step, Needs, Near, Far, Notice, Bytes, Forget}
-use Rattle.tora_drive.specs.DriveText.{OwnView, PlaceView, Outcome, quiet, shown, unnamed, named, event_outcome, silenced, noticed, forgetting, after_step, needs_text, bytes_line, with_far, without_far}
+use Rattle.tora_drive.specs.DriveText.{OwnView, PlaceView, Outcome, shown, unnamed, named, silenced, noticed, forgetting, script_outcome, after_step, needs_text, bytes_line, with_far, without_far}
 
 -- ---- from what is left to the whole
 
@@ -69,8 +69,7 @@ lowered n line = line
 
 -- what a line by these numbers does to what is left: the line of bytes has the number in the whole world
 unfoldable pub outcome_behind : ℕ → RunningView → OwnView → DriveLine → Option Outcome
-outcome_behind n s o (Script (Happens event)) = Some (event_outcome s o event)
-outcome_behind n s o (Script line) = option_map (quiet o) (running_reply s line)
+outcome_behind n s o (Script line) = script_outcome s o line
 outcome_behind n s o Step = Some (shown (record s { world = after_step s o }) o [])
 outcome_behind n s o Needs = Some (shown s o (needs_text s.world s.nodes s.dests))
 outcome_behind n s o (Near m k) = silenced s o m k (without_far (m, k) o.far)

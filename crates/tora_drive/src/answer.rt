@@ -5,11 +5,11 @@ ghost use Rattle.std.specs.Option.{option_map_or};
 ghost use Rattle.tora_lines.specs.Gives.{Gives};
 ghost use Rattle.tora_lines.specs.LineText.{TakesReply};
 ghost use Rattle.tora_world.specs.World.{refusal_of, world_after_all};
-ghost use Rattle.tora_script.specs.declared.rounds.EndTurn.TheVariants.{Open};
+ghost use Rattle.tora_script.specs.declared.turns.EndTurn.TheVariants.{Open};
 ghost use Rattle.tora_script.specs.Rounds.{plan_then, each_end_once};
 ghost use Rattle.tora_script.specs.RunningView.{running_view};
 ghost use Rattle.tora_script.specs.SimulationText.{refusal_text, event_reply, has_end};
-ghost use Rattle.tora_drive.specs.DriveText.{named, with_far, without_far, outcome, shown, unnamed, is_forgotten, event_outcome, after_step, need_line, needs_text, bytes_line, silenced, noticed, forgetting, outcome_of, closing, told, answer_to};
+ghost use Rattle.tora_drive.specs.DriveText.{named, with_far, without_far, outcome, shown, unnamed, is_forgotten, event_outcome, after_step, need_line, needs_text, bytes_line, silenced, noticed, forgetting, script_outcome, outcome_of, closing, told, answer_to};
 ghost use Rattle.tora_drive.specs.DriveView.{own_view, record_view};
 ghost use Rattle.tora_drive.specs.Recording.{events_text, with_record, step_recorded, line_recorded, answer_recorded};
 ghost use Rattle.tora_drive.specs.declared.line.DriveLine.TheVariants.{Step};
@@ -255,6 +255,26 @@ fn perform<S: Driven>(
     perform_left(alloc, running, own, gone, left, out)
 }
 
+/// Does what a line of a simulation file asks for, puts what is printed first behind an empty text, and says whether it was refused.
+fn perform_script<S: Driven>(
+    running: &mut Running<S>,
+    own: &Own,
+    line: SimulationLine,
+    out: &mut String,
+) -> Result<bool, LineError>
+    requires { string_bytes out.old ≡ [] }
+    ensures gives { Gives (λ r. outcome (running_view S.world running.new) (own_view own.now) (string_bytes out.new) r) result (script_outcome (running_view S.world running.old) (own_view own.now) line) }
+    ensures kept { result ≡ Err LineError.Fault → running_view S.world running.new ≡ running_view S.world running.old }
+{
+    match line {
+        SimulationLine::Happens(happens) => Ok(event(running, own, &happens, out)?),
+        line => {
+            running.answer(line, out)?;
+            Ok(false)
+        }
+    }
+}
+
 /// The same for a line by the numbers of the datagrams that are left, over the world that has only those.
 #[tactic(auto, unfolding(crate::specs::Whole::outcome_behind))]
 fn perform_left<S: Driven>(
@@ -272,14 +292,7 @@ fn perform_left<S: Driven>(
     ensures record { IfOk result (λ r. record_view own.new ≡ step_recorded (record_view own.old) (running_view S.world running.old) (own_view own.old) line) }
 {
     match line {
-        DriveLine::Script(SimulationLine::Happens(happens)) => {
-            let is_refused = event(running, own, &happens, out)?;
-            Ok(is_refused)
-        }
-        DriveLine::Script(line) => {
-            running.answer(line, out)?;
-            Ok(false)
-        }
+        DriveLine::Script(line) => perform_script(running, own, line, out),
         DriveLine::Step => {
             step(alloc, running, own)?;
             Ok(false)
@@ -296,18 +309,9 @@ fn perform_left<S: Driven>(
             silence(running, own, (n, k), true)?;
             Ok(false)
         }
-        DriveLine::Notice(n, k) => {
-            let is_refused = notice(running, own, (n, k), out)?;
-            Ok(is_refused)
-        }
-        DriveLine::Bytes(i) => {
-            let is_refused = write_bytes(running, own, gone, i, out)?;
-            Ok(is_refused)
-        }
-        DriveLine::Forget(i) => {
-            let is_refused = forget(running, own, i, out)?;
-            Ok(is_refused)
-        }
+        DriveLine::Notice(n, k) => notice(running, own, (n, k), out),
+        DriveLine::Bytes(i) => Ok(write_bytes(running, own, gone, i, out)?),
+        DriveLine::Forget(i) => Ok(forget(running, own, i, out)?),
     }
 }
 

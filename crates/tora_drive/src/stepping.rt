@@ -2,7 +2,7 @@
 ghost use Rattle.std.specs.Prelude.{◌≡◌, ◌||◌, IfOk};
 ghost use Rattle.tora_world.specs.World.{world_after, world_after_all};
 ghost use Rattle.tora_world.specs.declared.event.Event.TheVariants.{Tick};
-ghost use Rattle.tora_script.specs.declared.rounds.EndTurn.TheVariants.{Open};
+ghost use Rattle.tora_script.specs.declared.turns.EndTurn.TheVariants.{Open};
 ghost use Rattle.tora_script.specs.Rounds.{plan_then, each, each_end_once, Happened, AreKnown};
 ghost use Rattle.tora_drive.specs.Steps.{is_far, sends_of, step_pass, step_passes};
 

@@ -14,8 +14,8 @@ use Rattle.tora_script.specs.Parted.{is_parted}
 use Rattle.tora_script.specs.Air.{MomentView, copies_in, at_once}
 use Rattle.tora_script.specs.Ways.{way_in}
 use Rattle.tora_sim.specs.Quiet.{IsQuiet}
-use Rattle.tora_script.specs.declared.rounds.EndTurn.{EndTurn}
-use Rattle.tora_script.specs.declared.rounds.EndTurn.TheVariants as turn
+use Rattle.tora_script.specs.declared.turns.EndTurn.{EndTurn}
+use Rattle.tora_script.specs.declared.turns.EndTurn.TheVariants as turn
 use Rattle.tora_script.specs.Rounds.{Plan, end_event, repeats, plan_then, each, delivery_of, delivery, deliveries, pass, passes, after_round, rounds, Sky, Happened}
 
 pub after_append : (w : World) (xs ys : List Event) → world_after_all w (xs ++ ys) ≡ world_after_all (world_after_all w xs) ys

@@ -11,8 +11,8 @@ use Rattle.tora_channel.specs.Table.{Channels}
 use Rattle.tora_sim.specs.Readers.{ends_in}
 use Rattle.tora_script.specs.Air.{MomentView, AirView, air_view, copies_in, at_once, after_air}
 use Rattle.tora_script.specs.declared.air.Air.{Air}
-use Rattle.tora_script.specs.declared.rounds.EndTurn.{EndTurn}
-use Rattle.tora_script.specs.declared.rounds.EndTurn.TheVariants as turn
+use Rattle.tora_script.specs.declared.turns.EndTurn.{EndTurn}
+use Rattle.tora_script.specs.declared.turns.EndTurn.TheVariants as turn
 
 -- ---- plans: which events happen next (`repeats` is one: an event again and again until it is refused, and so many times at most)
 

@@ -7,8 +7,8 @@ ghost use Rattle.tora_script.specs.Ways.{AreCounted};
 
 use crate::air::{Moment, at_once, copies, counted_copies};
 use crate::parted::Parted;
-use crate::rounds::either;
 use crate::simulator::Simulator;
+use crate::turns::either;
 use crate::ways::Ways;
 use std::alloc::{AllocError, Global};
 use tora_channel::ChannelTable;

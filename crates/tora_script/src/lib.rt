@@ -27,6 +27,7 @@ mod simulation_file;
 mod simulator;
 mod taking;
 mod told_simulation;
+mod turns;
 mod ways;
 mod world_simulator;
 
@@ -36,10 +37,7 @@ pub use clear::clear_channel_delivers_at_once;
 pub use link_lines::LinkLines;
 pub use parse::{is_word, link, old, pair, simulation_line, simulation_lines_are_read_as_written};
 pub use parted::{Parted, is_parted};
-pub use rounds::{
-    EndTurn, are_known, make_parted_rounds, make_parted_rounds_over, make_rounds, make_rounds_over,
-    next_place, repeat, turn_cores, turn_end, turn_known_ends,
-};
+pub use rounds::{make_parted_rounds, make_parted_rounds_over, make_rounds, make_rounds_over};
 pub use running_simulation::{Running, has_end};
 pub use script_line::SimulationLine;
 pub use setup::Setup;
@@ -51,3 +49,4 @@ pub use simulator::Simulator;
 pub use told_simulation::{
     Told, simulate_telling, simulate_telling_last, simulate_told, tell_cause,
 };
+pub use turns::{EndTurn, are_known, next_place, repeat, turn_cores, turn_end, turn_known_ends};

@@ -6,7 +6,7 @@ ghost use Rattle.tora_script.specs.SimulationText.{with_parted, without_parted};
 
 use crate::pair_bits::{SMALL, clear_bit, has_bit, make_bits, set_bit};
 use crate::pair_record::{NodePair, PairRecord};
-use crate::rounds::either;
+use crate::turns::either;
 use std::alloc::{AllocError, Global};
 use std::collections::HashSet;
 use std::marker::Model;

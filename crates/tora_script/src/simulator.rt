@@ -12,7 +12,7 @@ ghost use Rattle.tora_sim.specs.Steps.{repeats, Happened};
 ghost use Rattle.tora_world.specs.Walks.{height_at, hop_at, exact_in, walk_of};
 ghost use Rattle.tora_world.specs.Rest.{rests};
 
-use crate::rounds::repeat;
+use crate::turns::repeat;
 use std::alloc::{AllocError, Global};
 use tora_arq::{Life, Times};
 use tora_core::CoreError;

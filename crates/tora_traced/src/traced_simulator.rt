@@ -134,15 +134,15 @@ impl<S: Watched> Traced<S> {
         }
     }
 
-    /// Makes an event happen, and tells what it did.
-    fn step(&mut self, event: &Event) -> Result<Option<SimError>, AllocError>
+    /// Makes an event happen, and tells what it did. The place is that of its node or link end.
+    fn step(&mut self, place: usize, event: &Event) -> Result<Option<SimError>, AllocError>
         ensures refused { IfOk result (λ refused. refused ≡ refusal_of (S.world self.old.sim) event.now) }
         ensures after { IfOk result (λ _. S.world self.new.sim ≡ world_after (S.world self.old.sim) event.now) }
         ensures told { IfOk result (λ refused. Records self.old.parted (S.world self.old.sim) event.now (S.world self.new.sim) self.old.trace self.new.trace refused) }
         ensures kept { self.new.parted ≡ self.old.parted }
     {
         let before = self.before(event);
-        let refused = self.sim.happen(event)?;
+        let refused = self.sim.happen_at(place, event)?;
         match refused {
             None => {
                 self.tell(event, before)?;
@@ -162,7 +162,7 @@ impl<S: Watched> Traced<S> {
             if !self.sim.may_happen(place, event) {
                 return Ok(some);
             }
-            let refused = self.step(event)?;
+            let refused = self.step(place, event)?;
             match refused {
                 None => some = true,
                 Some(_) => return Ok(some),
@@ -216,6 +216,11 @@ impl<S: Watched> Simulator for Traced<S> {
         self.sim.may_turn()
     }
 
+    #[inline(always)]
+    fn next_core(&self, nodes: &[Id], place: usize) -> usize {
+        self.sim.next_core(nodes, place)
+    }
+
     fn has_ends(&self, ends: &[(Id, Id)]) -> bool {
         self.sim.has_ends(ends)
     }
@@ -235,7 +240,11 @@ impl<S: Watched> Simulator for Traced<S> {
     }
 
     fn happen(&mut self, event: &Event) -> Result<Option<SimError>, AllocError> {
-        self.step(event)
+        self.step(0, event)
+    }
+
+    fn happen_at(&mut self, place: usize, event: &Event) -> Result<Option<SimError>, AllocError> {
+        self.step(place, event)
     }
 
     fn transmit(&mut self, place: usize, end: (Id, Id), most: u64) -> Result<bool, AllocError> {

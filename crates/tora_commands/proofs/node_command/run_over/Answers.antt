@@ -4,8 +4,8 @@ use Rattle.tora_commands.specs.Statuses.{IsEndOf}
 use Rattle.tora_commands.proofs.NodeEnds.{ended_so}
 use Rattle.tora_commands.proofs.node_command.run_over.Goals as goal
 
-pub returns-in-Some : goal.returns-in-Some
-returns-in-Some g c =
+pub returns : goal.returns
+returns g c =
     let ended = c.run_node_with_wakers-ended.result in
     let node = c.run_node_with_wakers-ended.ensures in
     let so = ended_so c.in-Ok-node_of.node ended node.core node.links node.cause in
@@ -16,22 +16,6 @@ returns-in-Some g c =
         is = c.requires;
         ended = ended;
         end_is = subst (λ (first : CoreView). IsEndOf first ended) c.in-Ok-node_of.ensures so;
-        status_is = c.status-code.ensures;
-      },
-    ))
-
-pub returns-in_default : goal.returns-in_default
-returns-in_default g c =
-    let ended = c.run_node_with_wakers-ended.result in
-    let node = c.run_node_with_wakers-ended.ensures in
-    let so = ended_so c.in-Ok-node_of.node ended node.core node.links node.cause in
-    inr (inr (
-      refl,
-      record {
-        config = c.args.config.now;
-        is = c.requires;
-        ended = ended;
-        end_is = subst (λ (first : CoreView). IsEndOf first ended) c.in-Ok-node_of.ensures so;
-        status_is = c.status-code.ensures;
+        status_is = c.finish.ensures;
       },
     ))

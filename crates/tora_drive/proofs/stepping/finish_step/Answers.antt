@@ -1,4 +1,4 @@
-use Rattle.tora_script.specs.declared.rounds.EndTurn.TheVariants as turn
+use Rattle.tora_script.specs.declared.turns.EndTurn.TheVariants as turn
 use Rattle.tora_script.specs.Rounds.{each_end_once}
 use Rattle.tora_drive.specs.Steps.{step_passes}
 use Rattle.tora_script.proofs.RoundLaws.{after_then}

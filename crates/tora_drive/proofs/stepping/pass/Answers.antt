@@ -1,4 +1,4 @@
-use Rattle.tora_script.specs.declared.rounds.EndTurn.TheVariants as turn
+use Rattle.tora_script.specs.declared.turns.EndTurn.TheVariants as turn
 use Rattle.tora_script.specs.Rounds.{plan_then, each, each_core, each_end}
 use Rattle.tora_script.proofs.RoundLaws.{Happened-then}
 use Rattle.tora_script.proofs.KnownEnds.{known_then}

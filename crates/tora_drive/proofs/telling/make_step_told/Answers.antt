@@ -1,6 +1,6 @@
 use Rattle.std.proofs.Common.{string_bytes}
 use Rattle.tora_world.specs.declared.event.Event.TheVariants.{Tick}
-use Rattle.tora_script.specs.declared.rounds.EndTurn.TheVariants as turn
+use Rattle.tora_script.specs.declared.turns.EndTurn.TheVariants as turn
 use Rattle.tora_script.specs.Rounds.{once, plan_then, each_end_once}
 use Rattle.tora_drive.specs.Steps.{step_passes, step}
 use Rattle.tora_drive.proofs.TellLaws.{all_told, all_told_then}

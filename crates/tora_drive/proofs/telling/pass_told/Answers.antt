@@ -1,5 +1,5 @@
 use Rattle.std.proofs.Common.{string_bytes}
-use Rattle.tora_script.specs.declared.rounds.EndTurn.TheVariants as turn
+use Rattle.tora_script.specs.declared.turns.EndTurn.TheVariants as turn
 use Rattle.tora_script.specs.Rounds.{plan_then, each, each_core, each_end}
 use Rattle.tora_drive.specs.Steps.{sends_of, step_pass}
 use Rattle.tora_drive.proofs.TellLaws.{told_then}

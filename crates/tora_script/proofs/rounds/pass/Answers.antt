@@ -1,5 +1,5 @@
 use Rattle.std.proofs.Common.{length}
-use Rattle.tora_script.specs.declared.rounds.EndTurn.TheVariants as turn
+use Rattle.tora_script.specs.declared.turns.EndTurn.TheVariants as turn
 use Rattle.tora_script.specs.Rounds.{plan_then, each_core, each_end, new_deliveries, pass}
 use Rattle.tora_script.specs.Air.{moment_on}
 use Rattle.tora_script.proofs.RoundLaws.{Happened-then}

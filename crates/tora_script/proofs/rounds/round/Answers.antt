@@ -1,5 +1,5 @@
 use Rattle.tora_world.specs.declared.event.Event.TheVariants.{Tick}
-use Rattle.tora_script.specs.declared.rounds.EndTurn.TheVariants as turn
+use Rattle.tora_script.specs.declared.turns.EndTurn.TheVariants as turn
 use Rattle.tora_script.specs.Rounds.{once, plan_then, each_end_once, arrivals, passes, round}
 use Rattle.tora_script.specs.Air.{moment_on}
 use Rattle.tora_script.proofs.RoundLaws.{after_then}

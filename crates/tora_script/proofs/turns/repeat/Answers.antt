@@ -1,7 +1,7 @@
 use Rattle.std.proofs.Common.{◌≡◌, ◌∙◌, suc, ◌+◌, ◌-◌, sym, arith}
 use Rattle.tora_script.specs.Rounds.{repeats}
 use Rattle.tora_script.proofs.RoundLaws.{again, refused, impossible, no_more}
-use Rattle.tora_script.proofs.rounds.repeat.Goals as goal
+use Rattle.tora_script.proofs.turns.repeat.Goals as goal
 
 pub returns-then-not-may_go_on : goal.returns-then-not-may_go_on
 returns-then-not-may_go_on g c =

@@ -1,7 +1,7 @@
 use Rattle.std.proofs.Common.{◌-◌}
 use Rattle.tora_script.specs.Rounds.{repeats}
 use Rattle.tora_script.proofs.RoundLaws.{Onward}
-use Rattle.tora_script.proofs.rounds.repeat.Given as goal
+use Rattle.tora_script.proofs.turns.repeat.Given as goal
 
 abbrev pub invariant-loop : goal.invariant-loop
 invariant-loop g l =

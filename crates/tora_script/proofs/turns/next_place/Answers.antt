@@ -1,5 +1,5 @@
 use Rattle.std.proofs.Common.{◌≡◌, ℕ, List, Some, slice_get, subst}
-use Rattle.tora_script.proofs.rounds.next_place.Goals as goal
+use Rattle.tora_script.proofs.turns.next_place.Goals as goal
 
 pub returns-then-known-clause-passed : goal.returns-then-known-clause-passed
 returns-then-known-clause-passed g c at end from before there =

@@ -3,7 +3,7 @@ use Rattle.tora_world.specs.declared.event.Event.{Event}
 use Rattle.tora_script.specs.Rounds.{repeats, each, end_event}
 use Rattle.tora_script.proofs.RoundLaws.{Onward, begins, each_part, each_ends, all_idle, quiet_ends}
 use Rattle.tora_script.proofs.KnownEnds.{pass_over, known_then}
-use Rattle.tora_script.proofs.rounds.turn_known_ends.Goals as goal
+use Rattle.tora_script.proofs.turns.turn_known_ends.Goals as goal
 
 pub returns-then-is_quiet : goal.returns-then-is_quiet
 returns-then-is_quiet g c =

@@ -1,7 +1,7 @@
 use Rattle.std.proofs.Common.{◌-◌, drop, length}
 use Rattle.tora_script.specs.Rounds.{each_core}
 use Rattle.tora_script.proofs.RoundLaws.{Onward}
-use Rattle.tora_script.proofs.rounds.turn_cores.Given as goal
+use Rattle.tora_script.proofs.turns.turn_cores.Given as goal
 
 abbrev pub invariant-loop-place : goal.invariant-loop-place
 invariant-loop-place g l =

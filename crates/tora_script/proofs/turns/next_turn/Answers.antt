@@ -1,8 +1,8 @@
 use Rattle.std.proofs.Common.{◌≡◌, true, is_some, sym, subst}
 use Rattle.tora_world.specs.World.{refusal_of}
-use Rattle.tora_script.specs.declared.rounds.EndTurn.{EndTurn}
+use Rattle.tora_script.specs.declared.turns.EndTurn.{EndTurn}
 use Rattle.tora_script.specs.Rounds.{end_event}
-use Rattle.tora_script.proofs.rounds.next_turn.Goals as goal
+use Rattle.tora_script.proofs.turns.next_turn.Goals as goal
 
 pub returns-in-Open-clause-passed : goal.returns-in-Open-clause-passed
 returns-in-Open-clause-passed g c at end from before there =

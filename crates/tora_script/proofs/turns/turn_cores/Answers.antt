@@ -4,7 +4,7 @@ use Rattle.tora_world.specs.declared.event.Event.TheVariants.{CoreTurn}
 use Rattle.tora_script.specs.Rounds.{while_possible, each_core}
 use Rattle.tora_script.proofs.RoundLaws.{Onward, begins, each_part, each_ends, all_idle}
 use Rattle.tora_script.proofs.KnownEnds.{cores_over}
-use Rattle.tora_script.proofs.rounds.turn_cores.Goals as goal
+use Rattle.tora_script.proofs.turns.turn_cores.Goals as goal
 
 pub returns-then-not-may_turn : goal.returns-then-not-may_turn
 returns-then-not-may_turn g c =

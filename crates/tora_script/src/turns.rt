@@ -1,0 +1,243 @@
+//! The turns of cores and link ends.
+ghost use Rattle.std.specs.Prelude.{◌≡◌, ◌<◌, ◌≤◌, ◌||◌, ℕ, true, false, Some, is_some, slice_get, IfOk};
+ghost use Rattle.tora_sim.specs.Readers.{ends_in};
+ghost use Rattle.tora_world.specs.World.{refusal_of};
+ghost use Rattle.tora_world.specs.declared.event.Event.TheVariants.{CoreTurn};
+ghost use Rattle.tora_script.specs.Rounds.{repeats, while_possible, each, each_core, end_event, Happened, AreKnown};
+
+use crate::simulator::Simulator;
+use std::alloc::AllocError;
+use tora_height::Id;
+use tora_world::Event;
+
+/// The most times that an event is made to happen on end. Own profile.
+pub const MOST_TIMES: u64 = 1024;
+
+/// What a link end does in its turn.
+#[derive(Clone, Copy, Debug, PartialEq, Eq)]
+pub enum EndTurn {
+    Open,
+    Pull,
+    Transmit,
+    Pump,
+}
+
+impl EndTurn {
+    /// What an end does in such a turn.
+    #[inline(always)]
+    pub fn event(self, end: (Id, Id)) -> Event
+        ensures { result ≡ end_event self end }
+    {
+        let (n, k) = end;
+        match self {
+            EndTurn::Open => Event::Open(n, k),
+            EndTurn::Pull => Event::Pull(n, k),
+            EndTurn::Transmit => Event::Transmit(n, k),
+            EndTurn::Pump => Event::Pump(n, k),
+        }
+    }
+}
+
+/// Either of the two, without a branch.
+pub fn either(a: bool, b: bool) -> bool
+    ensures { result ≡ (a || b) }
+{
+    a || b
+}
+
+/// Whether an event may happen again. One that didn't happen yet is not asked about: who makes it happen asked, where the event has a
+/// place.
+#[inline(always)]
+fn may_go_on<S: Simulator>(sim: &S, place: usize, event: &Event, some: bool) -> bool
+    ensures { result ≡ false → is_some (refusal_of (S.world sim.now) event.now) ≡ true }
+{
+    if !some {
+        return true;
+    }
+    sim.may_happen(place, event)
+}
+
+/// Makes an event happen until it is refused, and so many times at most, and says whether it ever did. The place is that of
+/// its node or link end. Whether it may happen is asked each time but the first: before that the caller asks, where the event has a place.
+#[inline(never)]
+pub fn repeat<S: Simulator>(
+    sim: &mut S,
+    place: usize,
+    event: &Event,
+    most: u64,
+) -> Result<bool, AllocError>
+    ensures { IfOk result (λ some. Happened (S.world sim.old) (repeats most event.now (S.world sim.old)) (S.world sim.new) some) }
+{
+    let mut some = false;
+    for _ in 0..most {
+        if !may_go_on(sim, place, event, some) {
+            return Ok(some);
+        }
+        let refused = sim.happen_at(place, event)?;
+        match refused {
+            None => some = true,
+            Some(_) => return Ok(some),
+        }
+    }
+    Ok(some)
+}
+
+/// Lets a core take its items.
+#[inline(always)]
+fn turn_core<S: Simulator>(sim: &mut S, place: usize, n: Id) -> Result<bool, AllocError>
+    ensures { IfOk result (λ some. Happened (S.world sim.old) (while_possible (CoreTurn n) (S.world sim.old)) (S.world sim.new) some) }
+{
+    if !sim.may_happen(place, &Event::CoreTurn(n)) {
+        return Ok(false);
+    }
+    sim.turn(place, n, MOST_TIMES)
+}
+
+/// Lets each core take its items, unless it is known that none has one. Cores of which the simulator knows that they have none are passed over.
+#[inline(always)]
+pub fn turn_cores<S: Simulator>(sim: &mut S, nodes: &[Id]) -> Result<bool, AllocError>
+    ensures { IfOk result (λ some. Happened (S.world sim.old) (each_core nodes.now (S.world sim.old)) (S.world sim.new) some) }
+{
+    if !sim.may_turn() {
+        return Ok(false);
+    }
+    let mut some = false;
+    let mut place = sim.next_core(nodes, 0);
+    while place < nodes.len() {
+        let any = turn_core(sim, place, nodes[place])?;
+        some = either(some, any);
+        place = sim.next_core(nodes, place + 1);
+    }
+    Ok(some)
+}
+
+/// Gives a link end its turn, so many times at most, one event at a time.
+#[inline(always)]
+fn repeat_turn<S: Simulator>(
+    sim: &mut S,
+    kind: EndTurn,
+    place: usize,
+    end: (Id, Id),
+    most: u64,
+) -> Result<bool, AllocError>
+    ensures { IfOk result (λ some. Happened (S.world sim.old) (repeats most (end_event kind end) (S.world sim.old)) (S.world sim.new) some) }
+{
+    if !sim.may_happen(place, &kind.event(end)) {
+        return Ok(false);
+    }
+    repeat(sim, place, &kind.event(end), most)
+}
+
+/// Gives a link end its turn, so many times at most. In most rounds frames are what most ends have to give: so the simulator sends them on end.
+#[inline(always)]
+pub fn turn_end<S: Simulator>(
+    sim: &mut S,
+    kind: EndTurn,
+    place: usize,
+    end: (Id, Id),
+    most: u64,
+) -> Result<bool, AllocError>
+    ensures { IfOk result (λ some. Happened (S.world sim.old) (repeats most (end_event kind end) (S.world sim.old)) (S.world sim.new) some) }
+{
+    match kind {
+        EndTurn::Open => repeat_turn(sim, kind, place, end, most),
+        EndTurn::Pull => repeat_turn(sim, kind, place, end, most),
+        EndTurn::Transmit => sim.transmit(place, end, most),
+        EndTurn::Pump => repeat_turn(sim, kind, place, end, most),
+    }
+}
+
+/// The first place from `place` on at which a link end of the simulator may have such a turn. In most rounds frames are due at many ends, and
+/// anything else is to be done at few: so the two are asked apart.
+#[inline(always)]
+fn next_turn<S: Simulator>(sim: &S, kind: EndTurn, place: usize) -> usize
+    ensures onward { place ≤ result }
+    ensures passed { (at : ℕ) (end : ℕ × ℕ) → place ≤ at → at < result → slice_get (ends_in (S.world sim.now).topology) at ≡ Some end → is_some (refusal_of (S.world sim.now) (end_event kind end)) ≡ true }
+{
+    match kind {
+        EndTurn::Open => sim.next_busy(place),
+        EndTurn::Pull => sim.next_busy(place),
+        EndTurn::Transmit => sim.next_due(place),
+        EndTurn::Pump => sim.next_busy(place),
+    }
+}
+
+/// The first place from `place` on at which a link end may have such a turn, where it is known that these are the ends of the
+/// simulator; else the place itself.
+#[inline(always)]
+pub fn next_place<S: Simulator>(
+    sim: &S,
+    known: bool,
+    _ends: &[(Id, Id)],
+    kind: EndTurn,
+    place: usize,
+) -> usize
+    requires { AreKnown known _ends.now (S.world sim.now) }
+    ensures onward { place ≤ result }
+    ensures passed { (at : ℕ) (end : ℕ × ℕ) → place ≤ at → at < result → slice_get _ends.now at ≡ Some end → is_some (refusal_of (S.world sim.now) (end_event kind end)) ≡ true }
+{
+    if known {
+        next_turn(sim, kind, place)
+    } else {
+        place
+    }
+}
+
+/// Gives each link end its turn, so many times at most. Where it is known that these are the ends of the simulator, those that
+/// have nothing to do are passed over.
+#[inline(always)]
+pub fn turn_known_ends<S: Simulator>(
+    sim: &mut S,
+    known: bool,
+    ends: &[(Id, Id)],
+    kind: EndTurn,
+    most: u64,
+) -> Result<bool, AllocError>
+    requires { AreKnown known ends.now (S.world sim.old) }
+    ensures { IfOk result (λ some. Happened (S.world sim.old) (each (λ e. repeats most (end_event kind e)) ends.now (S.world sim.old)) (S.world sim.new) some) }
+{
+    if sim.is_quiet() {
+        return Ok(false);
+    }
+    let mut some = false;
+    let mut place = next_place(sim, known, ends, kind, 0);
+    while place < ends.len() {
+        let any = turn_end(sim, kind, place, ends[place], most)?;
+        some = either(some, any);
+        place = next_place(sim, known, ends, kind, place + 1);
+    }
+    Ok(some)
+}
+
+/// Lets each link end send the frames that are due, so many at most, as `turn_known_ends` does. It stands apart, so that its loop has registers
+/// of its own.
+#[inline(never)]
+pub fn transmit_known_ends<S: Simulator>(
+    sim: &mut S,
+    known: bool,
+    ends: &[(Id, Id)],
+    most: u64,
+) -> Result<bool, AllocError>
+    requires { AreKnown known ends.now (S.world sim.old) }
+    ensures { IfOk result (λ some. Happened (S.world sim.old) (each (λ e. repeats most (end_event EndTurn.Transmit e)) ends.now (S.world sim.old)) (S.world sim.new) some) }
+{
+    if sim.is_quiet() {
+        return Ok(false);
+    }
+    let mut some = false;
+    let mut place = next_place(sim, known, ends, EndTurn::Transmit, 0);
+    while place < ends.len() {
+        let any = sim.transmit(place, ends[place], most)?;
+        some = either(some, any);
+        place = next_place(sim, known, ends, EndTurn::Transmit, place + 1);
+    }
+    Ok(some)
+}
+
+/// Whether it is known that these are the link ends of the simulator, and may be used: it isn't asked where nothing is to be done.
+#[inline(always)]
+pub fn are_known<S: Simulator>(sim: &S, ends: &[(Id, Id)]) -> bool
+    ensures { AreKnown result ends.now (S.world sim.now) }
+{
+    !sim.is_quiet() && sim.has_ends(ends)
+}
