@@ -12,7 +12,6 @@ ghost use Rattle.tora_sim.specs.Steps.{repeats, Happened};
 ghost use Rattle.tora_world.specs.Walks.{height_at, hop_at, exact_in, walk_of};
 ghost use Rattle.tora_world.specs.Rest.{rests};
 
-use crate::turns::repeat;
 use std::alloc::{AllocError, Global};
 use tora_arq::{Life, Times};
 use tora_core::CoreError;
@@ -116,7 +115,18 @@ pub trait Simulator: Drop {
     fn turn(&mut self, place: usize, n: Id, most: u64) -> Result<bool, AllocError>
         ensures { IfOk result (λ some. Happened (world self.old) (repeats most (CoreTurn n) (world self.old)) (world self.new) some) }
     {
-        repeat(self, place, &Event::CoreTurn(n), most)
+        let mut some = false;
+        for _ in 0..most {
+            if !self.may_happen(place, &Event::CoreTurn(n)) {
+                return Ok(some);
+            }
+            let refused = self.happen_at(place, &Event::CoreTurn(n))?;
+            match refused {
+                None => some = true,
+                Some(_) => return Ok(some),
+            }
+        }
+        Ok(some)
     }
 
     /// Makes a link end send its frames one after another until none is due, and so many at most, and says whether any was sent: it is a
