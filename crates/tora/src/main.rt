@@ -31,18 +31,28 @@ fn replay_input(rt: &HostRuntime, is_verbose: bool) -> ExitCode {
     replay_command::run(rt, rt.stdin(), is_verbose, &mut writer)
 }
 
+/// The words of `tora sim` that say what a simulation is made with.
+fn setup_words<'a>(sim: &'a ArgMatches<'_>) -> SetupWords<'a> {
+    SetupWords {
+        times: sim.get_str("times"),
+        channel: sim.get_str("channel"),
+        seed: sim.get_str("seed"),
+        has_notice: sim.get_flag("notice"),
+        is_large: sim.get_flag("large"),
+        until: sim.get_str("until"),
+        channel_file: sim.get_str("channel-file"),
+    }
+}
+
 /// Simulates the lines of a file, to standard output.
-fn simulate_to_output(
-    rt: &HostRuntime,
-    words: SetupWords<'_>,
-    path: &str,
-    trace: Option<&str>,
-    shown: (bool, bool),
-) -> ExitCode {
+fn simulate_to_output(rt: &HostRuntime, sim: &ArgMatches<'_>, is_verbose: bool) -> ExitCode {
+    let path = sim.get_str("FILE").unwrap_or("");
+    let has_bar = sim.get_flag("progress") && rt.stderr().is_terminal();
+    let (trace, shown) = (sim.get_str("trace"), (is_verbose, has_bar));
     let Ok(mut writer) = BufWriter::new(rt.alloc(), io::writer(rt)) else {
         return stop(rt, MEMORY, "memory");
     };
-    simulate_file(rt, words, path, trace, shown, &mut writer)
+    simulate_file(rt, setup_words(sim), path, trace, shown, &mut writer)
 }
 
 /// Drives a world by the lines of standard input, and records it where a path is given for that.
@@ -86,36 +96,21 @@ fn main(rt: HostRuntime) -> ExitCode {
     let Ok(command) = command(rt.alloc()) else {
         return stop(&rt, MEMORY, "memory");
     };
-    match command.try_get_matches_from(words.as_slice()) {
-        Ok(matches) => {
-            let is_verbose = matches.get_flag("verbose");
-            match matches.subcommand() {
-                Some(("node", node)) => {
-                    let path = node.get_str("CONFIG").unwrap_or("");
-                    let (check, log) = (node.get_flag("check"), logging(rt, node));
-                    let (mut reader, mut writer) = (rt.stdin(), io::writer(&rt));
-                    node_command::run(&rt, &log, path, check, is_verbose, &mut reader, &mut writer)
-                }
-                Some(("sim", sim)) => {
-                    let path = sim.get_str("FILE").unwrap_or("");
-                    let words = SetupWords {
-                        times: sim.get_str("times"),
-                        channel: sim.get_str("channel"),
-                        seed: sim.get_str("seed"),
-                        has_notice: sim.get_flag("notice"),
-                        is_large: sim.get_flag("large"),
-                        until: sim.get_str("until"),
-                        channel_file: sim.get_str("channel-file"),
-                    };
-                    let has_bar = sim.get_flag("progress") && rt.stderr().is_terminal();
-                    let (trace, shown) = (sim.get_str("trace"), (is_verbose, has_bar));
-                    simulate_to_output(&rt, words, path, trace, shown)
-                }
-                Some(("drive", drive)) => drive_input(&rt, drive),
-                Some(("key", _)) => key_command::run(&rt, &mut io::writer(&rt)),
-                _ => replay_input(&rt, is_verbose),
-            }
+    let matches = match command.try_get_matches_from(words.as_slice()) {
+        Ok(matches) => matches,
+        Err(error) => return usage(&rt, &error),
+    };
+    let is_verbose = matches.get_flag("verbose");
+    match matches.subcommand() {
+        Some(("node", node)) => {
+            let path = node.get_str("CONFIG").unwrap_or("");
+            let (check, log) = (node.get_flag("check"), logging(rt, node));
+            let (mut reader, mut writer) = (rt.stdin(), io::writer(&rt));
+            node_command::run(&rt, &log, path, check, is_verbose, &mut reader, &mut writer)
         }
-        Err(error) => usage(&rt, &error),
+        Some(("sim", sim)) => simulate_to_output(&rt, sim, is_verbose),
+        Some(("drive", drive)) => drive_input(&rt, drive),
+        Some(("key", _)) => key_command::run(&rt, &mut io::writer(&rt)),
+        _ => replay_input(&rt, is_verbose),
     }
 }
