@@ -21,6 +21,9 @@ const MOST_APART: usize = 0x1_0000_0000;
 /// The first time tag that has more than 24 bits.
 const FIRST_LONG: u64 = 0x100_0000;
 
+/// For so many origins there is room from the first on: most lists that have one come to have a few, as links have lives.
+const FIRST_ORIGINS: usize = 4;
+
 /// What stands for an origin where there is none.
 const NO_ORIGIN: Origin = Origin {
     life: Life { own: 0, peer: 0 },
@@ -117,7 +120,7 @@ impl KeptCargoes {
             return Err(AllocError);
         }
         self.cargoes.reserve()?;
-        reserve_one(&mut self.origins)?;
+        reserve_origin(&mut self.origins)?;
         reserve_one(&mut self.apart)?;
         self.spare = true;
         Ok(())
@@ -142,6 +145,22 @@ impl KeptCargoes {
             return None;
         };
         Some(cargo_of(&self.origins, &self.apart, &kept))
+    }
+}
+
+/// Makes room for one more origin; for the first ones at once.
+///
+/// # Errors
+/// Want of memory.
+#[inline(always)]
+fn reserve_origin(origins: &mut Vec<Origin>) -> Result<(), AllocError>
+    ensures items { origins.new.items ≡ origins.old.items }
+    ensures room { OnOk result (vec_len origins.new < vec_capacity origins.new) }
+{
+    if origins.is_empty() {
+        origins.reserve_exact(FIRST_ORIGINS)
+    } else {
+        origins.reserve(1)
     }
 }
 

@@ -4,8 +4,8 @@ ghost use Rattle.std.specs.Prelude.{◌≡◌, ◌<◌, ◌≤◌, ◌+◌, ◌+
 use std::alloc::{AllocError, Global};
 use std::marker::Model;
 
-/// For so many items there is room from the beginning, beside what else stands of a node.
-const FIRST_ROOM: usize = 8;
+/// For so many items there is room from the beginning, beside what else stands of a node: so few queues ever move to other pages.
+const FIRST_ROOM: usize = 32;
 
 /// Items in the order in which they came. Where none is left, it begins at its first place again: a core takes all in each pass, so the same few
 /// places are written, and lie where memory is at hand.
