@@ -4,12 +4,14 @@
 # last file is the grid for 2,000 rounds in which nothing happens but HELLOs, REPEATS times too.
 # Each runs twice: with a line `old N` for every node, where the outputs have to be the same, and without them. The baseline
 # knows version 1 of frames alone, and batches bring packets in another order, so without them heights may differ.
-# Large worlds come behind, once each, beside the baseline with its limits raised in a copy (bench/raised.py): a grid of 32 x 32 with
-# one need across it, 500 moving nodes for 1,200 rounds (also with pages of 2 MB for the program, as ./tora asks for them), and
-# 1,024 nodes with 8,000 links and 16 destinations; the memory of the first is to be under 150 MB, of the last under 1 GB.
+# Large worlds come behind, once each, as `tora sim --large` runs them, which is in pages of 2 MB where the system gives them (./tora, and the
+# script that ./tora install puts into bin), beside the baseline with its limits raised in a copy (bench/raised.py): a grid of 32 x 32 with
+# one need across it, 500 moving nodes for 1,200 rounds, which are to take at most the baseline's time, and
+# 1,024 nodes with 8,000 links and 16 destinations; the memory of the first is to be under 150 MB, of the last under 1 GB. Then 500 moving nodes once
+# more, in pages of 4 kB, as the program has them by itself.
 # Then the time of a datagram at 64 and at 1,024 nodes, which is to be at most 1.5 times:
 # in a grid, where no link is parted, for 2,000 and for 16,000 rounds of the larger one, and with moving nodes; and the same of each datagram more,
-# without the time in which the world is made.
+# without the time in which the world is made. Both run with --large.
 # usage: bench/sim.sh [--large] BASE [REPEATS] [ROUNDS]     BASE: the folder of the baseline's sources (a Cargo crate `base`)
 #   --large   large worlds alone
 set -eu
@@ -23,8 +25,9 @@ rounds=${3:-5}
 "$top/tora" build >&2
 program=$top/crates/tora/out/tora
 large=()
-# What stands before the program's words: a large world also runs in pages of 2 MB where the system gives them, as ./tora runs it.
+# What stands before the program's words: a large world lies in pages of 2 MB where the system gives them.
 way=()
+pages=GLIBC_TUNABLES=glibc.malloc.hugetlb=1
 
 # A file whose lines behind the links come so many times.
 repeated() {
@@ -104,6 +107,7 @@ small_worlds() {
 # Large worlds, once each, beside the baseline with limits of the file's size.
 large_worlds() {
   local repeats=1 large=(--large)
+  way=(env "$pages")
   raised 1024 8
   { grid 32; echo 'rounds 100'; echo 'heights 1024'; } >"$work/once.sim"
   compared 'grid 32, one need across it, 100 rounds'
@@ -111,9 +115,9 @@ large_worlds() {
   moving 500
   cp "$work/moving-500.sim" "$work/once.sim"
   compared '500 moving nodes, 1,200 rounds'
-  way=(env GLIBC_TUNABLES=glibc.malloc.hugetlb=1)
-  compared '500 moving nodes, 1,200 rounds, in pages of 2 MB'
   way=()
+  compared '500 moving nodes, 1,200 rounds, in pages of 4 kB'
+  way=(env "$pages")
   {
     echo "dests $(seq -s , 1009 1024)"
     links 32 '0 1,1 0,1 1,1 -1,0 2,2 0,1 2,2 1,1 -2' | awk 'NR % 14' | head -n 8000
@@ -126,6 +130,7 @@ large_worlds() {
 
 # Datagrams at 64 and at 1,024 nodes: in grids as many of both, with moving nodes in as many rounds.
 datagrams() {
+  export "${pages?}"
   { grid 8; for _ in 1 2 3 4; do echo 'rounds 8000'; done; } >"$work/grid-of-64"
   { grid 32; echo 'rounds 2000'; } >"$work/grid-of-1024"
   python3 "$top/bench/per_datagram.py" "$rounds" "$program" "$work/grid-of-64" "$work/grid-of-1024"

@@ -275,10 +275,10 @@ check_install() {
   local copy=$work/copy root=$work/root tora=$work/copy/tora program=$work/copy/crates/tora/out/tora
   mkdir -p "$copy/crates/tora/src" "$copy/crates/tora/out" "$copy/tools" "$copy/docs" "$root/usr/share/tora"
   cp ../../tora ../../crates.txt "$copy/"
-  cp -R ../install.py ../tora.lua ../completion "$copy/tools/"
+  cp -R ../install.py ../installed.sh ../tora.lua ../completion "$copy/tools/"
   cp ../../docs/tora.1 "$copy/docs/"
   refuses 2 'the program is not built' "$tora" install
-  printf '#!/bin/sh\necho "the program, $*"\n' >"$program"
+  printf '#!/bin/sh\necho "the program, $*${GLIBC_TUNABLES+ in pages as $GLIBC_TUNABLES}"\n' >"$program"
   chmod +x "$program"
   touch -d '1 minute ago' "$program"
   touch "$copy/crates/tora/src/main.rt"
@@ -288,7 +288,17 @@ check_install() {
   refuses 1 'Not a directory' env DESTDIR="$program" "$tora" install
   echo 'of somebody else' >"$root/usr/share/tora/other"
   DESTDIR=$root "$tora" install /usr >"$work/told"
-  (cd "$root" && "usr/bin/tora" sim x && find . -type f -printf '%m %P\n' | sort -k2) >"$work/installed"
+  ln -s "$root/usr/bin/tora" "$work/linked"
+  # A large world has pages of 2 MB by whatever name the program is run, unless the variable is set already.
+  (
+    unset GLIBC_TUNABLES
+    cd "$root"
+    usr/bin/tora sim x
+    PATH=$root/usr/bin:$PATH tora sim --large 'a b'
+    "$work/linked" sim --large x
+    GLIBC_TUNABLES=theirs usr/bin/tora drive --large
+    find . -type f -printf '%m %P\n' | sort -k2
+  ) >"$work/installed"
   same installed "$work/installed"
   DESTDIR=$root "$tora" uninstall /usr >"$work/told"
   (cd "$root" && find . -type f) >"$work/found"

@@ -4,7 +4,8 @@
 usage: ./tora install [PREFIX]       copies them to PREFIX (/usr/local without it)
        ./tora uninstall [PREFIX]     removes just these files, where they are there
 
-  PREFIX/bin/tora                                  the program; it needs nothing of the repository
+  PREFIX/bin/tora                                  a script that runs the program, as ./tora does once it is built
+  PREFIX/libexec/tora                              the program; it needs nothing of the repository
   PREFIX/share/man/man1/tora.1                     the manual page
   PREFIX/share/bash-completion/completions/tora    completion for bash
   PREFIX/share/zsh/site-functions/_tora            completion for zsh
@@ -21,7 +22,8 @@ import sys
 TOP = os.path.dirname(os.path.dirname(os.path.realpath(__file__)))
 # What is installed: the file in the repository, the place under PREFIX, and its permissions.
 FILES = [
-    ("crates/tora/out/tora", "bin/tora", 0o755),
+    ("crates/tora/out/tora", "libexec/tora", 0o755),
+    ("tools/installed.sh", "bin/tora", 0o755),
     ("docs/tora.1", "share/man/man1/tora.1", 0o644),
     ("tools/completion/tora.bash", "share/bash-completion/completions/tora", 0o644),
     ("tools/completion/_tora", "share/zsh/site-functions/_tora", 0o644),
