@@ -5,10 +5,10 @@
 # Each runs twice: with a line `old N` for every node, where the outputs have to be the same, and without them. The baseline
 # knows version 1 of frames alone, and batches bring packets in another order, so without them heights may differ.
 # Large worlds come behind, once each, as `tora sim --large` runs them, which is in pages of 2 MB where the system gives them (./tora, and the
-# script that ./tora install puts into bin), beside the baseline with its limits raised in a copy (bench/raised.py): a grid of 32 x 32 with
-# one need across it, 500 moving nodes for 1,200 rounds, which are to take at most the baseline's time, and
+# script that ./tora install puts into bin), beside the baseline with its limits raised in a copy (bench/raised.py), which has pages of 4 kB: a grid of
+# 32 x 32 with one need across it, 500 moving nodes for 1,200 rounds, which are to take at most the baseline's time, and
 # 1,024 nodes with 8,000 links and 16 destinations; the memory of the first is to be under 150 MB, of the last under 1 GB. Then 500 moving nodes once
-# more, in pages of 4 kB, as the program has them by itself.
+# more in pages of 4 kB, as the program has them by itself: there the two programs are compared alike, and the aim is the same.
 # Then the time of a datagram at 64 and at 1,024 nodes, which is to be at most 1.5 times:
 # in a grid, where no link is parted, for 2,000 and for 16,000 rounds of the larger one, and with moving nodes; and the same of each datagram more,
 # without the time in which the world is made. Both run with --large.
