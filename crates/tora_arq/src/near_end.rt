@@ -46,6 +46,16 @@ impl<const PLACES: usize> Model for NearEnd<PLACES> {
 }
 
 impl<const PLACES: usize> NearEnd<PLACES> {
+    /// Reads what the calls of an end read first, as `GrowingEnd::prefetch` has it.
+    #[inline(always)]
+    pub fn prefetch(&self) -> u64 {
+        let waits = self.state.queue.len() ^ self.state.events.len();
+        waits as u64
+            ^ u64::from(self.settings.peer)
+            ^ self.state.last_hearing
+            ^ self.state.last_life
+    }
+
     /// A closed end that speaks versions up to this one.
     pub fn new(
         alloc: Global,

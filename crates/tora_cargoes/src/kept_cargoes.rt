@@ -84,6 +84,12 @@ impl Model for KeptCargoes {
 }
 
 impl KeptCargoes {
+    /// Reads what the other calls read first, as `Lane::prefetch` does. The number says nothing.
+    #[inline(always)]
+    pub fn prefetch(&self) -> u64 {
+        self.last.life.own ^ self.cargoes.len() as u64 ^ u64::from(self.spare)
+    }
+
     /// No cargoes.
     pub fn new(alloc: Global) -> KeptCargoes
         ensures { result.items ≡ [] }

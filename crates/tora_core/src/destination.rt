@@ -86,6 +86,12 @@ impl Destination {
         })
     }
 
+    /// Reads what an input of the neighbour at a place reads here, as `Core::prefetch` has it.
+    #[inline(always)]
+    pub fn prefetch(&self, place: usize) -> u64 {
+        self.last ^ u64::from(self.destination) ^ self.links.prefetch(place)
+    }
+
     pub fn destination(&self) -> Id
         ensures { result ≡ self.now.view.destination }
     {

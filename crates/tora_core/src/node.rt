@@ -128,6 +128,24 @@ impl Core {
         })
     }
 
+    /// Reads what a step reads for an input of the neighbour at a place that is about a destination, so that it is at hand by then: for callers
+    /// who step many cores in turn.
+    ///
+    /// The place is that among `neighbours`, from 0 on; where there is no such neighbour or destination, less or other is read. The number says
+    /// nothing. It is to be kept, since a read of which nothing is kept is left out. Own profile.
+    #[inline(always)]
+    pub fn prefetch(&self, place: usize, d: Id) -> u64 {
+        let at = self.hints.destinations.place(d);
+        let view = match self.views.get(at) {
+            Some(view) => view.prefetch(place),
+            None => 0,
+        };
+        view ^ read_at(self.neighbours.as_slice(), place)
+            ^ read_at(self.up.as_slice(), 0)
+            ^ read_at(self.destinations.as_slice(), at)
+            ^ self.hints.neighbours.place(0) as u64
+    }
+
     /// The node.
     pub fn me(&self) -> Id
         ensures value { result ≡ self.now.me }
@@ -379,5 +397,14 @@ fn is_from(k: Id, packet: &Packet) -> bool
         Packet::Qry(_) => true,
         Packet::Upd(update) => update.height().id() == k,
         Packet::Clr(_) => true,
+    }
+}
+
+/// Reads the number at a place, if there is one.
+#[inline(always)]
+fn read_at(numbers: &[Id], place: usize) -> u64 {
+    match numbers.get(place) {
+        Some(n) => u64::from(*n),
+        None => 0,
     }
 }

@@ -58,6 +58,13 @@ impl Model for Datagrams {
 }
 
 impl Datagrams {
+    /// Reads what a frame of the link end at a place is compared with as it is pushed, so that it is at hand by then. The number says nothing. It is to
+    /// be kept, since a read of which nothing is kept is left out.
+    #[inline(always)]
+    pub fn prefetch(&self, end: usize) -> u64 {
+        self.frames.prefetch(end)
+    }
+
     /// No datagrams.
     pub fn new(alloc: Global) -> Datagrams
         ensures { result.items ≡ [] }

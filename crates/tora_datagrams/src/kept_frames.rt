@@ -144,6 +144,15 @@ impl Model for KeptFrames {
 }
 
 impl KeptFrames {
+    /// Reads what the link end at a place sent last, as `Datagrams::prefetch` has it.
+    #[inline(always)]
+    pub fn prefetch(&self, end: usize) -> u64 {
+        match self.lasts.get(end) {
+            Some(last) => u64::from(last.header.sender) ^ u64::from(last.data.place),
+            None => 0,
+        }
+    }
+
     /// No frames.
     pub fn new(alloc: Global) -> KeptFrames
         ensures { result.items ≡ [] }

@@ -46,6 +46,22 @@ impl Model for BareSeat {
 }
 
 impl BareSeat {
+    /// Reads what serving an item reads, so that it is at hand by then: for callers who serve many seats in turn. The number says nothing; it is to
+    /// be kept, as that of `Core::prefetch`. Own profile.
+    #[inline(always)]
+    pub fn prefetch(&self, item: &Item) -> u64 {
+        let row = match self.rows.get(item.seat) {
+            Some(row) => u64::from(row.neighbour),
+            None => 0,
+        };
+        let destination = match &item.what {
+            What::Packet(_, packet) => packet.destination(),
+            What::Need(d) => *d,
+            _ => 0,
+        };
+        row ^ self.inputs.len() as u64 ^ self.core.prefetch(item.seat, destination)
+    }
+
     /// The neighbour at a place, from 0 on in ascending order.
     fn neighbour(&self, place: usize) -> Option<Id>
         ensures { result ≡ slice_get self.now.core.neighbours place }

@@ -82,7 +82,7 @@ fn nodes_apart(n: Id, k: Id) -> Id
 /// The first place from `place` on at which a tick is not still to come: in most passes in which many HELLOs are due the place itself; else it is
 /// looked for among the next 16 first.
 #[inline(always)]
-fn next_due(stills: &Stills, now: u64, place: usize) -> usize
+pub fn next_due(stills: &Stills, now: u64, place: usize) -> usize
     ensures onward { place ≤ result }
     ensures passed { (at : ℕ) → place ≤ at → at < result → now < slice_index stills.now at }
 {

@@ -11,6 +11,7 @@ ghost use Rattle.tora_sim.specs.Firsts.{IsFirstEnd, AreAdded, IsMade};
 ghost use Rattle.tora_sim.specs.LinksByBits.{rows_in, AreRowsOf};
 
 use crate::SimError;
+use crate::ahead::Ahead;
 use crate::files::{apart, open};
 use crate::hints::Hints;
 use crate::link_slot::LinkSlot;
@@ -80,6 +81,9 @@ impl Sim {
         let keys = keys_of(alloc, &links)?;
         let hints = Hints::new(&nodes);
         let far_ends = far_ends_of(alloc, &keys, &hints)?;
+        let Ok(ahead) = Ahead::new(alloc, count) else {
+            return Err(SimError::Memory);
+        };
         Ok(Sim {
             topology: own,
             times,
@@ -99,6 +103,7 @@ impl Sim {
             idle: false,
             packets: Packets::new(),
             sends: Sends::new(),
+            ahead,
         })
     }
 }

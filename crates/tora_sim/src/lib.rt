@@ -14,6 +14,7 @@
 //! ```
 #![tactic(auto)]
 
+mod ahead;
 mod cuts;
 mod delivering;
 mod due;

@@ -91,6 +91,18 @@ fn has_packets(frame: &Option<BorrowedFrame<'_>>) -> bool {
 }
 
 impl LinkSlot {
+    /// Reads what a frame, a pull and a pump read of the end. The number says nothing.
+    #[inline(always)]
+    pub fn prefetch(&self) -> u64 {
+        self.steady.own ^ self.parts.prefetch()
+    }
+
+    /// Reads what a turn of its node's core reads of the end. The number says nothing.
+    #[inline(always)]
+    pub fn prefetch_lane(&self) -> u64 {
+        self.steady.own ^ self.parts.prefetch_lane()
+    }
+
     /// An end of these parts.
     pub fn new(parts: Box<LinkParts>) -> LinkSlot
         ensures { result ≡ parts.value }

@@ -66,6 +66,18 @@ impl Model for LinkParts {
 }
 
 impl LinkParts {
+    /// Reads what a frame, a pull and a pump read of the end and its lane. The number says nothing.
+    #[inline(always)]
+    pub fn prefetch(&self) -> u64 {
+        self.end.prefetch() ^ self.prefetch_lane()
+    }
+
+    /// Reads what a turn of the node's core reads of the lane and of what was stepped. The number says nothing.
+    #[inline(always)]
+    pub fn prefetch_lane(&self) -> u64 {
+        self.lane.prefetch() ^ self.steps.prefetch()
+    }
+
     /// Its node and its peer, by which the ends are in order.
     pub fn key(&self) -> (Id, Id)
         ensures { result ≡ (self.now.node, self.now.peer) }

@@ -60,6 +60,37 @@ impl Model for NodeSlot {
 }
 
 impl NodeSlot {
+    /// The items that wait for the core.
+    #[inline(always)]
+    pub fn items(&self) -> &[Item]
+        ensures { result.now ≡ self.now.items }
+    {
+        self.items.as_slice()
+    }
+
+    /// Reads what serving an item reads of the node. The number says nothing.
+    #[inline(always)]
+    pub fn prefetch(&self, item: &Item) -> u64 {
+        let last = match self.inputs.last() {
+            Some(input) => input.1,
+            None => 0,
+        };
+        last ^ self.seat.prefetch(item)
+    }
+
+    /// Reads what putting an item of a seat reads of the node. The number says nothing.
+    #[inline(always)]
+    pub fn prefetch_put(&self, seat: usize) -> u64 {
+        let number = match self.items.first() {
+            Some(item) => item.number,
+            None => 0,
+        };
+        match self.counts.get(seat) {
+            Some(count) => number ^ *count,
+            None => number,
+        }
+    }
+
     /// Its number, by which the nodes are in order.
     #[inline(always)]
     pub fn key(&self) -> Id

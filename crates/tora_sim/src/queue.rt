@@ -47,6 +47,14 @@ impl<T: Copy + Drop> Queue<T> {
         self.list.len() - self.taken
     }
 
+    /// All of them.
+    #[inline(always)]
+    pub fn as_slice(&self) -> &[T]
+        ensures { result.now ≡ self.now.items }
+    {
+        &self.list[self.taken..]
+    }
+
     /// The first one, which stays.
     pub fn first(&self) -> Option<T>
         ensures { result ≡ slice_get self.now.items 0 }

@@ -53,6 +53,7 @@ impl Sim {
             &self.stills,
             self.clock,
         );
+        self.ahead.begin();
         self.quiet = until;
     }
 }

@@ -11,6 +11,7 @@ ghost use Rattle.tora_sim.specs.Keyed.{IsFirst};
 ghost use Rattle.tora_datagrams.specs.Datagrams.{HasRoom};
 ghost use Rattle.tora_sim.specs.Steps.{Does, IsDone, Runs};
 
+use crate::ahead::Ahead;
 use crate::hints::Hints;
 use crate::lanes::{make_room_at, shorten};
 use crate::link_slot::LinkSlot;
@@ -70,6 +71,8 @@ pub struct Sim {
     pub(crate) packets: Packets,
     /// Where the packets of a core's step stand while they are put. One list serves all cores, so that it stays at hand.
     pub(crate) sends: Sends,
+    /// What is read ahead of the events that come next.
+    pub(crate) ahead: Ahead,
 }
 
 impl Model for Sim {
@@ -132,6 +135,8 @@ impl Sim {
         if !self.links[at].has_cargo() {
             return Err(SimError::NotPossible);
         }
+        self.ahead
+            .on_pull(&self.links, &self.plains, self.clock, &self.datagrams, at);
         self.quiet = 0;
         if !self.links[at].pull() {
             return Err(SimError::Memory);
@@ -252,6 +257,7 @@ impl Sim {
         };
         self.quiet = 0;
         let far_end = far_end_at(&self.far_ends, at);
+        self.ahead.note_frame(&frame, far_end);
         note_sent(
             &mut self.nodes[home],
             &mut self.datagrams,
@@ -344,6 +350,13 @@ impl Sim {
     fn deliver_frame(&mut self, i: u64) -> Result<(), SimError>
         ensures { Does self.old (Deliver i) result self.new }
     {
+        self.ahead.on_frame(
+            &self.links,
+            &self.keys,
+            &self.nodes,
+            &self.hints,
+            &self.datagrams,
+        );
         let far_end = numbered_far_end(&self.datagrams, i);
         let Some(frame) = numbered(&self.datagrams, i) else {
             return Err(SimError::NoDatagram);

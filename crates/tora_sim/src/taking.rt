@@ -42,6 +42,7 @@ impl Sim {
         }
         let first = self.nodes[home].first();
         let count = self.nodes[home].count();
+        self.ahead.on_turn(&self.nodes, &self.links, home);
         self.quiet = 0;
         self.idle = false;
         let range = unready_at(&self.unready, home).within(count);
