@@ -3,13 +3,16 @@
 //! A round asks the events of one kind of all nodes or link ends in turn. What an event reads of a node or an end lies in some ten lines of the cache, most
 //! of which have gone from there since it was last looked at, and one waits for each of them. Read for many at once, and one behind the other, their waits
 //! fall together. Whatever is read here, and in whatever order, changes no event and no answer: so no contract says anything of it.
+ghost use Rattle.std.specs.Prelude.{◌≡◌, IfErr};
+
+use crate::SimError;
 use crate::due::next_due;
 use crate::hints::Hints;
 use crate::link_slot::LinkSlot;
 use crate::links::far_end_at;
 use crate::nodes::NodeSlot;
 use crate::stills::Stills;
-use std::alloc::{AllocError, Global};
+use std::alloc::Global;
 use tora_datagrams::Datagrams;
 use tora_frame::{BorrowedBody, BorrowedFrame};
 use tora_height::Id;
@@ -41,9 +44,13 @@ impl Ahead {
     /// Nothing was read. Memory is taken once, for no more frames than there are link ends.
     ///
     /// # Errors
-    /// Want of memory.
-    pub fn new(alloc: Global, ends: usize) -> Result<Ahead, AllocError> {
-        let far_ends = Vec::with_capacity(alloc, ends.min(MOST_KNOWN))?;
+    /// `Memory`.
+    pub fn of_ends(alloc: Global, ends: usize) -> Result<Ahead, SimError>
+        ensures { IfErr result (λ e. e ≡ SimError.Memory) }
+    {
+        let Ok(far_ends) = Vec::with_capacity(alloc, ends.min(MOST_KNOWN)) else {
+            return Err(SimError::Memory);
+        };
         Ok(Ahead {
             far_ends,
             read: 0,

@@ -81,9 +81,7 @@ impl Sim {
         let keys = keys_of(alloc, &links)?;
         let hints = Hints::new(&nodes);
         let far_ends = far_ends_of(alloc, &keys, &hints)?;
-        let Ok(ahead) = Ahead::new(alloc, count) else {
-            return Err(SimError::Memory);
-        };
+        let ahead = Ahead::of_ends(alloc, count)?;
         Ok(Sim {
             topology: own,
             times,

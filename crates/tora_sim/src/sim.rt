@@ -305,7 +305,22 @@ impl Sim {
         if self.deliver_hello(i) {
             return Ok(());
         }
+        self.read_receivers();
         self.deliver_frame(i)
+    }
+
+    /// A frame comes that may be any: where those before it are all whose receivers were read ahead, reads the next ones.
+    #[inline(always)]
+    fn read_receivers(&mut self)
+        ensures { self.new ≡ self.old }
+    {
+        self.ahead.on_frame(
+            &self.links,
+            &self.keys,
+            &self.nodes,
+            &self.hints,
+            &self.datagrams,
+        );
     }
 
     /// A datagram is handed to its receiver as `deliver` has it, where it is known to be a HELLO and the receive isn't armed, and says whether it
@@ -350,13 +365,6 @@ impl Sim {
     fn deliver_frame(&mut self, i: u64) -> Result<(), SimError>
         ensures { Does self.old (Deliver i) result self.new }
     {
-        self.ahead.on_frame(
-            &self.links,
-            &self.keys,
-            &self.nodes,
-            &self.hints,
-            &self.datagrams,
-        );
         let far_end = numbered_far_end(&self.datagrams, i);
         let Some(frame) = numbered(&self.datagrams, i) else {
             return Err(SimError::NoDatagram);
