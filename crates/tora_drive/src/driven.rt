@@ -5,7 +5,7 @@ ghost use Rattle.tora_arq.specs.LinkEnd.{bound_life};
 ghost use Rattle.tora_sim.specs.Readers.{flag_at};
 
 use tora_arq::Life;
-use tora_frame::Frame;
+use tora_frame::{BorrowedFrame, Frame};
 use tora_height::Id;
 use tora_script::Simulator;
 use tora_sim::{GoneDatagrams, Sim};
@@ -14,6 +14,10 @@ use tora_sim::{GoneDatagrams, Sim};
 pub trait Driven: Simulator {
     /// A datagram, by its number from 1.
     fn frame(&self, i: u64) -> Option<Frame>
+        ensures { result ≡ datagram (Self.world self.now) i };
+
+    /// A datagram, by its number from 1, whose packets are lent: where little of it is asked for, it is not copied.
+    fn borrowed_frame(&self, i: u64) -> Option<BorrowedFrame<'_>>
         ensures { result ≡ datagram (Self.world self.now) i };
 
     /// Whether the core of a node requires a route to a destination.
@@ -34,6 +38,10 @@ pub trait Driven: Simulator {
 impl Driven for Sim {
     fn frame(&self, i: u64) -> Option<Frame> {
         Sim::frame(self, i)
+    }
+
+    fn borrowed_frame(&self, i: u64) -> Option<BorrowedFrame<'_>> {
+        Sim::borrowed_frame(self, i)
     }
 
     fn flag(&self, n: Id, d: Id) -> bool {

@@ -11,7 +11,7 @@ use crate::driven::Driven;
 use crate::gone::Gone;
 use crate::line::DriveLine;
 use std::alloc::{AllocError, Global};
-use tora_frame::{Body, Frame, LONGEST_FRAME, encode};
+use tora_frame::{BorrowedBody, BorrowedFrame, Frame, LONGEST_FRAME, encode};
 use tora_height::Id;
 use tora_script::{Running, SimulationLine, Simulator};
 use tora_trace::HopText;
@@ -33,19 +33,27 @@ pub struct Route {
 }
 
 /// How many bytes a frame has; it is spelled for that only where it has packets.
-fn length_of(frame: &Frame) -> usize
+fn length_of(frame: &BorrowedFrame<'_>) -> usize
     ensures { result ≡ length (frame_spelling frame.now) }
 {
     match frame.body() {
-        Body::Hello => HELLO_LENGTH,
-        Body::Data(_, _, _) => encode(frame).len(),
-        Body::Ack(_) => ACK_LENGTH,
+        BorrowedBody::Hello => HELLO_LENGTH,
+        BorrowedBody::Data(..) => spelled_length(frame),
+        BorrowedBody::Ack(_) => ACK_LENGTH,
     }
+}
+
+/// How many bytes a frame has, as it is spelled.
+#[inline(never)]
+fn spelled_length(frame: &BorrowedFrame<'_>) -> usize
+    ensures { result ≡ length (frame_spelling frame.now) }
+{
+    encode(&frame.to_frame()).len()
 }
 
 /// Puts `sent A B ID LENGTH` behind a text.
 #[tactic(auto, unfolding(crate::specs::Records::sent_line))]
-fn write_datagram(out: &mut String, i: u64, frame: &Frame) -> Result<(), AllocError>
+fn write_datagram(out: &mut String, i: u64, frame: &BorrowedFrame<'_>) -> Result<(), AllocError>
     ensures { OnOk result (string_bytes out.new ≡ string_bytes out.old ++ sent_line i frame.now) }
 {
     let header = *frame.header();
@@ -65,7 +73,7 @@ fn write_sent_one<S: Driven>(
     ensures { OnOk result (string_bytes out.new ≡ string_bytes out.old ++ sent_of (whole gone.now (S.world sim.now)) (length gone.now + i)) }
 {
     let number = gone.with(i)?;
-    match sim.frame(i) {
+    match sim.borrowed_frame(i) {
         Some(frame) => write_datagram(out, number, &frame),
         None => Ok(()),
     }

@@ -8,7 +8,7 @@ ghost use Rattle.tora_sim.specs.Store.{world_of};
 use crate::nodes::{NodeSlot, place as node_place};
 use crate::sim::{Sim, numbered};
 use tora_core::Input;
-use tora_frame::Frame;
+use tora_frame::{BorrowedFrame, Frame};
 use tora_height::Id;
 use tora_seat::Item;
 
@@ -42,6 +42,13 @@ impl Sim {
             Some(at) => self.nodes[at].flag(d),
             None => false,
         }
+    }
+
+    /// A datagram by its number, from 1 on, whose packets are lent; `None` where there is no such datagram.
+    pub fn borrowed_frame(&self, i: u64) -> Option<BorrowedFrame<'_>>
+        ensures { result ≡ datagram (world_of self.now) i }
+    {
+        numbered(&self.datagrams, i)
     }
 
     /// A datagram by its number, from 1 on; `None` where there is no such datagram.
