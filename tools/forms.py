@@ -1,9 +1,9 @@
 #!/usr/bin/env python3
-"""Compares the lines that docs/formats.md has with those that the manual page and the help of the program repeat.
+"""Compares the lines that docs/formats.md has with those that the manual pages and the help of the program repeat.
 
 usage: tools/forms.py
 
-docs/formats.md is where the lines of replay files, simulation files, traces and commands are stated. docs/tora.1 and
+docs/formats.md is where the lines of replay files, simulation files, traces and commands are stated. The pages of docs/man and
 crates/tora_commands/src/command_line.rt repeat their forms, for whoever has the program alone. Each form that is missing there is
 told, with its section. Exit status: 0 where none is, else 1. The help names the records of a trace and has no forms of them.
 """
@@ -13,19 +13,22 @@ import shlex
 import sys
 
 TOP = os.path.dirname(os.path.dirname(os.path.realpath(__file__)))
-MANUAL, HELP = "docs/tora.1", "crates/tora_commands/src/command_line.rt"
+MANUAL, HELP = "docs/man", "crates/tora_commands/src/command_line.rt"
 # The sections of formats.md with tables of forms, and who repeats them.
 SECTIONS = {"Replay": [MANUAL, HELP], "Simulation files": [MANUAL, HELP], "Driving": [MANUAL, HELP], "Traces": [MANUAL]}
 # Forms that stand in sentences of formats.md.
 SENTENCES = {
     "Replay": ["node I links LIST dests LIST", "send HEX", "bad N", "refused N", "to D height H flag F hop K"],
-    "Simulation files": ["dests LIST", "link A B", "old N"],
+    "Simulation files": ["dests LIST", "link A B", "old N", "erasure N WORD"],
     "Commands and log of a node": ["need D", "show", "json", "watch", "quit", "help"],
     "What a node tells programs": ["height D H", "hop D K"],
 }
 
 
 def read(path):
+    """The text of a file, or of all files of a folder."""
+    if os.path.isdir(f"{TOP}/{path}"):
+        return "".join(read(f"{path}/{it}") for it in sorted(os.listdir(f"{TOP}/{path}")))
     with open(f"{TOP}/{path}") as text:
         return text.read()
 
@@ -51,7 +54,7 @@ def forms():
 
 
 def lines_of_manual():
-    """The lines of the manual page as they are printed."""
+    """The lines of the manual pages as they are printed."""
     for line in read(MANUAL).splitlines():
         line = re.sub(r"\\f.", "", line).replace("\\-", "-").replace("\\(aq", "'")
         found = re.match(r"\.([BIR]{1,2}) (.*)", line)

@@ -1,12 +1,12 @@
 #!/usr/bin/env python3
-"""Installs the program `tora` that was built, with its manual page, completion and dissector, or takes these files away.
+"""Installs the program `tora` that was built, with its manual pages, completion and dissector, or takes these files away.
 
 usage: ./tora install [PREFIX]       copies them to PREFIX (/usr/local without it)
        ./tora uninstall [PREFIX]     removes just these files, where they are there
 
   PREFIX/bin/tora                                  a script that runs the program, as ./tora does once it is built
   PREFIX/libexec/tora                              the program; it needs nothing of the repository
-  PREFIX/share/man/man1/tora.1                     the manual page
+  PREFIX/share/man/man1, man5                      the manual pages
   PREFIX/share/bash-completion/completions/tora    completion for bash
   PREFIX/share/zsh/site-functions/_tora            completion for zsh
   PREFIX/share/tora/tora.lua                       the dissector for Wireshark
@@ -20,11 +20,12 @@ import shutil
 import sys
 
 TOP = os.path.dirname(os.path.dirname(os.path.realpath(__file__)))
+PAGES = ["tora.1", "tora-drive.1", "tora-node.1", "tora-replay.1", "tora-sim.1", "tora.5"]
 # What is installed: the file in the repository, the place under PREFIX, and its permissions.
 FILES = [
     ("crates/tora/out/tora", "libexec/tora", 0o755),
     ("tools/installed.sh", "bin/tora", 0o755),
-    ("docs/tora.1", "share/man/man1/tora.1", 0o644),
+    *((f"docs/man/{it}", f"share/man/man{it[-1]}/{it}", 0o644) for it in PAGES),
     ("tools/completion/tora.bash", "share/bash-completion/completions/tora", 0o644),
     ("tools/completion/_tora", "share/zsh/site-functions/_tora", 0o644),
     ("tools/tora.lua", "share/tora/tora.lua", 0o644),
