@@ -26,7 +26,7 @@ from scenario_file import load_scenario
 from study import HERE, Refused, Usage, naming, nodes_of, reading, refused, run, simulator, writing
 from world import Fit, refuse_cut
 
-PARTS = f"{HERE}/page"
+PARTS = os.path.join(os.path.dirname(os.path.realpath(HERE)), "python/src/tora/page/files")
 SCRIPTS = [f"{name}.js" for name in "data world routes summary entries stage marks strip legend ask time main".split()]
 
 

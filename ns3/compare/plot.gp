@@ -1,3 +1,6 @@
+# SPDX-FileCopyrightText: 2026 the Ginavoru authors
+# SPDX-License-Identifier: GPL-2.0-only
+
 # Plots a comparison: means over seeds with their 95 % confidence intervals, one line for each protocol.
 # usage: ns3/compare/summary.py --data DIR/compare.csv >DIR/compare.dat
 #        gnuplot -e "data='DIR/compare.dat'; picture='DIR/compare.png'; by='speed'" ns3/compare/plot.gp   (package gnuplot-nox)

@@ -1,4 +1,6 @@
 #!/usr/bin/env python3
+# SPDX-FileCopyrightText: 2026 the Ginavoru authors
+# SPDX-License-Identifier: GPL-2.0-only
 """Summarizes a comparison: for each protocol and each value of a column the mean over seeds and its 95 % confidence interval.
 
   summary.py DIR/compare.csv [--by speed] [COLUMN]..    a table for readers

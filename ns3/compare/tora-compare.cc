@@ -1,3 +1,6 @@
+// SPDX-FileCopyrightText: 2026 the Ginavoru authors
+// SPDX-License-Identifier: GPL-2.0-only
+
 /*
  * One run of a comparison: moving nodes with radios, flows of data packets, and one of four routing
  * protocols. The same seed gives the same motion, flows and radios, whatever the protocol. It

@@ -19,7 +19,9 @@ const LEGEND = [
     line(pen, a, b, look.walk, 10);
     pen.globalAlpha = 1;
   }],
-  ["QRY, UPD, CLR of the round", (pen, look, a, b) => ["qry", "upd", "clr"].forEach((kind, at) => packet(pen, kind, between(a, b, at / 2), 7, look))],
+  ["QRY of the round: blue circle", (pen, look, a, b) => packet(pen, "qry", between(a, b, 0.5), 7, look)],
+  ["UPD of the round: orange square", (pen, look, a, b) => packet(pen, "upd", between(a, b, 0.5), 7, look)],
+  ["CLR of the round: purple triangle", (pen, look, a, b) => packet(pen, "clr", between(a, b, 0.5), 7, look)],
   ["destination", (pen, look, a, b) => disc(pen, between(a, b, 0.5), 7, { fill: FIRST_FILL, isTarget: true, look })],
   ["no height", (pen, look, a, b) => disc(pen, between(a, b, 0.5), 7, { fill: NO_FILL, look })],
   ["reflected level: dashed rim", (pen, look, a, b) => disc(pen, between(a, b, 0.5), 7, { fill: FILLS[0], isReflected: true, look })],

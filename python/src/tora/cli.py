@@ -1,0 +1,294 @@
+"""The command `tora-study`: make, run, sweep, storms, measure, summary, plot, page, verify.
+
+Exit status: 0 where all is done; 1 where an input is bad or a run failed; 2 where the command line asks for what can't be. What is wrong is told in one line.
+"""
+from __future__ import annotations
+
+import argparse
+import importlib
+import os
+import sys
+from collections.abc import Callable, Sequence
+
+from tora import __version__
+from tora.errors import StudyError
+from tora.options import (
+    CHANNEL, EDGE_LOSS, FILES, SCENARIO, STATUSES, Flag, Once, Parser, above_zero, add_options, add_output, count, names, setting, text, whole,
+)
+
+Body = Callable[[argparse.Namespace], int]
+PROGRAM = "The program is --program, else the environment variable TORA, else the repository's ./tora, else `tora` of the path."
+
+
+def main(words: Sequence[str] | None = None) -> int:
+    """Does what the command line asks for; answers the exit status."""
+    held = sys.argv[1:] if words is None else list(words)
+    try:
+        return ended(held)
+    except SystemExit as cause:
+        return int(cause.code or 0)
+
+
+def ended(words: Sequence[str]) -> int:
+    """Does what the words ask for; what is refused is told in one line on standard error."""
+    found = parser().parse_args(words)
+    found.words = list(words)
+    body: Body = found.body
+    try:
+        status = body(found)
+        sys.stdout.flush()
+        return status
+    except StudyError as cause:
+        print(f"tora-study {found.word}: {cause}", file=sys.stderr)
+        return cause.status
+    except BrokenPipeError:
+        os.dup2(os.open(os.devnull, os.O_WRONLY), sys.stdout.fileno())
+        return 1
+    except OSError as cause:
+        print(f"tora-study {found.word}: {cause.filename or 'standard output'}: {cause.strerror or cause}", file=sys.stderr)
+        return 1
+    except MemoryError:
+        print(f"tora-study {found.word}: out of memory", file=sys.stderr)
+        return 1
+    except KeyboardInterrupt:
+        print(f"tora-study {found.word}: broken off; the same command goes on", file=sys.stderr)
+        return 130
+
+
+def parser() -> Parser:
+    """The parser of the command line."""
+    found = Parser(prog="tora-study", description=__doc__)
+    found.add_argument("--version", action="version", version=f"tora-study {__version__}")
+    words = found.add_subparsers(dest="word", metavar="WORD", required=True, parser_class=Parser)
+    for add in (_add_make, _add_run, _add_sweep, _add_storms, _add_measure, _add_summary, _add_plot, _add_page, _add_verify):
+        add(words)
+    return found
+
+
+def _add_word(words: argparse._SubParsersAction[Parser], name: str, help_: str, text_: str) -> Parser:
+    """Adds a word, whose body is the function of its name in `tora.words`."""
+    def body(found: argparse.Namespace) -> int:
+        # matplotlib and scipy are read only where they are needed
+        done: Body = getattr(importlib.import_module("tora.studying" if name == "sweep" else "tora.words"), f"do_{name}")
+        return done(found)
+
+    added = words.add_parser(name, help=help_, description=f"{help_[0].upper()}{help_[1:]}.\n\n{text_}", epilog=STATUSES)
+    added.set_defaults(body=body)
+    return added
+
+
+def _add_program(added: Parser) -> None:
+    """Adds the program and its time limit."""
+    added.add_argument("--program", metavar="PATH", action=Once, type=text, help="the program tora (TORA, ./tora, or that of the path)")
+    added.add_argument("--time-limit", metavar="SECONDS", action=Once, type=above_zero, help="seconds after which a run is ended, above 0 (3600)")
+
+
+def _add_load(added: Parser) -> None:
+    """Adds the options of data packets."""
+    added.add_argument("--traffic", metavar="RATE", action=Once, help="also measure data packets: so many of each flow a second, above 0, as 4 or 0.5")
+    added.add_argument("--hop", metavar="TICKS", action=Once, type=whole, help="with --traffic: ticks of 100 ms that a hop takes, 1 or more (1)")
+    added.add_argument("--ttl", metavar="HOPS", action=Once, type=whole, help="with --traffic: most hops of a packet, 1 or more (32)")
+
+
+def _add_make(words: argparse._SubParsersAction[Parser]) -> None:
+    """The word make."""
+    added = _add_word(
+        words, "make", "make a scenario of moving nodes",
+        "Writes PREFIX.sim, the simulation file, and PREFIX.json, its description. Motion, destinations and flows come from the seed, so the\n"
+        "same options make the same files. Two nodes are linked while they are within --range of each other; a round is 100 ms.",
+    )
+    added.add_argument("prefix", metavar="PREFIX", type=text, help="how the names of the files begin")
+    added.add_argument("--seed", metavar="NUMBER", action=Once, type=whole, help="0 to 2^64 - 1 (1)")
+    added.add_argument("--channel-file", metavar="FILE", action=Once, type=text, help="also write a file of losses that rise with the distance")
+    add_options(added, EDGE_LOSS, "losses by distance")
+    add_options(added, SCENARIO, "the scenario")
+    add_options(added, FILES, "motion of a file, in the place of a model")
+    added.add_argument("--overwrite", action=Flag, default=False, help="replace files that exist")
+
+
+def _add_run(words: argparse._SubParsersAction[Parser]) -> None:
+    """The word run."""
+    added = _add_word(
+        words, "run", "simulate a scenario",
+        "Simulates PREFIX.sim, which `tora-study make` wrote beside PREFIX.json, to PREFIX.trace, and writes PREFIX.manifest.json, by which\n"
+        f"`tora-study verify` makes the run again.\n{PROGRAM}",
+    )
+    added.add_argument("prefix", metavar="PREFIX", type=text, help="how the names of the files begin")
+    added.add_argument("--channel-file", metavar="FILE", action=Once, type=text, help="losses by link and round, as `make --channel-file` writes them")
+    add_options(added, CHANNEL, "the channel and the run")
+    _add_program(added)
+    added.add_argument("--overwrite", action=Flag, default=False, help="replace files that exist")
+
+
+def _add_sweep(words: argparse._SubParsersAction[Parser]) -> None:
+    """The word sweep."""
+    added = _add_word(
+        words, "sweep", "make the runs of a study, its table and its pictures",
+        "Runs every size with every value of each --vary and every seed. FOLDER gets study.csv (a row for each run), manifest.json, summary.txt and\n"
+        "study.png. What was broken off goes on with the same command. A value that stands twice is refused, and so is an option that is given and\n"
+        f"varied, too. Snakemake runs it.\n{PROGRAM}",
+    )
+    added.add_argument("folder", metavar="FOLDER", type=text, help="a new folder, or one of the same study")
+    added.add_argument("--nodes", metavar="NUMBER,..", action=Once, type=names, help="sizes, 2 to 64 nodes, or to 1024 with --large, as 10,20,40")
+    added.add_argument("--seeds", metavar="NUMBER", action=Once, type=count, required=True, help="how many seeds, from 1 on; at most 1000000 runs in all")
+    added.add_argument(
+        "--vary", metavar="NAME=VALUE,..", action="append", default=[],
+        help="run with each of these values of an option below; a comma within a value is a colon: times=10:50:5:8,5:20:5:8",
+    )
+    _add_load(added)
+    added.add_argument("--keep", action=Flag, default=False, help="keep each run's files in FOLDER/runs")
+    added.add_argument("--page", action=Flag, default=False, help="make a page that plays each run, and FOLDER/index.html")
+    added.add_argument("--jobs", metavar="NUMBER", action=Once, type=count, help="runs at a time, 1 or more (as many as processors)")
+    added.add_argument("--batches", metavar="NUMBER", action=Once, type=count, help="in how many parts the runs are made, 1 or more (1; two for each of --jobs with --profile)")
+    added.add_argument("--profile", metavar="PROFILE", action=Once, type=text, help="a profile of snakemake, or `slurm` for the one that comes along")
+    _add_program(added)
+    add_options(added, SCENARIO, "options of each scenario", leave_out=["nodes"])
+    add_options(added, FILES, "motion of a file, in the place of a model")
+    add_options(added, CHANNEL | EDGE_LOSS, "options of each run")
+
+
+def _add_storms(words: argparse._SubParsersAction[Parser]) -> None:
+    """The word storms."""
+    added = _add_word(
+        words, "storms", "count the networks that do not come to rest after a partition",
+        "Draws a ring of 3 to 8 nodes from each seed, parts it from its destination, and asks 150 rounds behind the last event whether it is at rest;\n"
+        "once where nodes forget the levels that they erased, and once where they remember them. Prints how many are not, by the greatest delay of a\n"
+        f"datagram in rounds of 100 ms. docs/after-a-partition.md tells more.\n{PROGRAM}",
+    )
+    added.add_argument("--runs", metavar="NUMBER", action=Once, type=count, default=400, help="how many networks, of the seeds from 0 on (400)")
+    added.add_argument("--jobs", metavar="NUMBER", action=Once, type=count, help="runs at a time, 1 or more (as many as processors)")
+    _add_program(added)
+    add_output(added, "also write a row for each run, as CSV")
+
+
+def _add_measure(words: argparse._SubParsersAction[Parser]) -> None:
+    """The word measure."""
+    added = _add_word(
+        words, "measure", "measure a run to a row of CSV",
+        "Prints the names of the columns and the row of a run. docs/studies.md and `tora-study summary` say what columns are.",
+    )
+    added.add_argument("scenario", metavar="SCENARIO.json", help="what `make` wrote")
+    added.add_argument("trace", metavar="TRACE", help="what `run` wrote")
+    added.add_argument("--loops", action=Flag, default=False, help="print each loop of next hops in place of the row")
+    _add_load(added)
+    add_output(added, "write to a file")
+
+
+def _add_table(added: Parser) -> None:
+    """Adds a table, and which of its runs are meant."""
+    added.add_argument("table", metavar="TABLE.csv", help="a table of runs: of a study, of the ns-3 comparison, or any with --design")
+    added.add_argument("--measures", metavar="COLUMN,..", action=Once, type=names, default=[], help="columns that are summarized (the usual ones)")
+    added.add_argument(
+        "--where", metavar="COLUMN=VALUE", action="append", type=setting, default=[],
+        help="only runs whose design has this value; may stand several times",
+    )
+    added.add_argument(
+        "--pool", metavar="COLUMN,..", action=Once, type=names, default=[],
+        help="put runs of different values of these columns into one interval; the header tells it",
+    )
+    added.add_argument(
+        "--design", metavar="COLUMN,..", action=Once, type=names, help="the columns that tell what was set; needed for a table of an unknown kind"
+    )
+    added.add_argument("--statistic", metavar="NAME", action=Once, help="mean, median, or a quantile as q0.95 (numpy's rule `linear`)")
+    added.add_argument(
+        "--interval", metavar="METHOD", action=Once, choices=["bca", "order", "student"],
+        help="95 %% interval: bca (bootstrap; usual for a mean), order (order statistics; usual for a median), or student, which is refused "
+        "where it is not sound",
+    )
+
+
+def _add_summary(words: argparse._SubParsersAction[Parser]) -> None:
+    """The word summary."""
+    added = _add_word(
+        words, "summary", "summarize a table of runs",
+        "A row for each group of runs and each measure. Groups are what all columns of the design make; nothing is pooled unless --pool says so. The\n"
+        "header tells the statistic, how its intervals are made, and what was pooled.",
+    )
+    _add_table(added)
+    added.add_argument(
+        "--against", metavar="COLUMN=VALUE", action="append", type=setting, default=[],
+        help="compare with these runs, in pairs of one seed and design; p-values by Holm",
+    )
+    added.add_argument("--ratio", action=Flag, default=False, help="with --against: quotients in place of differences")
+    added.add_argument("--growth", metavar="COLUMN", action=Once, type=text, help="print exponents of power laws over a column in place of the summary")
+    added.add_argument("--report", action=Once, choices=["runs", "aims", "losses"], help="a table of the ns-3 comparison in Markdown")
+    added.add_argument(
+        "--tora", metavar="NAME", action=Once, type=text,
+        help="with --report aims: the protocol beside AODV and OLSR (TORA:notice=1,waits=1)",
+    )
+    added.add_argument("--format", action=Once, choices=["text", "csv", "markdown"], default="text", help="(text)")
+    add_output(added, "write to a file")
+
+
+def _add_plot(words: argparse._SubParsersAction[Parser]) -> None:
+    """The word plot."""
+    added = _add_word(
+        words, "plot", "draw a table of runs, or the heights of a run", "Each picture ends in .png, .svg or .pdf; the same input gives the same bytes."
+    )
+    kinds = added.add_subparsers(dest="kind", metavar="KIND", required=True, parser_class=Parser)
+    tables = {
+        "by": "measures over a column, with a line for each group", "overview": "routes, breaks, broadcasts and stretch over a column",
+        "growth": "measures on logarithmic axes, and the power laws that fit", "notice": "speed, loss and notice of parted links",
+        "comparison": "the ns-3 comparison over the greatest speed", "rest": "time to rest by nodes and delay, for choices of erasure",
+    }
+    for name, text_ in tables.items():
+        kind = kinds.add_parser(name, help=text_, description=f"{text_[0].upper()}{text_[1:]}.", epilog=STATUSES)
+        _add_table(kind)
+        if name in ("by", "overview", "growth"):
+            kind.add_argument("--by", metavar="COLUMN", action=Once, type=text, default="nodes", help="a column of numbers (nodes)")
+        add_output(kind, "the picture, .png, .svg or .pdf", needed=True)
+    _add_heights(kinds)
+
+
+def _add_heights(kinds: argparse._SubParsersAction[Parser]) -> None:
+    """The kind heights of the word plot."""
+    kind = kinds.add_parser(
+        "heights", help="heights around a break of a route", epilog=STATUSES,
+        description="Heights of a destination before, in and behind a break of a route, nodes where the scenario has them. Writes PREFIX-ROUND.png for each round.",
+    )
+    kind.add_argument("scenario", metavar="SCENARIO.json", help="what `make` wrote")
+    kind.add_argument("trace", metavar="TRACE", help="what `run` wrote")
+    kind.add_argument("destination", metavar="DESTINATION", type=whole, help="a destination of the scenario")
+    which = kind.add_mutually_exclusive_group()
+    which.add_argument("--break", dest="number", metavar="NUMBER", action=Once, type=count, help="around this break of a route, from 1 (1)")
+    which.add_argument("--rounds", metavar="ROUND,..", action=Once, type=names, help="at the ends of these rounds, from 1")
+    which.add_argument("--list", action=Flag, default=False, help="list the breaks of routes")
+    kind.add_argument("-o", "--output", metavar="PREFIX", action=Once, type=text, help="how the names of the pictures begin")
+    kind.add_argument("--format", action=Once, choices=["png", "svg", "pdf"], default="png", help="(png)")
+    kind.add_argument("--overwrite", action=Flag, default=False, help="replace files that exist")
+
+
+def _add_page(words: argparse._SubParsersAction[Parser]) -> None:
+    """The word page."""
+    added = _add_word(
+        words, "page", "make a page that plays a run, for any browser",
+        "  page SCENARIO.json TRACE   a run of a scenario, its nodes where the motion puts them\n"
+        "  page FILE.sim [TRACE]      a simulation file, with its trace, or run now\n"
+        "  page TRACE                 a trace alone, with the links that it names\n"
+        "  page FOLDER                FOLDER/index.html of a study, with a link to the page of each run\n"
+        "  page --read PAGE           prints the trace that a page holds\n\n"
+        f"The page is one file that loads nothing. {PROGRAM}",
+    )
+    added.add_argument("inputs", metavar="INPUT", nargs="*", help="as above")
+    added.add_argument("--place", metavar="FILE", action=Once, type=text, help="places of nodes that don't move: a line NODE X Y for each, metres (by force)")
+    added.add_argument("--read", metavar="PAGE", action=Once, type=text, help="print the trace that a page holds")
+    add_options(added, CHANNEL, "of a simulation file that is run now")
+    _add_program(added)
+    add_output(added, "the page (the last input with the ending .html, in this folder)")
+
+
+def _add_verify(words: argparse._SubParsersAction[Parser]) -> None:
+    """The word verify."""
+    added = _add_word(
+        words, "verify", "make runs again, and compare them",
+        "  verify PREFIX.manifest.json ..   runs of `tora-study run`\n"
+        "  verify FOLDER [RUN ..]           runs of a study, or of an ns-3 comparison (the first one), and its table\n\n"
+        f"A file, a trace or a row that differs is told, with status 1. {PROGRAM}",
+    )
+    added.add_argument("inputs", metavar="INPUT", nargs="+", help="as above")
+    added.add_argument("--all", action=Flag, default=False, help="of a study: every run")
+    _add_program(added)
+
+
+if __name__ == "__main__":
+    sys.exit(main())
